@@ -24,7 +24,7 @@ pub struct Orders {
 
 impl Order {
     ghost use Rattle.ring_words.specs.Rings.{number_of, size};
-    ghost use Rattle.ring_words.specs.Choice.{IsLeastOrder};
+    ghost use Rattle.ring_words.specs.Choice.{IsLeastOrder, largest_size};
 
     /// The smaller ring within the shared page, of 1,024 bytes.
     pub(crate) const SMALL: Order = Order { number: 10 };
@@ -45,7 +45,7 @@ impl Order {
 
     /// The least order, from 12 on, whose ring holds `bytes` bytes.
     pub(crate) fn least_for(bytes: u32) -> Order
-        requires { bytes ≤ 1048576 }
+        requires { bytes ≤ largest_size }
         ensures { IsLeastOrder bytes (number_of result) }
     {
         for number in 12..20 {
@@ -70,5 +70,32 @@ impl Order {
         ensures within { (1024 ≤ result) × (result ≤ 1048576) }
     {
         1u32 << self.number
+    }
+}
+
+#[cfg(test)]
+mod tests {
+    use super::*;
+
+    #[test]
+    fn orders_are_ten_to_twenty(rt: HostRuntime) {
+        let sizes = [
+            (0, None),
+            (9, None),
+            (10, Some(1024)),
+            (11, Some(2048)),
+            (20, Some(1_048_576)),
+            (21, None),
+            (u16::MAX, None),
+        ];
+        for (number, size) in sizes {
+            let order = Order::new(number);
+            assert_eq!(rt; order.map(|order| order.size()), size, "at {number}");
+            assert_eq!(rt;
+                order.map(|order| order.number()),
+                size.map(|_| number),
+                "at {number}"
+            );
+        }
     }
 }
