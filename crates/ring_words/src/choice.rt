@@ -48,32 +48,18 @@ pub fn choose_orders(left: u32, right: u32) -> Result<Orders, SizeTooLarge>
     if right > LARGEST_SIZE {
         return Err(SizeTooLarge { size: right });
     }
-    Ok(if left <= SMALL_SIZE && right <= LARGE_SIZE {
-        Orders {
-            left: Order::SMALL,
-            right: Order::LARGE,
-        }
+    let (left, right) = if left <= SMALL_SIZE && right <= LARGE_SIZE {
+        (Order::SMALL, Order::LARGE)
     } else if left <= LARGE_SIZE && right <= SMALL_SIZE {
-        Orders {
-            left: Order::LARGE,
-            right: Order::SMALL,
-        }
+        (Order::LARGE, Order::SMALL)
     } else if left <= LARGE_SIZE {
-        Orders {
-            left: Order::LARGE,
-            right: Order::least_for(right),
-        }
+        (Order::LARGE, Order::least_for(right))
     } else if right <= LARGE_SIZE {
-        Orders {
-            left: Order::least_for(left),
-            right: Order::LARGE,
-        }
+        (Order::least_for(left), Order::LARGE)
     } else {
-        Orders {
-            left: Order::least_for(left),
-            right: Order::least_for(right),
-        }
-    })
+        (Order::least_for(left), Order::least_for(right))
+    };
+    Ok(Orders { left, right })
 }
 
 /// The orders that a page's two order fields say.

@@ -37,10 +37,10 @@ impl Order {
         ensures none { IsNone result ↔ ((number < 10) ⊎ (20 < number)) }
         ensures number { IfSome result (λ order. number_of order ≡ number) }
     {
-        if number < 10 || number > 20 {
-            return None;
+        match number {
+            10..=20 => Some(Order { number }),
+            _ => None,
         }
-        Some(Order { number })
     }
 
     /// The least order, from 12 on, whose ring holds `bytes` bytes.
