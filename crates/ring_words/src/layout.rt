@@ -1,8 +1,8 @@
 //! Where the words of a page lie in a list.
 ghost use Rattle.std.specs.Prelude.{◌≡◌, ◌<◌, ◌↔◌, IsTrue};
-ghost use Rattle.ring_words.specs.Page.{Has, index_of, word_count, order_of};
+ghost use Rattle.ring_words.specs.Page.{Has, index_of, word_count};
 
-use crate::order::{Order, Orders};
+use crate::order::Orders;
 use crate::page::{Ring, WordName};
 
 /// The number of the words before the rings.
@@ -37,7 +37,7 @@ impl Layout {
         ensures { IsTrue result ↔ Has self.now.orders name }
     {
         match name {
-            WordName::RingByte { ring, at } => at < self.order(ring).size(),
+            WordName::RingByte { ring, at } => at < self.orders.order_of(ring).size(),
             _ => true,
         }
     }
@@ -71,15 +71,6 @@ impl Layout {
                 ring: Ring::Right,
                 at,
             } => { HEADER + self.orders.left.size() as usize + at as usize }
-        }
-    }
-
-    fn order(&self, ring: Ring) -> Order
-        ensures { result ≡ order_of self.now.orders ring }
-    {
-        match ring {
-            Ring::Left => self.orders.left,
-            Ring::Right => self.orders.right,
         }
     }
 }

@@ -1,6 +1,8 @@
 //! The sizes of rings, as powers of two.
 ghost use Rattle.std.specs.Prelude.{◌≡◌, ◌≤◌, ◌<◌, ◌^◌, ◌⊎◌, IsNone, IfSome, ◌↔◌, ◌≢◌};
 
+use crate::page::Ring;
+
 /// The size of a ring, as an exponent of two: a ring of order n has 2^n bytes. It is the number of
 /// the fields `left_order` and `right_order` in Xen's `public/io/libxenvchan.h`.
 #[derive(Clone, Copy, Debug, PartialEq, Eq)]
@@ -70,6 +72,20 @@ impl Order {
         ensures within { (1024 ≤ result) × (result ≤ 1048576) }
     {
         1u32 << self.number
+    }
+}
+
+impl Orders {
+    ghost use Rattle.ring_words.specs.Page.{order_of};
+
+    /// The order of one of the two rings.
+    pub fn order_of(self, ring: Ring) -> Order
+        ensures { result ≡ order_of self ring }
+    {
+        match ring {
+            Ring::Left => self.left,
+            Ring::Right => self.right,
+        }
     }
 }
 

@@ -28,7 +28,8 @@ impl Model for Words {
 }
 
 impl Words {
-    /// A page of these words, of which there are as many as [`Layout::count`] says.
+    /// A page of these words, of which there have to be as many as [`Layout::count`] says. It only
+    /// keeps the list that it is handed.
     pub fn of(orders: Orders, list: Vec<u64>) -> Words
         requires { vec_len list ≡ word_count orders }
         ensures orders { result.orders ≡ orders }
