@@ -1,0 +1,3 @@
+pub mod RingLaws
+pub mod PageLaws
+pub mod ChoiceLaws

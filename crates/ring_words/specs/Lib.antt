@@ -1,0 +1,4 @@
+pub mod Rings
+pub mod Page
+pub mod Choice
+pub mod PageWords

@@ -1,0 +1,20 @@
+//! The words of the page that two ends of a vchan share, and the numbers of its two rings.
+//!
+//! The crates of the channel stand on it: they speak of a page by these names and numbers. The
+//! fields of the page are those of Xen's `public/io/libxenvchan.h`, the counting of bytes is that
+//! of libxenvchan's `io.c`, and the choice and the check of ring orders are those of its `init.c`.
+#![tactic(auto)]
+
+mod choice;
+mod layout;
+mod numbers;
+mod order;
+mod page;
+mod words;
+
+pub use choice::{BadOrders, SizeTooLarge, check_orders, choose_orders};
+pub use layout::Layout;
+pub use numbers::{place, ready, room};
+pub use order::{Order, Orders};
+pub use page::{Ring, Role, WordName};
+pub use words::Words;

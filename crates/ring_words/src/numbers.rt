@@ -1,0 +1,36 @@
+//! What the two indices of a ring say. Indices count bytes modulo 2^32.
+ghost use Rattle.std.specs.Prelude.{◌≡◌, ◌<◌, ◌≤◌};
+ghost use Rattle.ring_words.specs.Rings.{place as place_of, ready as ready_of, room as room_of, size};
+
+use crate::order::Order;
+
+/// The number of bytes that wait to be read, of a ring whose writer wrote up to `prod` and whose
+/// reader read up to `cons`. It is 0 where the indices lie further apart than the ring's size, as
+/// in `io.c`.
+pub fn ready(prod: u32, cons: u32, order: Order) -> u32
+    ensures ready { result ≡ ready_of prod cons order }
+    ensures within { result ≤ size order }
+{
+    let diff = prod.wrapping_sub(cons);
+    if diff <= order.size() { diff } else { 0 }
+}
+
+/// The number of bytes that may be written into a ring whose writer wrote up to `prod` and whose
+/// reader read up to `cons`. It is 0 where the indices lie further apart than the ring's size, as
+/// in `io.c`.
+pub fn room(prod: u32, cons: u32, order: Order) -> u32
+    ensures room { result ≡ room_of prod cons order }
+    ensures within { result ≤ size order }
+{
+    let diff = prod.wrapping_sub(cons);
+    let size = order.size();
+    if diff <= size { size - diff } else { 0 }
+}
+
+/// The place in its ring, from 0 on, of the byte at an index.
+pub fn place(index: u32, order: Order) -> u32
+    ensures place { result ≡ place_of index order }
+    ensures within { result < size order }
+{
+    index % order.size()
+}

@@ -1,0 +1,75 @@
+//! A page's words as a list in memory.
+ghost use Rattle.std.specs.Prelude.{◌≡◌, ◌<◌, ◌^◌, length, slice_index, slice_set, vec_len};
+ghost use Rattle.ring_words.specs.Page.{Has, index_of, word_count};
+
+use crate::layout::Layout;
+use crate::order::Orders;
+use crate::page::WordName;
+use std::marker::Model;
+
+/// The words of a page whose rings have these orders. There are always as many words as
+/// [`Layout::count`] says.
+#[derive(Debug, Drop)]
+pub struct Words {
+    orders: Orders,
+    list: Vec<u64>,
+}
+
+impl Model for Words {
+    ghost use Rattle.std.specs.Prelude.{◌≡◌, vec_len};
+    ghost use Rattle.ring_words.specs.Page.{word_count};
+    ghost use Rattle.ring_words.specs.PageWords.{PageWords};
+
+    ghost Value = { PageWords };
+
+    ghost view = { λ words. record { orders = words.orders; list = words.list.items } };
+
+    ghost invariant = { λ words. vec_len words.list ≡ word_count words.orders };
+}
+
+impl Words {
+    /// A page of these words, of which there are as many as [`Layout::count`] says.
+    pub fn of(orders: Orders, list: Vec<u64>) -> Words
+        requires { vec_len list ≡ word_count orders }
+        ensures orders { result.orders ≡ orders }
+        ensures list { result.list ≡ list.items }
+    {
+        Words { orders, list }
+    }
+
+    /// The orders of the page's rings.
+    pub fn orders(&self) -> Orders
+        ensures orders { result ≡ self.now.orders }
+        ensures count { length self.now.list ≡ word_count self.now.orders }
+    {
+        self.orders
+    }
+
+    /// All words, each at the place that [`Layout::word`] gives.
+    pub fn list(&self) -> &[u64]
+        ensures list { result.now ≡ self.now.list }
+        ensures count { length result.now ≡ word_count self.now.orders }
+    {
+        self.list.as_slice()
+    }
+
+    /// What a word holds. The page has to have the word, which [`Layout::has`] tests.
+    pub fn load(&self, name: WordName) -> u64
+        requires { Has self.now.orders name }
+        ensures value { result ≡ slice_index self.now.list (index_of self.now.orders name) }
+        ensures within { result < 2 ^ 64 }
+        ensures count { length self.now.list ≡ word_count self.now.orders }
+    {
+        self.list[Layout::new(self.orders).word(name)]
+    }
+
+    /// Makes a word hold a value. The page has to have the word, which [`Layout::has`] tests.
+    pub fn store(&mut self, name: WordName, value: u64)
+        requires { Has self.old.orders name }
+        ensures words { self.new ≡ record self.old { list = slice_set self.old.list (index_of self.old.orders name) value } }
+        ensures count { length self.new.list ≡ word_count self.new.orders }
+    {
+        let index = Layout::new(self.orders).word(name);
+        self.list[index] = value;
+    }
+}
