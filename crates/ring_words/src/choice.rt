@@ -1,6 +1,6 @@
 //! The choice and the check of ring orders, as in libxenvchan's `init.c`.
 ghost use Rattle.std.specs.Prelude.{◌≡◌, ◌≤◌, ◌<◌, ◌↔◌, IsOk, IsErr, IfOk, IfErr};
-ghost use Rattle.ring_words.specs.Choice.{IsChosen, AreBadOrders, first_too_large};
+ghost use Rattle.ring_words.specs.Choice.{AreChosen, AreBadOrders, largest_size, refused_size};
 ghost use Rattle.ring_words.specs.Rings.{number_of};
 
 use crate::order::{Order, Orders};
@@ -38,9 +38,9 @@ pub struct BadOrders {
 /// [`SizeTooLarge`] where a size is above 1,048,576 bytes. It names the left size where that is
 /// one.
 pub fn choose_orders(left: u32, right: u32) -> Result<Orders, SizeTooLarge>
-    ensures ok { IsOk result ↔ ((left ≤ 1048576) × (right ≤ 1048576)) }
-    ensures chosen { IfOk result (λ orders. IsChosen left right orders) }
-    ensures too_large { IfErr result (λ e. (1048576 < e.size) × (e.size ≡ first_too_large left right)) }
+    ensures ok { IsOk result ↔ ((left ≤ largest_size) × (right ≤ largest_size)) }
+    ensures chosen { IfOk result (AreChosen left right) }
+    ensures too_large { IfErr result (λ e. (largest_size < e.size) × (e.size ≡ refused_size left right)) }
 {
     if left > LARGEST_SIZE {
         return Err(SizeTooLarge { size: left });
@@ -48,32 +48,18 @@ pub fn choose_orders(left: u32, right: u32) -> Result<Orders, SizeTooLarge>
     if right > LARGEST_SIZE {
         return Err(SizeTooLarge { size: right });
     }
-    Ok(if left <= SMALL_SIZE && right <= LARGE_SIZE {
-        Orders {
-            left: Order::SMALL,
-            right: Order::LARGE,
-        }
+    let (left, right) = if left <= SMALL_SIZE && right <= LARGE_SIZE {
+        (Order::SMALL, Order::LARGE)
     } else if left <= LARGE_SIZE && right <= SMALL_SIZE {
-        Orders {
-            left: Order::LARGE,
-            right: Order::SMALL,
-        }
+        (Order::LARGE, Order::SMALL)
     } else if left <= LARGE_SIZE {
-        Orders {
-            left: Order::LARGE,
-            right: Order::least_for(right),
-        }
+        (Order::LARGE, Order::least_for(right))
     } else if right <= LARGE_SIZE {
-        Orders {
-            left: Order::least_for(left),
-            right: Order::LARGE,
-        }
+        (Order::least_for(left), Order::LARGE)
     } else {
-        Orders {
-            left: Order::least_for(left),
-            right: Order::least_for(right),
-        }
-    })
+        (Order::least_for(left), Order::least_for(right))
+    };
+    Ok(Orders { left, right })
 }
 
 /// The orders that a page's two order fields say.
@@ -97,4 +83,67 @@ pub fn check_orders(left: u16, right: u16) -> Result<Orders, BadOrders>
         left: left_order,
         right: right_order,
     })
+}
+
+#[cfg(test)]
+mod tests {
+    use super::*;
+
+    /// The two numbers of a pair of orders.
+    fn numbers(orders: Orders) -> (u16, u16) {
+        (orders.left.number(), orders.right.number())
+    }
+
+    #[test]
+    fn chooses_orders(rt: HostRuntime) {
+        let rows = [
+            ((0, 0), Ok((10, 11))),
+            ((1024, 2048), Ok((10, 11))),
+            ((2048, 1024), Ok((11, 10))),
+            ((1025, 1024), Ok((11, 10))),
+            ((2000, 2000), Ok((11, 12))),
+            ((1024, 2049), Ok((11, 12))),
+            ((3000, 100), Ok((12, 11))),
+            ((2049, 2048), Ok((12, 11))),
+            ((4096, 4097), Ok((12, 13))),
+            ((5000, 70000), Ok((13, 17))),
+            ((1_048_576, 1_048_576), Ok((20, 20))),
+            ((0, 1_048_577), Err(1_048_577)),
+            ((1_048_577, 0), Err(1_048_577)),
+            ((2_000_000, 3_000_000), Err(2_000_000)),
+        ];
+        for ((left, right), want) in rows {
+            let chosen = choose_orders(left, right).map(numbers).map_err(|e| e.size);
+            assert_eq!(rt; chosen, want, "at {left} {right}");
+        }
+    }
+
+    #[test]
+    fn checks_orders(rt: HostRuntime) {
+        let rows = [
+            (9, 12, false),
+            (12, 9, false),
+            (10, 11, true),
+            (11, 10, true),
+            (10, 10, false),
+            (11, 11, false),
+            (12, 12, true),
+            (20, 20, true),
+            (10, 20, true),
+            (21, 12, false),
+            (12, 21, false),
+        ];
+        for (left, right, good) in rows {
+            let want = if good {
+                Ok((left, right))
+            } else {
+                Err(BadOrders { left, right })
+            };
+            assert_eq!(rt;
+                check_orders(left, right).map(numbers),
+                want,
+                "at {left} {right}"
+            );
+        }
+    }
 }

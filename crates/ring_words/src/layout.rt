@@ -1,8 +1,8 @@
 //! Where the words of a page lie in a list.
 ghost use Rattle.std.specs.Prelude.{◌≡◌, ◌<◌, ◌↔◌, IsTrue};
-ghost use Rattle.ring_words.specs.Page.{Has, index_of, word_count, order_of};
+ghost use Rattle.ring_words.specs.Page.{Has, index_of, word_count};
 
-use crate::order::{Order, Orders};
+use crate::order::Orders;
 use crate::page::{Ring, WordName};
 
 /// The number of the words before the rings.
@@ -37,7 +37,7 @@ impl Layout {
         ensures { IsTrue result ↔ Has self.now.orders name }
     {
         match name {
-            WordName::RingByte { ring, at } => at < self.order(ring).size(),
+            WordName::RingByte { ring, at } => at < self.orders.order_of(ring).size(),
             _ => true,
         }
     }
@@ -73,13 +73,59 @@ impl Layout {
             } => { HEADER + self.orders.left.size() as usize + at as usize }
         }
     }
+}
 
-    fn order(&self, ring: Ring) -> Order
-        ensures { result ≡ order_of self.now.orders ring }
-    {
-        match ring {
-            Ring::Left => self.orders.left,
-            Ring::Right => self.orders.right,
+#[cfg(test)]
+mod tests {
+    use super::*;
+    use crate::choice::check_orders;
+    use std::test::Fail;
+
+    #[test]
+    fn numbers_the_words(rt: HostRuntime) -> Result<(), Fail> {
+        let layout = Layout::new(check_orders(10, 11)?);
+        let rows = [
+            (WordName::LeftCons, 0),
+            (WordName::LeftProd, 1),
+            (WordName::RightCons, 2),
+            (WordName::RightProd, 3),
+            (WordName::LeftOrder, 4),
+            (WordName::RightOrder, 5),
+            (WordName::CliLive, 6),
+            (WordName::SrvLive, 7),
+            (WordName::CliNotify, 8),
+            (WordName::SrvNotify, 9),
+            (WordName::SrvPending, 10),
+            (WordName::CliPending, 11),
+            (WordName::SrvGone, 12),
+            (WordName::CliGone, 13),
+            (byte(Ring::Left, 0), 14),
+            (byte(Ring::Left, 1023), 1037),
+            (byte(Ring::Right, 0), 1038),
+            (byte(Ring::Right, 2047), 3085),
+        ];
+        for (name, number) in rows {
+            assert!(rt; layout.has(name), "at {name:?}");
+            assert_eq!(rt; layout.word(name), number, "at {name:?}");
         }
+        assert_eq!(rt; layout.count(), 3086);
+        Ok(())
+    }
+
+    #[test]
+    fn has_no_byte_beyond_a_ring(rt: HostRuntime) -> Result<(), Fail> {
+        let layout = Layout::new(check_orders(10, 11)?);
+        for name in [
+            byte(Ring::Left, 1024),
+            byte(Ring::Right, 2048),
+            byte(Ring::Right, u32::MAX),
+        ] {
+            assert!(rt; !layout.has(name), "at {name:?}");
+        }
+        Ok(())
+    }
+
+    fn byte(ring: Ring, at: u32) -> WordName {
+        WordName::RingByte { ring, at }
     }
 }

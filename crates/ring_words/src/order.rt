@@ -1,6 +1,8 @@
 //! The sizes of rings, as powers of two.
 ghost use Rattle.std.specs.Prelude.{◌≡◌, ◌≤◌, ◌<◌, ◌^◌, ◌⊎◌, IsNone, IfSome, ◌↔◌, ◌≢◌};
 
+use crate::page::Ring;
+
 /// The size of a ring, as an exponent of two: a ring of order n has 2^n bytes. It is the number of
 /// the fields `left_order` and `right_order` in Xen's `public/io/libxenvchan.h`.
 #[derive(Clone, Copy, Debug, PartialEq, Eq)]
@@ -24,7 +26,7 @@ pub struct Orders {
 
 impl Order {
     ghost use Rattle.ring_words.specs.Rings.{number_of, size};
-    ghost use Rattle.ring_words.specs.Choice.{IsLeastOrder};
+    ghost use Rattle.ring_words.specs.Choice.{IsLeastOrder, largest_size};
 
     /// The smaller ring within the shared page, of 1,024 bytes.
     pub(crate) const SMALL: Order = Order { number: 10 };
@@ -37,15 +39,15 @@ impl Order {
         ensures none { IsNone result ↔ ((number < 10) ⊎ (20 < number)) }
         ensures number { IfSome result (λ order. number_of order ≡ number) }
     {
-        if number < 10 || number > 20 {
-            return None;
+        match number {
+            10..=20 => Some(Order { number }),
+            _ => None,
         }
-        Some(Order { number })
     }
 
     /// The least order, from 12 on, whose ring holds `bytes` bytes.
     pub(crate) fn least_for(bytes: u32) -> Order
-        requires { bytes ≤ 1048576 }
+        requires { bytes ≤ largest_size }
         ensures { IsLeastOrder bytes (number_of result) }
     {
         for number in 12..20 {
@@ -70,5 +72,46 @@ impl Order {
         ensures within { (1024 ≤ result) × (result ≤ 1048576) }
     {
         1u32 << self.number
+    }
+}
+
+impl Orders {
+    ghost use Rattle.ring_words.specs.Page.{order_of};
+
+    /// The order of one of the two rings.
+    pub fn order_of(self, ring: Ring) -> Order
+        ensures { result ≡ order_of self ring }
+    {
+        match ring {
+            Ring::Left => self.left,
+            Ring::Right => self.right,
+        }
+    }
+}
+
+#[cfg(test)]
+mod tests {
+    use super::*;
+
+    #[test]
+    fn orders_are_ten_to_twenty(rt: HostRuntime) {
+        let sizes = [
+            (0, None),
+            (9, None),
+            (10, Some(1024)),
+            (11, Some(2048)),
+            (20, Some(1_048_576)),
+            (21, None),
+            (u16::MAX, None),
+        ];
+        for (number, size) in sizes {
+            let order = Order::new(number);
+            assert_eq!(rt; order.map(|order| order.size()), size, "at {number}");
+            assert_eq!(rt;
+                order.map(|order| order.number()),
+                size.map(|_| number),
+                "at {number}"
+            );
+        }
     }
 }

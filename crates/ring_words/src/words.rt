@@ -28,7 +28,8 @@ impl Model for Words {
 }
 
 impl Words {
-    /// A page of these words, of which there are as many as [`Layout::count`] says.
+    /// A page of these words, of which there have to be as many as [`Layout::count`] says. It only
+    /// keeps the list that it is handed.
     pub fn of(orders: Orders, list: Vec<u64>) -> Words
         requires { vec_len list ≡ word_count orders }
         ensures orders { result.orders ≡ orders }
@@ -71,5 +72,36 @@ impl Words {
     {
         let index = Layout::new(self.orders).word(name);
         self.list[index] = value;
+    }
+}
+
+#[cfg(test)]
+mod tests {
+    use super::*;
+    use crate::choice::check_orders;
+    use crate::page::Ring;
+    use std::test::Fail;
+
+    #[test]
+    fn holds_what_was_stored(rt: HostRuntime) -> Result<(), Fail> {
+        let orders = check_orders(10, 11)?;
+        let layout = Layout::new(orders);
+        let mut words = Words::of(orders, vec![in rt.alloc(); 0u64; layout.count()]?);
+        let first = WordName::RingByte {
+            ring: Ring::Right,
+            at: 0,
+        };
+        assert!(rt; layout.has(first));
+        words.store(WordName::RightProd, 4_294_967_295);
+        words.store(first, u64::MAX);
+        assert_eq!(rt; words.load(WordName::RightProd), 4_294_967_295);
+        assert_eq!(rt; words.load(first), u64::MAX);
+        assert_eq!(rt; words.load(WordName::LeftProd), 0);
+        assert_eq!(rt; words.orders(), orders);
+        let list = words.list();
+        assert_eq!(rt; list.len(), 3086);
+        assert_eq!(rt; list[3], 4_294_967_295);
+        assert_eq!(rt; list[1038], u64::MAX);
+        Ok(())
     }
 }

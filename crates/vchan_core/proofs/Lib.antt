@@ -1,3 +1,4 @@
 pub mod PlanLaws
 pub mod Bounds
 pub mod Counted
+pub mod StepLaws

@@ -23,7 +23,7 @@ use Rattle.vchan_core.specs.declared.side.Notes.{Notes}
 use Rattle.vchan_core.specs.declared.side.EndedBy.{EndedBy}
 use Rattle.vchan_core.specs.declared.side.EndedBy.TheVariants.{AllRead as ByAllRead, PeerGone as ByPeerGone}
 use Rattle.vchan_core.specs.Plan.{Plan, answers, does, next_op, after, left_after, past}
-use Rattle.vchan_core.specs.Ends.{Standing, state_after, prod_after, cons_after, low8, low32}
+use Rattle.vchan_core.specs.Ends.{Standing, standing_after, state_after, prod_after, cons_after, low8, low32}
 use Rattle.vchan_core.specs.Calls.{plan_of}
 use Rattle.vchan_core.specs.Apply.{words_after, value_taken}
 use Rattle.vchan_core.specs.Page.{start_words}
@@ -89,6 +89,11 @@ begun_standing s b = record { role = s.role; orders = s.orders; state = b.state;
 -- how the end stands now
 abbrev pub standing_of : Side → Standing
 standing_of s = record { role = s.role; orders = s.orders; state = s.state; prod = s.prod; cons = s.cons }
+
+-- how an end stands after these events of its own
+abbrev pub standing_along : Standing → List PastEvent → Standing
+standing_along e [] = e
+standing_along e (event ∷ events) = standing_along (standing_after e event.op) events
 
 -- what is left of its call, by its trail
 abbrev pub plan_left : Side → Plan
@@ -240,14 +245,19 @@ answer_in (answers answer) = Some answer
 answer_in (does op next) = None
 
 -- where nothing is left of its call, the end has its answer
-abbrev pub settled : Core → Role → Plan → Core
-settled core who (answers answer) = with_side core who (answered (side_of core who) answer)
-settled core who (does op next) = core
+abbrev pub settled : Side → Plan → Side
+settled s (answers answer) = answered s answer
+settled s (does op next) = s
 
--- what is left of an end's call after its next event
+-- the event that an end makes next, the value that it takes, and what is left of its call then
+abbrev pub taken_next : Core → Role → ℕ
+taken_next core who = value_taken core.orders core.words (op_next (side_of core who))
+
 abbrev pub plan_next : Core → Role → Plan
-plan_next core who = after (plan_left (side_of core who)) (value_taken core.orders core.words (op_next (side_of core who)))
+plan_next core who = after (plan_left (side_of core who)) (taken_next core who)
 
--- the next event of an end, and its answer where that was the last one of the call
+-- the next event of an end, and its answer where that was the last event of the call
 unfoldable pub event : Core → Role → Core
-event core who = settled (carried_out core who (op_next (side_of core who))) who (plan_next core who)
+event core who =
+    with_side (record core { words = words_after core.orders core.words (side_of core who).payload (op_next (side_of core who)) }) who
+        (settled (made (side_of core who) (op_next (side_of core who)) (taken_next core who)) (plan_next core who))

@@ -15,7 +15,7 @@ use Rattle.vchan_core.specs.Plan.{Leads, next_op}
 use Rattle.vchan_core.specs.Calls.{plan_of, payload_of}
 use Rattle.vchan_core.specs.Phases.{standing, rest, IsIdle}
 use Rattle.vchan_core.specs.Counts.{capped}
-use Rattle.vchan_core.specs.Core.{Core, side_of, writer_of, reader_of, standing_of, begun_standing}
+use Rattle.vchan_core.specs.Core.{Core, side_of, writer_of, reader_of, standing_of, begun_standing, standing_along}
 
 -- ---- the parts of a plain page
 
@@ -47,10 +47,11 @@ op_of page who = next_op (rest (machine_of page who))
 
 -- ---- what they stand for
 
--- the machine is in the call that this end has begun, after the events of the end's trail; or both are between two calls
+-- Both are between two calls. Or the machine is in the call that this end has begun, after the events of its trail, and these made the end stand as it does
 abbrev pub IsInCall : Side → Option Begun → Machine → Type 0
 IsInCall s None m = IsIdle m
-IsInCall s (Some b) m = (¬ IsIdle m) × Leads (plan_of (begun_standing s b) b.call) s.trail (rest m) × (length s.payload ≡ payload_of b.call)
+IsInCall s (Some b) m = (¬ IsIdle m) × Leads (plan_of (begun_standing s b) b.call) s.trail (rest m) ×
+    (length s.payload ≡ payload_of b.call) × (standing_along (begun_standing s b) s.trail ≡ standing_of s)
 
 -- the machine stands where this end stands
 pub record IsMachineOf (s : Side) (m : Machine) : Type 0 where

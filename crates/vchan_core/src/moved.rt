@@ -1,4 +1,4 @@
-ghost use Rattle.std.specs.Prelude.{◌≡◌, ◌≤◌, ◌+◌, ◌∷◌, ◌++◌, [], List, ◌↔◌, IsSome};
+ghost use Rattle.std.specs.Prelude.{◌≡◌, ◌<◌, ◌≤◌, ◌^◌, ℕ, ◌+◌, ◌∷◌, ◌++◌, [], List, ◌↔◌, IsSome};
 
 use crate::call::Answer;
 use crate::machine::Machine;
@@ -40,6 +40,7 @@ impl Moved {
         requires { ¬ IsIdle machine.old }
         ensures sent { writes.new ≡ record writes.old { sent = capped (writes.old.sent + diff (standing machine.new).prod (standing machine.old).prod) } }
         ensures got { reads.new ≡ record reads.old { got = capped (reads.old.got + diff (standing machine.new).cons (standing machine.old).cons) } }
+        ensures low { ((standing machine.old).prod < 2 ^ 32) × ((standing machine.old).cons < 2 ^ 32) }
         ensures rest { left_of result machine.new ≡ after (rest machine.old) value }
         ensures idle { IsSome result ↔ IsIdle machine.new }
         ensures standing { standing machine.new ≡ standing_after (standing machine.old) (next_op (rest machine.old)) }

@@ -1,4 +1,4 @@
-use Rattle.std.proofs.Common.{◌≤◌, ◌<◌, ◌^◌, arith, below_more}
+use Rattle.std.proofs.Common.{◌<◌, ◌^◌, arith, below_more}
 use Rattle.ring_words.specs.Rings.{size}
 use Rattle.ring_words.proofs.ChoiceLaws.{least_order}
 use Rattle.ring_words.proofs.order.Order.least_for.Goals as goal
