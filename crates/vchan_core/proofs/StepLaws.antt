@@ -4,7 +4,7 @@ use Rattle.std.proofs.lemmas.List.{get_or-take, length-take, length-append}
 use Rattle.std.proofs.lemmas.Bool.{false≢true}
 use Rattle.std.proofs.lemmas.Bool.Decides.{nat_tests}
 use Rattle.ring_words.specs.Rings.{diff}
-use Rattle.ring_words.proofs.RingLaws.{size-within}
+use Rattle.ring_words.proofs.RingLaws.{size-within, diff-wraps}
 use Rattle.ring_words.specs.declared.order.Orders.{Orders}
 use Rattle.ring_words.specs.declared.page.Role.{Role}
 use Rattle.ring_words.specs.declared.page.Role.TheVariants.{Server, Client}
@@ -401,3 +401,19 @@ answer_is core who orders words m m' result h same_orders same_words busy leads 
         leads ∙ ap (λ (o : Orders). after (rest m) (value_taken o words (next_op (rest m)))) same_orders ∙ ap (λ (w : List ℕ). after (rest m) (value_taken core.orders w (next_op (rest m)))) same_words in
     sym (answer_in-left m' result idle) ∙ ap answer_in there
     ∙ ap (λ (plan : Plan). answer_in (after plan (value_taken core.orders core.words (next_op plan)))) (sym (plan_left-is (side_of core who) m (in_call (side_of core who) m h busy)))
+
+-- ---- for the code
+
+-- a count that is raised by what the code subtracts with wrapping
+pub counts_on : (result was from x y before then_after : ℕ) → x ≡ then_after → y ≡ before → x < 2 ^ 32 → y < 2 ^ 32 → from ≡ (x + (4294967296 - y)) % 4294967296 → result ≡ min (was + from) 18446744073709551615 →
+    result ≡ capped (was + diff then_after before)
+counts_on result was from x y before then_after xs ys low_x low_y from_is is =
+    is ∙ ap (λ (n : ℕ). min (was + n) 18446744073709551615) (from_is ∙ diff-wraps x y low_x low_y ∙ ap (λ (n : ℕ). diff n y) xs ∙ ap (λ (n : ℕ). diff then_after n) ys)
+
+pub keeps_orders : (m m' : Machine) (op : Op) → standing m' ≡ standing_after (standing m) op → m'.orders ≡ m.orders
+unfolding standing_after
+keeps_orders m m' op is = ap (λ (e : Standing). e.orders) is
+
+pub keeps_role : (m m' : Machine) (op : Op) → standing m' ≡ standing_after (standing m) op → m'.role ≡ m.role
+unfolding standing_after
+keeps_role m m' op is = ap (λ (e : Standing). e.role) is
