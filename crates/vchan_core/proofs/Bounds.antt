@@ -69,16 +69,16 @@ unfolding write_looked
 ends_write_looked e n cons =
     let fits = room_within e.prod cons (write_order e) in
     ends_if _ (n == 0) _ _ (ends_answers _ (Wrote 0)) (ends_if _ (free_at e cons == 0) _ _ (ends_answers _ (Full e.prod cons))
-        (more_time (0 + 3 + min n (free_at e cons)) _ _ (omega arith) (ends_put e _ 0 _ (ends_answers _ (Wrote (min n (free_at e cons)))))))
+    (more_time (0 + 3 + min n (free_at e cons)) _ _ (omega arith) (ends_put e _ 0 _ (ends_answers _ (Wrote (min n (free_at e cons)))))))
 
 ends_write : (e : Standing) (n : ℕ) → EndsWithin (7 + min n (size (write_order e))) (write e n)
 unfolding write write_open
 ends_write e n =
     let k = min n (size (write_order e)) in
     ends_does _ (6 + k) _ _ (omega arith) (λ live. ends_if _ _ _ _ (ends_answers _ _)
-        (ends_does _ (5 + k) _ _ (omega arith) (λ value. ends_if _ _ _ _
-            (ends_does _ (4 + k) _ _ (omega arith) (λ _. ends_does _ (3 + k) _ _ (omega arith) (λ again. ends_write_looked e n _)))
-            (more_time (3 + k) _ _ (omega arith) (ends_write_looked e n _)))))
+    (ends_does _ (5 + k) _ _ (omega arith) (λ value. ends_if _ _ _ _
+    (ends_does _ (4 + k) _ _ (omega arith) (λ _. ends_does _ (3 + k) _ _ (omega arith) (λ again. ends_write_looked e n _)))
+    (more_time (3 + k) _ _ (omega arith) (ends_write_looked e n _)))))
 
 -- a call that looks, asks and looks again
 ends_looks : (less : ℕ) (b : Bool) (op asked : Op) (again : ℕ → Plan) (now : Plan) → ((value : ℕ) → EndsWithin less (again value)) → EndsWithin less now →
@@ -187,7 +187,7 @@ unfolding send send_open
 ends_send e n =
     let k = min n (write_size e) in
     ends_does _ (6 + k) _ _ (omega arith) (λ live. ends_if _ _ _ _ (ends_answers _ _)
-        (ends_does _ (3 + k + 2) _ _ (omega arith) (λ value. ends_looks (3 + k) _ _ _ _ _ (λ again. ends_send_looked e n _) (ends_send_looked e n _))))
+    (ends_does _ (3 + k + 2) _ _ (omega arith) (λ value. ends_looks (3 + k) _ _ _ _ _ (λ again. ends_send_looked e n _) (ends_send_looked e n _))))
 
 ends_signal : (e : Standing) (most : ℕ) (next : Plan) → EndsWithin most next → EndsWithin (most + 1) (signal e next)
 ends_signal e most next w = ends_does _ most _ _ (omega arith) (λ _. w)
@@ -207,7 +207,7 @@ ends_connect : (e : Standing) → EndsWithin 7 (connect e)
 unfolding connect connect_right
 ends_connect e =
     ends_does _ 2 _ _ (omega arith) (λ left. ends_does _ 1 _ _ (omega arith) (λ right.
-        ends_if _ _ _ _ (ends_does _ 0 _ _ (omega arith) (λ _. ends_answers _ _)) (ends_answers _ _)))
+    ends_if _ _ _ _ (ends_does _ 0 _ _ (omega arith) (λ _. ends_answers _ _)) (ends_answers _ _)))
 
 -- each call
 pub ends_call : (e : Standing) (call : Call) → EndsWithin (most_events e call) (plan_of e call)

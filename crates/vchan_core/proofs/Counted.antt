@@ -168,7 +168,7 @@ module _ (e : Standing) (out into : ℕ) where
   counted_notify : (now : Standing) (s l : ℕ) (bit : Bit) (answer : Answer) → Counted e out into now s l (notify e bit (answers answer))
   counted_notify now s l bit answer =
       counted_and now s l _ _ _ (has_notify e.orders e.role) (λ value. counted_if now s l _ _ _ (counted_answers now s l answer)
-          (counted_signal now s l (answers answer) (λ then_now. counted_answers then_now s l answer)))
+      (counted_signal now s l (answers answer) (λ then_now. counted_answers then_now s l answer)))
 
   counted_put_bytes : (k i : ℕ) (now : Standing) (l : ℕ) (next : Plan) → i + k ≤ out → ((s : ℕ) → s ≡ i + k → Counted e out into now s l next) → Counted e out into now i l (put_bytes e i k next)
   unfolding Counted standing_after
@@ -185,12 +185,12 @@ module _ (e : Standing) (out into : ℕ) where
   counted_put : (k : ℕ) (answer : Answer) → k ≤ out → Counted e out into e 0 0 (put e k (answers answer))
   counted_put k answer fits =
       counted_put_bytes k 0 e 0 _ (omega (arith, fits)) (λ s is. counted_store e s 0 _ _ _
-          (owes_prod e.role e.orders e s 0 _ (ap (λ (j : ℕ). (e.prod + j) % 2 ^ 32) (omega (arith, is)))) (λ then_now value. counted_notify then_now s 0 Written answer))
+      (owes_prod e.role e.orders e s 0 _ (ap (λ (j : ℕ). (e.prod + j) % 2 ^ 32) (omega (arith, is)))) (λ then_now value. counted_notify then_now s 0 Written answer))
 
   counted_take : (k : ℕ) (answer : Answer) → k ≤ into → Counted e out into e 0 0 (take e k (answers answer))
   counted_take k answer fits =
       counted_take_bytes k 0 e 0 _ (omega (arith, fits)) (λ l is. counted_store e 0 l _ _ _
-          (owes_cons e.role e.orders e 0 l _ (ap (λ (j : ℕ). (e.cons + j) % 2 ^ 32) (omega (arith, is)))) (λ then_now value. counted_notify then_now 0 l Consumed answer))
+      (owes_cons e.role e.orders e 0 l _ (ap (λ (j : ℕ). (e.cons + j) % 2 ^ 32) (omega (arith, is)))) (λ then_now value. counted_notify then_now 0 l Consumed answer))
 
 -- ---- the rows
 
@@ -213,15 +213,15 @@ module _ (e : Standing) (n : ℕ) where
   unfolding write_looked
   counted_write_looked cons =
       counted_if e write_most 0 e 0 0 (n == 0) _ _ (counted_answers e write_most 0 e 0 0 (Wrote 0))
-          (counted_if e write_most 0 e 0 0 (free_at e cons == 0) _ _ (counted_answers e write_most 0 e 0 0 (Full e.prod cons))
-              (counted_put e write_most 0 (min n (free_at e cons)) (Wrote (min n (free_at e cons))) (free_fits cons)))
+      (counted_if e write_most 0 e 0 0 (free_at e cons == 0) _ _ (counted_answers e write_most 0 e 0 0 (Full e.prod cons))
+      (counted_put e write_most 0 (min n (free_at e cons)) (Wrote (min n (free_at e cons))) (free_fits cons)))
 
   counted_write : Counted e write_most 0 e 0 0 (write e n)
   unfolding write write_open
   counted_write =
       counted_live e write_most 0 e 0 0 _ (λ live. counted_if e write_most 0 e 0 0 _ _ _ (counted_answers e write_most 0 e 0 0 _)
-          (counted_look_write e write_most 0 e 0 0 _ (λ cons. counted_if e write_most 0 e 0 0 (nat_lt (free_at e cons) n) _ _
-              (counted_ask e write_most 0 e 0 0 Consumed _ (counted_look_write e write_most 0 e 0 0 _ counted_write_looked)) (counted_write_looked cons))))
+      (counted_look_write e write_most 0 e 0 0 _ (λ cons. counted_if e write_most 0 e 0 0 (nat_lt (free_at e cons) n) _ _
+      (counted_ask e write_most 0 e 0 0 Consumed _ (counted_look_write e write_most 0 e 0 0 _ counted_write_looked)) (counted_write_looked cons))))
 
   counted_send_looked : (cons : ℕ) → Counted e write_most 0 e 0 0 (send_looked e n cons)
   unfolding send_looked
@@ -235,20 +235,20 @@ module _ (e : Standing) (n : ℕ) where
   unfolding send send_open
   counted_send =
       counted_live e write_most 0 e 0 0 _ (λ live. counted_if e write_most 0 e 0 0 _ _ _ (counted_answers e write_most 0 e 0 0 _)
-          (counted_look_write e write_most 0 e 0 0 _ (λ cons. counted_if e write_most 0 e 0 0 (nat_lt (free_at e cons) n) _ _
-              (counted_ask e write_most 0 e 0 0 Consumed _ (counted_look_write e write_most 0 e 0 0 _ counted_send_looked)) (counted_send_looked cons))))
+      (counted_look_write e write_most 0 e 0 0 _ (λ cons. counted_if e write_most 0 e 0 0 (nat_lt (free_at e cons) n) _ _
+      (counted_ask e write_most 0 e 0 0 Consumed _ (counted_look_write e write_most 0 e 0 0 _ counted_send_looked)) (counted_send_looked cons))))
 
   counted_read_looked : (prod : ℕ) → Counted e 0 read_most e 0 0 (read_looked e n prod)
   unfolding read_looked read_live
   counted_read_looked prod =
       counted_if e 0 read_most e 0 0 _ _ _ (counted_live e 0 read_most e 0 0 _ (λ live. counted_if e 0 read_most e 0 0 _ _ _ (counted_answers e 0 read_most e 0 0 _) (counted_answers e 0 read_most e 0 0 _)))
-          (counted_take e 0 read_most _ _ (ready_fits prod))
+      (counted_take e 0 read_most _ _ (ready_fits prod))
 
   counted_read : Counted e 0 read_most e 0 0 (read e n)
   unfolding read
   counted_read =
       counted_look_read e 0 read_most e 0 0 _ (λ prod. counted_if e 0 read_most e 0 0 (nat_lt (ready_at e prod) n) _ _
-          (counted_ask e 0 read_most e 0 0 Written _ (counted_look_read e 0 read_most e 0 0 _ counted_read_looked)) (counted_read_looked prod))
+      (counted_ask e 0 read_most e 0 0 Written _ (counted_look_read e 0 read_most e 0 0 _ counted_read_looked)) (counted_read_looked prod))
 
   counted_recv_looked : (prod : ℕ) → Counted e 0 read_most e 0 0 (recv_looked e n prod)
   unfolding recv_looked recv_live
@@ -256,6 +256,7 @@ module _ (e : Standing) (n : ℕ) where
     where
       live : Counted e 0 read_most e 0 0 (recv_live e prod)
       live = counted_live e 0 read_most e 0 0 _ (λ value. counted_if e 0 read_most e 0 0 _ _ _ (counted_answers e 0 read_most e 0 0 _) (counted_answers e 0 read_most e 0 0 _))
+
       go : (ready_at e prod < n) ⊎ (n ≤ ready_at e prod) → Counted e 0 read_most e 0 0 (cond (nat_lt (ready_at e prod) n) (recv_live e prod) (take e n (answers (Got n))))
       go (inl less) = simp (lt-ltb _ _ less) live
       go (inr enough) = counted_if e 0 read_most e 0 0 _ _ _ live (counted_take e 0 read_most n _ (omega (arith, ready_fits prod, enough)))
@@ -264,7 +265,7 @@ module _ (e : Standing) (n : ℕ) where
   unfolding recv
   counted_recv =
       counted_look_read e 0 read_most e 0 0 _ (λ prod. counted_if e 0 read_most e 0 0 (nat_lt (ready_at e prod) n) _ _
-          (counted_ask e 0 read_most e 0 0 Written _ (counted_look_read e 0 read_most e 0 0 _ counted_recv_looked)) (counted_recv_looked prod))
+      (counted_ask e 0 read_most e 0 0 Written _ (counted_look_read e 0 read_most e 0 0 _ counted_recv_looked)) (counted_recv_looked prod))
 
   counted_found : (prod : ℕ) (next : Plan) → Counted e 0 read_most e 0 0 next → Counted e 0 read_most e 0 0 (drain_found e n prod next)
   counted_found prod next w = counted_if e 0 read_most e 0 0 _ _ _ w (counted_take e 0 read_most _ _ (ready_fits prod))
@@ -273,20 +274,20 @@ module _ (e : Standing) (n : ℕ) where
   unfolding drain_gone drain_last
   counted_drain_gone prod =
       counted_gone e 0 read_most e 0 0 _ (λ gone. counted_if e 0 read_most e 0 0 _ _ _ (counted_answers e 0 read_most e 0 0 _)
-          (counted_look_read e 0 read_most e 0 0 _ (λ again. counted_found again _ (counted_answers e 0 read_most e 0 0 (IsGone again e.cons)))))
+      (counted_look_read e 0 read_most e 0 0 _ (λ again. counted_found again _ (counted_answers e 0 read_most e 0 0 (IsGone again e.cons)))))
 
   counted_drain_live : (prod : ℕ) → Counted e 0 read_most e 0 0 (drain_live e n prod)
   unfolding drain_live drain_further
   counted_drain_live prod =
       counted_live e 0 read_most e 0 0 _ (λ live. counted_if e 0 read_most e 0 0 _ _ _
-          (counted_look_read e 0 read_most e 0 0 _ (λ again. counted_if e 0 read_most e 0 0 (again == e.cons) _ _ (counted_answers e 0 read_most e 0 0 AllRead) (counted_found again _ (counted_drain_gone again))))
-          (counted_drain_gone prod))
+      (counted_look_read e 0 read_most e 0 0 _ (λ again. counted_if e 0 read_most e 0 0 (again == e.cons) _ _ (counted_answers e 0 read_most e 0 0 AllRead) (counted_found again _ (counted_drain_gone again))))
+      (counted_drain_gone prod))
 
   counted_drain : Counted e 0 read_most e 0 0 (drain e n)
   unfolding drain drain_second
   counted_drain =
       counted_look_read e 0 read_most e 0 0 _ (λ prod. counted_found prod _ (counted_ask e 0 read_most e 0 0 Written _
-          (counted_look_read e 0 read_most e 0 0 _ (λ again. counted_found again _ (counted_drain_live again)))))
+      (counted_look_read e 0 read_most e 0 0 _ (λ again. counted_found again _ (counted_drain_live again)))))
 
 counted_close : (e now : Standing) (next : Plan) → ((then_now : Standing) → Counted e 0 0 then_now 0 0 next) → Counted e 0 0 now 0 0 (close e next)
 counted_close e now next w =
@@ -305,7 +306,7 @@ counted_connect : (e : Standing) → Counted e 0 0 e 0 0 (connect e)
 unfolding connect connect_right
 counted_connect e =
     counted_load e 0 0 e 0 0 _ _ tt (λ left. counted_load e 0 0 e 0 0 _ _ tt (λ right. counted_if e 0 0 e 0 0 _ _ _
-        (counted_store e 0 0 e 0 0 _ _ _ (tt, tt) (λ then_now value. counted_answers e 0 0 then_now 0 0 _)) (counted_answers e 0 0 e 0 0 _)))
+    (counted_store e 0 0 e 0 0 _ _ _ (tt, tt) (λ then_now value. counted_answers e 0 0 then_now 0 0 _)) (counted_answers e 0 0 e 0 0 _)))
 
 -- each call
 pub counted_call : (e : Standing) (call : Call) → Counted e (stored_most e call) (loaded_most e call) e 0 0 (plan_of e call)
@@ -334,7 +335,7 @@ Counted-Leads e out into now s l plan [] rest w led =
 Counted-Leads e out into now s l (answers answer) (event ∷ events) rest w led = absurd led
 Counted-Leads e out into now s l (does op next) (event ∷ events) rest w led =
     moved_on e out into (standing_along (standing_after now event.op) events) s l event.op event.taken events rest (Counted-Leads e out into (standing_after now event.op) (stored_then event.op s) (loaded_then event.op l) (next event.taken) events rest
-        (subst (λ (o : Op). Counted e out into (standing_after now o) (stored_then o s) (loaded_then o l) (next event.taken)) (sym led.0) (w.1 event.taken)) led.1)
+    (subst (λ (o : Op). Counted e out into (standing_after now o) (stored_then o s) (loaded_then o l) (next event.taken)) (sym led.0) (w.1 event.taken)) led.1)
   where
     moved_on : (e : Standing) (out into : ℕ) (now : Standing) (s l : ℕ) (op : Op) (taken : ℕ) (events : List PastEvent) (rest : Plan) →
         Counted e out into now (stored_then op s + count_stored events) (loaded_then op l + length (bytes_loaded events)) rest →
@@ -357,8 +358,8 @@ within e out into now s l plan [] rest w led a b = (omega arith, omega arith)
 within e out into now s l (answers answer) (event ∷ events) rest w led a b = absurd led
 within e out into now s l (does op next) (event ∷ events) rest w led a b =
     step event.op event.taken (subst (λ (o : Op). Owes e out into now s l o) (sym led.0) w.0)
-        (within e out into (standing_after now event.op) (stored_then event.op s) (loaded_then event.op l) (next event.taken) events rest
-            (subst (λ (o : Op). Counted e out into (standing_after now o) (stored_then o s) (loaded_then o l) (next event.taken)) (sym led.0) (w.1 event.taken)) led.1)
+    (within e out into (standing_after now event.op) (stored_then event.op s) (loaded_then event.op l) (next event.taken) events rest
+    (subst (λ (o : Op). Counted e out into (standing_after now o) (stored_then o s) (loaded_then o l) (next event.taken)) (sym led.0) (w.1 event.taken)) led.1)
   where
     step : (op : Op) (taken : ℕ) → Owes e out into now s l op →
         (stored_then op s ≤ out → loaded_then op l ≤ into → (stored_then op s + count_stored events ≤ out) × (loaded_then op l + length (bytes_loaded events) ≤ into)) →

@@ -2,3 +2,4 @@ pub mod PlanLaws
 pub mod Bounds
 pub mod Counted
 pub mod StepLaws
+pub mod RunLaws

@@ -26,7 +26,7 @@ use Rattle.vchan_core.specs.declared.plain.Plain.{Plain}
 use Rattle.vchan_core.specs.Plan.{Plan, answers, does, next_op, after, left_after, past, Leads, GoesOn}
 use Rattle.vchan_core.specs.Ends.{Standing, read_size, write_size, read_order, write_order, standing_after, prod_stored, cons_stored, prod_after, cons_after}
 use Rattle.vchan_core.specs.Calls.{plan_of, payload_of, stored_most, loaded_most}
-use Rattle.vchan_core.specs.Apply.{words_after, word_of, value_taken}
+use Rattle.vchan_core.specs.Apply.{Fits, words_after, word_of, value_taken}
 use Rattle.vchan_core.specs.Phases.{standing, rest, left, IsIdle}
 use Rattle.vchan_core.specs.Core.{Core, side_of, with_side, event, plan_next, begun_standing, standing_of, standing_along, plan_left, op_next, made, settled, answered, answer_in, count_stored, bytes_loaded, sent_stored, sent_after, got_stored, got_after}
 use Rattle.vchan_core.specs.Counts.{capped}
@@ -34,7 +34,7 @@ use Rattle.vchan_core.specs.Past.{IsInCall, IsMachineOf, HasPayload, StandsFor, 
 use Rattle.vchan_core.proofs.PlanLaws.{Leads-more, GoesOn-machine, left_after-Leads}
 use Rattle.vchan_core.proofs.Counted.{Counted, Owes, OwesIndex, counted_call, counts_within, Counted-Leads}
 
--- the call that a busy machine is in
+-- the call that a busy machine is in, as a record
 pub record InCall (s : Side) (m : Machine) : Type 0 where
   pub begun : Begun
   pub is : s.call ≡ Some begun
@@ -53,7 +53,7 @@ in_call s m h busy = go s.call refl h.in_call
 pub plan_left-is : (s : Side) (m : Machine) → InCall s m → plan_left s ≡ rest m
 plan_left-is s m c =
     subst (λ (call : Option Begun). elim call [ None ↦ answers Done | Some b ↦ left_after (plan_of (begun_standing s b) b.call) s.trail ] ≡ rest m) (sym c.is)
-        (left_after-Leads (plan_of (begun_standing s c.begun) c.begun.call) s.trail (rest m) c.led)
+    (left_after-Leads (plan_of (begun_standing s c.begun) c.begun.call) s.trail (rest m) c.led)
 
 -- ---- the next event, counted
 
@@ -113,7 +113,7 @@ words_same s b orders words source Nothing pays has owes = refl
 
 -- ---- the machine and its end
 
-settled-on : (s : Side) (plan : Plan) → GoesOn plan → settled s plan ≡ s
+pub settled-on : (s : Side) (plan : Plan) → GoesOn plan → settled s plan ≡ s
 settled-on s (answers answer) more = absurd more
 settled-on s (does op next) more = refl
 
@@ -133,24 +133,29 @@ made_stands s m m' result taken h busy leads idle stands = go result leads idle
   where
     op : Op
     op = next_op (rest m)
+
     c : InCall s m
     c = in_call s m h busy
+
     now : standing m' ≡ standing_of (made s (next_op (rest m)) taken)
     now = stands ∙ ap (λ (e : Standing). standing_after e (next_op (rest m))) h.standing_is ∙ sym (standing_of-made s (next_op (rest m)) taken)
+
     trail_leads : Leads (plan_of (begun_standing s c.begun) c.begun.call) (s.trail ++ past (next_op (rest m)) taken ∷ []) (after (rest m) taken)
     trail_leads = Leads-more (plan_of (begun_standing s c.begun) c.begun.call) s.trail (rest m) taken (GoesOn-machine m busy) c.led
+
     along : standing_along (begun_standing s c.begun) (s.trail ++ past (next_op (rest m)) taken ∷ []) ≡ standing_of (made s (next_op (rest m)) taken)
     along =
         standing_along-push (begun_standing s c.begun) s.trail (past (next_op (rest m)) taken) ∙ ap (λ (e : Standing). standing_after e (next_op (rest m))) c.stands
         ∙ sym (standing_of-made s (next_op (rest m)) taken)
+
     go : (r : Option Answer) → left r m' ≡ after (rest m) taken → (IsSome r ↔ IsIdle m') → IsMachineOf (settled (made s (next_op (rest m)) taken) (after (rest m) taken)) m'
     go None same iff =
         let awake : ¬ IsIdle m' = λ quiet. false≢true (iff.1 quiet) in
         let on : GoesOn (after (rest m) taken) = subst GoesOn same (GoesOn-machine m' awake) in
         let inside : IsInCall (made s (next_op (rest m)) taken) (Some c.begun) m' =
-            (awake, subst (λ (p : Plan). Leads (plan_of (begun_standing s c.begun) c.begun.call) (s.trail ++ past (next_op (rest m)) taken ∷ []) p) (sym same) trail_leads, c.pays, along) in
+        (awake, subst (λ (p : Plan). Leads (plan_of (begun_standing s c.begun) c.begun.call) (s.trail ++ past (next_op (rest m)) taken ∷ []) p) (sym same) trail_leads, c.pays, along) in
         let there : IsMachineOf (made s (next_op (rest m)) taken) m' =
-            record { standing_is = now; in_call = subst (λ (call : Option Begun). IsInCall (made s (next_op (rest m)) taken) call m') (sym c.is) inside } in
+        record { standing_is = now; in_call = subst (λ (call : Option Begun). IsInCall (made s (next_op (rest m)) taken) call m') (sym c.is) inside } in
         subst (λ (x : Side). IsMachineOf x m') (sym (settled-on (made s (next_op (rest m)) taken) (after (rest m) taken) on)) there
     go (Some answer) same iff =
         let there : IsMachineOf (answered (made s (next_op (rest m)) taken) answer) m' = record { standing_is = now; in_call = iff.0 refl } in
@@ -331,7 +336,7 @@ abbrev pub event_by : Core → Role → Plan → Core
 event_by core who plan =
     with_side (record core { words = words_after core.orders core.words (side_of core who).payload (next_op plan) }) who (side_by core.orders core.words (side_of core who) plan)
 
-event-by : (core : Core) (who : Role) (m : Machine) → InCall (side_of core who) m → event core who ≡ event_by core who (rest m)
+pub event-by : (core : Core) (who : Role) (m : Machine) → InCall (side_of core who) m → event core who ≡ event_by core who (rest m)
 unfolding event
 event-by core who m c = ap (λ (plan : Plan). event_by core who plan) (plan_left-is (side_of core who) m c)
 
@@ -341,24 +346,24 @@ pub stands_server : (core : Core) (page page' : Plain) (source : List ℕ) (resu
     StandsFor (event core Server) page'
 stands_server core page page' source result h has d orders other server_turned client_turned =
     let here : DoesEvent core.orders core.words source page.server page'.server result (words_of page') page.right page.left page'.right page'.left =
-        subst (λ (o : Orders). DoesEvent o core.words source page.server page'.server result (words_of page') page.right page.left page'.right page'.left) h.orders
-            (subst (λ (w : List ℕ). DoesEvent (orders_of page) w source page.server page'.server result (words_of page') page.right page.left page'.right page'.left) h.words d) in
+    subst (λ (o : Orders). DoesEvent o core.words source page.server page'.server result (words_of page') page.right page.left page'.right page'.left) h.orders
+    (subst (λ (w : List ℕ). DoesEvent (orders_of page) w source page.server page'.server result (words_of page') page.right page.left page'.right page'.left) h.words d) in
     subst (λ (k : Core). StandsFor k page') (sym (event-by core Server page.server (in_call core.server page.server h.server d.busy))) (record {
-        orders = orders ∙ h.orders;
-        words = words_step core.orders core.words source core.server page.server page'.server result (words_of page') page.right page.left page'.right page'.left h.server has here;
-        server = side_steps core.orders core.words source core.server page.server page'.server result (words_of page') page.right page.left page'.right page'.left h.server here;
-        client = subst (λ (m : Machine). IsMachineOf core.client m) (sym other) h.client;
-        left = record {
-            sent = ap (λ (w : Moved). w.sent) here.reads_are ∙ h.left.sent;
-            got = got_step core.orders core.words source core.server page.server page'.server result (words_of page') page.right page.left page'.right page'.left h.server here h.left.got;
-          };
-        right = record {
-            sent = sent_step core.orders core.words source core.server page.server page'.server result (words_of page') page.right page.left page'.right page'.left h.server here h.right.sent;
-            got = ap (λ (w : Moved). w.got) here.writes_are ∙ h.right.got;
-          };
-        server_turned = server_turned ∙ h.server_turned ∙ sym (settled-turned (made core.server (next_op (rest page.server)) (value_taken core.orders core.words (next_op (rest page.server)))) (after (rest page.server) (value_taken core.orders core.words (next_op (rest page.server)))));
-        client_turned = client_turned ∙ h.client_turned;
-      })
+      orders = orders ∙ h.orders;
+      words = words_step core.orders core.words source core.server page.server page'.server result (words_of page') page.right page.left page'.right page'.left h.server has here;
+      server = side_steps core.orders core.words source core.server page.server page'.server result (words_of page') page.right page.left page'.right page'.left h.server here;
+      client = subst (λ (m : Machine). IsMachineOf core.client m) (sym other) h.client;
+      left = record {
+        sent = ap (λ (w : Moved). w.sent) here.reads_are ∙ h.left.sent;
+        got = got_step core.orders core.words source core.server page.server page'.server result (words_of page') page.right page.left page'.right page'.left h.server here h.left.got;
+      };
+      right = record {
+        sent = sent_step core.orders core.words source core.server page.server page'.server result (words_of page') page.right page.left page'.right page'.left h.server here h.right.sent;
+        got = ap (λ (w : Moved). w.got) here.writes_are ∙ h.right.got;
+      };
+      server_turned = server_turned ∙ h.server_turned ∙ sym (settled-turned (made core.server (next_op (rest page.server)) (value_taken core.orders core.words (next_op (rest page.server)))) (after (rest page.server) (value_taken core.orders core.words (next_op (rest page.server)))));
+      client_turned = client_turned ∙ h.client_turned;
+    })
 
 pub stands_client : (core : Core) (page page' : Plain) (source : List ℕ) (result : Option Answer) → StandsFor core page → HasPayload core.client source →
     DoesEvent (orders_of page) (words_of page) source page.client page'.client result (words_of page') page.left page.right page'.left page'.right →
@@ -366,24 +371,24 @@ pub stands_client : (core : Core) (page page' : Plain) (source : List ℕ) (resu
     StandsFor (event core Client) page'
 stands_client core page page' source result h has d orders other server_turned client_turned =
     let here : DoesEvent core.orders core.words source page.client page'.client result (words_of page') page.left page.right page'.left page'.right =
-        subst (λ (o : Orders). DoesEvent o core.words source page.client page'.client result (words_of page') page.left page.right page'.left page'.right) h.orders
-            (subst (λ (w : List ℕ). DoesEvent (orders_of page) w source page.client page'.client result (words_of page') page.left page.right page'.left page'.right) h.words d) in
+    subst (λ (o : Orders). DoesEvent o core.words source page.client page'.client result (words_of page') page.left page.right page'.left page'.right) h.orders
+    (subst (λ (w : List ℕ). DoesEvent (orders_of page) w source page.client page'.client result (words_of page') page.left page.right page'.left page'.right) h.words d) in
     subst (λ (k : Core). StandsFor k page') (sym (event-by core Client page.client (in_call core.client page.client h.client d.busy))) (record {
-        orders = orders ∙ h.orders;
-        words = words_step core.orders core.words source core.client page.client page'.client result (words_of page') page.left page.right page'.left page'.right h.client has here;
-        server = subst (λ (m : Machine). IsMachineOf core.server m) (sym other) h.server;
-        client = side_steps core.orders core.words source core.client page.client page'.client result (words_of page') page.left page.right page'.left page'.right h.client here;
-        left = record {
-            sent = sent_step core.orders core.words source core.client page.client page'.client result (words_of page') page.left page.right page'.left page'.right h.client here h.left.sent;
-            got = ap (λ (w : Moved). w.got) here.writes_are ∙ h.left.got;
-          };
-        right = record {
-            sent = ap (λ (w : Moved). w.sent) here.reads_are ∙ h.right.sent;
-            got = got_step core.orders core.words source core.client page.client page'.client result (words_of page') page.left page.right page'.left page'.right h.client here h.right.got;
-          };
-        server_turned = server_turned ∙ h.server_turned;
-        client_turned = client_turned ∙ h.client_turned ∙ sym (settled-turned (made core.client (next_op (rest page.client)) (value_taken core.orders core.words (next_op (rest page.client)))) (after (rest page.client) (value_taken core.orders core.words (next_op (rest page.client)))));
-      })
+      orders = orders ∙ h.orders;
+      words = words_step core.orders core.words source core.client page.client page'.client result (words_of page') page.left page.right page'.left page'.right h.client has here;
+      server = subst (λ (m : Machine). IsMachineOf core.server m) (sym other) h.server;
+      client = side_steps core.orders core.words source core.client page.client page'.client result (words_of page') page.left page.right page'.left page'.right h.client here;
+      left = record {
+        sent = sent_step core.orders core.words source core.client page.client page'.client result (words_of page') page.left page.right page'.left page'.right h.client here h.left.sent;
+        got = ap (λ (w : Moved). w.got) here.writes_are ∙ h.left.got;
+      };
+      right = record {
+        sent = ap (λ (w : Moved). w.sent) here.reads_are ∙ h.right.sent;
+        got = got_step core.orders core.words source core.client page.client page'.client result (words_of page') page.left page.right page'.left page'.right h.client here h.right.got;
+      };
+      server_turned = server_turned ∙ h.server_turned;
+      client_turned = client_turned ∙ h.client_turned ∙ sym (settled-turned (made core.client (next_op (rest page.client)) (value_taken core.orders core.words (next_op (rest page.client)))) (after (rest page.client) (value_taken core.orders core.words (next_op (rest page.client)))));
+    })
 
 -- the answer of a step is what is left of the end's call
 answer_in-left : (m' : Machine) (result : Option Answer) → (IsSome result ↔ IsIdle m') → answer_in (left result m') ≡ result
@@ -398,7 +403,7 @@ pub answer_is : (core : Core) (who : Role) (orders : Orders) (words : List ℕ) 
     left result m' ≡ after (rest m) (value_taken orders words (next_op (rest m))) → (IsSome result ↔ IsIdle m') → result ≡ answer_in (plan_next core who)
 answer_is core who orders words m m' result h same_orders same_words busy leads idle =
     let there : left result m' ≡ after (rest m) (value_taken core.orders core.words (next_op (rest m))) =
-        leads ∙ ap (λ (o : Orders). after (rest m) (value_taken o words (next_op (rest m)))) same_orders ∙ ap (λ (w : List ℕ). after (rest m) (value_taken core.orders w (next_op (rest m)))) same_words in
+    leads ∙ ap (λ (o : Orders). after (rest m) (value_taken o words (next_op (rest m)))) same_orders ∙ ap (λ (w : List ℕ). after (rest m) (value_taken core.orders w (next_op (rest m)))) same_words in
     sym (answer_in-left m' result idle) ∙ ap answer_in there
     ∙ ap (λ (plan : Plan). answer_in (after plan (value_taken core.orders core.words (next_op plan)))) (sym (plan_left-is (side_of core who) m (in_call (side_of core who) m h busy)))
 
@@ -417,3 +422,14 @@ keeps_orders m m' op is = ap (λ (e : Standing). e.orders) is
 pub keeps_role : (m m' : Machine) (op : Op) → standing m' ≡ standing_after (standing m) op → m'.role ≡ m.role
 unfolding standing_after
 keeps_role m m' op is = ap (λ (e : Standing). e.role) is
+
+-- more payload and more buffer fit as well
+pub Fits-more : (orders : Orders) (out into out' into' : ℕ) (op : Op) → out ≤ out' → into ≤ into' → Fits orders out into op → Fits orders out' into' op
+Fits-more orders out into out' into' (Load word) a b f = f
+Fits-more orders out into out' into' (LoadByte word at) a b f = (f.0, omega (arith, f.1))
+Fits-more orders out into out' into' (Store word value) a b f = f
+Fits-more orders out into out' into' (StoreByte word at) a b f = (f.0, omega (arith, f.1))
+Fits-more orders out into out' into' (Or word bits) a b f = f
+Fits-more orders out into out' into' (And word bits) a b f = f
+Fits-more orders out into out' into' (Swap word value) a b f = f
+Fits-more orders out into out' into' Nothing a b f = f

@@ -67,18 +67,35 @@ nothing_noted = record { written = not_asked; consumed = not_asked; live = None 
 -- an end that has done nothing yet
 abbrev pub new_side : Role → Orders → ℕ → EndState → Side
 new_side role orders start state = record {
-    role = role; orders = orders; state = state; prod = start; cons = start;
-    call = None; trail = []; payload = []; sent = []; got = [];
-    saw = false; ended = None; misled = false; drained = false; turned = false; consumed = 0;
-    notes = nothing_noted;
-  }
+  role = role;
+  orders = orders;
+  state = state;
+  prod = start;
+  cons = start;
+  call = None;
+  trail = [];
+  payload = [];
+  sent = [];
+  got = [];
+  saw = false;
+  ended = None;
+  misled = false;
+  drained = false;
+  turned = false;
+  consumed = 0;
+  notes = nothing_noted;
+}
 
 -- a page on which nothing has happened yet, with this state of the client
 abbrev pub opened : Orders → ℕ → ℕ × ℕ → EndState → Core
 opened orders start said state = record {
-    start = start; said = said; orders = orders; words = start_words orders start said state;
-    server = new_side Server orders start Open; client = new_side Client orders start state;
-  }
+  start = start;
+  said = said;
+  orders = orders;
+  words = start_words orders start said state;
+  server = new_side Server orders start Open;
+  client = new_side Client orders start state;
+}
 
 -- ---- a call of an end
 
@@ -106,9 +123,10 @@ op_next s = next_op (plan_left s)
 -- the end once it begins a call, with this payload
 abbrev pub begins : Side → Call → List ℕ → Side
 begins s call payload = record s {
-    call = Some (record { call = call; state = s.state; prod = s.prod; cons = s.cons });
-    trail = []; payload = payload;
-  }
+  call = Some (record { call = call; state = s.state; prod = s.prod; cons = s.cons });
+  trail = [];
+  payload = payload;
+}
 
 -- ---- what an event adds to its end
 
@@ -195,11 +213,15 @@ noted _ role taken n = n
 
 abbrev pub made : Side → Op → ℕ → Side
 made s op taken = record s {
-    state = state_after op s.role s.state; prod = prod_after op s.role s.prod; cons = cons_after op s.role s.cons;
-    trail = s.trail ++ past op taken ∷ [];
-    sent = sent_after op s; got = got_after op s;
-    saw = saw_after op taken s; notes = noted op s.role taken s.notes;
-  }
+  state = state_after op s.role s.state;
+  prod = prod_after op s.role s.prod;
+  cons = cons_after op s.role s.cons;
+  trail = s.trail ++ past op taken ∷ [];
+  sent = sent_after op s;
+  got = got_after op s;
+  saw = saw_after op taken s;
+  notes = noted op s.role taken s.notes;
+}
 
 -- how an answer ends a stream
 abbrev pub ending : Answer → Option EndedBy
@@ -224,9 +246,11 @@ first_ended (Some ended) later = Some ended
 
 abbrev pub answered : Side → Answer → Side
 answered s answer = record s {
-    call = None;
-    ended = first_ended s.ended (ending answer); drained = s.drained || drains answer; misled = s.misled || misleads answer;
-  }
+  call = None;
+  ended = first_ended s.ended (ending answer);
+  drained = s.drained || drains answer;
+  misled = s.misled || misleads answer;
+}
 
 -- ---- a core state after an event of an end
 
@@ -237,7 +261,7 @@ begun core who call payload = with_side core who (begins (side_of core who) call
 abbrev pub carried_out : Core → Role → Op → Core
 carried_out core who op =
     with_side (record core { words = words_after core.orders core.words (side_of core who).payload op }) who
-        (made (side_of core who) op (value_taken core.orders core.words op))
+    (made (side_of core who) op (value_taken core.orders core.words op))
 
 -- the answer, where nothing else is left
 abbrev pub answer_in : Plan → Option Answer
@@ -260,4 +284,4 @@ plan_next core who = after (plan_left (side_of core who)) (taken_next core who)
 unfoldable pub event : Core → Role → Core
 event core who =
     with_side (record core { words = words_after core.orders core.words (side_of core who).payload (op_next (side_of core who)) }) who
-        (settled (made (side_of core who) (op_next (side_of core who)) (taken_next core who)) (plan_next core who))
+    (settled (made (side_of core who) (op_next (side_of core who)) (taken_next core who)) (plan_next core who))

@@ -125,12 +125,12 @@ state_after _ role state = state
 -- how an end stands after an event of its own
 unfoldable pub standing_after : Standing → Op → Standing
 standing_after e op = record {
-    role = e.role;
-    orders = e.orders;
-    state = state_after op e.role e.state;
-    prod = prod_after op e.role e.prod;
-    cons = cons_after op e.role e.cons;
-  }
+  role = e.role;
+  orders = e.orders;
+  state = state_after op e.role e.state;
+  prod = prod_after op e.role e.prod;
+  cons = cons_after op e.role e.cons;
+}
 
 -- ---- the rings of an end
 

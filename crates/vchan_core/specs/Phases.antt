@@ -133,7 +133,6 @@ abbrev pub into_move : ℕ → Move → ℕ
 into_move size (To phase) = into_at size phase
 into_move size (Done answer) = 0
 
-
 -- between two calls, the call is one that this end may begin
 abbrev pub Allows : Machine → Call → Type 0
 Allows m call = IsIdle m × IsAllowed m.role m.state call

@@ -1,9 +1,8 @@
 ghost use Rattle.std.specs.Prelude.{◌≡◌, length};
 ghost use Rattle.vchan_core.specs.Apply.{words_after, value_taken, buffer_after, Fits};
 
-use ring_words::Words;
-
 use crate::op::Op;
+use ring_words::Words;
 
 /// Carries an event out, and answers the value that it took.
 pub(crate) fn carry_out(words: &mut Words, op: Op, payload: &[u8], buf: &mut [u8]) -> u64

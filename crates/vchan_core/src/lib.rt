@@ -26,4 +26,3 @@ pub use op::{Op, PastEvent};
 pub use plain::Plain;
 pub use side::{Asked, Begun, EndedBy, Notes, Side};
 pub use steps::Steps;
-

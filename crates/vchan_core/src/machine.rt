@@ -1,9 +1,8 @@
-use ring_words::{Order, Orders, Ring, Role, WordName, place, ready, room};
-
 use crate::call::{Answer, Bit, Call, EndState};
 use crate::op::Op;
 use crate::phase::{Move, Phase};
 use crate::words::{cons_word, low8, low16, low32, mask, prod_word};
+use ring_words::{Order, Orders, Ring, Role, WordName, place, ready, room};
 
 mod moves;
 
@@ -206,7 +205,11 @@ impl Machine {
                     self.cons = low32(value);
                 }
                 (WordName::CliLive, Role::Client) => {
-                    self.state = if value == 0 { EndState::Shut } else { EndState::Open };
+                    self.state = if value == 0 {
+                        EndState::Shut
+                    } else {
+                        EndState::Open
+                    };
                 }
                 (WordName::SrvLive, Role::Server) => self.state = EndState::Shut,
                 _ => {}
@@ -223,32 +226,77 @@ impl Machine {
         ensures fits { Fits self.now.orders (out_at phase) (into_at (read_size (standing self.now)) phase) result }
     {
         match phase {
-            Phase::WriteLive { .. } | Phase::SendLive { .. } | Phase::ReadLive { .. } | Phase::RecvLive { .. } | Phase::DrainLive { .. } => self.load_live(),
-            Phase::WriteLook { .. } | Phase::WriteLookAgain { .. } | Phase::SendLook { .. } | Phase::SendLookAgain { .. } | Phase::SpaceLook => Op::Load { word: cons_word(self.written()) },
-            Phase::ReadLook { .. } | Phase::ReadLookAgain { .. } | Phase::RecvLook { .. } | Phase::RecvLookAgain { .. } | Phase::ReadyLook => Op::Load { word: prod_word(self.read()) },
-            Phase::DrainLook { .. } | Phase::DrainSecond { .. } | Phase::DrainFurther { .. } | Phase::DrainLast { .. } => Op::Load { word: prod_word(self.read()) },
-            Phase::WriteAsk { .. } | Phase::SendAsk { .. } | Phase::SpaceAsk => self.ask(Bit::Consumed),
-            Phase::ReadAsk { .. } | Phase::RecvAsk { .. } | Phase::DrainAsk { .. } | Phase::ReadyAsk => self.ask(Bit::Written),
+            Phase::WriteLive { .. }
+            | Phase::SendLive { .. }
+            | Phase::ReadLive { .. }
+            | Phase::RecvLive { .. }
+            | Phase::DrainLive { .. } => self.load_live(),
+            Phase::WriteLook { .. }
+            | Phase::WriteLookAgain { .. }
+            | Phase::SendLook { .. }
+            | Phase::SendLookAgain { .. }
+            | Phase::SpaceLook => Op::Load {
+                word: cons_word(self.written()),
+            },
+            Phase::ReadLook { .. }
+            | Phase::ReadLookAgain { .. }
+            | Phase::RecvLook { .. }
+            | Phase::RecvLookAgain { .. }
+            | Phase::ReadyLook => Op::Load {
+                word: prod_word(self.read()),
+            },
+            Phase::DrainLook { .. }
+            | Phase::DrainSecond { .. }
+            | Phase::DrainFurther { .. }
+            | Phase::DrainLast { .. } => Op::Load {
+                word: prod_word(self.read()),
+            },
+            Phase::WriteAsk { .. } | Phase::SendAsk { .. } | Phase::SpaceAsk => self.ask(
+                Bit::Consumed,
+            ),
+            Phase::ReadAsk { .. }
+            | Phase::RecvAsk { .. }
+            | Phase::DrainAsk { .. }
+            | Phase::ReadyAsk => self.ask(Bit::Written),
             Phase::DrainGone { .. } | Phase::LoadGone => self.load_gone(),
-            Phase::ConnectLeft => Op::Load { word: WordName::LeftOrder },
-            Phase::ConnectRight { .. } => Op::Load { word: WordName::RightOrder },
-            Phase::ConnectStore => Op::Store { word: WordName::CliLive, value: 1 },
+            Phase::ConnectLeft => Op::Load {
+                word: WordName::LeftOrder,
+            },
+            Phase::ConnectRight { .. } => Op::Load {
+                word: WordName::RightOrder,
+            },
+            Phase::ConnectStore => Op::Store {
+                word: WordName::CliLive,
+                value: 1,
+            },
             Phase::CloseStore | Phase::RetireStore => self.store_live(),
             Phase::RetireSignal => self.signal(),
             Phase::GoneStore => self.store_gone(),
             Phase::TakePending => self.take_pending(),
             Phase::Put { at, count, .. } => {
                 if at < count {
-                    Op::StoreByte { word: self.put_word(at), at }
+                    Op::StoreByte {
+                        word: self.put_word(at),
+                        at,
+                    }
                 } else {
-                    Op::Store { word: prod_word(self.written()), value: u64::from(self.prod.wrapping_add(count)) }
+                    Op::Store {
+                        word: prod_word(self.written()),
+                        value: u64::from(self.prod.wrapping_add(count)),
+                    }
                 }
             }
             Phase::Take { at, count, .. } => {
                 if at < count {
-                    Op::LoadByte { word: self.take_word(at), at }
+                    Op::LoadByte {
+                        word: self.take_word(at),
+                        at,
+                    }
                 } else {
-                    Op::Store { word: cons_word(self.read()), value: u64::from(self.cons.wrapping_add(count)) }
+                    Op::Store {
+                        word: cons_word(self.read()),
+                        value: u64::from(self.cons.wrapping_add(count)),
+                    }
                 }
             }
             Phase::Notify { bit, .. } => self.notify(bit),
@@ -263,7 +311,10 @@ impl Machine {
         ensures word { let ring = written_ring self.now.role in result ≡ WordName.RingByte ring (place_of (self.now.prod + at) (order_of self.now.orders ring)) }
     {
         let ring = self.written();
-        WordName::RingByte { ring, at: place(self.prod.wrapping_add(at), self.order(ring)) }
+        WordName::RingByte {
+            ring,
+            at: place(self.prod.wrapping_add(at), self.order(ring)),
+        }
     }
 
     /// Where byte number `at` of a take lies.
@@ -273,7 +324,10 @@ impl Machine {
         ensures word { let ring = read_ring self.now.role in result ≡ WordName.RingByte ring (place_of (self.now.cons + at) (order_of self.now.orders ring)) }
     {
         let ring = self.read();
-        WordName::RingByte { ring, at: place(self.cons.wrapping_add(at), self.order(ring)) }
+        WordName::RingByte {
+            ring,
+            at: place(self.cons.wrapping_add(at), self.order(ring)),
+        }
     }
 
     fn ask(&self, bit: Bit) -> Op
@@ -283,7 +337,10 @@ impl Machine {
             Role::Server => WordName::CliNotify,
             Role::Client => WordName::SrvNotify,
         };
-        Op::Or { word, bits: mask(bit) }
+        Op::Or {
+            word,
+            bits: mask(bit),
+        }
     }
 
     fn notify(&self, bit: Bit) -> Op
@@ -293,15 +350,22 @@ impl Machine {
             Role::Server => WordName::SrvNotify,
             Role::Client => WordName::CliNotify,
         };
-        Op::And { word, bits: u64::MAX - mask(bit) }
+        Op::And {
+            word,
+            bits: u64::MAX - mask(bit),
+        }
     }
 
     fn load_live(&self) -> Op
         ensures { result ≡ Op.Load (peer_live self.now.role) }
     {
         match self.role {
-            Role::Server => Op::Load { word: WordName::CliLive },
-            Role::Client => Op::Load { word: WordName::SrvLive },
+            Role::Server => Op::Load {
+                word: WordName::CliLive,
+            },
+            Role::Client => Op::Load {
+                word: WordName::SrvLive,
+            },
         }
     }
 
@@ -309,8 +373,12 @@ impl Machine {
         ensures { result ≡ Op.Load (peer_gone self.now.role) }
     {
         match self.role {
-            Role::Server => Op::Load { word: WordName::CliGone },
-            Role::Client => Op::Load { word: WordName::SrvGone },
+            Role::Server => Op::Load {
+                word: WordName::CliGone,
+            },
+            Role::Client => Op::Load {
+                word: WordName::SrvGone,
+            },
         }
     }
 
@@ -318,8 +386,14 @@ impl Machine {
         ensures { result ≡ Op.Store (own_live self.now.role) 0 }
     {
         match self.role {
-            Role::Server => Op::Store { word: WordName::SrvLive, value: 0 },
-            Role::Client => Op::Store { word: WordName::CliLive, value: 0 },
+            Role::Server => Op::Store {
+                word: WordName::SrvLive,
+                value: 0,
+            },
+            Role::Client => Op::Store {
+                word: WordName::CliLive,
+                value: 0,
+            },
         }
     }
 
@@ -327,8 +401,14 @@ impl Machine {
         ensures { result ≡ Op.Store (own_gone self.now.role) 1 }
     {
         match self.role {
-            Role::Server => Op::Store { word: WordName::SrvGone, value: 1 },
-            Role::Client => Op::Store { word: WordName::CliGone, value: 1 },
+            Role::Server => Op::Store {
+                word: WordName::SrvGone,
+                value: 1,
+            },
+            Role::Client => Op::Store {
+                word: WordName::CliGone,
+                value: 1,
+            },
         }
     }
 
@@ -336,8 +416,14 @@ impl Machine {
         ensures { result ≡ Op.Swap (own_pending self.now.role) 0 }
     {
         match self.role {
-            Role::Server => Op::Swap { word: WordName::SrvPending, value: 0 },
-            Role::Client => Op::Swap { word: WordName::CliPending, value: 0 },
+            Role::Server => Op::Swap {
+                word: WordName::SrvPending,
+                value: 0,
+            },
+            Role::Client => Op::Swap {
+                word: WordName::CliPending,
+                value: 0,
+            },
         }
     }
 
@@ -345,8 +431,14 @@ impl Machine {
         ensures { result ≡ Op.Store (peer_pending self.now.role) 1 }
     {
         match self.role {
-            Role::Server => Op::Store { word: WordName::CliPending, value: 1 },
-            Role::Client => Op::Store { word: WordName::SrvPending, value: 1 },
+            Role::Server => Op::Store {
+                word: WordName::CliPending,
+                value: 1,
+            },
+            Role::Client => Op::Store {
+                word: WordName::SrvPending,
+                value: 1,
+            },
         }
     }
 

@@ -36,7 +36,12 @@ impl Moved {
 
     /// Hands the value of an event to the end that made it, and counts what the event moved: an own
     /// index that moves on shows that many bytes, or gives up the places of that many.
-    pub(crate) fn took(machine: &mut Machine, value: u64, writes: &mut Moved, reads: &mut Moved) -> Option<Answer>
+    pub(crate) fn took(
+        machine: &mut Machine,
+        value: u64,
+        writes: &mut Moved,
+        reads: &mut Moved,
+    ) -> Option<Answer>
         requires { ¬ IsIdle machine.old }
         ensures sent { writes.new ≡ record writes.old { sent = capped (writes.old.sent + diff (standing machine.new).prod (standing machine.old).prod) } }
         ensures got { reads.new ≡ record reads.old { got = capped (reads.old.got + diff (standing machine.new).cons (standing machine.old).cons) } }
@@ -52,8 +57,12 @@ impl Moved {
         let (prod, cons) = machine.counts();
         let answer = machine.took(value);
         let (shown, given_up) = machine.counts();
-        writes.sent = writes.sent.saturating_add(u64::from(shown.wrapping_sub(prod)));
-        reads.got = reads.got.saturating_add(u64::from(given_up.wrapping_sub(cons)));
+        writes.sent = writes
+            .sent
+            .saturating_add(u64::from(shown.wrapping_sub(prod)));
+        reads.got = reads
+            .got
+            .saturating_add(u64::from(given_up.wrapping_sub(cons)));
         answer
     }
 }

@@ -1,16 +1,14 @@
 ghost use Rattle.std.specs.Prelude.{◌≡◌, ◌≢◌, ℕ, ◌<◌, ◌≤◌, ◌+◌, ◌∷◌, ◌++◌, [], List, length, take, ◌↔◌, IsSome, IfOk, false};
 ghost use Rattle.ring_words.specs.declared.page.Role.TheVariants.{Server, Client};
 
-use std::alloc::{AllocError, Global};
-use std::sync::ledger::Ledger;
-
-use ring_words::{Layout, Orders, Ring, Role, Words};
-
 use crate::call::{Answer, Call, EndState};
 use crate::carry::carry_out;
 use crate::machine::Machine;
 use crate::moved::Moved;
 use crate::steps::Steps;
+use ring_words::{Layout, Orders, Ring, Role, Words};
+use std::alloc::{AllocError, Global};
+use std::sync::ledger::Ledger;
 
 /// One page in memory, with its two ends, for a single thread to step as it likes.
 ///
@@ -32,7 +30,7 @@ pub struct Plain {
 }
 
 impl Plain {
-    ghost use Rattle.vchan_core.specs.Apply.{words_after, value_taken, buffer_after, filled};
+    ghost use Rattle.vchan_core.specs.Apply.{Fits, words_after, value_taken, buffer_after, filled};
     ghost use Rattle.vchan_core.specs.Plan.{after, past};
     ghost use Rattle.vchan_core.specs.Ends.{Standing};
     ghost use Rattle.vchan_core.specs.Calls.{plan_of, payload_of, loaded_most, most_events, Trace};
@@ -63,7 +61,20 @@ impl Plain {
             EndState::Shut => 0,
         };
         let head = [
-            index, index, index, index, u64::from(said.0), u64::from(said.1), live, 1, 1, 1, 0, 0, 0, 0,
+            index,
+            index,
+            index,
+            index,
+            u64::from(said.0),
+            u64::from(said.1),
+            live,
+            1,
+            1,
+            1,
+            0,
+            0,
+            0,
+            0,
         ];
         let mut list = Vec::with_capacity(alloc, Layout::new(orders).count())?;
         list.extend_from_slice(&head)?;
@@ -158,6 +169,7 @@ impl Plain {
         requires buf { into_of (machine_of self.old who) ≤ length buf.old }
         ensures stands { (core : Core) → StandsFor core self.old → HasPayload (side_of core who) payload.now → StandsFor (event core who) self.new }
         ensures answer { (core : Core) → StandsFor core self.old → result ≡ answer_in (plan_next core who) }
+        ensures footprint { Fits (orders_of self.old) (length payload.now) (length buf.old) (op_of self.old who) }
         ensures buffer { buf.new ≡ buffer_after (orders_of self.old) (words_of self.old) buf.old (op_of self.old who) }
         ensures orders { orders_of self.new ≡ orders_of self.old }
         ensures words { words_of self.new ≡ words_after (orders_of self.old) (words_of self.old) payload.now (op_of self.old who) }

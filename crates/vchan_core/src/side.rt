@@ -1,9 +1,7 @@
-use std::collections::LinkedList;
-
-use ring_words::{Orders, Role};
-
 use crate::call::{Call, EndState};
 use crate::op::PastEvent;
+use ring_words::{Orders, Role};
+use std::collections::LinkedList;
 
 /// How a drain ended a stream.
 #[derive(Clone, Copy, Debug, PartialEq, Eq)]

@@ -2,9 +2,8 @@
 ghost use Rattle.std.specs.Prelude.{◌≡◌, ◌<◌, ◌^◌, ◌≤◌};
 ghost use Rattle.vchan_core.specs.Ends.{prod_word as prod_word_of, cons_word as cons_word_of, mask as mask_of, low8 as low8_of, low16 as low16_of, low32 as low32_of};
 
-use ring_words::{Ring, WordName};
-
 use crate::call::Bit;
+use ring_words::{Ring, WordName};
 
 /// The word that holds the producer index of a ring.
 pub(crate) fn prod_word(ring: Ring) -> WordName
