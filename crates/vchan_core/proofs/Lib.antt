@@ -1,0 +1,5 @@
+pub mod PlanLaws
+pub mod Bounds
+pub mod Counted
+pub mod StepLaws
+pub mod RunLaws

@@ -1,0 +1,11 @@
+pub mod Plan
+pub mod Ends
+pub mod Calls
+pub mod Apply
+pub mod Phases
+pub mod Core
+pub mod Counts
+pub mod Alone
+pub mod Laws
+pub mod Page
+pub mod Past

@@ -1,0 +1,20 @@
+//! Laws of every call, whatever values its events take. A law is a function with no body, whose
+//! contract states it.
+ghost use Rattle.vchan_core.specs.Laws.{EachCallEnds, EachCallFits, EachCallMovesAtMost};
+
+/// A call of `n` bytes ends within `7 + min(n, size)` events, and a drain within
+/// `10 + min(n, size)`, `size` being that of the ring which it moves bytes through.
+pub fn each_call_ends()
+    ensures { EachCallEnds }
+{}
+
+/// Each event of a call is on a word that the page has, and the number of each byte that it moves
+/// is below `min(n, size)`.
+pub fn each_call_fits()
+    ensures { EachCallFits }
+{}
+
+/// No call of `n` bytes moves more than `min(n, size)` bytes.
+pub fn each_call_moves_at_most()
+    ensures { EachCallMovesAtMost }
+{}

@@ -1,0 +1,486 @@
+use crate::call::{Answer, Bit, Call, EndState};
+use crate::op::Op;
+use crate::phase::{Move, Phase};
+use crate::words::{cons_word, low8, low16, low32, mask, prod_word};
+use ring_words::{Order, Orders, Ring, Role, WordName, place, ready, room};
+
+mod moves;
+
+/// One end of a channel, as a pure machine: it says which event comes next, and takes the value
+/// that the event took. It holds no page, so the same machine drives a plain page and a shared one.
+///
+/// Its own counts are the end's only account of its own indices: it never loads them, so a peer
+/// that overwrites them changes nothing.
+#[derive(Clone, Copy, Debug)]
+pub struct Machine {
+    role: Role,
+    orders: Orders,
+    state: EndState,
+    prod: u32,
+    cons: u32,
+    phase: Option<Phase>,
+}
+
+impl Machine {
+    ghost use Rattle.std.specs.Prelude.{◌≡◌, ◌↔◌, ◌+◌, ◌-◌, ◌++◌, ◌∷◌, [], List, IsTrue, IsSome, ◌≢◌, ◌≤◌};
+    ghost use Rattle.ring_words.specs.Page.{order_of, Has};
+    ghost use Rattle.ring_words.specs.Rings.{place as place_of};
+    ghost use Rattle.vchan_core.specs.Apply.{Fits};
+    ghost use Rattle.vchan_core.specs.Plan.{next_op, after, left_after, past};
+    ghost use Rattle.vchan_core.specs.Ends.{Standing, written_ring, read_ring, ask_word, notify_word, peer_live, peer_pending, mask as mask_of, own_live, own_gone, own_pending, peer_gone, free_at, ready_at, read_size, standing_after};
+    ghost use Rattle.vchan_core.specs.Calls.{plan_of, payload_of, loaded_most, IsAllowed};
+    ghost use Rattle.vchan_core.specs.Phases.{standing, rest, rest_at, left, IsIdle, Allows, out_at, into_at, out_of, into_of, Stands, StandsOrAnswered};
+    ghost use Rattle.vchan_core.specs.declared.call.Call.{Call};
+    ghost use Rattle.vchan_core.specs.declared.op.PastEvent.{PastEvent};
+
+    /// An end between two calls, in this state, both of whose counts are `start`. A server is
+    /// never fresh.
+    pub fn new(role: Role, orders: Orders, state: EndState, start: u32) -> Machine
+        requires { role ≡ Role.Server → state ≢ EndState.Fresh }
+        ensures idle { IsIdle result }
+        ensures standing { standing result ≡ record { role = role; orders = orders; state = state; prod = start; cons = start } }
+    {
+        Machine {
+            role,
+            orders,
+            state,
+            prod: start,
+            cons: start,
+            phase: None,
+        }
+    }
+
+    /// Whether the end is between two calls.
+    pub fn idle(&self) -> bool
+        ensures { IsTrue result ↔ IsIdle self.now }
+    {
+        self.phase.is_none()
+    }
+
+    /// Where the end stands in its life.
+    pub fn state(&self) -> EndState
+        ensures { result ≡ (standing self.now).state }
+    {
+        self.state
+    }
+
+    /// Its own counts: of the ring that it writes, and of the ring that it reads.
+    pub(crate) fn counts(&self) -> (u32, u32)
+        ensures prod { result.0 ≡ (standing self.now).prod }
+        ensures cons { result.1 ≡ (standing self.now).cons }
+    {
+        (self.prod, self.cons)
+    }
+
+    /// Whether this call may be begun now: between two calls, a connect on a fresh client, a close
+    /// on an end that isn't shut, a retire in any state, and every other call on an open end. A
+    /// drain asks for at least one byte.
+    pub fn allows(&self, call: Call) -> bool
+        ensures { IsTrue result ↔ Allows self.now call }
+    {
+        self.phase.is_none() && self.may_begin(call)
+    }
+
+    fn may_begin(&self, call: Call) -> bool
+        ensures { IsTrue result ↔ IsAllowed self.now.role self.now.state call }
+    {
+        match (call, self.state) {
+            (Call::Retire, _) => true,
+            (Call::Close, EndState::Shut) => false,
+            (Call::Close, _) => true,
+            (Call::Connect, EndState::Fresh) => matches!(self.role, Role::Client),
+            (Call::Connect, _) => false,
+            (Call::Drain { most }, EndState::Open) => most > 0,
+            (_, EndState::Open) => true,
+            _ => false,
+        }
+    }
+
+    /// Begins a call, and makes no event.
+    #[tactic(auto, unfolding(crate::specs::Phases::rest_at))]
+    pub fn begin(&mut self, call: Call)
+        requires { Allows self.old call }
+        ensures standing { standing self.new ≡ standing self.old }
+        ensures rest { rest self.new ≡ plan_of (standing self.old) call }
+        ensures busy { ¬ IsIdle self.new }
+        ensures out { out_of self.new ≤ payload_of call }
+        ensures into { into_of self.new ≤ loaded_most (standing self.old) call }
+    {
+        let phase = match call {
+            Call::Write { len } => Phase::WriteLive { len },
+            Call::Send { len } => Phase::SendLive { len },
+            Call::Read { most } => Phase::ReadLook { most },
+            Call::Recv { len } => Phase::RecvLook { len },
+            Call::Drain { most } => Phase::DrainLook { most },
+            Call::DataReady => Phase::ReadyAsk,
+            Call::BufferSpace => Phase::SpaceAsk,
+            Call::Connect => Phase::ConnectLeft,
+            Call::Close => Phase::CloseStore,
+            Call::TakeEvent => Phase::TakePending,
+            Call::PeerGone => Phase::LoadGone,
+            Call::Retire => match self.state {
+                EndState::Shut => Phase::GoneStore,
+                _ => Phase::RetireStore,
+            },
+        };
+        self.phase = Some(phase);
+    }
+
+    /// The event that comes next. It is `Nothing` exactly where the end is between two calls.
+    pub fn next(&self) -> Op
+        ensures op { result ≡ next_op (rest self.now) }
+        ensures trail { (begun : Standing) → (call : Call) → (events : List PastEvent) → Stands begun call events self.now
+            → result ≡ next_op (left_after (plan_of begun call) events) }
+        ensures idle { (result ≡ Op.Nothing) ↔ IsIdle self.now }
+        ensures fits { Fits self.now.orders (out_of self.now) (into_of self.now) result }
+    {
+        self.next_event()
+    }
+
+    fn next_event(&self) -> Op
+        ensures op { result ≡ next_op (rest self.now) }
+        ensures idle { (result ≡ Op.Nothing) ↔ IsIdle self.now }
+        ensures fits { Fits self.now.orders (out_of self.now) (into_of self.now) result }
+    {
+        match self.phase {
+            None => Op::Nothing,
+            Some(phase) => self.op_at(phase),
+        }
+    }
+
+    /// Takes the value that the event took: the word as it was, or 0 for a plain store. The answer
+    /// comes with the last event of the call, and then the end is between two calls.
+    pub fn took(&mut self, value: u64) -> Option<Answer>
+        requires { ¬ IsIdle self.old }
+        ensures rest { left result self.new ≡ after (rest self.old) value }
+        ensures idle { IsSome result ↔ IsIdle self.new }
+        ensures standing { standing self.new ≡ standing_after (standing self.old) (next_op (rest self.old)) }
+        ensures out { out_of self.new ≤ out_of self.old }
+        ensures into { into_of self.new ≤ into_of self.old }
+        ensures past { (begun : Standing) → (call : Call) → (events : List PastEvent) → Stands begun call events self.old
+            → StandsOrAnswered begun call (events ++ past (next_op (rest self.old)) value ∷ []) result self.new }
+    {
+        self.advance(value)
+    }
+
+    fn advance(&mut self, value: u64) -> Option<Answer>
+        requires { ¬ IsIdle self.old }
+        ensures rest { left result self.new ≡ after (rest self.old) value }
+        ensures idle { IsSome result ↔ IsIdle self.new }
+        ensures standing { standing self.new ≡ standing_after (standing self.old) (next_op (rest self.old)) }
+        ensures out { out_of self.new ≤ out_of self.old }
+        ensures into { into_of self.new ≤ into_of self.old }
+    {
+        let Some(phase) = self.phase else {
+            unreachable!()
+        };
+        let moved = self.moved(phase, value);
+        self.count(self.op_at(phase));
+        match moved {
+            Move::To { phase } => {
+                self.phase = Some(phase);
+                None
+            }
+            Move::Done { answer } => {
+                self.phase = None;
+                Some(answer)
+            }
+        }
+    }
+
+    /// Takes an event of this end into its own counts and its state.
+    #[tactic(auto, unfolding(crate::specs::Ends::standing_after))]
+    fn count(&mut self, op: Op)
+        ensures standing { standing self.new ≡ standing_after (standing self.old) op }
+        ensures role { self.new.role ≡ self.old.role }
+        ensures orders { self.new.orders ≡ self.old.orders }
+        ensures phase { self.new.phase ≡ self.old.phase }
+    {
+        if let Op::Store { word, value } = op {
+            match (word, self.role) {
+                (WordName::LeftProd, Role::Client) | (WordName::RightProd, Role::Server) => {
+                    self.prod = low32(value);
+                }
+                (WordName::LeftCons, Role::Server) | (WordName::RightCons, Role::Client) => {
+                    self.cons = low32(value);
+                }
+                (WordName::CliLive, Role::Client) => {
+                    self.state = if value == 0 {
+                        EndState::Shut
+                    } else {
+                        EndState::Open
+                    };
+                }
+                (WordName::SrvLive, Role::Server) => self.state = EndState::Shut,
+                _ => {}
+            }
+        }
+    }
+
+    // ---- the events
+
+    #[tactic(auto, using(crate::proofs::PlanLaws::bytes_laws), unfolding(crate::specs::Phases::rest_at, crate::specs::Calls::write, crate::specs::Calls::write_open, crate::specs::Calls::read, crate::specs::Calls::read_live, crate::specs::Calls::send, crate::specs::Calls::send_open, crate::specs::Calls::recv, crate::specs::Calls::recv_live, crate::specs::Calls::drain, crate::specs::Calls::drain_second, crate::specs::Calls::drain_live, crate::specs::Calls::drain_further, crate::specs::Calls::drain_gone, crate::specs::Calls::drain_last, crate::specs::Calls::connect, crate::specs::Calls::connect_right))]
+    fn op_at(&self, phase: Phase) -> Op
+        ensures op { result ≡ next_op (rest_at (standing self.now) phase) }
+        ensures some { result ≢ Op.Nothing }
+        ensures fits { Fits self.now.orders (out_at phase) (into_at (read_size (standing self.now)) phase) result }
+    {
+        match phase {
+            Phase::WriteLive { .. }
+            | Phase::SendLive { .. }
+            | Phase::ReadLive { .. }
+            | Phase::RecvLive { .. }
+            | Phase::DrainLive { .. } => self.load_live(),
+            Phase::WriteLook { .. }
+            | Phase::WriteLookAgain { .. }
+            | Phase::SendLook { .. }
+            | Phase::SendLookAgain { .. }
+            | Phase::SpaceLook => Op::Load {
+                word: cons_word(self.written()),
+            },
+            Phase::ReadLook { .. }
+            | Phase::ReadLookAgain { .. }
+            | Phase::RecvLook { .. }
+            | Phase::RecvLookAgain { .. }
+            | Phase::ReadyLook => Op::Load {
+                word: prod_word(self.read()),
+            },
+            Phase::DrainLook { .. }
+            | Phase::DrainSecond { .. }
+            | Phase::DrainFurther { .. }
+            | Phase::DrainLast { .. } => Op::Load {
+                word: prod_word(self.read()),
+            },
+            Phase::WriteAsk { .. } | Phase::SendAsk { .. } | Phase::SpaceAsk => self.ask(
+                Bit::Consumed,
+            ),
+            Phase::ReadAsk { .. }
+            | Phase::RecvAsk { .. }
+            | Phase::DrainAsk { .. }
+            | Phase::ReadyAsk => self.ask(Bit::Written),
+            Phase::DrainGone { .. } | Phase::LoadGone => self.load_gone(),
+            Phase::ConnectLeft => Op::Load {
+                word: WordName::LeftOrder,
+            },
+            Phase::ConnectRight { .. } => Op::Load {
+                word: WordName::RightOrder,
+            },
+            Phase::ConnectStore => Op::Store {
+                word: WordName::CliLive,
+                value: 1,
+            },
+            Phase::CloseStore | Phase::RetireStore => self.store_live(),
+            Phase::RetireSignal => self.signal(),
+            Phase::GoneStore => self.store_gone(),
+            Phase::TakePending => self.take_pending(),
+            Phase::Put { at, count, .. } => {
+                if at < count {
+                    Op::StoreByte {
+                        word: self.put_word(at),
+                        at,
+                    }
+                } else {
+                    Op::Store {
+                        word: prod_word(self.written()),
+                        value: u64::from(self.prod.wrapping_add(count)),
+                    }
+                }
+            }
+            Phase::Take { at, count, .. } => {
+                if at < count {
+                    Op::LoadByte {
+                        word: self.take_word(at),
+                        at,
+                    }
+                } else {
+                    Op::Store {
+                        word: cons_word(self.read()),
+                        value: u64::from(self.cons.wrapping_add(count)),
+                    }
+                }
+            }
+            Phase::Notify { bit, .. } => self.notify(bit),
+            Phase::Signal { .. } => self.signal(),
+        }
+    }
+
+    /// Where byte number `at` of a put lies.
+    #[tactic(auto, using(ring_words::proofs::RingLaws::place_wraps))]
+    fn put_word(&self, at: u32) -> WordName
+        ensures has { Has self.now.orders result }
+        ensures word { let ring = written_ring self.now.role in result ≡ WordName.RingByte ring (place_of (self.now.prod + at) (order_of self.now.orders ring)) }
+    {
+        let ring = self.written();
+        WordName::RingByte {
+            ring,
+            at: place(self.prod.wrapping_add(at), self.order(ring)),
+        }
+    }
+
+    /// Where byte number `at` of a take lies.
+    #[tactic(auto, using(ring_words::proofs::RingLaws::place_wraps))]
+    fn take_word(&self, at: u32) -> WordName
+        ensures has { Has self.now.orders result }
+        ensures word { let ring = read_ring self.now.role in result ≡ WordName.RingByte ring (place_of (self.now.cons + at) (order_of self.now.orders ring)) }
+    {
+        let ring = self.read();
+        WordName::RingByte {
+            ring,
+            at: place(self.cons.wrapping_add(at), self.order(ring)),
+        }
+    }
+
+    fn ask(&self, bit: Bit) -> Op
+        ensures { result ≡ Op.Or (ask_word self.now.role) (mask_of bit) }
+    {
+        let word = match self.role {
+            Role::Server => WordName::CliNotify,
+            Role::Client => WordName::SrvNotify,
+        };
+        Op::Or {
+            word,
+            bits: mask(bit),
+        }
+    }
+
+    fn notify(&self, bit: Bit) -> Op
+        ensures { result ≡ Op.And (notify_word self.now.role) (18446744073709551615 - mask_of bit) }
+    {
+        let word = match self.role {
+            Role::Server => WordName::SrvNotify,
+            Role::Client => WordName::CliNotify,
+        };
+        Op::And {
+            word,
+            bits: u64::MAX - mask(bit),
+        }
+    }
+
+    fn load_live(&self) -> Op
+        ensures { result ≡ Op.Load (peer_live self.now.role) }
+    {
+        match self.role {
+            Role::Server => Op::Load {
+                word: WordName::CliLive,
+            },
+            Role::Client => Op::Load {
+                word: WordName::SrvLive,
+            },
+        }
+    }
+
+    fn load_gone(&self) -> Op
+        ensures { result ≡ Op.Load (peer_gone self.now.role) }
+    {
+        match self.role {
+            Role::Server => Op::Load {
+                word: WordName::CliGone,
+            },
+            Role::Client => Op::Load {
+                word: WordName::SrvGone,
+            },
+        }
+    }
+
+    fn store_live(&self) -> Op
+        ensures { result ≡ Op.Store (own_live self.now.role) 0 }
+    {
+        match self.role {
+            Role::Server => Op::Store {
+                word: WordName::SrvLive,
+                value: 0,
+            },
+            Role::Client => Op::Store {
+                word: WordName::CliLive,
+                value: 0,
+            },
+        }
+    }
+
+    fn store_gone(&self) -> Op
+        ensures { result ≡ Op.Store (own_gone self.now.role) 1 }
+    {
+        match self.role {
+            Role::Server => Op::Store {
+                word: WordName::SrvGone,
+                value: 1,
+            },
+            Role::Client => Op::Store {
+                word: WordName::CliGone,
+                value: 1,
+            },
+        }
+    }
+
+    fn take_pending(&self) -> Op
+        ensures { result ≡ Op.Swap (own_pending self.now.role) 0 }
+    {
+        match self.role {
+            Role::Server => Op::Swap {
+                word: WordName::SrvPending,
+                value: 0,
+            },
+            Role::Client => Op::Swap {
+                word: WordName::CliPending,
+                value: 0,
+            },
+        }
+    }
+
+    fn signal(&self) -> Op
+        ensures { result ≡ Op.Store (peer_pending self.now.role) 1 }
+    {
+        match self.role {
+            Role::Server => Op::Store {
+                word: WordName::CliPending,
+                value: 1,
+            },
+            Role::Client => Op::Store {
+                word: WordName::SrvPending,
+                value: 1,
+            },
+        }
+    }
+
+    // ---- its rings
+
+    fn written(&self) -> Ring
+        ensures { result ≡ written_ring self.now.role }
+    {
+        match self.role {
+            Role::Server => Ring::Right,
+            Role::Client => Ring::Left,
+        }
+    }
+
+    fn read(&self) -> Ring
+        ensures { result ≡ read_ring self.now.role }
+    {
+        match self.role {
+            Role::Server => Ring::Left,
+            Role::Client => Ring::Right,
+        }
+    }
+
+    fn order(&self, ring: Ring) -> Order
+        ensures { result ≡ order_of self.now.orders ring }
+    {
+        match ring {
+            Ring::Left => self.orders.left,
+            Ring::Right => self.orders.right,
+        }
+    }
+
+    fn free(&self, cons: u32) -> u32
+        ensures { result ≡ free_at (standing self.now) cons }
+    {
+        room(self.prod, cons, self.order(self.written()))
+    }
+
+    fn ready(&self, prod: u32) -> u32
+        ensures ready { result ≡ ready_at (standing self.now) prod }
+        ensures within { result ≤ read_size (standing self.now) }
+    {
+        ready(prod, self.cons, self.order(self.read()))
+    }
+}

@@ -1,0 +1,68 @@
+ghost use Rattle.std.specs.Prelude.{◌≡◌, ◌<◌, ◌≤◌, ◌^◌, ℕ, ◌+◌, ◌∷◌, ◌++◌, [], List, ◌↔◌, IsSome};
+
+use crate::call::Answer;
+use crate::machine::Machine;
+
+/// How many bytes a ring's two ends have moved. Each count stays at its greatest number once it
+/// reaches it.
+#[derive(Clone, Copy, Debug)]
+pub struct Moved {
+    sent: u64,
+    got: u64,
+}
+
+impl Moved {
+    ghost use Rattle.ring_words.specs.Rings.{diff};
+    ghost use Rattle.vchan_core.specs.Plan.{after, next_op, past};
+    ghost use Rattle.vchan_core.specs.Ends.{standing_after, Standing};
+    ghost use Rattle.vchan_core.specs.Phases.{standing, rest, left as left_of, IsIdle, out_of, into_of, Stands, StandsOrAnswered};
+    ghost use Rattle.vchan_core.specs.Counts.{capped};
+    ghost use Rattle.vchan_core.specs.declared.call.Call.{Call};
+    ghost use Rattle.vchan_core.specs.declared.op.PastEvent.{PastEvent};
+
+    pub(crate) const NONE: Moved = Moved { sent: 0, got: 0 };
+
+    pub(crate) fn sent(self) -> u64
+        ensures { result ≡ self.sent }
+    {
+        self.sent
+    }
+
+    pub(crate) fn got(self) -> u64
+        ensures { result ≡ self.got }
+    {
+        self.got
+    }
+
+    /// Hands the value of an event to the end that made it, and counts what the event moved: an own
+    /// index that moves on shows that many bytes, or gives up the places of that many.
+    pub(crate) fn took(
+        machine: &mut Machine,
+        value: u64,
+        writes: &mut Moved,
+        reads: &mut Moved,
+    ) -> Option<Answer>
+        requires { ¬ IsIdle machine.old }
+        ensures sent { writes.new ≡ record writes.old { sent = capped (writes.old.sent + diff (standing machine.new).prod (standing machine.old).prod) } }
+        ensures got { reads.new ≡ record reads.old { got = capped (reads.old.got + diff (standing machine.new).cons (standing machine.old).cons) } }
+        ensures low { ((standing machine.old).prod < 2 ^ 32) × ((standing machine.old).cons < 2 ^ 32) }
+        ensures rest { left_of result machine.new ≡ after (rest machine.old) value }
+        ensures idle { IsSome result ↔ IsIdle machine.new }
+        ensures standing { standing machine.new ≡ standing_after (standing machine.old) (next_op (rest machine.old)) }
+        ensures out { out_of machine.new ≤ out_of machine.old }
+        ensures into { into_of machine.new ≤ into_of machine.old }
+        ensures past { (begun : Standing) → (call : Call) → (events : List PastEvent) → Stands begun call events machine.old
+            → StandsOrAnswered begun call (events ++ past (next_op (rest machine.old)) value ∷ []) result machine.new }
+    {
+        let (prod, cons) = machine.counts();
+        let answer = machine.took(value);
+        let (shown, given_up) = machine.counts();
+        writes.sent = writes
+            .sent
+            .saturating_add(u64::from(shown.wrapping_sub(prod)));
+        reads.got = reads
+            .got
+            .saturating_add(u64::from(given_up.wrapping_sub(cons)));
+        answer
+    }
+}

@@ -1,0 +1,53 @@
+use crate::call::{Answer, Bit};
+
+/// Where an end is inside its call.
+#[derive(Clone, Copy, Debug)]
+pub enum Phase {
+    WriteLive { len: u32 },
+    WriteLook { len: u32 },
+    WriteAsk { len: u32 },
+    WriteLookAgain { len: u32 },
+    Put { at: u32, count: u32, answer: Answer },
+    ReadLook { most: u32 },
+    ReadAsk { most: u32 },
+    ReadLookAgain { most: u32 },
+    ReadLive { prod: u32 },
+    Take { at: u32, count: u32, answer: Answer },
+    Notify { bit: Bit, answer: Answer },
+    Signal { answer: Answer },
+    SendLive { len: u32 },
+    SendLook { len: u32 },
+    SendAsk { len: u32 },
+    SendLookAgain { len: u32 },
+    RecvLook { len: u32 },
+    RecvAsk { len: u32 },
+    RecvLookAgain { len: u32 },
+    RecvLive { prod: u32 },
+    DrainLook { most: u32 },
+    DrainAsk { most: u32 },
+    DrainSecond { most: u32 },
+    DrainLive { most: u32, prod: u32 },
+    DrainFurther { most: u32 },
+    DrainGone { most: u32, prod: u32 },
+    DrainLast { most: u32 },
+    ReadyAsk,
+    ReadyLook,
+    SpaceAsk,
+    SpaceLook,
+    ConnectLeft,
+    ConnectRight { left: u16 },
+    ConnectStore,
+    CloseStore,
+    TakePending,
+    LoadGone,
+    RetireStore,
+    RetireSignal,
+    GoneStore,
+}
+
+/// What comes of an event: a phase, or the answer of the call.
+#[derive(Clone, Copy, Debug)]
+pub enum Move {
+    To { phase: Phase },
+    Done { answer: Answer },
+}

@@ -1,0 +1,224 @@
+ghost use Rattle.std.specs.Prelude.{◌≡◌, ◌≢◌, ℕ, ◌<◌, ◌≤◌, ◌+◌, ◌∷◌, ◌++◌, [], List, length, take, ◌↔◌, IsSome, IfOk, false};
+ghost use Rattle.ring_words.specs.declared.page.Role.TheVariants.{Server, Client};
+
+use crate::call::{Answer, Call, EndState};
+use crate::carry::carry_out;
+use crate::machine::Machine;
+use crate::moved::Moved;
+use crate::steps::Steps;
+use ring_words::{Layout, Orders, Ring, Role, Words};
+use std::alloc::{AllocError, Global};
+use std::sync::ledger::Ledger;
+
+/// One page in memory, with its two ends, for a single thread to step as it likes.
+///
+/// It stores no lists of what was sent and got. Contracts say for which core states it stands: a
+/// core state has the page's words and all that each end has done.
+#[derive(Drop)]
+pub struct Plain {
+    words: Words,
+    server: Machine,
+    client: Machine,
+    left: Moved,
+    right: Moved,
+    server_turned: bool,
+    client_turned: bool,
+    ghost server_orders: { server.orders ≡ words.orders },
+    ghost client_orders: { client.orders ≡ words.orders },
+    ghost server_role: { server.role ≡ Server },
+    ghost client_role: { client.role ≡ Client },
+}
+
+impl Plain {
+    ghost use Rattle.vchan_core.specs.Apply.{Fits, words_after, value_taken, buffer_after, filled};
+    ghost use Rattle.vchan_core.specs.Plan.{after, past};
+    ghost use Rattle.vchan_core.specs.Ends.{Standing};
+    ghost use Rattle.vchan_core.specs.Calls.{plan_of, payload_of, loaded_most, most_events, Trace};
+    ghost use Rattle.vchan_core.specs.Phases.{standing, rest, left as left_of, IsIdle, Allows, out_of, into_of, Stands, StandsOrAnswered};
+    ghost use Rattle.vchan_core.specs.Core.{Core, opened, begun, event, side_of, writer_of, reader_of, plan_next, answer_in, bytes_loaded};
+    ghost use Rattle.vchan_core.specs.Counts.{capped};
+    ghost use Rattle.vchan_core.specs.Alone.{called, call_answer};
+    ghost use Rattle.vchan_core.specs.Past.{machine_of, other_of, words_of, orders_of, turned_of, op_of, StandsFor, HasPayload};
+    ghost use Rattle.vchan_core.specs.declared.call.Call.{Call};
+    ghost use Rattle.vchan_core.specs.declared.op.PastEvent.{PastEvent};
+
+    /// A page on which nothing has happened yet: all indices at `start`, the order words as `said`
+    /// (the left ring's first), the client in this state, fresh or open.
+    pub fn open(
+        alloc: Global,
+        orders: Orders,
+        start: u32,
+        said: (u16, u16),
+        state: EndState,
+    ) -> Result<Plain, AllocError>
+        requires { state ≢ EndState.Shut }
+        ensures { IfOk result (λ page. StandsFor (opened orders start said state) page) }
+    {
+        let index = u64::from(start);
+        let live = match state {
+            EndState::Fresh => 2,
+            EndState::Open => 1,
+            EndState::Shut => 0,
+        };
+        let head = [
+            index,
+            index,
+            index,
+            index,
+            u64::from(said.0),
+            u64::from(said.1),
+            live,
+            1,
+            1,
+            1,
+            0,
+            0,
+            0,
+            0,
+        ];
+        let mut list = Vec::with_capacity(alloc, Layout::new(orders).count())?;
+        list.extend_from_slice(&head)?;
+        list.resize(Layout::new(orders).count(), 0)?;
+        Ok(Plain {
+            words: Words::of(orders, list),
+            server: Machine::new(Role::Server, orders, EndState::Open, start),
+            client: Machine::new(Role::Client, orders, state, start),
+            left: Moved::NONE,
+            right: Moved::NONE,
+            server_turned: false,
+            client_turned: false,
+        })
+    }
+
+    /// The words of the page.
+    pub fn words(&self) -> &Words
+        ensures orders { result.now.orders ≡ orders_of self.now }
+        ensures list { result.now.list ≡ words_of self.now }
+    {
+        &self.words
+    }
+
+    /// The machine of an end, which says whether it is idle and what it allows.
+    pub fn machine(&self, who: Role) -> &Machine
+        ensures { result.now ≡ machine_of self.now who }
+    {
+        match who {
+            Role::Server => &self.server,
+            Role::Client => &self.client,
+        }
+    }
+
+    /// Whether an end was given up to a hostile user.
+    pub fn turned(&self, who: Role) -> bool
+        ensures { result ≡ turned_of self.now who }
+    {
+        match who {
+            Role::Server => self.server_turned,
+            Role::Client => self.client_turned,
+        }
+    }
+
+    /// How many bytes the writer of a ring has sent. It stays at 18446744073709551615 once it
+    /// reaches it.
+    pub fn sent_len(&self, ring: Ring) -> u64
+        ensures { (core : Core) → StandsFor core self.now → result ≡ capped (length (writer_of core ring).sent) }
+    {
+        match ring {
+            Ring::Left => self.left.sent(),
+            Ring::Right => self.right.sent(),
+        }
+    }
+
+    /// How many bytes the reader of a ring has got. It stays at 18446744073709551615 once it
+    /// reaches it.
+    pub fn got_len(&self, ring: Ring) -> u64
+        ensures { (core : Core) → StandsFor core self.now → result ≡ capped (length (reader_of core ring).got) }
+    {
+        match ring {
+            Ring::Left => self.left.got(),
+            Ring::Right => self.right.got(),
+        }
+    }
+
+    /// Begins a call of an end, and makes no event. The end isn't turned, and allows the call.
+    pub fn begin(&mut self, who: Role, call: Call)
+        requires honest { turned_of self.old who ≡ false }
+        requires allowed { Allows (machine_of self.old who) call }
+        ensures stands { (core : Core) (payload : List ℕ) → StandsFor core self.old → length payload ≡ payload_of call → StandsFor (begun core who call payload) self.new }
+        ensures busy { ¬ IsIdle (machine_of self.new who) }
+        ensures rest { rest (machine_of self.new who) ≡ plan_of (standing (machine_of self.old who)) call }
+        ensures out { out_of (machine_of self.new who) ≤ payload_of call }
+        ensures into { into_of (machine_of self.new who) ≤ loaded_most (standing (machine_of self.old who)) call }
+        ensures other { other_of self.new who ≡ other_of self.old who }
+        ensures orders { orders_of self.new ≡ orders_of self.old }
+        ensures words { words_of self.new ≡ words_of self.old }
+    {
+        match who {
+            Role::Server => self.server.begin(call),
+            Role::Client => self.client.begin(call),
+        }
+    }
+
+    /// One event of an end that is inside a call. For a write or a send `payload` has the call's
+    /// bytes, the same at each step of the call; for a read, recv or drain `buf` has at least the
+    /// smaller of the call's request and the ring's size. A ring byte that is loaded goes to its
+    /// place in `buf`, and nothing else of `buf` changes.
+    pub fn step(&mut self, who: Role, payload: &[u8], buf: &mut [u8]) -> Option<Answer>
+        requires busy { ¬ IsIdle (machine_of self.old who) }
+        requires payload { out_of (machine_of self.old who) ≤ length payload.now }
+        requires buf { into_of (machine_of self.old who) ≤ length buf.old }
+        ensures stands { (core : Core) → StandsFor core self.old → HasPayload (side_of core who) payload.now → StandsFor (event core who) self.new }
+        ensures answer { (core : Core) → StandsFor core self.old → result ≡ answer_in (plan_next core who) }
+        ensures footprint { Fits (orders_of self.old) (length payload.now) (length buf.old) (op_of self.old who) }
+        ensures buffer { buf.new ≡ buffer_after (orders_of self.old) (words_of self.old) buf.old (op_of self.old who) }
+        ensures orders { orders_of self.new ≡ orders_of self.old }
+        ensures words { words_of self.new ≡ words_after (orders_of self.old) (words_of self.old) payload.now (op_of self.old who) }
+        ensures rest { left_of result (machine_of self.new who) ≡ after (rest (machine_of self.old who)) (value_taken (orders_of self.old) (words_of self.old) (op_of self.old who)) }
+        ensures idle { IsSome result ↔ IsIdle (machine_of self.new who) }
+        ensures out { out_of (machine_of self.new who) ≤ out_of (machine_of self.old who) }
+        ensures into { into_of (machine_of self.new who) ≤ into_of (machine_of self.old who) }
+        ensures other { other_of self.new who ≡ other_of self.old who }
+        ensures past { (begun : Standing) → (call : Call) → (events : List PastEvent) → Stands begun call events (machine_of self.old who)
+            → StandsOrAnswered begun call (events ++ past (op_of self.old who) (value_taken (orders_of self.old) (words_of self.old) (op_of self.old who)) ∷ []) result (machine_of self.new who) }
+    {
+        let op = self.machine(who).next();
+        let value = carry_out(&mut self.words, op, payload, buf);
+        match who {
+            Role::Server => Moved::took(&mut self.server, value, &mut self.right, &mut self.left),
+            Role::Client => Moved::took(&mut self.client, value, &mut self.left, &mut self.right),
+        }
+    }
+
+    /// A whole call of an end; `steps` counts its events. The conditions are those of `begin` and
+    /// `step`. It makes at most `7 + min(n, size)` events for a request of n bytes, and a drain at
+    /// most `10 + min(n, size)`, whatever the page holds.
+    pub fn run_call<L: Ledger>(
+        &mut self,
+        who: Role,
+        call: Call,
+        payload: &[u8],
+        buf: &mut [u8],
+        steps: &mut Steps<L>,
+    ) -> Answer
+        requires honest { turned_of self.old who ≡ false }
+        requires allowed { Allows (machine_of self.old who) call }
+        requires payload { payload_of call ≤ length payload.now }
+        requires buf { loaded_most (standing (machine_of self.old who)) call ≤ length buf.old }
+        ensures stands { (core : Core) → StandsFor core self.old → StandsFor (called core who call (take (payload_of call) payload.now)) self.new }
+        ensures answer { (core : Core) → StandsFor core self.old → result ≡ call_answer core who call (take (payload_of call) payload.now) }
+        ensures buffer { (core : Core) → StandsFor core self.old
+            → buf.new ≡ filled buf.old (bytes_loaded (side_of (called core who call (take (payload_of call) payload.now)) who).trail) }
+        ensures trace { (events : List PastEvent) × Trace (standing (machine_of self.old who)) call events result × (steps.new ≡ steps.old + length events) }
+        ensures bound { steps.new ≤ steps.old + most_events (standing (machine_of self.old who)) call }
+        ensures idle { IsIdle (machine_of self.new who) }
+        ensures other { other_of self.new who ≡ other_of self.old who }
+    {
+        self.begin(who, call);
+        'events: loop {
+            steps.tick();
+            if let Some(answer) = self.step(who, payload, buf) {
+                return answer;
+            }
+        }
+    }
+}
