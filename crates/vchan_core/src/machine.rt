@@ -2,7 +2,7 @@ use crate::call::{Answer, Bit, Call, EndState};
 use crate::op::Op;
 use crate::phase::{Move, Phase};
 use crate::words::{cons_word, low8, low16, low32, mask, prod_word};
-use ring_words::{Order, Orders, Ring, Role, WordName, place, ready, room};
+use ring_words::{Orders, Ring, Role, WordName, place, ready, room};
 
 mod moves;
 
@@ -22,15 +22,16 @@ pub struct Machine {
 }
 
 impl Machine {
-    ghost use Rattle.std.specs.Prelude.{◌≡◌, ◌↔◌, ◌+◌, ◌-◌, ◌++◌, ◌∷◌, [], List, IsTrue, IsSome, ◌≢◌, ◌≤◌};
+    ghost use Rattle.std.specs.Prelude.{◌≡◌, ◌↔◌, ◌+◌, ◌-◌, ◌++◌, ◌∷◌, [], List, IsTrue, IsSome, ◌≢◌, ◌≤◌, ℕ};
     ghost use Rattle.ring_words.specs.Page.{order_of, Has};
     ghost use Rattle.ring_words.specs.Rings.{place as place_of};
     ghost use Rattle.vchan_core.specs.Apply.{Fits};
     ghost use Rattle.vchan_core.specs.Plan.{next_op, after, left_after, past};
-    ghost use Rattle.vchan_core.specs.Ends.{Standing, written_ring, read_ring, ask_word, notify_word, peer_live, peer_pending, mask as mask_of, own_live, own_gone, own_pending, peer_gone, free_at, ready_at, read_size, standing_after};
+    ghost use Rattle.vchan_core.specs.Ends.{Standing, written_ring, read_ring, ask_word, notify_word, peer_live, peer_pending, prod_word as prod_word_of, cons_word as cons_word_of, mask as mask_of, own_live, own_gone, own_pending, peer_gone, free_at, ready_at, read_size, standing_after};
     ghost use Rattle.vchan_core.specs.Calls.{plan_of, payload_of, loaded_most, IsAllowed};
     ghost use Rattle.vchan_core.specs.Phases.{standing, rest, rest_at, left, IsIdle, Allows, out_at, into_at, out_of, into_of, Stands, StandsOrAnswered};
     ghost use Rattle.vchan_core.specs.declared.call.Call.{Call};
+    ghost use Rattle.vchan_core.specs.declared.call.Answer.{Answer};
     ghost use Rattle.vchan_core.specs.declared.op.PastEvent.{PastEvent};
 
     /// An end between two calls, in this state, both of whose counts are `start`. A server is
@@ -235,22 +236,16 @@ impl Machine {
             | Phase::WriteLookAgain { .. }
             | Phase::SendLook { .. }
             | Phase::SendLookAgain { .. }
-            | Phase::SpaceLook => Op::Load {
-                word: cons_word(self.written()),
-            },
+            | Phase::SpaceLook => self.look_write(),
             Phase::ReadLook { .. }
             | Phase::ReadLookAgain { .. }
             | Phase::RecvLook { .. }
             | Phase::RecvLookAgain { .. }
-            | Phase::ReadyLook => Op::Load {
-                word: prod_word(self.read()),
-            },
-            Phase::DrainLook { .. }
+            | Phase::ReadyLook
+            | Phase::DrainLook { .. }
             | Phase::DrainSecond { .. }
             | Phase::DrainFurther { .. }
-            | Phase::DrainLast { .. } => Op::Load {
-                word: prod_word(self.read()),
-            },
+            | Phase::DrainLast { .. } => self.look_read(),
             Phase::WriteAsk { .. } | Phase::SendAsk { .. } | Phase::SpaceAsk => self.ask(
                 Bit::Consumed,
             ),
@@ -273,34 +268,68 @@ impl Machine {
             Phase::RetireSignal => self.signal(),
             Phase::GoneStore => self.store_gone(),
             Phase::TakePending => self.take_pending(),
-            Phase::Put { at, count, .. } => {
-                if at < count {
-                    Op::StoreByte {
-                        word: self.put_word(at),
-                        at,
-                    }
-                } else {
-                    Op::Store {
-                        word: prod_word(self.written()),
-                        value: u64::from(self.prod.wrapping_add(count)),
-                    }
-                }
-            }
-            Phase::Take { at, count, .. } => {
-                if at < count {
-                    Op::LoadByte {
-                        word: self.take_word(at),
-                        at,
-                    }
-                } else {
-                    Op::Store {
-                        word: cons_word(self.read()),
-                        value: u64::from(self.cons.wrapping_add(count)),
-                    }
-                }
-            }
+            Phase::Put { at, count, .. } => self.put_event(at, count),
+            Phase::Take { at, count, .. } => self.take_event(at, count),
             Phase::Notify { bit, .. } => self.notify(bit),
             Phase::Signal { .. } => self.signal(),
+        }
+    }
+
+    fn look_read(&self) -> Op
+        ensures { result ≡ Op.Load (prod_word_of (read_ring self.now.role)) }
+    {
+        Op::Load {
+            word: prod_word(self.read()),
+        }
+    }
+
+    fn look_write(&self) -> Op
+        ensures { result ≡ Op.Load (cons_word_of (written_ring self.now.role)) }
+    {
+        Op::Load {
+            word: cons_word(self.written()),
+        }
+    }
+
+    /// The event of a put of `count` bytes once `at` of them are stored: the bytes come first, and
+    /// then the index shows them all at once.
+    #[tactic(auto, using(crate::proofs::PlanLaws::bytes_laws), unfolding(crate::specs::Phases::rest_at))]
+    fn put_event(&self, at: u32, count: u32) -> Op
+        ensures op { (answer : Answer) → result ≡ next_op (rest_at (standing self.now) (Phase.Put at count answer)) }
+        ensures some { result ≢ Op.Nothing }
+        ensures fits { (into : ℕ) → Fits self.now.orders count into result }
+    {
+        if at < count {
+            return Op::StoreByte {
+                word: self.put_word(at),
+                at,
+            };
+        }
+        let shown = self.prod.wrapping_add(count);
+        Op::Store {
+            word: prod_word(self.written()),
+            value: u64::from(shown),
+        }
+    }
+
+    /// The event of a take of `count` bytes once `at` of them are loaded: the index gives up their
+    /// places only after all bytes were loaded.
+    #[tactic(auto, using(crate::proofs::PlanLaws::bytes_laws), unfolding(crate::specs::Phases::rest_at))]
+    fn take_event(&self, at: u32, count: u32) -> Op
+        ensures op { (answer : Answer) → result ≡ next_op (rest_at (standing self.now) (Phase.Take at count answer)) }
+        ensures some { result ≢ Op.Nothing }
+        ensures fits { (out : ℕ) → Fits self.now.orders out count result }
+    {
+        if at < count {
+            return Op::LoadByte {
+                word: self.take_word(at),
+                at,
+            };
+        }
+        let given_up = self.cons.wrapping_add(count);
+        Op::Store {
+            word: cons_word(self.read()),
+            value: u64::from(given_up),
         }
     }
 
@@ -313,7 +342,7 @@ impl Machine {
         let ring = self.written();
         WordName::RingByte {
             ring,
-            at: place(self.prod.wrapping_add(at), self.order(ring)),
+            at: place(self.prod.wrapping_add(at), self.orders.order_of(ring)),
         }
     }
 
@@ -326,7 +355,7 @@ impl Machine {
         let ring = self.read();
         WordName::RingByte {
             ring,
-            at: place(self.cons.wrapping_add(at), self.order(ring)),
+            at: place(self.cons.wrapping_add(at), self.orders.order_of(ring)),
         }
     }
 
@@ -462,25 +491,16 @@ impl Machine {
         }
     }
 
-    fn order(&self, ring: Ring) -> Order
-        ensures { result ≡ order_of self.now.orders ring }
-    {
-        match ring {
-            Ring::Left => self.orders.left,
-            Ring::Right => self.orders.right,
-        }
-    }
-
     fn free(&self, cons: u32) -> u32
         ensures { result ≡ free_at (standing self.now) cons }
     {
-        room(self.prod, cons, self.order(self.written()))
+        room(self.prod, cons, self.orders.order_of(self.written()))
     }
 
     fn ready(&self, prod: u32) -> u32
         ensures ready { result ≡ ready_at (standing self.now) prod }
         ensures within { result ≤ read_size (standing self.now) }
     {
-        ready(prod, self.cons, self.order(self.read()))
+        ready(prod, self.cons, self.orders.order_of(self.read()))
     }
 }
