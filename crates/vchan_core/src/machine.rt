@@ -178,11 +178,11 @@ impl Machine {
         let moved = self.moved(phase, value);
         self.count(self.op_at(phase));
         match moved {
-            Move::To { phase } => {
+            Move::To(phase) => {
                 self.phase = Some(phase);
                 None
             }
-            Move::Done { answer } => {
+            Move::Done(answer) => {
                 self.phase = None;
                 Some(answer)
             }

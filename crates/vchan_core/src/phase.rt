@@ -48,6 +48,6 @@ pub enum Phase {
 /// What comes of an event: a phase, or the answer of the call.
 #[derive(Clone, Copy, Debug)]
 pub enum Move {
-    To { phase: Phase },
-    Done { answer: Answer },
+    To(Phase),
+    Done(Answer),
 }

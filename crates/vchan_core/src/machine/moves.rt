@@ -1,16 +1,19 @@
 //! What comes of each event of a call, by the value that it took.
+ghost use Rattle.std.specs.Prelude.{◌≡◌, ◌<◌, ◌≤◌, ◌+◌, ◌==◌, min, nat_lt, bit_and, if◌then◌else◌};
+ghost use Rattle.vchan_core.specs.Plan.{answers, next_op, after};
+ghost use Rattle.vchan_core.specs.Ends.{read_size, standing_after, free_at, ready_at};
+ghost use Rattle.vchan_core.specs.Calls.{ask, look_write, drain_second as drain_second_plan, drain_last as drain_last_plan, write_looked as write_looked_plan, read_looked as read_looked_plan, send_looked as send_looked_plan, recv_looked as recv_looked_plan, drain_found as drain_found_plan, connect_looked as connect_looked_plan};
+ghost use Rattle.vchan_core.specs.Phases.{standing, rest_at, plan_at, out_at, into_at, out_move, into_move};
+ghost use Rattle.std.specs.Prelude.{ℕ};
+ghost use Rattle.vchan_core.specs.Ends.{Standing, low8 as low8_of, mask as mask_of};
+ghost use Rattle.vchan_core.specs.Calls.{look_read, drain_further as drain_further_plan, drain_gone as drain_gone_plan, signal};
+
 use super::Machine;
 use crate::call::{Answer, Bit};
 use crate::phase::{Move, Phase};
 use crate::words::{low8, low16, low32, mask};
 
 impl Machine {
-    ghost use Rattle.std.specs.Prelude.{◌≡◌, ◌≤◌, min};
-    ghost use Rattle.vchan_core.specs.Plan.{next_op, after};
-    ghost use Rattle.vchan_core.specs.Ends.{read_size, standing_after};
-    ghost use Rattle.vchan_core.specs.Calls.{write_looked as write_looked_plan, read_looked as read_looked_plan, send_looked as send_looked_plan, recv_looked as recv_looked_plan, drain_found as drain_found_plan, connect_looked as connect_looked_plan};
-    ghost use Rattle.vchan_core.specs.Phases.{standing, rest_at, plan_at, out_at, into_at, out_move, into_move};
-
     /// What comes of the next event where it takes this value.
     #[tactic(auto, using(crate::proofs::PlanLaws::bytes_laws), unfolding(crate::specs::Ends::standing_after, crate::specs::Phases::rest_at, crate::specs::Calls::write, crate::specs::Calls::write_open, crate::specs::Calls::read, crate::specs::Calls::read_live, crate::specs::Calls::send, crate::specs::Calls::send_open, crate::specs::Calls::recv, crate::specs::Calls::recv_live, crate::specs::Calls::drain, crate::specs::Calls::drain_second, crate::specs::Calls::drain_live, crate::specs::Calls::drain_further, crate::specs::Calls::drain_gone, crate::specs::Calls::drain_last, crate::specs::Calls::connect, crate::specs::Calls::connect_right))]
     pub(super) fn moved(&self, phase: Phase, value: u64) -> Move
@@ -18,265 +21,113 @@ impl Machine {
         ensures out { out_move result ≤ out_at phase }
         ensures into { into_move (read_size (standing self.now)) result ≤ into_at (read_size (standing self.now)) phase }
     {
+        let cons = self.cons;
         match phase {
-            Phase::WriteLive { len } => {
-                if low8(value) == 0 {
-                    return Move::Done {
-                        answer: Answer::PeerClosed,
-                    };
-                }
-                Move::To {
-                    phase: Phase::WriteLook { len },
-                }
-            }
-            Phase::WriteLook { len } => {
-                let cons = low32(value);
-                if self.free(cons) < len {
-                    return Move::To {
-                        phase: Phase::WriteAsk { len },
-                    };
-                }
-                self.write_looked(len, cons)
-            }
-            Phase::WriteAsk { len } => Move::To {
-                phase: Phase::WriteLookAgain { len },
-            },
+            Phase::WriteLive { len } => if_alive(value, Move::To(Phase::WriteLook { len })),
+            Phase::WriteLook { len } => self.write_found(len, low32(value)),
+            Phase::WriteAsk { len } => Move::To(Phase::WriteLookAgain { len }),
             Phase::WriteLookAgain { len } => self.write_looked(len, low32(value)),
-            Phase::ReadLook { most } => {
-                let prod = low32(value);
-                if self.ready(prod) < most {
-                    return Move::To {
-                        phase: Phase::ReadAsk { most },
-                    };
-                }
-                self.read_looked(most, prod)
-            }
-            Phase::ReadAsk { most } => Move::To {
-                phase: Phase::ReadLookAgain { most },
-            },
-            Phase::ReadLookAgain { most } => self.read_looked(most, low32(value)),
-            Phase::ReadLive { prod } => {
-                if low8(value) == 0 {
-                    return Move::Done {
-                        answer: Answer::PeerClosed,
-                    };
-                }
-                Move::Done {
-                    answer: Answer::Empty {
-                        prod,
-                        cons: self.cons,
-                    },
-                }
-            }
-            Phase::Put { at, count, answer } => {
-                if at < count {
-                    return Move::To {
-                        phase: Phase::Put {
-                            at: at + 1,
-                            count,
-                            answer,
-                        },
-                    };
-                }
-                Move::To {
-                    phase: Phase::Notify {
-                        bit: Bit::Written,
-                        answer,
-                    },
-                }
-            }
-            Phase::Take { at, count, answer } => {
-                if at < count {
-                    return Move::To {
-                        phase: Phase::Take {
-                            at: at + 1,
-                            count,
-                            answer,
-                        },
-                    };
-                }
-                Move::To {
-                    phase: Phase::Notify {
-                        bit: Bit::Consumed,
-                        answer,
-                    },
-                }
-            }
-            Phase::Notify { bit, answer } => {
-                if value & mask(bit) == 0 {
-                    return Move::Done { answer };
-                }
-                Move::To {
-                    phase: Phase::Signal { answer },
-                }
-            }
-            Phase::Signal { answer } => Move::Done { answer },
-            Phase::SendLive { len } => {
-                if low8(value) == 0 {
-                    return Move::Done {
-                        answer: Answer::PeerClosed,
-                    };
-                }
-                Move::To {
-                    phase: Phase::SendLook { len },
-                }
-            }
-            Phase::SendLook { len } => {
-                let cons = low32(value);
-                if self.free(cons) < len {
-                    return Move::To {
-                        phase: Phase::SendAsk { len },
-                    };
-                }
-                self.send_looked(len, cons)
-            }
-            Phase::SendAsk { len } => Move::To {
-                phase: Phase::SendLookAgain { len },
-            },
+            Phase::SendLive { len } => if_alive(value, Move::To(Phase::SendLook { len })),
+            Phase::SendLook { len } => self.send_found(len, low32(value)),
+            Phase::SendAsk { len } => Move::To(Phase::SendLookAgain { len }),
             Phase::SendLookAgain { len } => self.send_looked(len, low32(value)),
-            Phase::RecvLook { len } => {
-                let prod = low32(value);
-                if self.ready(prod) < len {
-                    return Move::To {
-                        phase: Phase::RecvAsk { len },
-                    };
-                }
-                self.recv_looked(len, prod)
-            }
-            Phase::RecvAsk { len } => Move::To {
-                phase: Phase::RecvLookAgain { len },
-            },
+            Phase::ReadLook { most } => self.read_found(most, low32(value)),
+            Phase::ReadAsk { most } => Move::To(Phase::ReadLookAgain { most }),
+            Phase::ReadLookAgain { most } => self.read_looked(most, low32(value)),
+            Phase::ReadLive { prod } => if_alive(value, Move::Done(Answer::Empty { prod, cons })),
+            Phase::RecvLook { len } => self.recv_found(len, low32(value)),
+            Phase::RecvAsk { len } => Move::To(Phase::RecvLookAgain { len }),
             Phase::RecvLookAgain { len } => self.recv_looked(len, low32(value)),
-            Phase::RecvLive { prod } => {
-                if low8(value) == 0 {
-                    return Move::Done {
-                        answer: Answer::PeerClosed,
-                    };
-                }
-                Move::Done {
-                    answer: Answer::Short {
-                        prod,
-                        cons: self.cons,
-                    },
-                }
-            }
+            Phase::RecvLive { prod } => if_alive(value, Move::Done(Answer::Short { prod, cons })),
             Phase::DrainLook { most } => self.drain_found(
                 most,
                 low32(value),
-                Move::To {
-                    phase: Phase::DrainAsk { most },
-                },
+                Move::To(Phase::DrainAsk { most }),
             ),
-            Phase::DrainAsk { most } => Move::To {
-                phase: Phase::DrainSecond { most },
-            },
-            Phase::DrainSecond { most } => {
-                let prod = low32(value);
-                self.drain_found(
-                    most,
-                    prod,
-                    Move::To {
-                        phase: Phase::DrainLive { most, prod },
-                    },
-                )
-            }
-            Phase::DrainLive { most, prod } => {
-                if low8(value) == 0 {
-                    return Move::To {
-                        phase: Phase::DrainFurther { most },
-                    };
-                }
-                Move::To {
-                    phase: Phase::DrainGone { most, prod },
-                }
-            }
-            Phase::DrainFurther { most } => {
-                let prod = low32(value);
-                if prod == self.cons {
-                    return Move::Done {
-                        answer: Answer::AllRead,
-                    };
-                }
-                self.drain_found(
-                    most,
-                    prod,
-                    Move::To {
-                        phase: Phase::DrainGone { most, prod },
-                    },
-                )
-            }
-            Phase::DrainGone { most, prod } => {
-                if value == 0 {
-                    return Move::Done {
-                        answer: Answer::NotYet {
-                            prod,
-                            cons: self.cons,
-                        },
-                    };
-                }
-                Move::To {
-                    phase: Phase::DrainLast { most },
-                }
-            }
-            Phase::DrainLast { most } => {
-                let prod = low32(value);
-                self.drain_found(
-                    most,
-                    prod,
-                    Move::Done {
-                        answer: Answer::PeerGone {
-                            prod,
-                            cons: self.cons,
-                        },
-                    },
-                )
-            }
-            Phase::ReadyAsk => Move::To {
-                phase: Phase::ReadyLook,
-            },
-            Phase::ReadyLook => Move::Done {
-                answer: Answer::Ready {
-                    count: self.ready(low32(value)),
-                },
-            },
-            Phase::SpaceAsk => Move::To {
-                phase: Phase::SpaceLook,
-            },
-            Phase::SpaceLook => Move::Done {
-                answer: Answer::Space {
-                    count: self.free(low32(value)),
-                },
-            },
-            Phase::ConnectLeft => Move::To {
-                phase: Phase::ConnectRight { left: low16(value) },
-            },
+            Phase::DrainAsk { most } => Move::To(Phase::DrainSecond { most }),
+            Phase::DrainSecond { most } => self.drain_second(most, low32(value)),
+            Phase::DrainLive { most, prod } => drain_live(most, prod, value),
+            Phase::DrainFurther { most } => self.drain_further(most, low32(value)),
+            Phase::DrainGone { most, prod } => self.drain_gone(most, prod, value),
+            Phase::DrainLast { most } => self.drain_last(most, low32(value)),
+            Phase::Put { at, count, answer } => put_on(at, count, answer),
+            Phase::Take { at, count, answer } => take_on(at, count, answer),
+            Phase::Notify { bit, answer } => notified(bit, answer, value),
+            Phase::Signal { answer } => Move::Done(answer),
+            Phase::ReadyAsk => Move::To(Phase::ReadyLook),
+            Phase::ReadyLook => Move::Done(Answer::Ready {
+                count: self.ready(low32(value)),
+            }),
+            Phase::SpaceAsk => Move::To(Phase::SpaceLook),
+            Phase::SpaceLook => Move::Done(Answer::Space {
+                count: self.free(low32(value)),
+            }),
+            Phase::ConnectLeft => Move::To(Phase::ConnectRight { left: low16(value) }),
             Phase::ConnectRight { left } => self.connect_looked(left, low16(value)),
-            Phase::ConnectStore => Move::Done {
-                answer: Answer::Connected,
-            },
-            Phase::CloseStore => Move::To {
-                phase: Phase::Signal {
-                    answer: Answer::Done,
-                },
-            },
-            Phase::TakePending => Move::Done {
-                answer: Answer::Event { was: value != 0 },
-            },
-            Phase::LoadGone => Move::Done {
-                answer: Answer::Gone { is: value != 0 },
-            },
-            Phase::RetireStore => Move::To {
-                phase: Phase::RetireSignal,
-            },
-            Phase::RetireSignal => Move::To {
-                phase: Phase::GoneStore,
-            },
-            Phase::GoneStore => Move::To {
-                phase: Phase::Signal {
-                    answer: Answer::Done,
-                },
-            },
+            Phase::ConnectStore => Move::Done(Answer::Connected),
+            Phase::CloseStore => Move::To(Phase::Signal {
+                answer: Answer::Done,
+            }),
+            Phase::TakePending => Move::Done(Answer::Event { was: value != 0 }),
+            Phase::LoadGone => Move::Done(Answer::Gone { is: value != 0 }),
+            Phase::RetireStore => Move::To(Phase::RetireSignal),
+            Phase::RetireSignal => Move::To(Phase::GoneStore),
+            Phase::GoneStore => Move::To(Phase::Signal {
+                answer: Answer::Done,
+            }),
         }
+    }
+
+    /// A write that has looked once: where there is too little room it asks, and looks again.
+    #[tactic(auto, unfolding(crate::specs::Phases::rest_at))]
+    fn write_found(&self, len: u32, cons: u32) -> Move
+        ensures plan { let e = standing self.now in plan_at e result ≡ (if nat_lt (free_at e cons) len then ask e Bit.Consumed (look_write e (write_looked_plan e len)) else write_looked_plan e len cons) }
+        ensures out { out_move result ≤ len }
+        ensures into { into_move (read_size (standing self.now)) result ≡ 0 }
+    {
+        if self.free(cons) < len {
+            return Move::To(Phase::WriteAsk { len });
+        }
+        self.write_looked(len, cons)
+    }
+
+    /// A send that has looked once.
+    #[tactic(auto, unfolding(crate::specs::Phases::rest_at))]
+    fn send_found(&self, len: u32, cons: u32) -> Move
+        ensures plan { let e = standing self.now in plan_at e result ≡ (if nat_lt (free_at e cons) len then ask e Bit.Consumed (look_write e (send_looked_plan e len)) else send_looked_plan e len cons) }
+        ensures out { out_move result ≤ len }
+        ensures into { into_move (read_size (standing self.now)) result ≡ 0 }
+    {
+        if self.free(cons) < len {
+            return Move::To(Phase::SendAsk { len });
+        }
+        self.send_looked(len, cons)
+    }
+
+    /// A read that has looked once: where too few bytes wait it asks, and looks again.
+    #[tactic(auto, unfolding(crate::specs::Phases::rest_at))]
+    fn read_found(&self, most: u32, prod: u32) -> Move
+        ensures plan { let e = standing self.now in plan_at e result ≡ (if nat_lt (ready_at e prod) most then ask e Bit.Written (look_read e (read_looked_plan e most)) else read_looked_plan e most prod) }
+        ensures out { out_move result ≡ 0 }
+        ensures into { into_move (read_size (standing self.now)) result ≤ min most (read_size (standing self.now)) }
+    {
+        if self.ready(prod) < most {
+            return Move::To(Phase::ReadAsk { most });
+        }
+        self.read_looked(most, prod)
+    }
+
+    /// A recv that has looked once.
+    #[tactic(auto, unfolding(crate::specs::Phases::rest_at))]
+    fn recv_found(&self, len: u32, prod: u32) -> Move
+        ensures plan { let e = standing self.now in plan_at e result ≡ (if nat_lt (ready_at e prod) len then ask e Bit.Written (look_read e (recv_looked_plan e len)) else recv_looked_plan e len prod) }
+        ensures out { out_move result ≡ 0 }
+        ensures into { into_move (read_size (standing self.now)) result ≤ min len (read_size (standing self.now)) }
+    {
+        if self.ready(prod) < len {
+            return Move::To(Phase::RecvAsk { len });
+        }
+        self.recv_looked(len, prod)
     }
 
     /// A write that has looked for the last time.
@@ -288,26 +139,20 @@ impl Machine {
     {
         let free = self.free(cons);
         if len == 0 {
-            return Move::Done {
-                answer: Answer::Wrote { count: 0 },
-            };
+            return Move::Done(Answer::Wrote { count: 0 });
         }
         if free == 0 {
-            return Move::Done {
-                answer: Answer::Full {
-                    prod: self.prod,
-                    cons,
-                },
-            };
+            return Move::Done(Answer::Full {
+                prod: self.prod,
+                cons,
+            });
         }
         let count = len.min(free);
-        Move::To {
-            phase: Phase::Put {
-                at: 0,
-                count,
-                answer: Answer::Wrote { count },
-            },
-        }
+        Move::To(Phase::Put {
+            at: 0,
+            count,
+            answer: Answer::Wrote { count },
+        })
     }
 
     #[tactic(auto, unfolding(crate::specs::Phases::rest_at, crate::specs::Calls::read_looked))]
@@ -318,18 +163,14 @@ impl Machine {
     {
         let ready = self.ready(prod);
         if ready == 0 {
-            return Move::To {
-                phase: Phase::ReadLive { prod },
-            };
+            return Move::To(Phase::ReadLive { prod });
         }
         let count = most.min(ready);
-        Move::To {
-            phase: Phase::Take {
-                at: 0,
-                count,
-                answer: Answer::Got { count },
-            },
-        }
+        Move::To(Phase::Take {
+            at: 0,
+            count,
+            answer: Answer::Got { count },
+        })
     }
 
     #[tactic(auto, unfolding(crate::specs::Phases::rest_at, crate::specs::Calls::send_looked))]
@@ -339,20 +180,16 @@ impl Machine {
         ensures into { into_move (read_size (standing self.now)) result ≡ 0 }
     {
         if self.free(cons) < len {
-            return Move::Done {
-                answer: Answer::NoRoom {
-                    prod: self.prod,
-                    cons,
-                },
-            };
+            return Move::Done(Answer::NoRoom {
+                prod: self.prod,
+                cons,
+            });
         }
-        Move::To {
-            phase: Phase::Put {
-                at: 0,
-                count: len,
-                answer: Answer::Sent { count: len },
-            },
-        }
+        Move::To(Phase::Put {
+            at: 0,
+            count: len,
+            answer: Answer::Sent { count: len },
+        })
     }
 
     #[tactic(auto, unfolding(crate::specs::Phases::rest_at, crate::specs::Calls::recv_looked))]
@@ -362,17 +199,13 @@ impl Machine {
         ensures into { into_move (read_size (standing self.now)) result ≤ min len (read_size (standing self.now)) }
     {
         if self.ready(prod) < len {
-            return Move::To {
-                phase: Phase::RecvLive { prod },
-            };
+            return Move::To(Phase::RecvLive { prod });
         }
-        Move::To {
-            phase: Phase::Take {
-                at: 0,
-                count: len,
-                answer: Answer::Got { count: len },
-            },
-        }
+        Move::To(Phase::Take {
+            at: 0,
+            count: len,
+            answer: Answer::Got { count: len },
+        })
     }
 
     #[tactic(auto, unfolding(crate::specs::Phases::rest_at))]
@@ -386,13 +219,11 @@ impl Machine {
             return none;
         }
         let count = most.min(ready);
-        Move::To {
-            phase: Phase::Take {
-                at: 0,
-                count,
-                answer: Answer::Got { count },
-            },
-        }
+        Move::To(Phase::Take {
+            at: 0,
+            count,
+            answer: Answer::Got { count },
+        })
     }
 
     #[tactic(auto, unfolding(crate::specs::Phases::rest_at))]
@@ -402,12 +233,135 @@ impl Machine {
         ensures into { into_move (read_size (standing self.now)) result ≡ 0 }
     {
         if left == self.orders.left.number() && right == self.orders.right.number() {
-            return Move::To {
-                phase: Phase::ConnectStore,
-            };
+            return Move::To(Phase::ConnectStore);
         }
-        Move::Done {
-            answer: Answer::BadOrders { left, right },
-        }
+        Move::Done(Answer::BadOrders { left, right })
     }
+
+    /// A drain's second look: where still nothing waits, the live byte is next.
+    #[tactic(auto, unfolding(crate::specs::Phases::rest_at, crate::specs::Calls::drain_second))]
+    fn drain_second(&self, most: u32, prod: u32) -> Move
+        ensures plan { plan_at (standing self.now) result ≡ drain_second_plan (standing self.now) most prod }
+        ensures out { out_move result ≡ 0 }
+        ensures into { into_move (read_size (standing self.now)) result ≤ min most (read_size (standing self.now)) }
+    {
+        self.drain_found(most, prod, Move::To(Phase::DrainLive { most, prod }))
+    }
+
+    /// A drain's look after it saw its peer closed: only now an equal index says that all was read.
+    #[tactic(auto, unfolding(crate::specs::Phases::rest_at, crate::specs::Calls::drain_further))]
+    fn drain_further(&self, most: u32, prod: u32) -> Move
+        ensures plan { plan_at (standing self.now) result ≡ drain_further_plan (standing self.now) most prod }
+        ensures out { out_move result ≡ 0 }
+        ensures into { into_move (read_size (standing self.now)) result ≤ min most (read_size (standing self.now)) }
+    {
+        if prod == self.cons {
+            return Move::Done(Answer::AllRead);
+        }
+        self.drain_found(most, prod, Move::To(Phase::DrainGone { most, prod }))
+    }
+
+    /// A drain that found nothing and loaded its peer's gone word.
+    #[tactic(auto, unfolding(crate::specs::Phases::rest_at))]
+    fn drain_gone(&self, most: u32, prod: u32, value: u64) -> Move
+        ensures plan { let e = standing self.now in plan_at e result ≡ (if value == 0 then answers (Answer.NotYet prod e.cons) else look_read e (drain_last_plan e most)) }
+        ensures out { out_move result ≡ 0 }
+        ensures into { into_move (read_size (standing self.now)) result ≤ min most (read_size (standing self.now)) }
+    {
+        if value == 0 {
+            return Move::Done(Answer::NotYet {
+                prod,
+                cons: self.cons,
+            });
+        }
+        Move::To(Phase::DrainLast { most })
+    }
+
+    /// A drain's last look, after it saw its peer gone.
+    #[tactic(auto, unfolding(crate::specs::Phases::rest_at, crate::specs::Calls::drain_last))]
+    fn drain_last(&self, most: u32, prod: u32) -> Move
+        ensures plan { plan_at (standing self.now) result ≡ drain_last_plan (standing self.now) most prod }
+        ensures out { out_move result ≡ 0 }
+        ensures into { into_move (read_size (standing self.now)) result ≤ min most (read_size (standing self.now)) }
+    {
+        let none = Move::Done(Answer::PeerGone {
+            prod,
+            cons: self.cons,
+        });
+        self.drain_found(most, prod, none)
+    }
+}
+
+/// A load of the peer's live byte: closed, or what comes of a live one.
+fn if_alive(value: u64, alive: Move) -> Move
+    ensures plan { (e : Standing) → plan_at e result ≡ (if low8_of value == 0 then answers Answer.PeerClosed else plan_at e alive) }
+    ensures out { out_move result ≤ out_move alive }
+    ensures into { (size : ℕ) → into_move size result ≤ into_move size alive }
+{
+    if low8(value) == 0 {
+        return Move::Done(Answer::PeerClosed);
+    }
+    alive
+}
+
+/// A drain that found nothing twice and loaded its peer's live byte.
+#[tactic(auto, unfolding(crate::specs::Phases::rest_at))]
+fn drain_live(most: u32, prod: u32, value: u64) -> Move
+    ensures plan { (e : Standing) → plan_at e result ≡ (if low8_of value == 0 then look_read e (drain_further_plan e most) else drain_gone_plan e most prod) }
+    ensures out { out_move result ≡ 0 }
+    ensures into { (size : ℕ) → into_move size result ≤ min most size }
+{
+    if low8(value) == 0 {
+        return Move::To(Phase::DrainFurther { most });
+    }
+    Move::To(Phase::DrainGone { most, prod })
+}
+
+/// A put once another byte, or the index, is stored.
+fn put_on(at: u32, count: u32, answer: Answer) -> Move
+    ensures byte { at < count → result ≡ Move.To (Phase.Put (at + 1) count answer) }
+    ensures index { count ≤ at → result ≡ Move.To (Phase.Notify Bit.Written answer) }
+{
+    if at < count {
+        return Move::To(Phase::Put {
+            at: at + 1,
+            count,
+            answer,
+        });
+    }
+    Move::To(Phase::Notify {
+        bit: Bit::Written,
+        answer,
+    })
+}
+
+/// A take once another byte is loaded, or the index is stored.
+fn take_on(at: u32, count: u32, answer: Answer) -> Move
+    ensures byte { at < count → result ≡ Move.To (Phase.Take (at + 1) count answer) }
+    ensures index { count ≤ at → result ≡ Move.To (Phase.Notify Bit.Consumed answer) }
+{
+    if at < count {
+        return Move::To(Phase::Take {
+            at: at + 1,
+            count,
+            answer,
+        });
+    }
+    Move::To(Phase::Notify {
+        bit: Bit::Consumed,
+        answer,
+    })
+}
+
+/// A peer that had asked is signalled.
+#[tactic(auto, unfolding(crate::specs::Phases::rest_at))]
+fn notified(bit: Bit, answer: Answer, value: u64) -> Move
+    ensures plan { (e : Standing) → plan_at e result ≡ (if bit_and value (mask_of bit) == 0 then answers answer else signal e (answers answer)) }
+    ensures out { out_move result ≡ 0 }
+    ensures into { (size : ℕ) → into_move size result ≡ 0 }
+{
+    if value & mask(bit) == 0 {
+        return Move::Done(answer);
+    }
+    Move::To(Phase::Signal { answer })
 }
