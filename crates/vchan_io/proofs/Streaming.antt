@@ -1,5 +1,5 @@
 -- Takings and appendings, one after another.
-use Rattle.std.proofs.Common.{◌≡◌, ℕ, List, [], ◌++◌, Option, None, Some, refl, sym, ap, ◌∙◌, append_assoc, append-nil, IfSome, take, length, drop, ◌+◌}
+use Rattle.std.proofs.Common.{◌≡◌, ℕ, List, [], ◌++◌, Option, None, Some, refl, sym, ap, append_assoc, append-nil, IfSome, take, drop, ◌+◌}
 use Rattle.std.proofs.Math.Seq.{take-add}
 use Rattle.std.specs.Io.KnownBytes.{IsAtEnd}
 use Rattle.vchan_io.specs.Streams.{Takes, Appends}

@@ -1,6 +1,6 @@
 -- A source over memory, as its callers see it.
-use Rattle.std.specs.Prelude.{ℕ, min, List, length, drop, IsErr}
-use Rattle.vchan_io.specs.Counts.{one_more, IsNextToFail}
+use Rattle.std.specs.Prelude.{ℕ, min, List, length, drop}
+use Rattle.vchan_io.specs.Counts.{one_more}
 
 -- the bytes left, the most per call, the numbers of the calls that fail, the calls made and the faults met
 pub record MemSourceState : Type 0 where

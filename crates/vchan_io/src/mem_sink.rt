@@ -35,12 +35,7 @@ impl MemSink {
     /// A sink with room for `room` bytes, which it takes at once, of which each write fills at most `most`.
     /// The writes whose numbers, from 1, stand in `fails` fail, and so does a write of at least one byte once
     /// the room is spent; no other write does.
-    pub fn new(
-        alloc: Global,
-        room: usize,
-        most: usize,
-        fails: Vec<u64>,
-    ) -> Result<MemSink, Memory>
+    pub fn new(alloc: Global, room: usize, most: usize, fails: Vec<u64>) -> Result<MemSink, Memory>
         requires { 1 ≤ most }
         ensures held { IfOk result (λ sink. sink.held ≡ []) }
         ensures room { IfOk result (λ sink. sink.room ≡ room) }

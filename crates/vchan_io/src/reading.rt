@@ -12,8 +12,10 @@ use thiserror::Error;
 /// The greatest limit that `read_all` may be given, in bytes.
 pub const GREATEST_LIMIT: usize = 1_073_741_824;
 
-// How many bytes a read asks for: as many as were read so far, within these bounds.
+// A read asks for as many bytes as were read so far, but for at least this many,
 const SHORTEST_PIECE: usize = 8 * 1024;
+
+// and for at most this many.
 const LONGEST_PIECE: usize = 128 * 1024;
 
 /// Why a source was not read to its end.
@@ -46,8 +48,8 @@ impl From<Failed> for ReadAllError {
 /// Reads a source to its end, at most `limit` bytes.
 ///
 /// `ReadFault` comes only where the source's count of faults rose in this call, and `TooLong` exactly
-/// where more than `limit` bytes were taken, which are then one more. With each error the bytes
-/// taken are gone from the source.
+/// where more than `limit` bytes were taken, which are then one more. `Memory` is want of memory. With
+/// each error the bytes taken are gone from the source.
 pub fn read_all<S: Source>(
     alloc: Global,
     source: &mut S,
@@ -56,6 +58,7 @@ pub fn read_all<S: Source>(
     requires { limit ≤ GREATEST_LIMIT }
     ensures whole { IfOk result (λ bytes. IfSome (S.left source.old) (λ all. bytes.items ≡ all)) }
     ensures end { OnOk result (IsAtEnd (S.left source.new)) }
+    ensures short { IfOk result (λ bytes. length bytes.items ≤ limit) }
     ensures taken { (taken : List ℕ) × Takes (S.left source.old) (S.left source.new) taken
         × (length taken ≤ limit + 1)
         × (IsErrOf result ReadAllError.TooLong ↔ (limit < length taken))

@@ -1,4 +1,5 @@
-use Rattle.std.proofs.Common.{◌≡◌, ◌++◌, length, take, drop, ap, ◌∙◌, arith, rules}
+-- What a read puts after the filled part of the vector is taken too.
+use Rattle.std.proofs.Common.{◌≡◌, ◌++◌, length, take, drop, arith, rules}
 use Rattle.std.proofs.lemmas.Grind.{common_steps}
 use Rattle.std.proofs.lemmas.List.{take_at}
 use Rattle.vchan_io.proofs.Streaming.{Takes-filled}

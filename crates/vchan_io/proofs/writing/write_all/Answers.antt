@@ -1,3 +1,4 @@
+-- What a write takes of the bytes that are left is appended too.
 use Rattle.std.proofs.Common.{rules}
 use Rattle.std.proofs.lemmas.List.{take_rest}
 use Rattle.vchan_io.proofs.Streaming.{Appends-front}
