@@ -26,3 +26,6 @@ pub use op::{Op, PastEvent};
 pub use plain::Plain;
 pub use side::{Asked, Begun, EndedBy, Notes, Side};
 pub use steps::Steps;
+
+#[cfg(test)]
+mod tests;

@@ -291,18 +291,18 @@ impl Machine {
         }
     }
 
-    /// The event of a put of `count` bytes once `at` of them are stored: the bytes come first, and
+    /// The event of a put of `count` bytes once `stored` of them are: the bytes come first, and
     /// then the index shows them all at once.
     #[tactic(auto, using(crate::proofs::PlanLaws::bytes_laws), unfolding(crate::specs::Phases::rest_at))]
-    fn put_event(&self, at: u32, count: u32) -> Op
-        ensures op { (answer : Answer) → result ≡ next_op (rest_at (standing self.now) (Phase.Put at count answer)) }
+    fn put_event(&self, stored: u32, count: u32) -> Op
+        ensures op { (answer : Answer) → result ≡ next_op (rest_at (standing self.now) (Phase.Put stored count answer)) }
         ensures some { result ≢ Op.Nothing }
         ensures fits { (into : ℕ) → Fits self.now.orders count into result }
     {
-        if at < count {
+        if stored < count {
             return Op::StoreByte {
-                word: self.put_word(at),
-                at,
+                word: self.put_word(stored),
+                at: stored,
             };
         }
         let shown = self.prod.wrapping_add(count);
@@ -312,18 +312,18 @@ impl Machine {
         }
     }
 
-    /// The event of a take of `count` bytes once `at` of them are loaded: the index gives up their
+    /// The event of a take of `count` bytes once `loaded` of them are: the index gives up their
     /// places only after all bytes were loaded.
     #[tactic(auto, using(crate::proofs::PlanLaws::bytes_laws), unfolding(crate::specs::Phases::rest_at))]
-    fn take_event(&self, at: u32, count: u32) -> Op
-        ensures op { (answer : Answer) → result ≡ next_op (rest_at (standing self.now) (Phase.Take at count answer)) }
+    fn take_event(&self, loaded: u32, count: u32) -> Op
+        ensures op { (answer : Answer) → result ≡ next_op (rest_at (standing self.now) (Phase.Take loaded count answer)) }
         ensures some { result ≢ Op.Nothing }
         ensures fits { (out : ℕ) → Fits self.now.orders out count result }
     {
-        if at < count {
+        if loaded < count {
             return Op::LoadByte {
-                word: self.take_word(at),
-                at,
+                word: self.take_word(loaded),
+                at: loaded,
             };
         }
         let given_up = self.cons.wrapping_add(count);
