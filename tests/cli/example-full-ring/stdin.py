@@ -1,0 +1,1 @@
+print(open("../../../examples/full-ring.step").read(), end="")

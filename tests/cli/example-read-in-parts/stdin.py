@@ -1,0 +1,1 @@
+print(open("../../../examples/read-in-parts.step").read(), end="")

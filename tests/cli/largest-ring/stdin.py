@@ -1,0 +1,5 @@
+print("open 20 20")
+print("client write", "61" * 1048577)
+print("client write 62")
+print("server read 1")
+print("client write 63")
