@@ -3,3 +3,4 @@ pub mod Bounds
 pub mod Counted
 pub mod StepLaws
 pub mod RunLaws
+pub mod TurnLaws

@@ -9,3 +9,4 @@ pub mod Alone
 pub mod Laws
 pub mod Page
 pub mod Past
+pub mod Turned

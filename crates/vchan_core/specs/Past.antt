@@ -37,6 +37,10 @@ abbrev pub turned_of : Plain → Role → Bool
 turned_of page Server = page.server_turned
 turned_of page Client = page.client_turned
 
+abbrev pub other_turned_of : Plain → Role → Bool
+other_turned_of page Server = page.client_turned
+other_turned_of page Client = page.server_turned
+
 abbrev pub moved_of : Plain → Ring → Moved
 moved_of page Left = page.left
 moved_of page Right = page.right

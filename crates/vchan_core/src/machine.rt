@@ -1,7 +1,7 @@
 use crate::call::{Answer, Bit, Call, EndState};
 use crate::op::Op;
 use crate::phase::{Move, Phase};
-use crate::words::{cons_word, low8, low16, low32, mask, prod_word};
+use crate::words::{cons_word, low8, low16, low32, mask, peer_pending, prod_word};
 use ring_words::{Orders, Ring, Role, WordName, place, ready, room};
 
 mod moves;
@@ -27,7 +27,7 @@ impl Machine {
     ghost use Rattle.ring_words.specs.Rings.{place as place_of};
     ghost use Rattle.vchan_core.specs.Apply.{Fits};
     ghost use Rattle.vchan_core.specs.Plan.{next_op, after, left_after, past};
-    ghost use Rattle.vchan_core.specs.Ends.{Standing, written_ring, read_ring, ask_word, notify_word, peer_live, peer_pending, prod_word as prod_word_of, cons_word as cons_word_of, mask as mask_of, own_live, own_gone, own_pending, peer_gone, free_at, ready_at, read_size, standing_after};
+    ghost use Rattle.vchan_core.specs.Ends.{Standing, written_ring, read_ring, ask_word, notify_word, peer_live, peer_pending as peer_pending_of, prod_word as prod_word_of, cons_word as cons_word_of, mask as mask_of, own_live, own_gone, own_pending, peer_gone, free_at, ready_at, read_size, standing_after};
     ghost use Rattle.vchan_core.specs.Calls.{plan_of, payload_of, loaded_most, IsAllowed};
     ghost use Rattle.vchan_core.specs.Phases.{standing, rest, rest_at, left, IsIdle, Allows, out_at, into_at, out_of, into_of, Stands, StandsOrAnswered};
     ghost use Rattle.vchan_core.specs.declared.call.Call.{Call};
@@ -216,6 +216,14 @@ impl Machine {
                 _ => {}
             }
         }
+    }
+
+    /// Drops the call under way, as where the end is given up to a hostile user.
+    pub(crate) fn drop_call(&mut self)
+        ensures idle { IsIdle self.new }
+        ensures standing { standing self.new ≡ standing self.old }
+    {
+        self.phase = None;
     }
 
     // ---- the events
@@ -457,17 +465,11 @@ impl Machine {
     }
 
     fn signal(&self) -> Op
-        ensures { result ≡ Op.Store (peer_pending self.now.role) 1 }
+        ensures { result ≡ Op.Store (peer_pending_of self.now.role) 1 }
     {
-        match self.role {
-            Role::Server => Op::Store {
-                word: WordName::CliPending,
-                value: 1,
-            },
-            Role::Client => Op::Store {
-                word: WordName::SrvPending,
-                value: 1,
-            },
+        Op::Store {
+            word: peer_pending(self.role),
+            value: 1,
         }
     }
 

@@ -1,4 +1,4 @@
-ghost use Rattle.std.specs.Prelude.{◌≡◌, ◌≢◌, ℕ, ◌<◌, ◌≤◌, ◌+◌, ◌∷◌, ◌++◌, [], List, length, take, ◌↔◌, IsSome, IfOk, false};
+ghost use Rattle.std.specs.Prelude.{◌≡◌, ◌≢◌, ℕ, ◌<◌, ◌≤◌, ◌+◌, ◌∷◌, ◌++◌, [], List, length, take, ◌↔◌, IsSome, IfOk, IsTrue, true, false, slice_set};
 ghost use Rattle.ring_words.specs.declared.page.Role.TheVariants.{Server, Client};
 
 use crate::call::{Answer, Call, EndState};
@@ -6,7 +6,8 @@ use crate::carry::carry_out;
 use crate::machine::Machine;
 use crate::moved::Moved;
 use crate::steps::Steps;
-use ring_words::{Layout, Orders, Ring, Role, Words};
+use crate::words::peer_pending;
+use ring_words::{Layout, Orders, Ring, Role, WordName, Words};
 use std::alloc::{AllocError, Global};
 use std::sync::ledger::Ledger;
 
@@ -32,13 +33,15 @@ pub struct Plain {
 impl Plain {
     ghost use Rattle.vchan_core.specs.Apply.{Fits, words_after, value_taken, buffer_after, filled};
     ghost use Rattle.vchan_core.specs.Plan.{after, past};
-    ghost use Rattle.vchan_core.specs.Ends.{Standing};
+    ghost use Rattle.vchan_core.specs.Ends.{Standing, peer_pending as peer_pending_of};
     ghost use Rattle.vchan_core.specs.Calls.{plan_of, payload_of, loaded_most, most_events, Trace};
     ghost use Rattle.vchan_core.specs.Phases.{standing, rest, left as left_of, IsIdle, Allows, out_of, into_of, Stands, StandsOrAnswered};
     ghost use Rattle.vchan_core.specs.Core.{Core, opened, begun, event, side_of, writer_of, reader_of, plan_next, answer_in, bytes_loaded};
     ghost use Rattle.vchan_core.specs.Counts.{capped};
+    ghost use Rattle.ring_words.specs.Page.{index_of};
+    ghost use Rattle.vchan_core.specs.Turned.{MayPoke, poked, signalled};
     ghost use Rattle.vchan_core.specs.Alone.{called, call_answer};
-    ghost use Rattle.vchan_core.specs.Past.{machine_of, other_of, words_of, orders_of, turned_of, op_of, StandsFor, HasPayload};
+    ghost use Rattle.vchan_core.specs.Past.{machine_of, other_of, words_of, orders_of, turned_of, other_turned_of, op_of, StandsFor, HasPayload};
     ghost use Rattle.vchan_core.specs.declared.call.Call.{Call};
     ghost use Rattle.vchan_core.specs.declared.op.PastEvent.{PastEvent};
 
@@ -137,6 +140,69 @@ impl Plain {
         match ring {
             Ring::Left => self.left.got(),
             Ring::Right => self.right.got(),
+        }
+    }
+
+    /// A hostile store of an end: it is given up to a hostile user where it wasn't yet, and a call
+    /// under way is dropped. The word is a header field or a ring byte that the page has, which
+    /// `may_poke` tests.
+    pub fn poke(&mut self, who: Role, word: WordName, value: u64)
+        requires { MayPoke (orders_of self.old) word }
+        ensures stands { (core : Core) → StandsFor core self.old → StandsFor (poked core who word value) self.new }
+        ensures words { words_of self.new ≡ slice_set (words_of self.old) (index_of (orders_of self.old) word) value }
+        ensures orders { orders_of self.new ≡ orders_of self.old }
+        ensures turned { turned_of self.new who ≡ true }
+        ensures other { other_of self.new who ≡ other_of self.old who }
+    {
+        self.give_up(who);
+        self.words.store(word, value);
+    }
+
+    /// Whether a hostile user may store to a word: it is a header field or a ring byte of the page.
+    pub fn may_poke(&self, word: WordName) -> bool
+        ensures { IsTrue result ↔ MayPoke (orders_of self.now) word }
+    {
+        match word {
+            WordName::SrvPending | WordName::CliPending | WordName::SrvGone | WordName::CliGone =>
+                false,
+            _ => Layout::new(self.words.orders()).has(word),
+        }
+    }
+
+    /// A hostile signal of an end: it is given up where it wasn't yet, and its peer's pending word is
+    /// set.
+    pub fn signal(&mut self, who: Role)
+        ensures stands { (core : Core) → StandsFor core self.old → StandsFor (signalled core who) self.new }
+        ensures words { words_of self.new ≡ slice_set (words_of self.old) (index_of (orders_of self.old) (peer_pending_of who)) 1 }
+        ensures orders { orders_of self.new ≡ orders_of self.old }
+        ensures turned { turned_of self.new who ≡ true }
+        ensures other { other_of self.new who ≡ other_of self.old who }
+    {
+        self.give_up(who);
+        self.words.store(peer_pending(who), 1);
+    }
+
+    /// Gives an end up to a hostile user: its call is dropped.
+    fn give_up(&mut self, who: Role)
+        ensures idle { IsIdle (machine_of self.new who) }
+        ensures standing { standing (machine_of self.new who) ≡ standing (machine_of self.old who) }
+        ensures turned { turned_of self.new who ≡ true }
+        ensures other { other_of self.new who ≡ other_of self.old who }
+        ensures other_turned { other_turned_of self.new who ≡ other_turned_of self.old who }
+        ensures words { words_of self.new ≡ words_of self.old }
+        ensures orders { orders_of self.new ≡ orders_of self.old }
+        ensures left { self.new.left ≡ self.old.left }
+        ensures right { self.new.right ≡ self.old.right }
+    {
+        match who {
+            Role::Server => {
+                self.server.drop_call();
+                self.server_turned = true;
+            }
+            Role::Client => {
+                self.client.drop_call();
+                self.client_turned = true;
+            }
         }
     }
 

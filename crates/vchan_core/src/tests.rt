@@ -250,3 +250,23 @@ fn a_machine_takes_a_signal(rt: HostRuntime) -> Result<(), Fail> {
     assert!(rt; machine.idle());
     Ok(())
 }
+
+/// What a hostile end stores is seen by its peer, and takes its own calls away.
+#[test]
+fn a_hostile_end_is_turned(rt: HostRuntime) -> Result<(), Fail> {
+    let mut page = Plain::open(rt.alloc(), small_page()?, 0, (10, 11), EndState::Open)?;
+    assert!(rt; !page.may_poke(WordName::CliGone));
+    assert!(rt;
+        !page.may_poke(WordName::RingByte {
+            ring: Ring::Left,
+            at: 1024
+        })
+    );
+    assert!(rt; page.may_poke(WordName::LeftProd));
+    page.poke(Role::Client, WordName::LeftProd, 2000);
+    page.signal(Role::Client);
+    assert!(rt; page.turned(Role::Client) && !page.turned(Role::Server));
+    assert_eq!(rt; page.words().load(WordName::LeftProd), 2000);
+    assert_eq!(rt; page.words().load(WordName::SrvPending), 1);
+    Ok(())
+}

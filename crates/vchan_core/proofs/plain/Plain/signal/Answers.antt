@@ -1,0 +1,32 @@
+use Rattle.std.proofs.Common.{ℕ, List, ap, refl, ◌∙◌, slice_set}
+use Rattle.ring_words.specs.Page.{index_of}
+use Rattle.ring_words.specs.declared.page.WordName.{WordName}
+use Rattle.ring_words.specs.PageWords.{PageWords}
+use Rattle.ring_words.specs.declared.order.Orders.{Orders}
+use Rattle.vchan_core.specs.declared.op.Op.TheVariants.{Store}
+use Rattle.vchan_core.specs.Ends.{peer_pending}
+use Rattle.vchan_core.proofs.TurnLaws.{stands_strayed}
+use Rattle.vchan_core.proofs.plain.Plain.signal.Goals as goal
+
+pub returns-clause-stands : goal.returns-clause-stands
+returns-clause-stands c = λ core h. stands_strayed core c.args.who (Store (peer_pending c.args.who) 1) c.args.self.now c.give_up.new.self _ h (record {
+  idle = c.give_up.ensures.idle;
+  stands = c.give_up.ensures.standing;
+  other = c.give_up.ensures.other;
+  turned = c.give_up.ensures.turned;
+  other_turned = c.give_up.ensures.other_turned;
+  left = c.give_up.ensures.left;
+  right = c.give_up.ensures.right;
+  words =
+      ap (λ (w : PageWords). w.list) c.store.ensures.words
+      ∙ ap (λ (w : WordName). slice_set c.give_up.new.self.words.list (index_of c.give_up.new.self.words.orders w) 1) c.peer_pending.ensures
+      ∙ ap (λ (o : Orders). slice_set c.give_up.new.self.words.list (index_of o (peer_pending c.args.who)) 1) c.give_up.ensures.orders
+      ∙ ap (λ (l : List ℕ). slice_set l (index_of c.args.self.now.words.orders (peer_pending c.args.who)) 1) c.give_up.ensures.words;
+  orders = ap (λ (w : PageWords). w.orders) c.store.ensures.words ∙ c.give_up.ensures.orders;
+  server_is = refl;
+  client_is = refl;
+  left_is = refl;
+  right_is = refl;
+  server_turned_is = refl;
+  client_turned_is = refl;
+})
