@@ -1,0 +1,60 @@
+-- What a run of the program does, by its status.
+use Rattle.std.specs.Prelude.{◌≡◌, ℕ, ◌<◌, ◌↔◌, List, [], length, Option, Some, None, Result, Ok, Err}
+use Rattle.std.specs.Io.KnownBytes.{IsAtEnd}
+use Rattle.vchan_io.specs.Counts.{Rose}
+use Rattle.vchan_io.specs.Streams.{Takes, Appends, AppendsProperPrefix}
+use Rattle.step_script.specs.Script.{StepLine, script_of}
+use Rattle.step_script.specs.Played.{step_text}
+use Rattle.step_script.specs.declared.error.ScriptError.{ScriptError}
+use Rattle.step_script.specs.declared.error.ScriptError.TheVariants as error
+use Rattle.step_script.specs.declared.error.ScriptKind.{ScriptKind}
+use Rattle.vchan.specs.declared.command.Command.{Command}
+use Rattle.vchan.specs.declared.command.Command.TheVariants.{Step}
+use Rattle.vchan.specs.declared.status.Status.{Status}
+use Rattle.vchan.specs.declared.status.Status.TheVariants.{Done, BadWords, ReadFault, TooLong, BadInput, WriteFault, OutOfMemory}
+use Rattle.vchan.specs.declared.status.Bad.{Bad}
+use Rattle.vchan.specs.declared.status.Bad.TheVariants.{Script}
+use Rattle.vchan.specs.Command.{command_of}
+
+-- the longest input that the program reads
+abbrev pub greatest_input : ℕ
+greatest_input = 4194304
+
+-- the text that these bytes print as a script; where they are none, the first bad line and what is wrong with it
+abbrev pub text_or_bad : Result (List StepLine) (ℕ × ScriptKind) → Result (List ℕ) Bad
+text_or_bad (Ok lines) = Ok (step_text lines)
+text_or_bad (Err (line, kind)) = Err (Script line kind)
+
+-- what the command prints for this input, or what is wrong with the input
+abbrev pub output_of : Command → List ℕ → Result (List ℕ) Bad
+output_of Step input = text_or_bad (script_of input)
+
+-- these words are a command's, and this is what it has for these bytes
+abbrev pub Outputs : List (List ℕ) → List ℕ → Result (List ℕ) Bad → Type 0
+Outputs words input output = (command : Command) × (command_of words ≡ Some command) × (output_of command input ≡ output)
+
+-- A refusal of the input is the one that is due; want of memory is free.
+abbrev pub IsDue : ScriptError → List ℕ → Type 0
+IsDue (error.Bad line kind) input = output_of Step input ≡ Err (Script line kind)
+IsDue error.Memory input = Unit {0}
+
+-- what a status says of the bytes taken, of the source afterwards, and of the sink for the output before and after
+abbrev pub Ends : Status → List (List ℕ) → List ℕ → Option (List ℕ) → ℕ → ℕ → Option (List ℕ) → Option (List ℕ) → ℕ → ℕ → Type 0
+Ends Done words taken left' reads reads' held held' writes writes' =
+    IsAtEnd left' × ((text : List ℕ) × Outputs words taken (Ok text) × Appends held held' text)
+Ends BadWords words taken left' reads reads' held held' writes writes' = (taken ≡ []) × (held' ≡ held)
+Ends ReadFault words taken left' reads reads' held held' writes writes' = Rose reads reads' × (held' ≡ held)
+Ends TooLong words taken left' reads reads' held held' writes writes' = held' ≡ held
+Ends (BadInput bad) words taken left' reads reads' held held' writes writes' = IsAtEnd left' × Outputs words taken (Err bad) × (held' ≡ held)
+Ends WriteFault words taken left' reads reads' held held' writes writes' =
+    IsAtEnd left' × Rose writes writes' × ((text : List ℕ) × Outputs words taken (Ok text) × AppendsProperPrefix held held' text)
+Ends OutOfMemory words taken left' reads reads' held held' writes writes' = held' ≡ held
+
+-- A run with these words: from a source that had so many bytes left, and has so many, with these counts of faults;
+-- to a sink that held so many, and holds so many, with these counts of faults.
+pub record IsRun (words : List (List ℕ)) (left left' : Option (List ℕ)) (reads reads' : ℕ) (held held' : Option (List ℕ)) (writes writes' : ℕ) (status : Status) : Type 0 where
+  pub taken : List ℕ
+  pub takes : Takes left left' taken
+  pub bad_words : (status ≡ BadWords) ↔ (command_of words ≡ None)
+  pub too_long : (status ≡ TooLong) ↔ (greatest_input < length taken)
+  pub ends : Ends status words taken left' reads reads' held held' writes writes'

@@ -1,0 +1,55 @@
+ghost use Rattle.std.specs.Prelude.{◌≡◌};
+ghost use Rattle.vchan.specs.Status.{code_of};
+
+use step_script::ScriptKind;
+
+/// How a run of the program ended.
+#[derive(Clone, Copy, Debug, PartialEq, Eq)]
+pub enum Status {
+    /// The whole text was written.
+    Done,
+    /// The words are no command's.
+    BadWords,
+    /// The source met a fault.
+    ReadFault,
+    /// The input is longer than the program reads.
+    TooLong,
+    /// The input has not the form that the command reads.
+    BadInput {
+        /// What is wrong with it.
+        bad: Bad,
+    },
+    /// The sink for the output met a fault.
+    WriteFault,
+    /// There was too little memory.
+    OutOfMemory,
+}
+
+/// What is wrong with an input.
+#[derive(Clone, Copy, Debug, PartialEq, Eq)]
+pub enum Bad {
+    /// It is no script.
+    Script {
+        /// The first bad line, from 1.
+        line: u32,
+        /// What is wrong with that line.
+        kind: ScriptKind,
+    },
+}
+
+impl Status {
+    /// The number that the program ends with.
+    pub fn code(self) -> u8
+        ensures { result ≡ code_of self }
+    {
+        match self {
+            Status::Done => 0,
+            Status::BadWords => 2,
+            Status::ReadFault => 3,
+            Status::TooLong => 4,
+            Status::BadInput { .. } => 5,
+            Status::WriteFault => 6,
+            Status::OutOfMemory => 7,
+        }
+    }
+}

@@ -1,0 +1,240 @@
+use super::*;
+use std::alloc::AllocError;
+use std::test::Fail;
+use step_script::ScriptKind;
+use vchan_io::{MemSink, MemSource, Memory};
+
+/// At most so many bytes a call, and the numbers of the calls that fail.
+#[derive(Drop)]
+struct Stream {
+    most: usize,
+    fails: &'static [u64],
+}
+
+/// A stream that gives or takes all bytes at once, and never fails.
+const WHOLE: Stream = Stream {
+    most: 1 << 30,
+    fails: &[],
+};
+
+const OPENING: &[u8] = b"open 10 11\n";
+
+/// What a run over memory ended with, and what it wrote to its two sinks.
+#[derive(Drop)]
+struct Outcome {
+    status: Status,
+    out: MemSink,
+    err: MemSink,
+}
+
+fn words_of(alloc: Global, words: &[&str]) -> Result<Vec<String>, AllocError> {
+    let mut all = Vec::new(alloc);
+    for word in words {
+        all.push(String::from_str(alloc, *word)?)?;
+    }
+    Ok(all)
+}
+
+fn sink(alloc: Global, stream: &Stream) -> Result<MemSink, Memory> {
+    let fails = Vec::from_slice(alloc, stream.fails)?;
+    MemSink::new(alloc, 1 << 16, stream.most.max(1), fails)
+}
+
+fn run_over_memory(
+    alloc: Global,
+    words: &[&str],
+    input: Vec<u8>,
+    reads: &Stream,
+    writes: &Stream,
+    says: &Stream,
+) -> Result<Outcome, Fail> {
+    let words = words_of(alloc, words)?;
+    let mut source = MemSource::new(
+        input,
+        reads.most.max(1),
+        Vec::from_slice(alloc, reads.fails)?,
+    );
+    let mut out = sink(alloc, writes)?;
+    let mut err = sink(alloc, says)?;
+    let status = top(alloc, words.as_slice(), &mut source, &mut out, &mut err);
+    Ok(Outcome { status, out, err })
+}
+
+/// The scripts of the first path, and what they print.
+#[test]
+fn scripts_print_their_text(rt: HostRuntime) -> Result<(), Fail> {
+    let rows: [(&[u8], &[u8]); 4] = [
+        (
+            b"open 10 11\nclient write 68656c6c6f\nserver read 5\n",
+            b"client wrote 5\nserver read 68656c6c6f\nleft sent 5 got 5\nright sent 0 got 0\n",
+        ),
+        (b"open 10 11", b"left sent 0 got 0\nright sent 0 got 0\n"),
+        (
+            b"open 10 11\nclient write 6162\nserver read 1\nserver read 5\nserver read 0\nserver read 1\n",
+            b"client wrote 2\nserver read 61\nserver read 62\nserver empty 2 2\nserver empty 2 2\nleft sent 2 got 2\nright sent 0 got 0\n",
+        ),
+        (
+            b"open 12 12\nclient write FFfe\nserver read 2147483647",
+            b"client wrote 2\nserver read fffe\nleft sent 2 got 2\nright sent 0 got 0\n",
+        ),
+    ];
+    for (script, text) in rows {
+        let input = Vec::from_slice(rt.alloc(), script)?;
+        let ran = run_over_memory(rt.alloc(), &["step"], input, &WHOLE, &WHOLE, &WHOLE)?;
+        assert_eq!(rt; ran.status, Status::Done);
+        assert_eq!(rt; ran.status.code(), 0);
+        assert!(rt; ran.out.bytes() == text);
+        assert!(rt; ran.err.bytes().is_empty());
+    }
+    Ok(())
+}
+
+#[test]
+fn words_of_no_command_are_bad(rt: HostRuntime) -> Result<(), Fail> {
+    let rows: [&[&str]; 7] = [
+        &[],
+        &["step", "x"],
+        &["run", "0"],
+        &["run", "17"],
+        &["run", "01"],
+        &["Step"],
+        &["decode", "data"],
+    ];
+    for words in rows {
+        let input = Vec::from_slice(rt.alloc(), OPENING)?;
+        let ran = run_over_memory(rt.alloc(), words, input, &WHOLE, &WHOLE, &WHOLE)?;
+        assert_eq!(rt; ran.status, Status::BadWords);
+        assert_eq!(rt; ran.status.code(), 2);
+        assert!(rt; ran.out.bytes().is_empty());
+        assert!(rt; ran.err.bytes() == b"vchan: bad words\n".as_slice());
+    }
+    Ok(())
+}
+
+#[test]
+fn inputs_that_are_no_script_are_bad(rt: HostRuntime) -> Result<(), Fail> {
+    let rows: [(&[u8], u32, &[u8]); 6] = [
+        (b"", 1, b"vchan: line 1: bad-line\n"),
+        (b"open 10 10\n", 1, b"vchan: line 1: bad-line\n"),
+        (
+            b"open 10 11\nclient write 616\n",
+            2,
+            b"vchan: line 2: bad-line\n",
+        ),
+        (b"open 10 11\n\n", 2, b"vchan: line 2: bad-line\n"),
+        (
+            b"open 10 11\nclient write 61\nserver read 01\n",
+            3,
+            b"vchan: line 3: bad-line\n",
+        ),
+        (
+            b"open 10 11\nserver write 61\n",
+            2,
+            b"vchan: line 2: bad-line\n",
+        ),
+    ];
+    for (input, line, said) in rows {
+        let input = Vec::from_slice(rt.alloc(), input)?;
+        let ran = run_over_memory(rt.alloc(), &["step"], input, &WHOLE, &WHOLE, &WHOLE)?;
+        assert_eq!(rt;
+            ran.status,
+            Status::BadInput {
+                bad: Bad::Script {
+                    line,
+                    kind: ScriptKind::BadLine
+                }
+            }
+        );
+        assert_eq!(rt; ran.status.code(), 5);
+        assert!(rt; ran.out.bytes().is_empty());
+        assert!(rt; ran.err.bytes() == said);
+    }
+    Ok(())
+}
+
+#[test]
+fn inputs_are_bounded(rt: HostRuntime) -> Result<(), Fail> {
+    let longest = vec![in rt.alloc(); b' '; GREATEST_INPUT]?;
+    let ran_longest = run_over_memory(rt.alloc(), &["step"], longest, &WHOLE, &WHOLE, &WHOLE)?;
+    assert_eq!(rt; ran_longest.status.code(), 5);
+    let longer = vec![in rt.alloc(); b' '; GREATEST_INPUT + 1]?;
+    let ran_longer = run_over_memory(rt.alloc(), &["step"], longer, &WHOLE, &WHOLE, &WHOLE)?;
+    assert_eq!(rt; ran_longer.status, Status::TooLong);
+    assert_eq!(rt; ran_longer.status.code(), 4);
+    assert!(rt; ran_longer.err.bytes() == b"vchan: input too long\n".as_slice());
+    Ok(())
+}
+
+/// A script of more than 100 bytes whose output has more than 24.
+const LONGER: &[u8] =
+    b"open 10 11\nclient write 6162636465666768696a6b6c6d6e6f70\nserver read 7\nserver read 20\nclient write 00\nserver read 1\n";
+
+/// Each of the first six reads fails, at most 16 bytes a read.
+#[test]
+fn a_read_that_fails_is_a_read_fault(rt: HostRuntime) -> Result<(), Fail> {
+    let rows: [&'static [u64]; 6] = [&[1], &[2], &[3], &[4], &[5], &[6]];
+    for fails in rows {
+        let input = Vec::from_slice(rt.alloc(), LONGER)?;
+        let ran = run_over_memory(
+            rt.alloc(),
+            &["step"],
+            input,
+            &Stream { most: 16, fails },
+            &WHOLE,
+            &WHOLE,
+        )?;
+        assert_eq!(rt; ran.status, Status::ReadFault);
+        assert_eq!(rt; ran.status.code(), 3);
+        assert!(rt; ran.out.bytes().is_empty());
+        assert!(rt; ran.err.bytes() == b"vchan: read fault\n".as_slice());
+    }
+    Ok(())
+}
+
+/// Each of the first six writes fails, at most 4 bytes a write: what went before is there.
+#[test]
+fn a_write_that_fails_is_a_write_fault(rt: HostRuntime) -> Result<(), Fail> {
+    let rows: [(&'static [u64], &[u8]); 6] = [
+        (&[1], b""),
+        (&[2], b"clie"),
+        (&[3], b"client w"),
+        (&[4], b"client wrote"),
+        (&[5], b"client wrote 16\n"),
+        (&[6], b"client wrote 16\nserv"),
+    ];
+    for (fails, written) in rows {
+        let input = Vec::from_slice(rt.alloc(), LONGER)?;
+        let ran = run_over_memory(
+            rt.alloc(),
+            &["step"],
+            input,
+            &WHOLE,
+            &Stream { most: 4, fails },
+            &WHOLE,
+        )?;
+        assert_eq!(rt; ran.status, Status::WriteFault);
+        assert_eq!(rt; ran.status.code(), 6);
+        assert!(rt; ran.out.bytes() == written);
+        assert!(rt; ran.err.bytes() == b"vchan: write fault\n".as_slice());
+    }
+    Ok(())
+}
+
+#[test]
+fn a_fault_of_the_third_sink_changes_no_status(rt: HostRuntime) -> Result<(), Fail> {
+    let ran = run_over_memory(
+        rt.alloc(),
+        &["none"],
+        Vec::new(rt.alloc()),
+        &WHOLE,
+        &WHOLE,
+        &Stream {
+            most: 1,
+            fails: &[1],
+        },
+    )?;
+    assert_eq!(rt; ran.status, Status::BadWords);
+    assert!(rt; ran.err.bytes().is_empty());
+    assert_eq!(rt; Status::OutOfMemory.code(), 7);
+    Ok(())
+}
