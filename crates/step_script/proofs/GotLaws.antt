@@ -1,0 +1,177 @@
+-- A call that answers Got has loaded just as many bytes.
+use Rattle.std.proofs.Common.{◌≡◌, ℕ, suc, zero, ◌+◌, min, nat_lt, Bool, true, false, cond, List, [], ◌∷◌, ◌++◌, length, refl, subst, sym, ap, ◌∙◌, arith, append_assoc, length-append, add-zero}
+use Rattle.ring_words.specs.declared.page.Role.{Role}
+use Rattle.ring_words.specs.declared.page.Role.TheVariants.{Server, Client}
+use Rattle.vchan_core.specs.declared.call.Answer.{Answer}
+use Rattle.vchan_core.specs.declared.call.Answer.TheVariants.{Wrote, Full, Got, Empty, PeerClosed}
+use Rattle.vchan_core.specs.declared.call.Bit.{Bit}
+use Rattle.vchan_core.specs.declared.call.Bit.TheVariants.{Written, Consumed}
+use Rattle.vchan_core.specs.declared.op.Op.{Op}
+use Rattle.vchan_core.specs.declared.op.Op.TheVariants.{Load, LoadByte, Store, StoreByte, Or, And, Swap, Nothing}
+use Rattle.vchan_core.specs.declared.op.PastEvent.{PastEvent}
+use Rattle.vchan_core.specs.declared.side.Side.{Side}
+use Rattle.vchan_core.specs.Alone.{alone, called, call_answer}
+use Rattle.vchan_core.specs.Apply.{value_taken}
+use Rattle.vchan_core.specs.Calls.{put_bytes, take_bytes, put_index, take_index, put, take, notify, signal, ask, look_read, look_write, write, write_open, write_looked, read, read_live, read_looked, plan_of}
+use Rattle.vchan_core.specs.Core.{Core, side_of, with_side, standing_of, begun, begins, made, carried_out, answered, bytes_loaded, loaded_by}
+use Rattle.vchan_core.specs.Ends.{Standing, ready_at, free_at, low32}
+use Rattle.vchan_core.specs.Plan.{Plan, answers, does, past}
+use Rattle.step_script.specs.Script as script
+use Rattle.step_script.specs.Script.{StepCall, bytes_written}
+use Rattle.step_script.specs.Played.{call_made}
+
+-- the bytes loaded after an event
+abbrev pub loaded_then : Op → ℕ → ℕ
+loaded_then (LoadByte word at) l = l + 1
+loaded_then _ l = l
+
+-- with so many bytes loaded so far, the plan answers Got only with the number that it has loaded then
+unfoldable Delivers : ℕ → Plan → Type 0
+Delivers l (answers answer) = (k : ℕ) → answer ≡ Got k → l ≡ k
+Delivers l (does op next) = (value : ℕ) → Delivers (loaded_then op l) (next value)
+
+-- ---- the pieces
+
+delivers_if : (l : ℕ) (b : Bool) (x y : Plan) → Delivers l x → Delivers l y → Delivers l (cond b x y)
+delivers_if l true x y dx dy = dx
+delivers_if l false x y dx dy = dy
+
+-- an answer that is no Got
+delivers_none : (l : ℕ) (answer : Answer) → ((k : ℕ) → answer ≡ Got k → ⊥) → Delivers l (answers answer)
+unfolding Delivers
+delivers_none l answer other = λ k is. absurd (other k is)
+
+delivers_got : (k : ℕ) → Delivers k (answers (Got k))
+unfolding Delivers
+delivers_got k = λ j is. cc
+
+delivers_signal : (e : Standing) (l : ℕ) (next : Plan) → Delivers l next → Delivers l (signal e next)
+unfolding Delivers
+delivers_signal e l next d = λ value. d
+
+delivers_notify : (e : Standing) (bit : Bit) (l : ℕ) (next : Plan) → Delivers l next → Delivers l (notify e bit next)
+unfolding Delivers
+delivers_notify e bit l next d = λ old. delivers_if l _ next (signal e next) d (delivers_signal e l next d)
+
+delivers_ask : (e : Standing) (bit : Bit) (l : ℕ) (next : Plan) → Delivers l next → Delivers l (ask e bit next)
+unfolding Delivers
+delivers_ask e bit l next d = λ value. d
+
+delivers_look_read : (e : Standing) (l : ℕ) (next : ℕ → Plan) → ((v : ℕ) → Delivers l (next v)) → Delivers l (look_read e next)
+unfolding Delivers
+delivers_look_read e l next d = λ value. d (low32 value)
+
+delivers_look_write : (e : Standing) (l : ℕ) (next : ℕ → Plan) → ((v : ℕ) → Delivers l (next v)) → Delivers l (look_write e next)
+unfolding Delivers
+delivers_look_write e l next d = λ value. d (low32 value)
+
+delivers_put_bytes : (k : ℕ) (e : Standing) (i l : ℕ) (next : Plan) → Delivers l next → Delivers l (put_bytes e i k next)
+unfolding Delivers
+delivers_put_bytes zero e i l next d = d
+delivers_put_bytes (suc k) e i l next d = λ value. delivers_put_bytes k e (i + 1) l next d
+
+delivers_take_bytes : (k : ℕ) (e : Standing) (i l : ℕ) (next : Plan) → Delivers (l + k) next → Delivers l (take_bytes e i k next)
+unfolding Delivers
+delivers_take_bytes zero e i l next d = subst (λ (n : ℕ). Delivers n next) (add-zero l) d
+delivers_take_bytes (suc k) e i l next d =
+    λ value. delivers_take_bytes k e (i + 1) (l + 1) next (let same : l + suc k ≡ l + 1 + k = omega arith in subst (λ (n : ℕ). Delivers n next) same d)
+
+delivers_put : (e : Standing) (k l : ℕ) (next : Plan) → Delivers l next → Delivers l (put e k next)
+unfolding Delivers
+delivers_put e k l next d = delivers_put_bytes k e 0 l (put_index e k next) (index d)
+  where
+    index : Delivers l next → Delivers l (put_index e k next)
+    index d = λ value. delivers_notify e Written l next d
+
+delivers_take : (e : Standing) (k : ℕ) → Delivers 0 (take e k (answers (Got k)))
+unfolding Delivers
+delivers_take e k = delivers_take_bytes k e 0 0 (take_index e k (answers (Got k))) (let same : k ≡ 0 + k = omega arith in subst (λ (n : ℕ). Delivers n (take_index e k (answers (Got k)))) same index)
+  where
+    index : Delivers k (take_index e k (answers (Got k)))
+    index = λ value. delivers_notify e Consumed k (answers (Got k)) (delivers_got k)
+
+-- ---- the calls
+
+delivers_write_looked : (e : Standing) (n cons : ℕ) → Delivers 0 (write_looked e n cons)
+unfolding write_looked
+delivers_write_looked e n cons =
+    delivers_if 0 _ _ _ (delivers_none 0 (Wrote 0) (λ k is. cc))
+    (delivers_if 0 _ _ _ (delivers_none 0 (Full e.prod cons) (λ k is. cc)) (delivers_put e _ 0 _ (delivers_none 0 (Wrote (min n (free_at e cons))) (λ k is. cc))))
+
+delivers_write_open : (e : Standing) (n : ℕ) → Delivers 0 (write_open e n)
+unfolding write_open
+delivers_write_open e n =
+    delivers_look_write e 0 _
+    (λ cons. delivers_if 0 (nat_lt (free_at e cons) n) (ask e Consumed (look_write e (write_looked e n))) (write_looked e n cons)
+    (delivers_ask e Consumed 0 (look_write e (write_looked e n)) (delivers_look_write e 0 (write_looked e n) (delivers_write_looked e n))) (delivers_write_looked e n cons))
+
+delivers_write : (e : Standing) (n : ℕ) → Delivers 0 (write e n)
+unfolding write Delivers
+delivers_write e n = λ live. delivers_if 0 _ (answers PeerClosed) (write_open e n) (delivers_none 0 PeerClosed (λ k is. cc)) (delivers_write_open e n)
+
+delivers_read_live : (e : Standing) (prod : ℕ) → Delivers 0 (read_live e prod)
+unfolding read_live Delivers
+delivers_read_live e prod = λ live. delivers_if 0 _ (answers PeerClosed) (answers (Empty prod e.cons)) (delivers_none 0 PeerClosed (λ k is. cc)) (delivers_none 0 (Empty prod e.cons) (λ k is. cc))
+
+delivers_read_looked : (e : Standing) (n prod : ℕ) → Delivers 0 (read_looked e n prod)
+unfolding read_looked
+delivers_read_looked e n prod = delivers_if 0 _ (read_live e prod) _ (delivers_read_live e prod) (delivers_take e (min n (ready_at e prod)))
+
+delivers_read : (e : Standing) (n : ℕ) → Delivers 0 (read e n)
+unfolding read
+delivers_read e n =
+    delivers_look_read e 0 _
+    (λ prod. delivers_if 0 (nat_lt (ready_at e prod) n) (ask e Written (look_read e (read_looked e n))) (read_looked e n prod)
+    (delivers_ask e Written 0 (look_read e (read_looked e n)) (delivers_look_read e 0 (read_looked e n) (delivers_read_looked e n))) (delivers_read_looked e n prod))
+
+-- each call that a script makes
+delivers_call : (e : Standing) (call : StepCall) → Delivers 0 (plan_of e (call_made call))
+delivers_call e (script.write payload) = delivers_write e (length payload)
+delivers_call e (script.read most) = delivers_read e most
+
+-- ---- whole calls
+
+side_of-with_side : (core : Core) (who : Role) (side : Side) → side_of (with_side core who side) who ≡ side
+side_of-with_side core Server side = refl
+side_of-with_side core Client side = refl
+
+bytes_loaded-append : (xs ys : List PastEvent) → bytes_loaded (xs ++ ys) ≡ bytes_loaded xs ++ bytes_loaded ys
+bytes_loaded-append [] ys = refl
+bytes_loaded-append (x ∷ xs) ys = ap (λ (l : List ℕ). loaded_by x.op x.taken ++ l) (bytes_loaded-append xs ys) ∙ sym (append_assoc (loaded_by x.op x.taken) (bytes_loaded xs) (bytes_loaded ys))
+
+length-loaded_by : (op : Op) (taken l : ℕ) → l + length (loaded_by op taken ++ []) ≡ loaded_then op l
+length-loaded_by (LoadByte word at) taken l = refl
+length-loaded_by (Load word) taken l = add-zero l
+length-loaded_by (Store word value) taken l = add-zero l
+length-loaded_by (StoreByte word at) taken l = add-zero l
+length-loaded_by (Or word bits) taken l = add-zero l
+length-loaded_by (And word bits) taken l = add-zero l
+length-loaded_by (Swap word value) taken l = add-zero l
+length-loaded_by Nothing taken l = add-zero l
+
+-- one more event of a trail
+length-loaded-more : (trail : List PastEvent) (op : Op) (taken l : ℕ) → length (bytes_loaded trail) ≡ l → length (bytes_loaded (trail ++ past op taken ∷ [])) ≡ loaded_then op l
+length-loaded-more trail op taken l is =
+    ap length (bytes_loaded-append trail (past op taken ∷ [])) ∙ length-append (bytes_loaded trail) (loaded_by op taken ++ [])
+    ∙ ap (λ (n : ℕ). n + length (loaded_by op taken ++ [])) is ∙ length-loaded_by op taken l
+
+loaded_of : Core → Role → ℕ
+loaded_of core who = length (bytes_loaded (side_of core who).trail)
+
+got_alone : (plan : Plan) (core : Core) (who : Role) (l : ℕ) → Delivers l plan → loaded_of core who ≡ l → (k : ℕ) → (alone core who plan).1 ≡ Got k → loaded_of (alone core who plan).0 who ≡ k
+unfolding alone Delivers loaded_of
+got_alone (answers answer) core who l d so_far k is =
+    ap (λ (s : Side). length (bytes_loaded s.trail)) (side_of-with_side core who (answered (side_of core who) answer)) ∙ so_far ∙ d k is
+got_alone (does op next) core who l d so_far k is =
+    let value : ℕ = value_taken core.orders core.words op in
+    let more : loaded_of (carried_out core who op) who ≡ loaded_then op l =
+    ap (λ (s : Side). length (bytes_loaded s.trail)) (side_of-with_side _ who (made (side_of core who) op value)) ∙ length-loaded-more (side_of core who).trail op value l so_far in
+    got_alone (next value) (carried_out core who op) who (loaded_then op l) (d value) more k is
+
+-- the bytes that a call of a script has loaded are as many as its Got says
+pub got_count : (core : Core) (who : Role) (call : StepCall) (k : ℕ) → call_answer core who (call_made call) (bytes_written call) ≡ Got k
+    → length (bytes_loaded (side_of (called core who (call_made call) (bytes_written call)) who).trail) ≡ k
+unfolding loaded_of
+got_count core who call k is =
+    got_alone (plan_of (standing_of (side_of core who)) (call_made call)) (begun core who (call_made call) (bytes_written call)) who 0 (delivers_call (standing_of (side_of core who)) call)
+    (ap (λ (s : Side). length (bytes_loaded s.trail)) (side_of-with_side core who (begins (side_of core who) (call_made call) (bytes_written call)))) k is

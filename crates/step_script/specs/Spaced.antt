@@ -1,0 +1,6 @@
+-- Words behind one another.
+use Rattle.std.specs.Prelude.{ℕ, List, ◌∷◌, flat_map}
+
+-- each word behind a space (32)
+abbrev pub spaced : List (List ℕ) → List ℕ
+spaced words = flat_map (λ word. 32 ∷ word) words

@@ -1,0 +1,12 @@
+-- The words of a line that aren't read yet.
+use Rattle.std.specs.Prelude.{ℕ, List, [], Option, None, Some}
+use Rattle.step_script.specs.Words.{words_of}
+use Rattle.step_script.specs.declared.words.Words.{Words}
+use denote.Ref.{Bor}
+
+abbrev left_of : Option (Bor (List ℕ)) → List (List ℕ)
+left_of None = []
+left_of (Some rest) = words_of rest.now
+
+abbrev pub words_left : Words → List (List ℕ)
+words_left words = left_of words.rest
