@@ -8,7 +8,8 @@ use crate::moved::Moved;
 use crate::steps::Steps;
 use crate::words::peer_pending;
 use ring_words::{Layout, Orders, Ring, Role, WordName, Words};
-use std::alloc::{AllocError, Global};
+use vchan_io::Memory;
+use std::alloc::Global;
 use std::sync::ledger::Ledger;
 
 /// One page in memory, with its two ends, for a single thread to step as it likes.
@@ -53,7 +54,7 @@ impl Plain {
         start: u32,
         said: (u16, u16),
         state: EndState,
-    ) -> Result<Plain, AllocError>
+    ) -> Result<Plain, Memory>
         requires { state ≢ EndState.Shut }
         ensures { IfOk result (λ page. StandsFor (opened orders start said state) page) }
     {
