@@ -2,7 +2,6 @@ pub mod WordLaws
 pub mod NumberLaws
 pub mod OrdersLaws
 pub mod ScriptLaws
-pub mod DecimalLaws
 pub mod SpacedLaws
 pub mod GotLaws
 pub mod PlayLaws

@@ -21,12 +21,13 @@ use Rattle.vchan_core.specs.Apply.{filled}
 use Rattle.vchan_core.specs.Calls.{payload_of}
 use Rattle.vchan_core.specs.Core.{Core, opened, side_of, bytes_loaded}
 use Rattle.step_script.specs.Output.{TextLine, answered}
-use Rattle.step_script.specs.Played.{answer_line, bytes_got, call_made, got_front, got_len, line_after, line_prints, plays, ring_line, step_lines}
+use Rattle.step_script.specs.Played.{answer_line, bytes_got, call_made, line_after, line_prints, plays, ring_line, step_lines}
 use Rattle.step_script.specs.Script as script
 use Rattle.step_script.specs.Script.{StepCall, StepLine, opens, calls, bytes_written, payload_len}
 use Rattle.step_script.specs.declared.output.OutputLine.{OutputLine}
 use Rattle.step_script.specs.declared.script.Line.{Line}
-use Rattle.step_script.specs.Idle.{AreIdle}
+use Rattle.step_script.specs.Buffers.{got_front, got_len}
+use Rattle.step_script.specs.Pages.{AreIdle}
 use Rattle.step_script.specs.OutputLines.{line_shown, lines_shown}
 use Rattle.step_script.specs.ScriptLines.{AreShort, line_seen, lines_seen}
 use Rattle.step_script.proofs.GotLaws.{got_count}

@@ -9,4 +9,5 @@ pub mod Output
 pub mod OutputLines
 pub mod Spaced
 pub mod Played
-pub mod Idle
+pub mod Buffers
+pub mod Pages

@@ -1,4 +1,5 @@
 -- What a script prints: its output lines, and their text.
+-- Source: this project's own; the answers are those of libxenvchan's io.c.
 use Rattle.std.specs.Prelude.{ℕ, Bool, true, false, List, [], ◌∷◌, ◌++◌, flat_map, codes, decimal}
 use Rattle.std.specs.List.{join_with_byte}
 use Rattle.hex.specs.Hex.{encode_lower}
@@ -13,20 +14,26 @@ use Rattle.vchan_core.specs.declared.call.Answer.TheVariants.{Wrote, Full, Sent,
 use Rattle.step_script.specs.declared.output.Refusal.{Refusal}
 use Rattle.step_script.specs.declared.output.Refusal.TheVariants.{Turned, Shut, Unconnected}
 
--- an output line: an end's answer to a call, with the bytes that it took; why a call wasn't made; or how long the lists of a ring are
+-- an output line
 pub data TextLine : Type 0 where
+  -- an end's answer to a call, and the bytes that the call took
   answered : Role → Call → Answer → List ℕ → TextLine
+  -- why an end couldn't make a call
   refused : Role → Refusal → TextLine
+  -- how many bytes a ring's writer sent, and its reader got
   lengths : Ring → ℕ → ℕ → TextLine
 
+-- the word of an end
 abbrev pub role_word : Role → List ℕ
 role_word Server = codes "server"
 role_word Client = codes "client"
 
+-- the word of a ring
 abbrev pub ring_word : Ring → List ℕ
 ring_word Left = codes "left"
 ring_word Right = codes "right"
 
+-- the word for why a call couldn't be made
 abbrev pub refusal_word : Refusal → List ℕ
 refusal_word Turned = codes "turned"
 refusal_word Shut = codes "shut"
@@ -43,6 +50,7 @@ abbrev pub bytes_word : List ℕ → List ℕ
 bytes_word [] = codes "-"
 bytes_word (byte ∷ bytes) = encode_lower (byte ∷ bytes)
 
+-- 1 for true, 0 for false
 abbrev pub flag_word : Bool → List ℕ
 flag_word true = codes "1"
 flag_word false = codes "0"
@@ -60,7 +68,8 @@ answer_words call PeerClosed payload = codes "peer-closed" ∷ []
 answer_words call (Ready count) payload = codes "ready" ∷ decimal count ∷ []
 answer_words call (Space count) payload = codes "space" ∷ decimal count ∷ []
 answer_words call Connected payload = codes "connected" ∷ []
-answer_words call (BadOrders left right) payload = codes "badorders" ∷ decimal left ∷ decimal right ∷ []
+answer_words call (BadOrders left right) payload =
+    codes "badorders" ∷ decimal left ∷ decimal right ∷ []
 answer_words call Done payload = codes "done" ∷ []
 answer_words call (Event was) payload = codes "event" ∷ flag_word was ∷ []
 answer_words call (NotYet prod cons) payload = codes "notyet" ∷ decimal prod ∷ decimal cons ∷ []
@@ -72,7 +81,8 @@ answer_words call (Gone is) payload = codes "gone" ∷ flag_word is ∷ []
 abbrev pub line_words : TextLine → List (List ℕ)
 line_words (answered who call answer payload) = role_word who ∷ answer_words call answer payload
 line_words (refused who why) = role_word who ∷ refusal_word why ∷ []
-line_words (lengths ring sent got) = ring_word ring ∷ codes "sent" ∷ decimal sent ∷ codes "got" ∷ decimal got ∷ []
+line_words (lengths ring sent got) =
+    ring_word ring ∷ codes "sent" ∷ decimal sent ∷ codes "got" ∷ decimal got ∷ []
 
 -- one space (32) between each two words, and a line feed (10) behind them
 unfoldable pub line_text : TextLine → List ℕ

@@ -1,5 +1,6 @@
 -- What a script prints: its lines carried out from the opening of the page on.
-use Rattle.std.specs.Prelude.{ℕ, Option, Some, None, List, [], ◌∷◌, ◌++◌, take, length, if◌then◌else◌}
+-- Source: libxenvchan's io.c for the calls, as vchan_core has them; what is printed is this project's own.
+use Rattle.std.specs.Prelude.{ℕ, Option, Some, None, List, [], ◌∷◌, ◌++◌, length, if◌then◌else◌}
 use Rattle.ring_words.specs.Rings.{number_of}
 use Rattle.ring_words.specs.declared.page.Ring.{Ring}
 use Rattle.ring_words.specs.declared.page.Ring.TheVariants.{Left, Right}
@@ -40,15 +41,6 @@ abbrev pub bytes_got : Answer → List PastEvent → List ℕ
 bytes_got (Got count) trail = bytes_loaded trail
 bytes_got _ trail = []
 
--- how many bytes an answer says were taken, and these bytes at the front of a buffer
-abbrev pub got_len : Answer → ℕ
-got_len (Got count) = count
-got_len _ = 0
-
-abbrev pub got_front : Answer → List ℕ → List ℕ
-got_front (Got count) buffer = take count buffer
-got_front _ buffer = []
-
 -- the core state once the end has made the call, where nothing refuses it
 abbrev pub core_after : Option Refusal → Core → Role → StepCall → Core
 core_after None core who call = called core who (call_made call) (bytes_written call)
@@ -56,7 +48,9 @@ core_after (Some why) core who call = core
 
 -- the line that a whole call prints, its payload being these bytes
 abbrev pub answer_line : Core → Role → Call → List ℕ → TextLine
-answer_line core who call payload = answered who call (call_answer core who call payload) (bytes_got (call_answer core who call payload) (side_of (called core who call payload) who).trail)
+answer_line core who call payload =
+    answered who call (call_answer core who call payload)
+    (bytes_got (call_answer core who call payload) (side_of (called core who call payload) who).trail)
 
 -- the line that a script's call prints
 abbrev pub call_line : Option Refusal → Core → Role → StepCall → TextLine
@@ -65,13 +59,15 @@ call_line (Some why) core who call = refused who why
 
 -- how many bytes a ring's writer has sent and its reader has got
 abbrev pub ring_line : Core → Ring → TextLine
-ring_line core ring = lengths ring (capped (length (writer_of core ring).sent)) (capped (length (reader_of core ring).got))
+ring_line core ring =
+    lengths ring (capped (length (writer_of core ring).sent)) (capped (length (reader_of core ring).got))
 
--- what a line prints, and the core state behind it
+-- what a line prints
 abbrev pub line_prints : StepLine → Core → List TextLine
 line_prints (opens orders) core = []
 line_prints (calls who call) core = call_line (refusal_of (side_of core who)) core who call ∷ []
 
+-- the core state behind a line
 abbrev pub line_after : StepLine → Core → Core
 line_after (opens orders) core = core
 line_after (calls who call) core = core_after (refusal_of (side_of core who)) core who call
@@ -83,7 +79,8 @@ plays (line ∷ more) core = line_prints line core ++ plays more (line_after lin
 
 -- the lines that a script prints; its first line opens the page, with the client open
 abbrev pub step_lines : List StepLine → List TextLine
-step_lines (opens orders ∷ more) = plays more (opened orders 0 (number_of orders.left, number_of orders.right) Open)
+step_lines (opens orders ∷ more) =
+    plays more (opened orders 0 (number_of orders.left, number_of orders.right) Open)
 step_lines _ = []
 
 -- the text that a script prints

@@ -6,7 +6,7 @@ use Rattle.step_script.specs.declared.error.ScriptError.TheVariants as script
 use Rattle.step_script.specs.declared.error.LineError.{LineError}
 use Rattle.step_script.specs.declared.error.LineError.TheVariants as line
 
--- a refusal is the one that is due; want of memory is free
+-- a refusal of a line is the one that is due; want of memory is free
 abbrev pub IsLineRefusal : {Y : Type 0} → LineError → Result Y ScriptKind → Type 0
 IsLineRefusal (line.Bad kind) due = due ≡ Err kind
 IsLineRefusal line.Memory due = Unit {0}
@@ -16,12 +16,14 @@ abbrev pub Gives : {X Y : Type 0} → (X → Y) → Result X LineError → Resul
 Gives seen (Ok x) due = due ≡ Ok (seen x)
 Gives seen (Err e) due = IsLineRefusal e due
 
+-- a refusal of a script is the one that is due; want of memory is free
 abbrev pub IsScriptRefusal : {Y : Type 0} → ScriptError → Result Y (ℕ × ScriptKind) → Type 0
 IsScriptRefusal (script.Bad line kind) due = due ≡ Err (line, kind)
 IsScriptRefusal script.Memory due = Unit {0}
 
 -- a reader of lines answers what is due, as contracts see it; want of memory is free
-abbrev pub Reads : {X Y : Type 0} → (X → Y) → Result X ScriptError → Result Y (ℕ × ScriptKind) → Type 0
+abbrev pub Reads :
+    {X Y : Type 0} → (X → Y) → Result X ScriptError → Result Y (ℕ × ScriptKind) → Type 0
 Reads seen (Ok x) due = due ≡ Ok (seen x)
 Reads seen (Err e) due = IsScriptRefusal e due
 

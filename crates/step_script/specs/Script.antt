@@ -1,4 +1,5 @@
 -- A step script: its lines, and which bytes they are.
+-- Source: this project's own; the check of the two orders is that of libxenvchan's init.c.
 use Rattle.std.specs.Prelude.{ℕ, ◌+◌, ◌==◌, nat_lt, List, [], ◌∷◌, length, if◌then◌else◌, ok_or, Result, Ok, Err, codes, bytes_eq}
 use Rattle.std.specs.Result.{result_ok}
 use Rattle.hex.specs.Hex.{decode_of}
@@ -76,19 +77,22 @@ orders_of_words left right = do
 
 -- `open L R`
 abbrev pub opening_of_words : List (List ℕ) → Result Orders ScriptKind
-opening_of_words (verb ∷ left ∷ right ∷ []) = if bytes_eq verb (codes "open") then orders_of_words left right else Err BadLine
+opening_of_words (verb ∷ left ∷ right ∷ []) =
+    if bytes_eq verb (codes "open") then orders_of_words left right else Err BadLine
 opening_of_words _ = Err BadLine
 
--- the bytes that a call writes, and their number for a line
+-- the bytes that a call writes
 abbrev pub bytes_written : StepCall → List ℕ
 bytes_written (write payload) = payload
 bytes_written (read most) = []
 
+-- how many bytes a line writes
 abbrev pub payload_len : StepLine → ℕ
 payload_len (opens orders) = 0
 payload_len (calls who call) = length (bytes_written call)
 
--- a line at this number, after lines that write so many bytes: at most 65,536 lines, and 8,388,608 bytes in all
+-- the line of this number, after lines that write so many bytes: a script has at most 65,536 lines,
+-- which write at most 8,388,608 bytes in all
 abbrev pub line_at : ℕ → ℕ → List ℕ → Result StepLine ScriptKind
 line_at number before line =
     if nat_lt 65536 number then Err BadLine
@@ -109,6 +113,7 @@ lines_from (line ∷ more) number before = do
   rest ← lines_from more (number + 1) (before + payload_len next)
   Ok (next ∷ rest)
 
+-- the lines of a script whose bytes are these lines
 abbrev pub script_of_lines : List (List ℕ) → Result (List StepLine) (ℕ × ScriptKind)
 script_of_lines [] = Err (1, BadLine)
 script_of_lines (first ∷ more) = do

@@ -6,13 +6,16 @@ use Rattle.step_script.specs.declared.script.ScriptCall.{ScriptCall}
 use Rattle.step_script.specs.declared.script.ScriptCall.TheVariants.{Write, Read}
 use Rattle.step_script.specs.Script.{StepCall, StepLine, write, read, calls, payload_len}
 
+-- a call
 abbrev pub call_seen : ScriptCall → StepCall
 call_seen (Write payload) = write payload.items
 call_seen (Read most) = read most
 
+-- a line
 abbrev pub line_seen : Line → StepLine
 line_seen (Call who call) = calls who (call_seen call)
 
+-- the lines behind the first
 abbrev pub lines_seen : List Line → List StepLine
 lines_seen lines = map line_seen lines
 

@@ -1,5 +1,10 @@
-//! The step script: calls on the two ends of one vchan page, written down line by line and played
-//! on one thread, one call after another.
+//! The step script: a small language in which calls on the two ends of one vchan page are written
+//! down line by line. A script is read, played on a page in memory on one thread, one call after
+//! another, and the answers are printed as text.
+//!
+//! It serves the program's word `step`, and whoever wants to see what a row of calls does. The
+//! calls, their events and their answers are those of libxenvchan's `io.c`, as `vchan_core` has
+//! them; the lines and the text are this project's own.
 #![tactic(auto)]
 
 mod error;

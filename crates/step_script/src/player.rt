@@ -3,12 +3,13 @@ ghost use Rattle.std.specs.Prelude.{◌≡◌, ◌<◌, ◌≤◌, ◌++◌, len
 ghost use Rattle.vchan_core.specs.Alone.{call_answer, called};
 ghost use Rattle.vchan_core.specs.Apply.{filled};
 ghost use Rattle.vchan_core.specs.Calls.{loaded_most, payload_of};
-ghost use Rattle.vchan_core.specs.Core.{Core, bytes_loaded, side_of};
+ghost use Rattle.vchan_core.specs.Core.{bytes_loaded, side_of};
 ghost use Rattle.vchan_core.specs.Past.{StandsFor, machine_of, turned_of};
 ghost use Rattle.vchan_core.specs.Phases.{Allows, standing};
-ghost use Rattle.step_script.specs.Idle.{AreIdle};
+ghost use Rattle.step_script.specs.Buffers.{got_front, got_len};
+ghost use Rattle.step_script.specs.Pages.{AreIdle, ForEachCore, IsKnown};
 ghost use Rattle.step_script.specs.OutputLines.{line_shown, lines_shown};
-ghost use Rattle.step_script.specs.Played.{answer_line, call_line, call_made, core_after, got_front, got_len, line_after, line_prints, refusal_of, ring_line, step_lines};
+ghost use Rattle.step_script.specs.Played.{call_line, call_made, core_after, line_after, line_prints, refusal_of, ring_line, step_lines};
 ghost use Rattle.step_script.specs.Script.{bytes_written, payload_len};
 ghost use Rattle.step_script.specs.ScriptLines.{call_seen, line_seen};
 
@@ -51,11 +52,14 @@ fn play_line(
     line: &Line,
     printed: &mut Vec<OutputLine>,
 ) -> Result<(), Memory>
-    requires known { (core : Core) × StandsFor core page.old }
+    requires known { IsKnown page.old }
     requires idle { AreIdle page.old }
     requires short { payload_len (line_seen line.now) ≤ 8388608 }
-    ensures lines { OnOk result ((core : Core) → StandsFor core page.old → lines_shown printed.new.items ≡ lines_shown printed.old.items ++ line_prints (line_seen line.now) core) }
-    ensures stands { OnOk result ((core : Core) → StandsFor core page.old → StandsFor (line_after (line_seen line.now) core) page.new) }
+    ensures lines { OnOk result (ForEachCore page.old (λ core.
+        lines_shown printed.new.items
+        ≡ lines_shown printed.old.items ++ line_prints (line_seen line.now) core)) }
+    ensures stands { OnOk result (ForEachCore page.old (λ core.
+        StandsFor (line_after (line_seen line.now) core) page.new)) }
     ensures idle { OnOk result (AreIdle page.new) }
 {
     let (who, call) = line.call();
@@ -72,11 +76,15 @@ fn play_call(
     who: Role,
     call: &ScriptCall,
 ) -> Result<OutputLine, Memory>
-    requires known { (core : Core) × StandsFor core page.old }
+    requires known { IsKnown page.old }
     requires idle { AreIdle page.old }
     requires short { length (bytes_written (call_seen call.now)) ≤ 8388608 }
-    ensures line { IfOk result (λ line. (core : Core) → StandsFor core page.old → line_shown line ≡ call_line (refusal_of (side_of core who)) core who (call_seen call.now)) }
-    ensures stands { OnOk result ((core : Core) → StandsFor core page.old → StandsFor (core_after (refusal_of (side_of core who)) core who (call_seen call.now)) page.new) }
+    ensures line { IfOk result (λ line. ForEachCore page.old (λ core.
+        let why = refusal_of (side_of core who) in
+        line_shown line ≡ call_line why core who (call_seen call.now))) }
+    ensures stands { OnOk result (ForEachCore page.old (λ core.
+        let why = refusal_of (side_of core who) in
+        StandsFor (core_after why core who (call_seen call.now)) page.new)) }
     ensures idle { OnOk result (AreIdle page.new) }
 {
     if let Some(why) = refusal(page, who) {
@@ -97,14 +105,17 @@ fn make_call(
     who: Role,
     call: &ScriptCall,
 ) -> Result<OutputLine, Memory>
-    requires known { (core : Core) × StandsFor core page.old }
+    requires known { IsKnown page.old }
     requires idle { AreIdle page.old }
     requires short { length (bytes_written (call_seen call.now)) ≤ 8388608 }
     requires honest { turned_of page.old who ≡ false }
     requires open { (standing (machine_of page.old who)).state ≡ EndState.Open }
-    requires room { loaded_most (standing (machine_of page.old who)) (call_made (call_seen call.now)) ≤ length buffer.old }
-    ensures line { IfOk result (λ line. (core : Core) → StandsFor core page.old → line_shown line ≡ answer_line core who (call_made (call_seen call.now)) (bytes_written (call_seen call.now))) }
-    ensures stands { (core : Core) → StandsFor core page.old → StandsFor (called core who (call_made (call_seen call.now)) (bytes_written (call_seen call.now))) page.new }
+    requires room { let call = call_made (call_seen call.now) in
+        loaded_most (standing (machine_of page.old who)) call ≤ length buffer.old }
+    ensures line { IfOk result (λ line. ForEachCore page.old (λ core.
+        line_shown line ≡ call_line None core who (call_seen call.now))) }
+    ensures stands { ForEachCore page.old (λ core.
+        StandsFor (core_after None core who (call_seen call.now)) page.new) }
     ensures idle { AreIdle page.new }
 {
     let made = call.made();
@@ -136,10 +147,13 @@ fn run_call(page: &mut Plain, who: Role, call: Call, payload: &[u8], buffer: &mu
     requires allowed { Allows (machine_of page.old who) call }
     requires payload { payload_of call ≤ length payload.now }
     requires buffer { loaded_most (standing (machine_of page.old who)) call ≤ length buffer.old }
-    ensures stands { (core : Core) → StandsFor core page.old → StandsFor (called core who call (take (payload_of call) payload.now)) page.new }
-    ensures answer { (core : Core) → StandsFor core page.old → result ≡ call_answer core who call (take (payload_of call) payload.now) }
-    ensures buffer { (core : Core) → StandsFor core page.old
-        → buffer.new ≡ filled buffer.old (bytes_loaded (side_of (called core who call (take (payload_of call) payload.now)) who).trail) }
+    ensures stands { ForEachCore page.old (λ core.
+        StandsFor (called core who call (take (payload_of call) payload.now)) page.new) }
+    ensures answer { ForEachCore page.old (λ core.
+        result ≡ call_answer core who call (take (payload_of call) payload.now)) }
+    ensures buffer { ForEachCore page.old (λ core.
+        let behind = called core who call (take (payload_of call) payload.now) in
+        buffer.new ≡ filled buffer.old (bytes_loaded (side_of behind who).trail)) }
     ensures idle { AreIdle page.new }
 {
     run_counted::<Brand>(page, who, call, payload, buffer, Blank::new(1))
@@ -162,10 +176,13 @@ fn run_counted<L: Ledger>(
     requires allowed { Allows (machine_of page.old who) call }
     requires payload { payload_of call ≤ length payload.now }
     requires buffer { loaded_most (standing (machine_of page.old who)) call ≤ length buffer.old }
-    ensures stands { (core : Core) → StandsFor core page.old → StandsFor (called core who call (take (payload_of call) payload.now)) page.new }
-    ensures answer { (core : Core) → StandsFor core page.old → result ≡ call_answer core who call (take (payload_of call) payload.now) }
-    ensures buffer { (core : Core) → StandsFor core page.old
-        → buffer.new ≡ filled buffer.old (bytes_loaded (side_of (called core who call (take (payload_of call) payload.now)) who).trail) }
+    ensures stands { ForEachCore page.old (λ core.
+        StandsFor (called core who call (take (payload_of call) payload.now)) page.new) }
+    ensures answer { ForEachCore page.old (λ core.
+        result ≡ call_answer core who call (take (payload_of call) payload.now)) }
+    ensures buffer { ForEachCore page.old (λ core.
+        let behind = called core who call (take (payload_of call) payload.now) in
+        buffer.new ≡ filled buffer.old (bytes_loaded (side_of behind who).trail)) }
     ensures idle { AreIdle page.new }
 {
     page.run_call(who, call, payload, buffer, &mut Steps::<L>::new(blank))
@@ -173,7 +190,7 @@ fn run_counted<L: Ledger>(
 
 /// Why an end can't make a write or a read now: the first reason that applies.
 fn refusal(page: &Plain, who: Role) -> Option<Refusal>
-    ensures refusal { (core : Core) → StandsFor core page.now → result ≡ refusal_of (side_of core who) }
+    ensures refusal { ForEachCore page.now (λ core. result ≡ refusal_of (side_of core who)) }
     ensures honest { result ≡ None → turned_of page.now who ≡ false }
     ensures open { result ≡ None → (standing (machine_of page.now who)).state ≡ EndState.Open }
 {
@@ -206,7 +223,7 @@ fn most_taken(page: &Plain, who: Role, call: Call) -> usize
 
 /// How many bytes a ring's writer has sent and its reader has got.
 fn ring_lengths(page: &Plain, ring: Ring) -> OutputLine
-    ensures { (core : Core) → StandsFor core page.now → line_shown result ≡ ring_line core ring }
+    ensures { ForEachCore page.now (λ core. line_shown result ≡ ring_line core ring) }
 {
     OutputLine::Lengths {
         ring,

@@ -3,9 +3,10 @@ ghost use Rattle.std.specs.Prelude.{◌≡◌, ◌++◌, ◌∷◌, [], decimal,
 ghost use Rattle.std.specs.List.{join_with_byte};
 ghost use Rattle.step_script.specs.Output.{answer_words, bytes_word, flag_word, line_text, line_words, refusal_word, ring_word, role_word, taken_word, text_of};
 ghost use Rattle.step_script.specs.OutputLines.{line_shown};
-ghost use Rattle.step_script.specs.Spaced.{spaced};
+ghost use Rattle.step_script.specs.Spaced.{with_words};
 
 use crate::output::{OutputLine, Played, Refusal};
+use itoa::Buffer;
 use ring_words::{Ring, Role};
 use std::alloc::{AllocError, Global};
 use vchan_core::{Answer, Call};
@@ -59,7 +60,8 @@ fn push_line(out: &mut Vec<u8>, line: &OutputLine) -> Result<(), AllocError>
 /// The words of a line, with one space between each two.
 #[tactic(auto, using(crate::proofs::SpacedLaws::join_spaced))]
 fn push_words(out: &mut Vec<u8>, line: &OutputLine) -> Result<(), AllocError>
-    ensures { OnOk result (out.new.items ≡ out.old.items ++ join_with_byte 32 (line_words (line_shown line.now))) }
+    ensures { let words = line_words (line_shown line.now) in
+        OnOk result (out.new.items ≡ out.old.items ++ join_with_byte 32 words) }
 {
     match line {
         OutputLine::Answered {
@@ -90,7 +92,8 @@ fn push_answer(
     answer: Answer,
     payload: &[u8],
 ) -> Result<(), AllocError>
-    ensures { OnOk result (out.new.items ≡ out.old.items ++ spaced (answer_words call answer payload.now)) }
+    ensures { let words = answer_words call answer payload.now in
+        OnOk result (out.new.items ≡ with_words out.old.items words) }
 {
     match answer {
         Answer::Wrote { count } => push_count(out, b"wrote", u64::from(count)),
@@ -118,7 +121,7 @@ fn push_answer(
 
 /// A word and a number.
 fn push_count(out: &mut Vec<u8>, word: &[u8], count: u64) -> Result<(), AllocError>
-    ensures { OnOk result (out.new.items ≡ out.old.items ++ spaced (word.now ∷ decimal count ∷ [])) }
+    ensures { OnOk result (out.new.items ≡ with_words out.old.items (word.now ∷ decimal count ∷ [])) }
 {
     push_word(out, word)?;
     push_number(out, count)
@@ -126,7 +129,8 @@ fn push_count(out: &mut Vec<u8>, word: &[u8], count: u64) -> Result<(), AllocErr
 
 /// A word and two indices.
 fn push_pair(out: &mut Vec<u8>, word: &[u8], first: u32, second: u32) -> Result<(), AllocError>
-    ensures { OnOk result (out.new.items ≡ out.old.items ++ spaced (word.now ∷ decimal first ∷ decimal second ∷ [])) }
+    ensures { let words = word.now ∷ decimal first ∷ decimal second ∷ [] in
+        OnOk result (out.new.items ≡ with_words out.old.items words) }
 {
     push_count(out, word, u64::from(first))?;
     push_number(out, u64::from(second))
@@ -134,7 +138,7 @@ fn push_pair(out: &mut Vec<u8>, word: &[u8], first: u32, second: u32) -> Result<
 
 /// A word, and 1 or 0.
 fn push_flag(out: &mut Vec<u8>, word: &[u8], flag: bool) -> Result<(), AllocError>
-    ensures { OnOk result (out.new.items ≡ out.old.items ++ spaced (word.now ∷ flag_word flag ∷ [])) }
+    ensures { OnOk result (out.new.items ≡ with_words out.old.items (word.now ∷ flag_word flag ∷ [])) }
 {
     push_word(out, word)?;
     push_word(out, if flag { b"1" } else { b"0" })
@@ -142,7 +146,8 @@ fn push_flag(out: &mut Vec<u8>, word: &[u8], flag: bool) -> Result<(), AllocErro
 
 /// The bytes that a call took, behind the call's word for them.
 fn push_taken(out: &mut Vec<u8>, call: Call, payload: &[u8]) -> Result<(), AllocError>
-    ensures { OnOk result (out.new.items ≡ out.old.items ++ spaced (taken_word call ∷ bytes_word payload.now ∷ [])) }
+    ensures { let words = taken_word call ∷ bytes_word payload.now ∷ [] in
+        OnOk result (out.new.items ≡ with_words out.old.items words) }
 {
     push_word(out, name_of_taking(call))?;
     if payload.is_empty() {
@@ -153,7 +158,7 @@ fn push_taken(out: &mut Vec<u8>, call: Call, payload: &[u8]) -> Result<(), Alloc
 
 /// A word behind a space.
 fn push_word(out: &mut Vec<u8>, word: &[u8]) -> Result<(), AllocError>
-    ensures { OnOk result (out.new.items ≡ out.old.items ++ spaced (word.now ∷ [])) }
+    ensures { OnOk result (out.new.items ≡ with_words out.old.items (word.now ∷ [])) }
 {
     out.push(b' ')?;
     out.extend_from_slice(word)
@@ -161,19 +166,9 @@ fn push_word(out: &mut Vec<u8>, word: &[u8]) -> Result<(), AllocError>
 
 /// A number in decimal behind a space.
 fn push_number(out: &mut Vec<u8>, number: u64) -> Result<(), AllocError>
-    ensures { OnOk result (out.new.items ≡ out.old.items ++ spaced (decimal number ∷ [])) }
+    ensures { OnOk result (out.new.items ≡ with_words out.old.items (decimal number ∷ [])) }
 {
-    let mut digits = [b'0'; 20];
-    let mut start = digits.len();
-    let mut rest = number;
-    while rest >= 10 {
-        start -= 1;
-        digits[start] = b'0' + (rest % 10) as u8;
-        rest /= 10;
-    }
-    start -= 1;
-    digits[start] = b'0' + rest as u8;
-    push_word(out, &digits[start..])
+    push_word(out, Buffer::new().format(number).as_bytes())
 }
 
 fn name_of_role(who: Role) -> &'static [u8]

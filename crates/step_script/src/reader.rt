@@ -1,6 +1,6 @@
 //! Reading a script.
-ghost use Rattle.std.specs.Prelude.{◌≤◌, IfOk};
-ghost use Rattle.step_script.specs.Readings.{Gives, Reads};
+ghost use Rattle.std.specs.Prelude.{◌≡◌, ◌≤◌, IfErr, IfOk};
+ghost use Rattle.step_script.specs.Readings.{Gives, IsScriptRefusal, Reads};
 ghost use Rattle.step_script.specs.Script.{at_number, line_at, lines_from, opening_of_words, script_of};
 ghost use Rattle.step_script.specs.ScriptLines.{AreShort, line_seen, lines_seen};
 ghost use Rattle.step_script.specs.Words.{lines_of, words_of};
@@ -27,7 +27,8 @@ const MOST_BYTES: usize = 8_388_608;
 /// [`ScriptError::Bad`] exactly where the bytes are no such script, with the first line that
 /// doesn't fit; `ScriptError::Memory`.
 pub fn parse(alloc: Global, bytes: &[u8]) -> Result<Script, ScriptError>
-    ensures { Reads (λ script. script) result (script_of bytes.now) }
+    ensures script { IfOk result (λ script. script_of bytes.now ≡ Ok script) }
+    ensures bad { IfErr result (λ e. IsScriptRefusal e (script_of bytes.now)) }
 {
     let (first, rest) = first_line(bytes).ok_or(LineError::BAD_LINE.at(1))?;
     let orders = read_opening_at(1, first)?;
@@ -37,14 +38,16 @@ pub fn parse(alloc: Global, bytes: &[u8]) -> Result<Script, ScriptError>
 
 /// Reads the first line, under this number.
 fn read_opening_at(number: u32, line: &[u8]) -> Result<Orders, ScriptError>
-    ensures { Reads (λ orders. orders) result (at_number number (opening_of_words (words_of line.now))) }
+    ensures { let due = opening_of_words (words_of line.now) in
+        Reads (λ orders. orders) result (at_number number due) }
 {
     read_opening(line).map_err(|error| error.at(number))
 }
 
 /// Reads the lines after the first.
 fn read_lines(alloc: Global, bytes: &[u8]) -> Result<Vec<Line>, ScriptError>
-    ensures lines { Reads (λ lines. lines_seen lines.items) result (lines_from (lines_of bytes.now) 2 0) }
+    ensures lines { let due = lines_from (lines_of bytes.now) 2 0 in
+        Reads (λ lines. lines_seen lines.items) result due }
     ensures short { IfOk result (λ lines. AreShort lines.items) }
 {
     let mut lines = Vec::new(alloc);

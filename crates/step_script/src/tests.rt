@@ -1,7 +1,6 @@
+use crate::{ScriptError, ScriptKind, parse, play, text};
 use std::alloc::{AllocError, Global};
 use std::test::Fail;
-
-use crate::{ScriptError, ScriptKind, parse, play, text};
 
 /// What a script prints.
 fn printed(alloc: Global, script: &[u8]) -> Result<Vec<u8>, Fail> {
@@ -28,7 +27,8 @@ fn scripts_print_their_lines(rt: HostRuntime) -> Result<(), Fail> {
         ("open 10 11\n", "left sent 0 got 0\nright sent 0 got 0\n"),
         ("open 20 10", "left sent 0 got 0\nright sent 0 got 0\n"),
         (
-            "open 10 11\nclient write 6162\nserver read 1\nserver read 5\nserver read 0\nserver read 1",
+            "open 10 11\nclient write 6162\nserver read 1\nserver read 5\nserver read 0\n\
+             server read 1",
             "client wrote 2\nserver read 61\nserver read 62\nserver empty 2 2\nserver empty 2 2\n\
              left sent 2 got 2\nright sent 0 got 0\n",
         ),
@@ -52,7 +52,8 @@ fn a_full_ring_takes_no_more(rt: HostRuntime) -> Result<(), Fail> {
         script.extend_from_slice(b"61")?;
     }
     script.extend_from_slice(b"\nclient write 62")?;
-    let output = "client wrote 1024\nclient full 1024 0\nleft sent 1024 got 0\nright sent 0 got 0\n";
+    let output = "client wrote 1024\nclient full 1024 0\n\
+                  left sent 1024 got 0\nright sent 0 got 0\n";
     let found = printed(rt.alloc(), script.as_slice())?;
     assert_eq!(rt; found.as_slice(), output.as_bytes());
     Ok(())
@@ -86,7 +87,10 @@ fn the_first_line_that_does_not_fit_is_named(rt: HostRuntime) {
         ("open 10 11\nclient read 1", 2),
         ("open 10 11\nserver write 61", 2),
         ("open 10 11\nserver read 1\nserver read 01", 3),
-        ("open 10 11\nserver read 1\nserver read 2147483648\nserver", 3),
+        (
+            "open 10 11\nserver read 1\nserver read 2147483648\nserver",
+            3,
+        ),
         ("open 10 11\nserver read +1", 2),
         ("open 10 11\nserver read 18446744073709551617", 2),
         ("open 10 11\nserver read 1\n\n", 3),

@@ -1,13 +1,12 @@
 //! Cutting a script into lines, and a line into words.
 ghost use Rattle.std.specs.Prelude.{◌≡◌, ◌==◌, ◌<◌, ◌∷◌, [], length, position, MatchOption, IfNone, IfSome, option_copied};
-ghost use Rattle.std.specs.List.{slice_split};
-ghost use Rattle.step_script.specs.Words.{lines_of};
+ghost use Rattle.step_script.specs.Words.{lines_of, pieces};
 
 /// The bytes before the first separator, and those behind it where there is one.
 #[tactic(auto, using(crate::proofs::WordLaws::cut_found, crate::proofs::WordLaws::cut_missing))]
 pub(crate) fn cut_at(bytes: &[u8], separator: u8) -> (&[u8], Option<&[u8]>)
-    ensures pieces { MatchOption result.1 (slice_split (λ b. b == separator) bytes.now ≡ result.0.now ∷ [])
-        (λ rest. slice_split (λ b. b == separator) bytes.now ≡ result.0.now ∷ slice_split (λ b. b == separator) rest.now) }
+    ensures pieces { MatchOption result.1 (pieces separator bytes.now ≡ result.0.now ∷ [])
+        (λ rest. pieces separator bytes.now ≡ result.0.now ∷ pieces separator rest.now) }
     ensures whole { IfNone result.1 (result.0.now ≡ bytes.now) }
     ensures shorter { IfSome result.1 (λ rest. length rest.now < length bytes.now) }
 {
@@ -20,7 +19,8 @@ pub(crate) fn cut_at(bytes: &[u8], separator: u8) -> (&[u8], Option<&[u8]>)
 /// The first line and the bytes behind it. It is `None` exactly where there are no bytes.
 #[tactic(auto, using(crate::proofs::WordLaws::lines_of_cut, crate::proofs::WordLaws::lines_of_uncut))]
 pub(crate) fn first_line(bytes: &[u8]) -> Option<(&[u8], &[u8])>
-    ensures lines { MatchOption result (lines_of bytes.now ≡ []) (λ found. lines_of bytes.now ≡ found.0.now ∷ lines_of found.1.now) }
+    ensures lines { MatchOption result (lines_of bytes.now ≡ [])
+        (λ found. lines_of bytes.now ≡ found.0.now ∷ lines_of found.1.now) }
     ensures shorter { IfSome result (λ found. length found.1.now < length bytes.now) }
 {
     if bytes.is_empty() {
@@ -59,7 +59,8 @@ impl<'a> Words<'a> {
 
     /// The next word. It is `None` exactly where there is none, and then from then on.
     pub(crate) fn next(&mut self) -> Option<&'a [u8]>
-        ensures { MatchOption result ((words_left self.old ≡ []) × (words_left self.new ≡ [])) (λ word. words_left self.old ≡ word.now ∷ words_left self.new) }
+        ensures { MatchOption result ((words_left self.old ≡ []) × (words_left self.new ≡ []))
+            (λ word. words_left self.old ≡ word.now ∷ words_left self.new) }
     {
         let (word, rest) = cut_at(self.rest?, b' ');
         self.rest = rest;
