@@ -8,9 +8,9 @@ use crate::moved::Moved;
 use crate::steps::Steps;
 use crate::words::peer_pending;
 use ring_words::{Layout, Orders, Ring, Role, WordName, Words};
-use vchan_io::Memory;
 use std::alloc::Global;
 use std::sync::ledger::Ledger;
+use vchan_io::Memory;
 
 /// One page in memory, with its two ends, for a single thread to step as it likes.
 ///
