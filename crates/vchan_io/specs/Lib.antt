@@ -1,0 +1,4 @@
+pub mod Counts
+pub mod Streams
+pub mod MemSource
+pub mod MemSink

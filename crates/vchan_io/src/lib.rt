@@ -1,0 +1,33 @@
+//! Where the bytes of a vchan program come from and go to: sources and sinks that count their faults.
+//!
+//! Generic code reads and writes through `Source` and `Sink`, and its contracts speak of their ghost
+//! members alone. `MemSource` and `MemSink` stand over memory and fail where they are told to, for tests
+//! and for callers that have their bytes at hand. `StdSource` and `StdSink` stand over the readers and
+//! writers of `std::io`, whose meaning of short counts and errors is the one kept here. `Memory` is the
+//! want of memory that the crates above answer.
+#![tactic(auto)]
+
+mod faults;
+mod mem_sink;
+mod mem_source;
+mod memory;
+mod reading;
+mod sink;
+mod source;
+mod std_sink;
+mod std_source;
+mod writing;
+
+pub use faults::Failed;
+pub use mem_sink::MemSink;
+pub use mem_source::MemSource;
+pub use memory::Memory;
+pub use reading::{GREATEST_LIMIT, ReadAllError, read_all};
+pub use sink::Sink;
+pub use source::Source;
+pub use std_sink::StdSink;
+pub use std_source::StdSource;
+pub use writing::{WriteFault, write_all};
+
+#[cfg(test)]
+mod tests;

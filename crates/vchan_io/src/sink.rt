@@ -1,0 +1,29 @@
+ghost use Rattle.std.specs.Prelude.{◌≡◌, ℕ, ◌<◌, ◌≤◌, List, length, take, IfOk, OnErr, Option};
+ghost use Rattle.vchan_io.specs.Counts.{Rose};
+ghost use Rattle.vchan_io.specs.Streams.{Appends};
+
+use crate::faults::Failed;
+
+/// What bytes are written to, with a count of the faults that it met.
+///
+/// As with `std::io::Write`, a write may take fewer bytes than it is handed.
+pub trait Sink {
+    // The bytes held, where the sink tells them.
+    ghost held: { Self → Option (List ℕ) };
+
+    // How many faults the sink met, as a `u64` that stays at its greatest number.
+    ghost faults: { Self → ℕ };
+
+    /// Appends the front of `piece` and answers how many bytes it took, at least one if there is one.
+    ///
+    /// `Failed` comes only where the count of faults rose, and appends nothing.
+    fn write(&mut self, piece: &[u8]) -> Result<usize, Failed>
+        ensures within { IfOk result (λ count. count ≤ length piece.now) }
+        ensures some { IfOk result (λ count. 0 < length piece.now → 0 < count) }
+        ensures appended { IfOk result (λ count. Appends (held self.old) (held self.new) (take count piece.now)) }
+
+        ensures failed { OnErr result (Rose (faults self.old) (faults self.new)) }
+        ensures none_appended { OnErr result (held self.new ≡ held self.old) }
+
+        ensures counted { faults self.old ≤ faults self.new };
+}

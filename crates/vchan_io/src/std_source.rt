@@ -1,0 +1,65 @@
+ghost use Rattle.std.specs.Prelude.{◌≡◌, ℕ, ◌≤◌, ◌<◌, length, IfOk, IfSome, is_ok, if◌then◌else◌, None};
+ghost use Rattle.vchan_io.specs.Counts.{one_more};
+
+use crate::faults::Failed;
+use crate::source::Source;
+use std::io::{ErrorKind, Read};
+use std::marker::Model;
+
+/// A source over a reader of std. It is trusted to read what the reader's stream has, and doesn't tell its
+/// bytes; contracts see its count of faults.
+#[derive(Debug, Drop)]
+pub struct StdSource<R> {
+    inner: R,
+    faults: u64,
+}
+
+impl<R> Model for StdSource<R> {
+    ghost Value = { ℕ };
+
+    ghost view = { λ s. s.faults };
+}
+
+impl<R: Read> StdSource<R> {
+    /// A source of what `inner` reads, with no fault yet.
+    pub fn new(inner: R) -> StdSource<R>
+        ensures { result ≡ 0 }
+    {
+        StdSource { inner, faults: 0 }
+    }
+}
+
+impl<R: Read> Source for StdSource<R> {
+    ghost left = { λ _. None };
+
+    ghost faults = { λ s. s };
+
+    /// Each error of the reader counts as a fault, but for an interruption, after which it is asked again.
+    fn read(&mut self, buf: &mut [u8]) -> Result<usize, Failed>
+        ensures within { IfOk result (λ count. count ≤ length buf.old) }
+        ensures faults { self.new ≡ (if is_ok result then self.old else one_more self.old) }
+        ensures counted { self.old ≤ self.new }
+    {
+        match read_uninterrupted(&mut self.inner, buf) {
+            Some(count) => Ok(count),
+            None => {
+                self.faults = self.faults.saturating_add(1);
+                Err(Failed)
+            }
+        }
+    }
+}
+
+// One read, repeated where a signal interrupts it. `None` is an error of the reader.
+fn read_uninterrupted<R: Read>(reader: &mut R, buf: &mut [u8]) -> Option<usize>
+    ensures { IfSome result (λ count. count ≤ length buf.old) }
+{
+    for _ in 0..u64::MAX {
+        match reader.read(buf) {
+            Ok(count) => return Some(count),
+            Err(error) if error.kind() == ErrorKind::Interrupted => {}
+            Err(_) => break,
+        }
+    }
+    None
+}

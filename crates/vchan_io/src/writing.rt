@@ -1,0 +1,31 @@
+ghost use Rattle.std.specs.Prelude.{◌≤◌, OnOk, OnErr};
+ghost use Rattle.vchan_io.specs.Counts.{Rose};
+ghost use Rattle.vchan_io.specs.Streams.{Appends, AppendsProperPrefix};
+
+use crate::sink::Sink;
+use thiserror::Error;
+
+/// A sink failed before it had taken all bytes.
+#[derive(Clone, Copy, Debug, PartialEq, Eq, Error)]
+#[error("write fault")]
+pub struct WriteFault;
+
+/// Writes all of `bytes`, in as many writes as the sink wants.
+///
+/// `WriteFault` comes only where the sink's count of faults rose in this call, and then some of the bytes
+/// were appended, from the first on, and not all. It takes no memory.
+pub fn write_all<K: Sink>(sink: &mut K, bytes: &[u8]) -> Result<(), WriteFault>
+    ensures ok { OnOk result (Appends (K.held sink.old) (K.held sink.new) bytes.now) }
+    ensures fault { OnErr result (Rose (K.faults sink.old) (K.faults sink.new)) }
+    ensures part { OnErr result (AppendsProperPrefix (K.held sink.old) (K.held sink.new) bytes.now) }
+    ensures counted { K.faults sink.old ≤ K.faults sink.new }
+{
+    let mut written = 0;
+    while written < bytes.len() {
+        match sink.write(&bytes[written..]) {
+            Ok(count) => written += count,
+            Err(_) => return Err(WriteFault),
+        }
+    }
+    Ok(())
+}
