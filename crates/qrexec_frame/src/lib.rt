@@ -1,0 +1,19 @@
+//! The messages of qrexec, the service calls of Qubes OS: how each is written, and how a stream of them
+//! is read.
+//!
+//! It serves every crate that speaks qrexec: the two sides of a call, the broker and the scenarios. The
+//! types, bodies and limits are those of the qrexec protocol's descriptions, versions 2 and 3, by their
+//! names `MSG_HELLO`, `MSG_DATA_STDIN` and so on. A message is a header of two 32-bit numbers, type and
+//! length, and a body of that length, all little-endian.
+#![tactic(auto)]
+
+mod bytes;
+mod channel;
+mod kind;
+mod message;
+mod text;
+
+pub use bytes::Bytes;
+pub use channel::Channel;
+pub use message::{Message, fits};
+pub use text::{Text, TextError};
