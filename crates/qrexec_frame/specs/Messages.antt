@@ -1,6 +1,7 @@
 -- The written spelling of a message, and which messages have one.
 use Rattle.std.specs.Prelude.{ℕ, ◌+◌, ◌<◌, ◌≤◌, ◌^◌, List, [], ◌∷◌, ◌++◌, length}
-use Rattle.std.specs.Int.{w32, to_le_bytes, cast_unsigned, FitsSigned}
+use Rattle.std.specs.Int.{w32, to_le_bytes, cast_unsigned}
+use Rattle.std.specs.Int.RustNames.{FitsSigned}
 use Rattle.qrexec_frame.specs.declared.message.Message.{Message}
 use Rattle.qrexec_frame.specs.declared.message.Message.TheVariants.{Hello, Stdin, Stdout, Stderr, ExitCode, Exec, JustExec, Connect, Refused, Terminated, Trigger3, Trigger}
 use Rattle.qrexec_frame.specs.declared.kind.Kind.{Kind}
@@ -50,17 +51,36 @@ framed number body = four number ++ (four (length body) ++ body)
 abbrev pub written : Message → List ℕ
 written message = framed (number_of (kind_of message)) (body_of message)
 
--- the messages that have a spelling: each number has 32 bits, and each text and all bytes have room
+-- the messages whose bytes and texts have room in their fields, with a NUL at the end of each text
 abbrev pub Fits : Message → Type 0
-Fits (Hello version) = version < 2 ^ 32
+Fits (Hello version) = Unit {0}
 Fits (Stdin bytes) = length bytes ≤ 65536
 Fits (Stdout bytes) = length bytes ≤ 65536
 Fits (Stderr bytes) = length bytes ≤ 65536
-Fits (ExitCode code) = FitsSigned w32 code
-Fits (Exec domain port line) = (domain < 2 ^ 32) × (port < 2 ^ 32) × FitsText 65527 line
-Fits (JustExec domain port line) = (domain < 2 ^ 32) × (port < 2 ^ 32) × FitsText 65527 line
-Fits (Connect domain port ident) = (domain < 2 ^ 32) × (port < 2 ^ 32) × FitsText 31 ident
+Fits (ExitCode code) = Unit {0}
+Fits (Exec domain port line) = FitsText 65527 line
+Fits (JustExec domain port line) = FitsText 65527 line
+Fits (Connect domain port ident) = FitsText 31 ident
 Fits (Refused ident) = FitsText 31 ident
-Fits (Terminated domain port) = (domain < 2 ^ 32) × (port < 2 ^ 32)
+Fits (Terminated domain port) = Unit {0}
 Fits (Trigger3 target ident service) = FitsText 63 target × FitsText 31 ident × FitsText 65439 service
 Fits (Trigger target ident service) = FitsText 31 target × FitsText 31 ident × FitsText 63 service
+
+-- the messages whose numbers have 32 bits, as each number of a message of the program has
+abbrev pub HasNumbers : Message → Type 0
+HasNumbers (Hello version) = version < 2 ^ 32
+HasNumbers (Stdin bytes) = Unit {0}
+HasNumbers (Stdout bytes) = Unit {0}
+HasNumbers (Stderr bytes) = Unit {0}
+HasNumbers (ExitCode code) = FitsSigned w32 code
+HasNumbers (Exec domain port line) = (domain < 2 ^ 32) × (port < 2 ^ 32)
+HasNumbers (JustExec domain port line) = (domain < 2 ^ 32) × (port < 2 ^ 32)
+HasNumbers (Connect domain port ident) = (domain < 2 ^ 32) × (port < 2 ^ 32)
+HasNumbers (Refused ident) = Unit {0}
+HasNumbers (Terminated domain port) = (domain < 2 ^ 32) × (port < 2 ^ 32)
+HasNumbers (Trigger3 target ident service) = Unit {0}
+HasNumbers (Trigger target ident service) = Unit {0}
+
+-- the messages that have a spelling
+abbrev pub IsSpellable : Message → Type 0
+IsSpellable message = Fits message × HasNumbers message

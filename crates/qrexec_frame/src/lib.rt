@@ -9,11 +9,16 @@
 
 mod bytes;
 mod channel;
+mod encoding;
+mod fault;
+mod front;
 mod kind;
 mod message;
 mod text;
 
 pub use bytes::Bytes;
 pub use channel::Channel;
+pub use encoding::encode;
+pub use fault::FrameFault;
 pub use message::{Message, fits};
 pub use text::{Text, TextError};

@@ -1,5 +1,5 @@
-ghost use Rattle.std.specs.Prelude.{◌≡◌, ◌↔◌, Contains, IfOk};
-ghost use Rattle.std.specs.List.{before_first};
+ghost use Rattle.std.specs.Prelude.{◌≡◌, ◌↔◌, ◌≤◌, length, position, Contains, IfOk};
+ghost use Rattle.std.specs.List.{before_first, position_or_len};
 ghost use Rattle.qrexec_frame.specs.Texts.{HasNoNul, is_nul};
 ghost use Rattle.qrexec_frame.specs.declared.text.TextError.TheVariants as error;
 
@@ -68,8 +68,22 @@ impl Text {
     pub(crate) fn to_nul(alloc: Global, bytes: &[u8]) -> Result<Text, AllocError>
         ensures { IfOk result (λ text. text ≡ before_first is_nul bytes.now) }
     {
-        let len = bytes.iter().position(|b| *b == 0).unwrap_or(bytes.len());
-        let bytes = Vec::from_slice(alloc, &bytes[..len])?;
+        let bytes = Vec::from_slice(alloc, &bytes[..len_to_nul(bytes)])?;
         Ok(Text { bytes })
     }
+}
+
+// How many bytes stand before the first NUL.
+fn len_to_nul(bytes: &[u8]) -> usize
+    ensures len { result ≡ position_or_len is_nul bytes.now }
+    ensures within { result ≤ length bytes.now }
+{
+    first_nul(bytes).unwrap_or(bytes.len())
+}
+
+// Where the first NUL stands.
+fn first_nul(bytes: &[u8]) -> Option<usize>
+    ensures { result ≡ position is_nul bytes.now }
+{
+    bytes.iter().position(|b| *b == 0)
 }
