@@ -1,2 +1,4 @@
 pub mod StreamLaws
 pub mod TextLaws
+pub mod FrontLaws
+pub mod SpellingLaws

@@ -64,56 +64,55 @@ pub(crate) fn message_of(alloc: Global, kind: Kind, body: &[u8]) -> Result<Messa
     requires most { length body.now ≤ most_len kind }
     ensures { IfOk result (λ m. m ≡ made kind body.now) }
 {
-    let message = match kind {
-        Kind::Hello => Message::Hello {
+    match kind {
+        Kind::Hello => Ok(Message::Hello {
             version: u32_at(body, 0),
-        },
-        Kind::Stdin => Message::Stdin {
+        }),
+        Kind::Stdin => Ok(Message::Stdin {
             bytes: copied(alloc, body)?,
-        },
-        Kind::Stdout => Message::Stdout {
+        }),
+        Kind::Stdout => Ok(Message::Stdout {
             bytes: copied(alloc, body)?,
-        },
-        Kind::Stderr => Message::Stderr {
+        }),
+        Kind::Stderr => Ok(Message::Stderr {
             bytes: copied(alloc, body)?,
-        },
-        Kind::ExitCode => Message::ExitCode {
+        }),
+        Kind::ExitCode => Ok(Message::ExitCode {
             code: u32_at(body, 0).cast_signed(),
-        },
-        Kind::Exec => Message::Exec {
+        }),
+        Kind::Exec => Ok(Message::Exec {
             domain: u32_at(body, 0),
             port: u32_at(body, 4),
-            line: Text::to_nul(alloc, &body[8..])?,
-        },
-        Kind::JustExec => Message::JustExec {
+            line: line(alloc, body, 8)?,
+        }),
+        Kind::JustExec => Ok(Message::JustExec {
             domain: u32_at(body, 0),
             port: u32_at(body, 4),
-            line: Text::to_nul(alloc, &body[8..])?,
-        },
-        Kind::Connect => Message::Connect {
+            line: line(alloc, body, 8)?,
+        }),
+        Kind::Connect => Ok(Message::Connect {
             domain: u32_at(body, 0),
             port: u32_at(body, 4),
             ident: field(alloc, body, 8, 32)?,
-        },
-        Kind::Refused => Message::Refused {
+        }),
+        Kind::Refused => Ok(Message::Refused {
             ident: field(alloc, body, 0, 32)?,
-        },
-        Kind::Terminated => Message::Terminated {
+        }),
+        Kind::Terminated => Ok(Message::Terminated {
             domain: u32_at(body, 0),
             port: u32_at(body, 4),
-        },
-        Kind::Trigger3 => Message::Trigger3 {
+        }),
+        Kind::Trigger3 => Ok(Message::Trigger3 {
             target: field(alloc, body, 0, 64)?,
             ident: field(alloc, body, 64, 32)?,
-            service: Text::to_nul(alloc, &body[96..])?,
-        },
-        Kind::Trigger => Message::Trigger {
+            service: line(alloc, body, 96)?,
+        }),
+        Kind::Trigger => Ok(Message::Trigger {
             service: field(alloc, body, 0, 64)?,
             target: field(alloc, body, 64, 32)?,
             ident: field(alloc, body, 96, 32)?,
-        },
-    };
-    Ok(message)
+        }),
+    }
 }
 
 fn copied(alloc: Global, body: &[u8]) -> Result<Bytes, AllocError>
@@ -129,6 +128,14 @@ fn field(alloc: Global, body: &[u8], start: usize, len: usize) -> Result<Text, A
     ensures { IfOk result (λ text. text ≡ field_text start len body.now) }
 {
     Text::to_nul(alloc, &body[start..start + len - 1])
+}
+
+// A line or a service, which goes to the end of the body.
+fn line(alloc: Global, body: &[u8], start: usize) -> Result<Text, AllocError>
+    requires { start ≤ length body.now }
+    ensures { IfOk result (λ text. text ≡ line_text start body.now) }
+{
+    Text::to_nul(alloc, &body[start..])
 }
 
 // A number of four bytes, the lowest first.
