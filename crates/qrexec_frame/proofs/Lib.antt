@@ -2,3 +2,4 @@ pub mod StreamLaws
 pub mod TextLaws
 pub mod FrontLaws
 pub mod SpellingLaws
+pub mod GrammarLaws

@@ -16,7 +16,7 @@ use Rattle.qrexec_frame.specs.Streams.{Front, Whole, Bad, Short, IsPrefixCode}
 use Rattle.qrexec_frame.proofs.FrontLaws.{IsEnded, front-no_header, front-no_type, front-too_long, front-bad_length, front-no_body, front-no_nul, front-whole, length-body}
 
 -- how the front of some bytes stands to the grammar
-data Standing (channel : Channel) (bytes : List ℕ) : Type 0 where
+pub data Standing (channel : Channel) (bytes : List ℕ) : Type 0 where
   NoHeader : length bytes < 8 → Standing channel bytes
   NoType : 8 ≤ length bytes → kind_on channel (number_at 0 bytes) ≡ None → Standing channel bytes
   Long : (kind : Kind) → HasHeader channel bytes (number_at 0 bytes) (number_at 4 bytes) kind → 65536 < number_at 4 bytes → Standing channel bytes
@@ -28,7 +28,7 @@ data Standing (channel : Channel) (bytes : List ℕ) : Type 0 where
   Said : (kind : Kind) → HasHeader channel bytes (number_at 0 bytes) (number_at 4 bytes) kind → IsInRange kind (number_at 4 bytes) → 8 + number_at 4 bytes ≤ length bytes
     → IsEnded kind (take (number_at 4 bytes) (drop 8 bytes)) → Standing channel bytes
 
-standing : (channel : Channel) (bytes : List ℕ) → Standing channel bytes
+pub standing : (channel : Channel) (bytes : List ℕ) → Standing channel bytes
 standing channel bytes = by_header (cases_lt (length bytes) 8)
   where
     by_header : ((length bytes < 8) ⊎ (8 ≤ length bytes)) → Standing channel bytes
@@ -95,7 +95,8 @@ says-made body (message.Terminated domain port) says = let d = says.0 in let p =
 says-made body (message.Trigger3 target ident service) says = let t = says.0 in let i = says.1 in let s = says.2.1 in cc
 says-made body (message.Trigger target ident service) says = let s = says.0 in let t = says.1 in let i = says.2 in cc
 
-says-ended : (body : List ℕ) (m : Message) → Says body m → IsEnded (kind_of m) body
+-- where a type has a line, what is said of the body gives its NUL
+pub says-ended : (body : List ℕ) (m : Message) → Says body m → IsEnded (kind_of m) body
 says-ended body (message.Hello version) says = inl refl
 says-ended body (message.Stdin bytes) says = inl refl
 says-ended body (message.Stdout bytes) says = inl refl
