@@ -53,7 +53,8 @@ Shows-append channel a b (NoNul number) shows =
     let same = body-append shows.1 a b shows.4 in
     (shows.0, shows.1, HasHeader-append channel a b number shows.1 shows.0 shows.2, shows.3, omega (arith, shows.4, length-append a b), shows.5, rw same shows.6)
 
-most_len-le : (k : Kind) → most_len k ≤ 65536
+-- no type has a longer body
+pub most_len-le : (k : Kind) → most_len k ≤ 65536
 most_len-le kind.Hello = omega arith
 most_len-le kind.Stdin = omega arith
 most_len-le kind.Stdout = omega arith

@@ -3,3 +3,4 @@ pub mod TextLaws
 pub mod FrontLaws
 pub mod SpellingLaws
 pub mod GrammarLaws
+pub mod WrittenLaws

@@ -1,12 +1,13 @@
 -- The written spelling of a message, and which messages have one.
-use Rattle.std.specs.Prelude.{ℕ, ◌+◌, ◌<◌, ◌≤◌, ◌^◌, List, [], ◌∷◌, ◌++◌, length}
+use Rattle.std.specs.Prelude.{◌≡◌, ℕ, ◌+◌, ◌<◌, ◌≤◌, ◌^◌, List, [], ◌∷◌, ◌++◌, length, Some}
 use Rattle.std.specs.Int.{w32, to_le_bytes, cast_unsigned}
 use Rattle.std.specs.Int.RustNames.{FitsSigned}
 use Rattle.qrexec_frame.specs.declared.message.Message.{Message}
 use Rattle.qrexec_frame.specs.declared.message.Message.TheVariants.{Hello, Stdin, Stdout, Stderr, ExitCode, Exec, JustExec, Connect, Refused, Terminated, Trigger3, Trigger}
 use Rattle.qrexec_frame.specs.declared.kind.Kind.{Kind}
 use Rattle.qrexec_frame.specs.declared.kind.Kind.TheVariants as kind
-use Rattle.qrexec_frame.specs.Kinds.{number_of}
+use Rattle.qrexec_frame.specs.declared.channel.Channel.{Channel}
+use Rattle.qrexec_frame.specs.Kinds.{kind_on, number_of}
 use Rattle.qrexec_frame.specs.Texts.{padded, ended, FitsText}
 
 -- the type of a message
@@ -84,3 +85,7 @@ HasNumbers (Trigger target ident service) = Unit {0}
 -- the messages that have a spelling
 abbrev pub IsSpellable : Message → Type 0
 IsSpellable message = Fits message × HasNumbers message
+
+-- the message's type is one of the channel
+abbrev pub GoesOn : Channel → Message → Type 0
+GoesOn channel message = kind_on channel (number_of (kind_of message)) ≡ Some (kind_of message)
