@@ -5,3 +5,4 @@ pub mod Grammar
 pub mod Streams
 pub mod Fronts
 pub mod Bodies
+pub mod Decoding

@@ -1,5 +1,9 @@
-ghost use Rattle.std.specs.Prelude.{◌≡◌, ◌+◌, ◌-◌, ◌≤◌, ◌++◌, length, replicate, OnOk, OnErr, vec_len, vec_capacity};
-ghost use Rattle.qrexec_frame.specs.Messages.{Fits, HasNumbers, body_of, four, written};
+ghost use Rattle.std.specs.Prelude.{◌≡◌, ◌+◌, ◌≤◌, ◌++◌, List, ℕ, length, OnOk, OnErr, vec_len, vec_capacity};
+ghost use Rattle.qrexec_frame.specs.declared.channel.Channel.{Channel};
+ghost use Rattle.qrexec_frame.specs.Messages.{Fits, HasNumbers, GoesOn, body_of, four, written};
+ghost use Rattle.qrexec_frame.specs.Grammar.{Spelled};
+ghost use Rattle.qrexec_frame.specs.Fronts.{front};
+ghost use Rattle.qrexec_frame.specs.Streams.{Whole};
 ghost use Rattle.qrexec_frame.specs.Texts.{padded, ended};
 
 use crate::message::Message;
@@ -23,6 +27,12 @@ pub fn encode(message: &Message, out: &mut Vec<u8>) -> Result<(), Memory>
     requires { Fits message.now }
     ensures ok { OnOk result (out.new.items ≡ out.old.items ++ written message.now) }
     ensures err { OnErr result (out.new.items ≡ out.old.items) }
+
+    // What was written spells the message on each channel that has its type, and is read again, whatever
+    // follows it.
+    ensures spelled { OnOk result ((channel : Channel) → GoesOn channel message.now → Spelled channel (written message.now) message.now) }
+    ensures read_again { OnOk result ((channel : Channel) (more : List ℕ) → GoesOn channel message.now →
+        front channel (written message.now ++ more) ≡ Whole message.now (length (written message.now))) }
 {
     let len = body_len(message);
     out.reserve(HEADER + len)?;

@@ -3,6 +3,7 @@ ghost use Rattle.std.specs.Prelude.{◌≡◌, ◌+◌, ◌≤◌, length, IfOk}
 ghost use Rattle.qrexec_frame.specs.Kinds.{least_len, most_len};
 ghost use Rattle.qrexec_frame.specs.Grammar.{number_at};
 ghost use Rattle.qrexec_frame.specs.Fronts.{made};
+ghost use Rattle.qrexec_frame.specs.Messages.{HasNumbers};
 ghost use Rattle.qrexec_frame.specs.Texts.{field_text, line_text};
 
 use crate::bytes::Bytes;
@@ -15,6 +16,7 @@ use crate::text::Text;
 use std::alloc::{AllocError, Global};
 
 /// The type and the body of a whole message.
+#[derive(Clone, Copy, Debug)]
 pub(crate) struct Body<'a> {
     pub(crate) kind: Kind,
     pub(crate) bytes: &'a [u8],
@@ -62,7 +64,8 @@ impl<'a> Body<'a> {
 pub(crate) fn message_of(alloc: Global, kind: Kind, body: &[u8]) -> Result<Message, AllocError>
     requires least { least_len kind ≤ length body.now }
     requires most { length body.now ≤ most_len kind }
-    ensures { IfOk result (λ m. m ≡ made kind body.now) }
+    ensures made { IfOk result (λ m. m ≡ made kind body.now) }
+    ensures numbers { IfOk result HasNumbers }
 {
     match kind {
         Kind::Hello => Ok(Message::Hello {

@@ -9,6 +9,7 @@
 
 mod bytes;
 mod channel;
+mod decoder;
 mod encoding;
 mod fault;
 mod front;
@@ -18,7 +19,8 @@ mod text;
 
 pub use bytes::Bytes;
 pub use channel::Channel;
+pub use decoder::Decoder;
 pub use encoding::encode;
-pub use fault::FrameFault;
+pub use fault::{FrameFault, NextError};
 pub use message::{Message, fits};
 pub use text::{Text, TextError};
