@@ -4,3 +4,4 @@ pub mod FrontLaws
 pub mod SpellingLaws
 pub mod GrammarLaws
 pub mod WrittenLaws
+pub mod DecodingLaws

@@ -135,3 +135,45 @@ reads-all first written Good code again (m ∷ ms) each at =
     let read = read_on-whole first m (written m) (flat_map written ms) at some front in
     let more = reads-all first written Good code again ms each.1 (at + length (written m)) in
     rw read (ap (λ rest. m ∷ rest) more.0, more.1)
+
+-- what was read to its end as whole messages is read so, whatever follows it
+pub reads-then : {M F : Type 0} (first : List ℕ → Front M F) → IsPrefixCode first → (bytes tail : List ℕ) (at skip : ℕ) → skip ≤ length bytes → (read_on first bytes at skip).ending ≡ Rest 0
+    → read_on first (bytes ++ tail) at skip ≡ then_reading (read_on first bytes at skip).placed (read_on first tail (at + length bytes) 0)
+reads-then first code [] tail at zero within done = let same : at + 0 ≡ at = omega arith in rw same refl
+reads-then first code [] tail at (suc skip) within done = absurd (omega (arith, within))
+reads-then first code (b ∷ bytes) tail at (suc skip) within done =
+    let same : at + suc (length bytes) ≡ (at + 1) + length bytes = omega arith in
+    rw same (reads-then first code bytes tail (at + 1) skip (omega (arith, within)) done)
+reads-then first code (b ∷ bytes) tail at zero within done =
+    let same : at + suc (length bytes) ≡ (at + 1) + length bytes = omega arith in
+    rw same (reads-then-front first code b bytes tail at done (λ skip less more. reads-then first code bytes tail (at + 1) skip less more))
+  where
+    reads-then-front : {M F : Type 0} (first : List ℕ → Front M F) → IsPrefixCode first → (b : ℕ) (bytes tail : List ℕ) (at : ℕ) → (read_on first (b ∷ bytes) at 0).ending ≡ Rest 0
+        → ((skip : ℕ) → skip ≤ length bytes → (read_on first bytes (at + 1) skip).ending ≡ Rest 0
+            → read_on first (bytes ++ tail) (at + 1) skip ≡ then_reading (read_on first bytes (at + 1) skip).placed (read_on first tail ((at + 1) + length bytes) 0))
+        → read_on first (b ∷ bytes ++ tail) at 0 ≡ then_reading (read_on first (b ∷ bytes) at 0).placed (read_on first tail ((at + 1) + length bytes) 0)
+    reads-then-front {M} {F} first code b bytes tail at done next = by_front (first (b ∷ bytes)) refl
+      where
+        by_front : (f : Front M F) → first (b ∷ bytes) ≡ f → read_on first (b ∷ bytes ++ tail) at 0 ≡ then_reading (read_on first (b ∷ bytes) at 0).placed (read_on first tail ((at + 1) + length bytes) 0)
+        by_front (Whole m n) is =
+            let stays : first (b ∷ bytes ++ tail) ≡ Whole m n = code.whole_stays (b ∷ bytes) tail m n is in
+            let sized = code.sized (b ∷ bytes) m n is in
+            let less : n - 1 ≤ length bytes = omega (arith, sized.0, sized.1) in
+            let ended : (read_on first bytes (at + 1) (n - 1)).ending ≡ Rest 0 = rw is at done in
+            let rest = next (n - 1) less ended in
+            rw (is, stays) (rw rest refl)
+        by_front (Bad f) is = let ended : FaultAt at f ≡ Rest 0 = rw is at done in cc
+        by_front Short is =
+            let left : ℕ → Ending F = λ k. Rest k in
+            let ended : left (suc (length bytes)) ≡ left 0 = rw is at done in
+            let none : suc (length bytes) ≡ 0 = cc in absurd (omega (arith, none))
+
+-- less than a message is the rest
+pub read_on-short : {M F : Type 0} (first : List ℕ → Front M F) (bytes : List ℕ) (at : ℕ) → first bytes ≡ Short → read_on first bytes at 0 ≡ record { placed = []; ending = Rest (length bytes) }
+read_on-short first [] at is = refl
+read_on-short first (b ∷ bytes) at is = rw is refl
+
+-- a fault at the front is the end
+pub read_on-bad : {M F : Type 0} (first : List ℕ → Front M F) (bytes : List ℕ) (at : ℕ) (f : F) → 0 < length bytes → first bytes ≡ Bad f → read_on first bytes at 0 ≡ record { placed = []; ending = FaultAt at f }
+read_on-bad first [] at f some is = absurd (omega (arith, some))
+read_on-bad first (b ∷ bytes) at f some is = rw is refl
