@@ -2,7 +2,7 @@
 use Rattle.std.proofs.Common.{◌≡◌, ◌≢◌, ℕ, ◌+◌, ◌-◌, ◌<◌, ◌≤◌, ◌%◌, ◌^◌, ◌⊎◌, inl, inr, suc, List, [], ◌∷◌, ◌++◌, length, take, drop, Option, Some, None, Result, Ok, Err, Bool, true, false, refl, sym, ◌∙◌, ap, subst, arith, length-append, append_assoc}
 use Rattle.std.proofs.lemmas.List.{length-take-le, length-drop, append-nil, take-append-drop, take_all}
 use Rattle.std.proofs.lemmas.Bool.{cases_lt, eqb-true, cases_Bool}
-use Rattle.std.specs.Prelude.{find, ◌==◌}
+use Rattle.std.specs.Prelude.{find, ◌==◌, IfOk, IfSome}
 use Rattle.qrexec_frame.specs.declared.channel.Channel.{Channel}
 use Rattle.qrexec_frame.specs.declared.fault.FrameFault.{FrameFault}
 use Rattle.qrexec_frame.specs.declared.fault.NextError.{NextError}
@@ -12,7 +12,7 @@ use Rattle.qrexec_frame.specs.declared.message.Message.TheVariants as message
 use Rattle.qrexec_frame.specs.declared.kind.Kind.{Kind}
 use Rattle.qrexec_frame.specs.Kinds.{kinds_of, kind_on, number_of, least_len, most_len}
 use Rattle.qrexec_frame.specs.Texts.{FitsText}
-use Rattle.qrexec_frame.specs.Messages.{kind_of, Fits, GoesOn}
+use Rattle.qrexec_frame.specs.Messages.{kind_of, Fits, IsSpellable, GoesOn}
 use Rattle.qrexec_frame.specs.Grammar.{number_at, last_byte, Fault, UnknownType, TooLong, BadLength, NoNul, Says, Spelled, Shows}
 use Rattle.qrexec_frame.specs.Fronts.{front, reading, fault_at}
 use Rattle.qrexec_frame.specs.Streams.{Front, Whole, Bad, Short, Placed, Reading, Ending, Rest, FaultAt, read_on, reading_by, then_reading}
@@ -242,3 +242,11 @@ next-goes old new m answer faulted = by_fault old.fault refl
     by_fault : (o : Option FrameFault) → old.fault ≡ o → GoesOn old.channel m
     by_fault None is = let a = answer is in spelled-goes old.channel (take a.0 old.left) m (front-spelled old.channel old.left m a.0 a.1).2
     by_fault (Some f) is = let told = (faulted f is).0 in cc
+
+-- what a decoder gives has a spelling and is of its channel
+pub next-fits : (old new : DecoderState) (r : Result (Option Message) NextError) → (old.fault ≡ None → Answers old new r)
+    → ((f : FrameFault) → old.fault ≡ Some f → (r ≡ Err (error.Fault f)) × (new ≡ old)) → IfOk r (λ found. IfSome found IsSpellable)
+    → IfOk r (λ found. IfSome found (λ m. IsSpellable m × GoesOn old.channel m))
+next-fits old new (Ok (Some m)) answer faulted fits = (fits, next-goes old new m answer faulted)
+next-fits old new (Ok None) answer faulted fits = fits
+next-fits old new (Err e) answer faulted fits = fits

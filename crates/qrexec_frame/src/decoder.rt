@@ -64,6 +64,15 @@ impl Decoder {
         ensures stream { (fed : List ℕ) (given : List (Placed Message)) → StandsFor self.old fed given →
             OnOk result (StandsFor self.new (fed ++ piece.now) given) }
     {
+        self.take(piece)
+    }
+
+    // `feed` by the bytes that it holds.
+    fn take(&mut self, piece: &[u8]) -> Result<(), Memory>
+        ensures ok { OnOk result (self.new ≡ after_feed self.old piece.now) }
+        ensures err { OnErr result (self.new ≡ self.old) }
+        ensures faulted { IsSome self.old.fault → IsOk result }
+    {
         if self.fault.is_some() {
             return Ok(());
         }

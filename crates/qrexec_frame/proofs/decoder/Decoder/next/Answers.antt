@@ -1,5 +1,5 @@
 use Rattle.std.proofs.Common.{◌≡◌, Option, Some, None, Result, Ok, Err}
-use Rattle.qrexec_frame.proofs.DecodingLaws.{answers-grammar, next-reads, next-goes}
+use Rattle.qrexec_frame.proofs.DecodingLaws.{answers-grammar, next-reads, next-fits}
 use Rattle.qrexec_frame.proofs.decoder.Decoder.next.Goals as goal
 
 pub returns-clause-grammar : goal.returns-clause-grammar
@@ -9,4 +9,4 @@ pub returns-clause-stream : goal.returns-clause-stream
 returns-clause-stream c = next-reads c.args.self.now c.give.new.self c.give.result c.give.ensures.answer c.give.ensures.faulted
 
 pub returns-clause-fits : goal.returns-clause-fits
-returns-clause-fits c = ?
+returns-clause-fits c = next-fits c.args.self.now c.give.new.self c.give.result c.give.ensures.answer c.give.ensures.faulted c.give.ensures.fits
