@@ -6,3 +6,5 @@ pub mod Streams
 pub mod Fronts
 pub mod Bodies
 pub mod Decoding
+pub mod Lines
+pub mod Names

@@ -9,18 +9,22 @@
 
 mod bytes;
 mod channel;
+mod clean;
 mod decoder;
 mod encoding;
 mod fault;
 mod front;
 mod kind;
+mod line;
 mod message;
 mod text;
 
 pub use bytes::Bytes;
 pub use channel::Channel;
+pub use clean::{clean_name, clean_service, clean_target};
 pub use decoder::Decoder;
 pub use encoding::encode;
 pub use fault::{FrameFault, NextError};
+pub use line::message_line;
 pub use message::{Message, fits};
 pub use text::{Text, TextError};

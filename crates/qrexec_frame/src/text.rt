@@ -1,8 +1,10 @@
 ghost use Rattle.std.specs.Prelude.{◌≡◌, ◌↔◌, ◌≤◌, length, position, Contains, IfOk};
 ghost use Rattle.std.specs.List.{before_first, position_or_len};
+ghost use Rattle.qrexec_frame.specs.Names.{cleaned};
 ghost use Rattle.qrexec_frame.specs.Texts.{HasNoNul, is_nul};
 ghost use Rattle.qrexec_frame.specs.declared.text.TextError.TheVariants as error;
 
+use crate::clean::Letters;
 use std::alloc::{AllocError, Global};
 use std::marker::Model;
 use thiserror::Error;
@@ -71,6 +73,20 @@ impl Text {
         let bytes = Vec::from_slice(alloc, &bytes[..len_to_nul(bytes)])?;
         Ok(Text { bytes })
     }
+
+    /// A text with `_` in place of every byte that isn't one of the letters.
+    pub(crate) fn cleaned(alloc: Global, text: &Text, letters: Letters) -> Result<Text, AllocError>
+        ensures { IfOk result (λ clean. clean ≡ cleaned letters text.now) }
+    {
+        let bytes = clean_bytes(alloc, text.bytes(), letters)?;
+        Ok(Text { bytes })
+    }
+}
+
+fn clean_bytes(alloc: Global, bytes: &[u8], letters: Letters) -> Result<Vec<u8>, AllocError>
+    ensures { IfOk result (λ clean. clean.items ≡ cleaned letters bytes.now) }
+{
+    bytes.iter().map(|b| letters.kept(*b)).collect(alloc)
 }
 
 // How many bytes stand before the first NUL.
