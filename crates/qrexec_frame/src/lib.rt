@@ -19,6 +19,9 @@ mod line;
 mod message;
 mod text;
 
+#[cfg(test)]
+mod tests;
+
 pub use bytes::Bytes;
 pub use channel::Channel;
 pub use clean::{clean_name, clean_service, clean_target};
