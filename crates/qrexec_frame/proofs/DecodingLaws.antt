@@ -1,7 +1,7 @@
 -- What a decoder answers is the reading of all bytes that it was fed.
-use Rattle.std.proofs.Common.{◌≡◌, ◌≢◌, ℕ, ◌+◌, ◌-◌, ◌<◌, ◌≤◌, ◌%◌, ◌^◌, ◌⊎◌, inl, inr, suc, List, [], ◌∷◌, ◌++◌, length, take, drop, Option, Some, None, Result, Ok, Err, Bool, true, false, refl, sym, ◌∙◌, ap, subst, arith, length-append, append_assoc}
-use Rattle.std.proofs.lemmas.List.{length-take-le, length-drop, append-nil, take-append-drop, take_all}
-use Rattle.std.proofs.lemmas.Bool.{cases_lt, eqb-true, cases_Bool}
+use Rattle.std.proofs.Common.{◌≡◌, ℕ, ◌+◌, ◌<◌, ◌≤◌, ◌%◌, ◌^◌, ◌⊎◌, inl, inr, List, [], ◌∷◌, ◌++◌, length, take, drop, Option, Some, None, Result, Ok, Err, Bool, true, false, refl, sym, ◌∙◌, ap, subst, arith, length-append, append_assoc}
+use Rattle.std.proofs.lemmas.List.{length-take-le, length-drop, append-nil, take-append-drop}
+use Rattle.std.proofs.lemmas.Bool.{eqb-true, cases_Bool}
 use Rattle.std.specs.Prelude.{find, ◌==◌, IfOk, IfSome}
 use Rattle.qrexec_frame.specs.declared.channel.Channel.{Channel}
 use Rattle.qrexec_frame.specs.declared.fault.FrameFault.{FrameFault}
@@ -9,18 +9,16 @@ use Rattle.qrexec_frame.specs.declared.fault.NextError.{NextError}
 use Rattle.qrexec_frame.specs.declared.fault.NextError.TheVariants as error
 use Rattle.qrexec_frame.specs.declared.message.Message.{Message}
 use Rattle.qrexec_frame.specs.declared.message.Message.TheVariants as message
-use Rattle.qrexec_frame.specs.declared.kind.Kind.{Kind}
 use Rattle.qrexec_frame.specs.Kinds.{kinds_of, kind_on, number_of, least_len, most_len}
-use Rattle.qrexec_frame.specs.Texts.{FitsText}
 use Rattle.qrexec_frame.specs.Messages.{kind_of, Fits, IsSpellable, GoesOn}
-use Rattle.qrexec_frame.specs.Grammar.{number_at, last_byte, Fault, UnknownType, TooLong, BadLength, NoNul, Says, Spelled, Shows}
+use Rattle.qrexec_frame.specs.Grammar.{number_at, Fault, UnknownType, TooLong, BadLength, NoNul, Says, Spelled, Shows}
 use Rattle.qrexec_frame.specs.Fronts.{front, reading, fault_at}
-use Rattle.qrexec_frame.specs.Streams.{Front, Whole, Bad, Short, Placed, Reading, Ending, Rest, FaultAt, read_on, reading_by, then_reading}
-use Rattle.qrexec_frame.specs.Decoding.{DecoderState, after_message, after_feed, Answers, NoneSpelled, IsOnlySpelled, FollowsGrammar, StandsFor, Reads}
+use Rattle.qrexec_frame.specs.Streams.{Front, Whole, Bad, Placed, Rest, FaultAt, read_on, then_reading}
+use Rattle.qrexec_frame.specs.Decoding.{DecoderState, after_message, after_feed, Answers, IsOnlySpelled, FollowsGrammar, StandsFor, Reads}
 use Rattle.qrexec_frame.proofs.TextLaws.{FitsText-field, FitsText-line}
 use Rattle.qrexec_frame.proofs.StreamLaws.{read_on-whole, read_on-short, read_on-bad, reads-then}
 use Rattle.qrexec_frame.proofs.SpellingLaws.{shown-front, front-shown}
-use Rattle.qrexec_frame.proofs.GrammarLaws.{Spelled-front, front-spelled, only_spelling, is_prefix_code, most_len-le}
+use Rattle.qrexec_frame.proofs.GrammarLaws.{Spelled-front, front-spelled, only_spelling, is_prefix_code}
 
 -- ---- the type and the lengths of what was read
 
@@ -71,9 +69,9 @@ only-spelled channel bytes n m is =
       within = found.1;
       spelled = found.2;
       only = λ k other within spelled.
-        let parts : take k bytes ++ drop k bytes ≡ take n bytes ++ drop n bytes = take-append-drop k bytes ∙ sym (take-append-drop n bytes) in
-        let one = only_spelling channel (take k bytes) (take n bytes) (drop k bytes) (drop n bytes) other m spelled found.2 parts in
-        (sym (length-take-le k bytes within) ∙ ap length one.0 ∙ length-take-le n bytes found.1, one.1);
+          let parts : take k bytes ++ drop k bytes ≡ take n bytes ++ drop n bytes = take-append-drop k bytes ∙ sym (take-append-drop n bytes) in
+          let one = only_spelling channel (take k bytes) (take n bytes) (drop k bytes) (drop n bytes) other m spelled found.2 parts in
+          (sym (length-take-le k bytes within) ∙ ap length one.0 ∙ length-take-le n bytes found.1, one.1);
     }
 
 -- a spelled beginning stands at the front
@@ -86,9 +84,10 @@ spelled-begins channel bytes n m within spelled =
 
 pub answers-grammar : (old new : DecoderState) (r : Result (Option Message) NextError) → Answers old new r → FollowsGrammar old new r
 answers-grammar old new (Ok (Some m)) answer = (answer.0, only-spelled old.channel old.left answer.0 m answer.1, answer.2)
-answers-grammar old new (Ok None) answer =
-    (λ n m within spelled. let whole = spelled-begins old.channel old.left n m within spelled in let short = answer.0 in cc,
-     λ g shows. let bad = shown-front old.channel old.left g shows in let short = answer.0 in cc)
+answers-grammar old new (Ok None) answer = (
+  λ n m within spelled. let whole = spelled-begins old.channel old.left n m within spelled in let short = answer.0 in cc,
+  λ g shows. let bad = shown-front old.channel old.left g shows in let short = answer.0 in cc,
+)
 answers-grammar old new (Err (error.Fault f)) answer = (answer.0, front-shown old.channel old.left answer.0 answer.1, answer.2)
 answers-grammar old new (Err error.Memory) answer = answer.3
 
@@ -114,23 +113,32 @@ feed-stands d fed piece given s = by_fault d.fault refl
   where
     Stands : DecoderState → Type 0
     Stands e = StandsFor e (fed ++ piece) given
+
     by_fault : (o : Option FrameFault) → d.fault ≡ o → StandsFor (after_feed d piece) (fed ++ piece) given
     by_fault None is =
         let none : s.after ≡ [] = s.none_after is in
         let state : record d { left = d.left ++ piece } ≡ after_feed d piece = rw is refl in
         let P : DecoderState → Type 0 = λ e. StandsFor e (fed ++ piece) given in
         subst P state (record {
-          before = s.before; after = [];
+          before = s.before;
+          after = [];
           fed_is = ap (λ x. x ++ piece) s.fed_is ∙ rw none (simp (append_assoc, append-nil));
-          at_is = s.at_is; given_is = s.given_is; none_after = λ _. refl; faulty = λ f some. cc;
+          at_is = s.at_is;
+          given_is = s.given_is;
+          none_after = λ _. refl;
+          faulty = λ f some. cc;
         })
     by_fault (Some f) is =
         let state : d ≡ after_feed d piece = rw is refl in
         let P : DecoderState → Type 0 = λ e. StandsFor e (fed ++ piece) given in
         subst P state (record {
-          before = s.before; after = s.after ++ piece;
+          before = s.before;
+          after = s.after ++ piece;
           fed_is = ap (λ x. x ++ piece) s.fed_is ∙ simp append_assoc;
-          at_is = s.at_is; given_is = s.given_is; none_after = λ none. cc; faulty = s.faulty;
+          at_is = s.at_is;
+          given_is = s.given_is;
+          none_after = λ none. cc;
+          faulty = s.faulty;
         })
 
 -- an offset counted modulo 2 ^ 64 stands for itself in a fault
@@ -139,6 +147,7 @@ fault_at-mod at g = by_fault g
   where
     twice : (at % 2 ^ 64) % 2 ^ 64 ≡ at % 2 ^ 64
     twice = omega arith
+
     by_fault : (g : Fault) → fault_at (at % 2 ^ 64) g ≡ fault_at at g
     by_fault (UnknownType number) = rw twice refl
     by_fault (TooLong number len) = rw twice refl
@@ -164,30 +173,39 @@ bad-reading d fed given s g bad =
 message-stands : (d : DecoderState) (fed : List ℕ) (given : List (Placed Message)) (s : StandsFor d fed given) (m : Message) (n : ℕ) → d.fault ≡ None → front d.channel d.left ≡ Whole m n
     → StandsFor (after_message d n) fed (given ++ record { at = length s.before; message = m } ∷ [])
 message-stands d fed given s m n sound whole = record {
-    before = s.before ++ take n d.left; after = [];
-    fed_is = s.fed_is ∙ rw (s.none_after sound) parts;
-    at_is = omega (arith, s.at_is, size, length-append s.before (take n d.left));
-    given_is = joined ∙ rw (placed, zero_first) (rw one refl);
-    none_after = λ _. refl;
-    faulty = λ f some. cc;
-  }
+  before = s.before ++ take n d.left;
+  after = [];
+  fed_is = s.fed_is ∙ rw (s.none_after sound) parts;
+  at_is = omega (arith, s.at_is, size, length-append s.before (take n d.left));
+  given_is = joined ∙ rw (placed, zero_first) (rw one refl);
+  none_after = λ _. refl;
+  faulty = λ f some. cc;
+}
   where
     found : (0 < n) × (n ≤ length d.left) × Spelled d.channel (take n d.left) m
     found = front-spelled d.channel d.left m n whole
+
     size : length (take n d.left) ≡ n
     size = length-take-le n d.left found.1
+
     parts : s.before ++ (d.left ++ []) ≡ (s.before ++ take n d.left) ++ (drop n d.left ++ [])
     parts = rw (append-nil d.left, append-nil (drop n d.left)) (ap (λ x. s.before ++ x) (sym (take-append-drop n d.left)) ∙ sym (append_assoc s.before (take n d.left) (drop n d.left)))
+
     done : (read_on (front d.channel) s.before 0 0).ending ≡ Rest 0
     done = ap (λ r. r.ending) s.given_is
+
     placed : (read_on (front d.channel) s.before 0 0).placed ≡ given
     placed = ap (λ r. r.placed) s.given_is
+
     zero_first : 0 + length s.before ≡ length s.before
     zero_first = omega arith
+
     joined : reading d.channel (s.before ++ take n d.left) ≡ then_reading (read_on (front d.channel) s.before 0 0).placed (read_on (front d.channel) (take n d.left) (0 + length s.before) 0)
     joined = reads-then (front d.channel) (is_prefix_code d.channel) s.before (take n d.left) 0 0 (omega arith) done
+
     last : read_on (front d.channel) (take n d.left ++ []) (length s.before) 0 ≡ record { placed = record { at = length s.before; message = m } ∷ []; ending = Rest 0 }
     last = read_on-whole (front d.channel) m (take n d.left) [] (length s.before) (omega (arith, size, found.0)) (Spelled-front d.channel (take n d.left) [] m found.2)
+
     one : read_on (front d.channel) (take n d.left) (length s.before) 0 ≡ record { placed = record { at = length s.before; message = m } ∷ []; ending = Rest 0 }
     one = ap (λ bytes. read_on (front d.channel) bytes (length s.before) 0) (sym (append-nil (take n d.left))) ∙ last
 
@@ -205,12 +223,20 @@ answers-reads old new (Ok None) sound answer fed given s =
 answers-reads old new (Err (error.Fault f)) sound answer fed given s =
     let P : DecoderState → Type 0 = λ d. StandsFor d fed given in
     let stands : StandsFor (record old { fault = Some f }) fed given = record {
-        before = s.before; after = s.after; fed_is = s.fed_is; at_is = s.at_is; given_is = s.given_is;
-        none_after = λ none. cc;
-        faulty = λ other is. (answer.0, answer.1, (let same : f ≡ other = cc in sym same ∙ answer.2));
-      } in
-    (length s.before, answer.0, subst P (sym answer.3) stands, bad-reading old fed given s answer.0 answer.1,
-     answer.2 ∙ ap (λ at. fault_at at answer.0) s.at_is ∙ fault_at-mod (length s.before) answer.0)
+      before = s.before;
+      after = s.after;
+      fed_is = s.fed_is;
+      at_is = s.at_is;
+      given_is = s.given_is;
+      none_after = λ none. cc;
+      faulty = λ other is. (answer.0, answer.1, (let same : f ≡ other = cc in sym same ∙ answer.2));
+    } in (
+      length s.before,
+      answer.0,
+      subst P (sym answer.3) stands,
+      bad-reading old fed given s answer.0 answer.1,
+      answer.2 ∙ ap (λ at. fault_at at answer.0) s.at_is ∙ fault_at-mod (length s.before) answer.0,
+    )
 answers-reads old new (Err error.Memory) sound answer fed given s =
     let P : DecoderState → Type 0 = λ d. StandsFor d fed given in subst P (sym answer.3) s
 

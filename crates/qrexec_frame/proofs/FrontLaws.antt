@@ -1,14 +1,13 @@
 -- What stands at the front, by the conditions of the grammar.
-use Rattle.std.proofs.Common.{◌≡◌, ◌≢◌, ℕ, ◌+◌, ◌-◌, ◌<◌, ◌≤◌, ◌⊎◌, inl, inr, List, [], ◌∷◌, ◌++◌, length, take, drop, Option, Some, None, Bool, true, false, refl, sym, ◌∙◌, ap, subst, arith, cond}
-use Rattle.std.proofs.lemmas.List.{length-take-le, length-drop, drop-append-le, take-append-le, append-nil}
-use Rattle.std.proofs.lemmas.Bool.{cases_lt, cases_eq, cases_Bool, lt-ltb, le-ltb, eq-eqb, ne_eqb, eqb-true}
-use Rattle.std.proofs.lemmas.Bool.Decides.{nat_tests}
-use Rattle.std.specs.Prelude.{not, nat_lt, ◌&&◌, ◌==◌}
+use Rattle.std.proofs.Common.{◌≡◌, ◌≢◌, ℕ, ◌+◌, ◌<◌, ◌≤◌, ◌⊎◌, inl, inr, List, length, take, drop, Some, None, true, false, refl, sym, ◌∙◌, ap, arith, cond}
+use Rattle.std.proofs.lemmas.List.{length-take-le, length-drop}
+use Rattle.std.proofs.lemmas.Bool.{cases_lt, cases_Bool, lt-ltb, le-ltb, eq-eqb, ne_eqb}
+use Rattle.std.specs.Prelude.{nat_lt}
 use Rattle.qrexec_frame.specs.declared.channel.Channel.{Channel}
 use Rattle.qrexec_frame.specs.declared.message.Message.{Message}
 use Rattle.qrexec_frame.specs.declared.kind.Kind.{Kind}
 use Rattle.qrexec_frame.specs.Kinds.{kind_on, least_len, most_len, has_line}
-use Rattle.qrexec_frame.specs.Grammar.{number_at, last_byte, Fault, UnknownType, TooLong, BadLength, NoNul, HasHeader, IsInRange, Shows}
+use Rattle.qrexec_frame.specs.Grammar.{number_at, last_byte, Fault, UnknownType, TooLong, BadLength, NoNul, HasHeader, IsInRange}
 use Rattle.qrexec_frame.specs.Fronts.{front, with_header, with_body, made}
 use Rattle.qrexec_frame.specs.Streams.{Front, Whole, Bad, Short}
 
@@ -75,6 +74,7 @@ front-whole channel bytes number len kind header range there ended =
   where
     sized : ℕ → Front Message Fault
     sized n = Whole (made kind (take len (drop 8 bytes))) (8 + n)
+
     by_end : IsEnded kind (take len (drop 8 bytes)) → with_body kind number (take len (drop 8 bytes)) ≡ Whole (made kind (take len (drop 8 bytes))) (8 + length (take len (drop 8 bytes)))
     by_end (inl no_line) = rw no_line refl
     by_end (inr nul) = by_line (cases_Bool (has_line kind))

@@ -1,17 +1,17 @@
 -- The spelled messages are those at the front, and more bytes change nothing of them.
-use Rattle.std.proofs.Common.{◌≡◌, ◌≢◌, ℕ, ◌+◌, ◌-◌, ◌<◌, ◌≤◌, ◌⊎◌, inl, inr, suc, List, [], ◌∷◌, ◌++◌, length, take, drop, Option, Some, None, Bool, true, false, refl, sym, ◌∙◌, ap, subst, arith, length-append, append_assoc}
-use Rattle.std.proofs.lemmas.List.{length-take-le, length-drop, drop-append-le, take-append-le, append-nil, take-append-drop, take_all, take_at, drop-take}
+use Rattle.std.proofs.Common.{◌≡◌, ℕ, ◌+◌, ◌<◌, ◌≤◌, List, [], ◌∷◌, ◌++◌, length, take, drop, refl, sym, ◌∙◌, ap, arith, length-append, append_assoc}
+use Rattle.std.proofs.lemmas.List.{length-take-le, length-drop, drop-append-le, take-append-le, take-append-drop, take_all, take_at, drop-take}
 use Rattle.std.specs.Int.{w32, from_le_bytes}
 use Rattle.qrexec_frame.specs.declared.channel.Channel.{Channel}
 use Rattle.qrexec_frame.specs.declared.message.Message.{Message}
 use Rattle.qrexec_frame.specs.declared.kind.Kind.{Kind}
 use Rattle.qrexec_frame.specs.declared.kind.Kind.TheVariants as kind
-use Rattle.qrexec_frame.specs.Kinds.{kind_on, least_len, most_len, has_line}
+use Rattle.qrexec_frame.specs.Kinds.{most_len}
 use Rattle.qrexec_frame.specs.Messages.{kind_of}
-use Rattle.qrexec_frame.specs.Grammar.{number_at, last_byte, Says, Spelled, Fault, UnknownType, TooLong, BadLength, NoNul, HasHeader, IsInRange, Shows}
+use Rattle.qrexec_frame.specs.Grammar.{number_at, Spelled, Fault, UnknownType, TooLong, BadLength, NoNul, HasHeader, IsInRange, Shows}
 use Rattle.qrexec_frame.specs.Fronts.{front, made}
-use Rattle.qrexec_frame.specs.Streams.{Front, Whole, Bad, Short, IsPrefixCode}
-use Rattle.qrexec_frame.proofs.FrontLaws.{IsEnded, front-no_header, front-no_type, front-too_long, front-bad_length, front-no_body, front-no_nul, front-whole, length-body}
+use Rattle.qrexec_frame.specs.Streams.{Front, Whole, IsPrefixCode}
+use Rattle.qrexec_frame.proofs.FrontLaws.{IsEnded, front-no_header, front-no_type, front-too_long, front-bad_length, front-no_body, front-no_nul, front-whole}
 use Rattle.qrexec_frame.proofs.SpellingLaws.{Standing, NoHeader, NoType, Long, OffRange, NoBody, Unended, Said, standing, shown-front, front-shown, says-made, says-ended, made-says, kind_of-made}
 
 -- a number of four bytes doesn't depend on what follows
@@ -37,11 +37,11 @@ body-append len a b long =
 
 pub HasHeader-append : (channel : Channel) (a b : List ℕ) (number len : ℕ) (kind : Kind) → HasHeader channel a number len kind → HasHeader channel (a ++ b) number len kind
 HasHeader-append channel a b number len kind header = record {
-    there = omega (arith, header.there, length-append a b);
-    number_is = header.number_is ∙ sym (number_at-append 0 a b (omega (arith, header.there)));
-    len_is = header.len_is ∙ sym (number_at-append 4 a b (omega (arith, header.there)));
-    kind_is = header.kind_is;
-  }
+  there = omega (arith, header.there, length-append a b);
+  number_is = header.number_is ∙ sym (number_at-append 0 a b (omega (arith, header.there)));
+  len_is = header.len_is ∙ sym (number_at-append 4 a b (omega (arith, header.there)));
+  kind_is = header.kind_is;
+}
 
 -- a fault that shows stays
 pub Shows-append : (channel : Channel) (a b : List ℕ) (f : Fault) → Shows channel a f → Shows channel (a ++ b) f
@@ -75,18 +75,25 @@ Spelled-front channel bytes more m spelled =
   where
     eight : 8 ≤ length bytes
     eight = omega (arith, spelled.len)
+
     header : HasHeader channel (bytes ++ more) (number_at 0 bytes) (number_at 4 bytes) (kind_of m)
     header = HasHeader-append channel bytes more (number_at 0 bytes) (number_at 4 bytes) (kind_of m) (record { there = eight; number_is = refl; len_is = refl; kind_is = spelled.kind })
+
     range : IsInRange (kind_of m) (number_at 4 bytes)
     range = record { short = omega (arith, spelled.most, most_len-le (kind_of m)); least = spelled.least; most = spelled.most }
+
     there : 8 + number_at 4 bytes ≤ length (bytes ++ more)
     there = omega (arith, spelled.len, length-append bytes more)
+
     body : take (number_at 4 bytes) (drop 8 (bytes ++ more)) ≡ drop 8 bytes
     body = body-append (number_at 4 bytes) bytes more (omega (arith, spelled.len)) ∙ take_all (number_at 4 bytes) (drop 8 bytes) (omega (arith, spelled.len, length-drop 8 bytes))
+
     ended : IsEnded (kind_of m) (take (number_at 4 bytes) (drop 8 (bytes ++ more)))
     ended = rw body (says-ended (drop 8 bytes) m spelled.says)
+
     as_front : Message → ℕ → Front Message Fault
     as_front message n = Whole message n
+
     whole : as_front (made (kind_of m) (take (number_at 4 bytes) (drop 8 (bytes ++ more)))) (8 + number_at 4 bytes) ≡ as_front m (length bytes)
     whole = let made_is = says-made (drop 8 bytes) m spelled.says in let size = spelled.len in rw body cc
 
@@ -109,25 +116,31 @@ front-spelled channel bytes m n is = by_standing (standing channel bytes)
       where
         len : ℕ
         len = number_at 4 bytes
+
         front_len : length (take (8 + number_at 4 bytes) bytes) ≡ 8 + number_at 4 bytes
         front_len = length-take-le (8 + number_at 4 bytes) bytes there
+
         parts : take (8 + number_at 4 bytes) bytes ++ drop (8 + number_at 4 bytes) bytes ≡ bytes
         parts = take-append-drop (8 + number_at 4 bytes) bytes
+
         same_at : (start : ℕ) → start ≤ 4 → number_at start (take (8 + number_at 4 bytes) bytes) ≡ number_at start bytes
         same_at start low =
             sym (number_at-append start (take (8 + number_at 4 bytes) bytes) (drop (8 + number_at 4 bytes) bytes) (omega (arith, front_len, low))) ∙ ap (number_at start) parts
+
         body : drop 8 (take (8 + number_at 4 bytes) bytes) ≡ take (number_at 4 bytes) (drop 8 bytes)
         body = drop-take 8 (number_at 4 bytes) bytes
+
         type : kind_of (made kind (take (number_at 4 bytes) (drop 8 bytes))) ≡ kind
         type = kind_of-made kind (take (number_at 4 bytes) (drop 8 bytes))
+
         spelled : Spelled channel (take (8 + number_at 4 bytes) bytes) (made kind (take (number_at 4 bytes) (drop 8 bytes)))
         spelled = record {
-            kind = rw (same_at 0 (omega arith), type) header.kind_is;
-            len = front_len ∙ ap (λ k. 8 + k) (sym (same_at 4 (omega arith)));
-            least = rw (same_at 4 (omega arith), type) range.least;
-            most = rw (same_at 4 (omega arith), type) range.most;
-            says = rw body (made-says kind (take (number_at 4 bytes) (drop 8 bytes)) ended);
-          }
+          kind = rw (same_at 0 (omega arith), type) header.kind_is;
+          len = front_len ∙ ap (λ k. 8 + k) (sym (same_at 4 (omega arith)));
+          least = rw (same_at 4 (omega arith), type) range.least;
+          most = rw (same_at 4 (omega arith), type) range.most;
+          says = rw body (made-says kind (take (number_at 4 bytes) (drop 8 bytes)) ended);
+        }
 
 -- of two spellings at the front of the same bytes neither is longer, and both spell one message
 pub only_spelling : (channel : Channel) (a b x y : List ℕ) (m n : Message) → Spelled channel a m → Spelled channel b n → a ++ x ≡ b ++ y → (a ≡ b) × (m ≡ n)
@@ -145,11 +158,11 @@ only_spelling channel a b x y m n first second same =
 -- no message or fault at the front is another once more bytes come
 pub is_prefix_code : (channel : Channel) → IsPrefixCode (front channel)
 is_prefix_code channel = record {
-    sized = λ bytes m n is. let found = front-spelled channel bytes m n is in (found.0, found.1);
-    whole_stays = λ a b m n is.
+  sized = λ bytes m n is. let found = front-spelled channel bytes m n is in (found.0, found.1);
+  whole_stays = λ a b m n is.
       let found = front-spelled channel a m n is in
       let size : length (take n a) ≡ n = length-take-le n a found.1 in
       let parts : take n a ++ (drop n a ++ b) ≡ a ++ b = sym (append_assoc (take n a) (drop n a) b) ∙ ap (λ c. c ++ b) (take-append-drop n a) in
       ap (front channel) (sym parts) ∙ Spelled-front channel (take n a) (drop n a ++ b) m found.2 ∙ ap (λ k. Whole m k) size;
-    bad_stays = λ a b f is. shown-front channel (a ++ b) f (Shows-append channel a b f (front-shown channel a f is));
-  }
+  bad_stays = λ a b f is. shown-front channel (a ++ b) f (Shows-append channel a b f (front-shown channel a f is));
+}

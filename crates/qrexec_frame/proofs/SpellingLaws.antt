@@ -1,8 +1,6 @@
 -- The messages at the front are the spelled ones, and the faults those that show.
-use Rattle.std.proofs.Common.{◌≡◌, ◌≢◌, ℕ, ◌+◌, ◌-◌, ◌<◌, ◌≤◌, ◌⊎◌, inl, inr, suc, List, [], ◌∷◌, ◌++◌, length, take, drop, Option, Some, None, Bool, true, false, refl, sym, ◌∙◌, ap, subst, arith, length-append}
-use Rattle.std.proofs.lemmas.List.{length-take-le, length-drop, drop-append-le, take-append-le, append-nil, take-append-drop, take_all}
+use Rattle.std.proofs.Common.{◌≡◌, ◌≢◌, ℕ, ◌+◌, ◌<◌, ◌≤◌, ◌⊎◌, inl, inr, List, length, take, drop, Option, Some, None, true, false, refl, sym, ◌∙◌, ap, subst}
 use Rattle.std.proofs.lemmas.Bool.{cases_lt, cases_eq, cases_Bool}
-use Rattle.std.specs.Int.{w32, from_le_bytes}
 use Rattle.qrexec_frame.specs.declared.channel.Channel.{Channel}
 use Rattle.qrexec_frame.specs.declared.message.Message.{Message}
 use Rattle.qrexec_frame.specs.declared.message.Message.TheVariants as message
@@ -10,10 +8,10 @@ use Rattle.qrexec_frame.specs.declared.kind.Kind.{Kind}
 use Rattle.qrexec_frame.specs.declared.kind.Kind.TheVariants as kind
 use Rattle.qrexec_frame.specs.Kinds.{kind_on, least_len, most_len, has_line}
 use Rattle.qrexec_frame.specs.Messages.{kind_of}
-use Rattle.qrexec_frame.specs.Grammar.{number_at, last_byte, Says, Spelled, Fault, UnknownType, TooLong, BadLength, NoNul, HasHeader, IsInRange, Shows}
+use Rattle.qrexec_frame.specs.Grammar.{number_at, last_byte, Says, Fault, UnknownType, TooLong, BadLength, NoNul, HasHeader, IsInRange, Shows}
 use Rattle.qrexec_frame.specs.Fronts.{front, made}
-use Rattle.qrexec_frame.specs.Streams.{Front, Whole, Bad, Short, IsPrefixCode}
-use Rattle.qrexec_frame.proofs.FrontLaws.{IsEnded, front-no_header, front-no_type, front-too_long, front-bad_length, front-no_body, front-no_nul, front-whole, length-body}
+use Rattle.qrexec_frame.specs.Streams.{Bad}
+use Rattle.qrexec_frame.proofs.FrontLaws.{IsEnded, front-no_header, front-no_type, front-too_long, front-bad_length, front-no_body, front-no_nul, front-whole}
 
 -- how the front of some bytes stands to the grammar
 pub data Standing (channel : Channel) (bytes : List ℕ) : Type 0 where
@@ -21,12 +19,12 @@ pub data Standing (channel : Channel) (bytes : List ℕ) : Type 0 where
   NoType : 8 ≤ length bytes → kind_on channel (number_at 0 bytes) ≡ None → Standing channel bytes
   Long : (kind : Kind) → HasHeader channel bytes (number_at 0 bytes) (number_at 4 bytes) kind → 65536 < number_at 4 bytes → Standing channel bytes
   OffRange : (kind : Kind) → HasHeader channel bytes (number_at 0 bytes) (number_at 4 bytes) kind → number_at 4 bytes ≤ 65536
-    → ((number_at 4 bytes < least_len kind) ⊎ (most_len kind < number_at 4 bytes)) → Standing channel bytes
+      → ((number_at 4 bytes < least_len kind) ⊎ (most_len kind < number_at 4 bytes)) → Standing channel bytes
   NoBody : (kind : Kind) → HasHeader channel bytes (number_at 0 bytes) (number_at 4 bytes) kind → IsInRange kind (number_at 4 bytes) → length bytes < 8 + number_at 4 bytes → Standing channel bytes
   Unended : (kind : Kind) → HasHeader channel bytes (number_at 0 bytes) (number_at 4 bytes) kind → IsInRange kind (number_at 4 bytes) → 8 + number_at 4 bytes ≤ length bytes
-    → has_line kind ≡ true → last_byte (take (number_at 4 bytes) (drop 8 bytes)) ≢ 0 → Standing channel bytes
+      → has_line kind ≡ true → last_byte (take (number_at 4 bytes) (drop 8 bytes)) ≢ 0 → Standing channel bytes
   Said : (kind : Kind) → HasHeader channel bytes (number_at 0 bytes) (number_at 4 bytes) kind → IsInRange kind (number_at 4 bytes) → 8 + number_at 4 bytes ≤ length bytes
-    → IsEnded kind (take (number_at 4 bytes) (drop 8 bytes)) → Standing channel bytes
+      → IsEnded kind (take (number_at 4 bytes) (drop 8 bytes)) → Standing channel bytes
 
 pub standing : (channel : Channel) (bytes : List ℕ) → Standing channel bytes
 standing channel bytes = by_header (cases_lt (length bytes) 8)
@@ -41,12 +39,14 @@ standing channel bytes = by_header (cases_lt (length bytes) 8)
           where
             header : HasHeader channel bytes (number_at 0 bytes) (number_at 4 bytes) kind
             header = record { there = there; number_is = refl; len_is = refl; kind_is = is }
+
             by_body : IsInRange kind (number_at 4 bytes) → ((length bytes < 8 + number_at 4 bytes) ⊎ (8 + number_at 4 bytes ≤ length bytes))
                 → ((has_line kind ≡ true) ⊎ (has_line kind ≡ false)) → ((last_byte (take (number_at 4 bytes) (drop 8 bytes)) ≡ 0) ⊎ (last_byte (take (number_at 4 bytes) (drop 8 bytes)) ≢ 0)) → Standing channel bytes
             by_body range (inl less) line last = NoBody kind header range less
             by_body range (inr more) (inr no_line) last = Said kind header range more (inl no_line)
             by_body range (inr more) (inl line) (inl nul) = Said kind header range more (inr nul)
             by_body range (inr more) (inl line) (inr other) = Unended kind header range more line other
+
             by_length : ((65536 < number_at 4 bytes) ⊎ (number_at 4 bytes ≤ 65536)) → ((number_at 4 bytes < least_len kind) ⊎ (least_len kind ≤ number_at 4 bytes))
                 → ((most_len kind < number_at 4 bytes) ⊎ (number_at 4 bytes ≤ most_len kind)) → Standing channel bytes
             by_length (inl long) least most = Long kind header long
@@ -54,7 +54,7 @@ standing channel bytes = by_header (cases_lt (length bytes) 8)
             by_length (inr short) (inr least) (inl more) = OffRange kind header short (inr more)
             by_length (inr short) (inr least) (inr most) =
                 by_body (record { short = short; least = least; most = most }) (cases_lt (length bytes) (8 + number_at 4 bytes)) (cases_Bool (has_line kind))
-                  (cases_eq (last_byte (take (number_at 4 bytes) (drop 8 bytes))) 0)
+                (cases_eq (last_byte (take (number_at 4 bytes) (drop 8 bytes))) 0)
 
 -- a fault that shows is the one at the front
 pub shown-front : (channel : Channel) (bytes : List ℕ) (f : Fault) → Shows channel bytes f → front channel bytes ≡ Bad f
@@ -71,6 +71,7 @@ front-shown channel bytes f is = by_standing (standing channel bytes)
   where
     told : (g : Fault) → Shows channel bytes g → Shows channel bytes f
     told g shows = let here = shown-front channel bytes g shows in let same : g ≡ f = cc in let P : Fault → Type 0 = λ h. Shows channel bytes h in subst P same shows
+
     by_standing : Standing channel bytes → Shows channel bytes f
     by_standing (NoHeader less) = let here = front-no_header channel bytes less in cc
     by_standing (NoType there none) = told (UnknownType (number_at 0 bytes)) (there, refl, none)

@@ -1,8 +1,8 @@
 use Rattle.std.proofs.lemmas.List.{append-nil, take_all, length-take}
 use Rattle.std.proofs.lemmas.Bool.{cases_lt}
-use Rattle.std.proofs.Common.{◌⊎◌, inl, inr, ◌≡◌, ℕ, ◌+◌, ◌-◌, ◌<◌, ◌≤◌, ◌≢◌, suc, zero, List, [], ◌∷◌, ◌++◌, length, take, drop, map, refl, ap, sym, ◌∙◌, arith, append_assoc, length-append, subst}
+use Rattle.std.proofs.Common.{◌⊎◌, inl, inr, ◌≡◌, ℕ, ◌+◌, ◌-◌, ◌<◌, ◌≤◌, suc, zero, List, [], ◌∷◌, ◌++◌, length, take, refl, ap, sym, ◌∙◌, arith, append_assoc, subst}
 use Rattle.std.specs.List.{flat_map}
-use Rattle.qrexec_frame.specs.Streams.{Front, Whole, Bad, Short, Ending, Rest, FaultAt, Placed, Reading, with_front, read_on, reading_by, messages, then_reading, IsPrefixCode, IsReadAgain, IsPrefixOf, Each, Begins, ExtendsFrom, Extends}
+use Rattle.qrexec_frame.specs.Streams.{Front, Whole, Bad, Short, Ending, Rest, FaultAt, Placed, Reading, read_on, reading_by, messages, then_reading, IsPrefixCode, IsReadAgain, Each, Begins, ExtendsFrom, Extends}
 
 -- the bytes of the message before are passed over
 pub read_on-skip : {M F : Type 0} (first : List ℕ → Front M F) → (s bs : List ℕ) (at skip : ℕ) → skip ≡ length s → read_on first (s ++ bs) at skip ≡ read_on first bs (at + length s) 0
@@ -35,6 +35,7 @@ first-short {M} {F} first written Good code again m good p over is less = by_fro
   where
     all : first (written m) ≡ Whole m (length (written m))
     all = let e = again m [] good in rw append-nil at e
+
     by_front : (f : Front M F) → first p ≡ f → first p ≡ Short
     by_front (Whole m' n) e =
         let stays = code.whole_stays p over m' n e in let both : first (written m) ≡ Whole m' n = rw (← is) stays in
@@ -51,7 +52,9 @@ begins-after : {M F : Type 0} (first : List ℕ → Front M F) (written : M → 
 begins-after first written m ms tail at some front more =
     let read = read_on-whole first m (written m) tail at some front in
     record {
-      count = suc more.count; over = more.over; within = omega (arith, more.within);
+      count = suc more.count;
+      over = more.over;
+      within = omega (arith, more.within);
       is = ap (λ bytes. written m ++ bytes) more.is ∙ sym (append_assoc (written m) (flat_map written (take more.count ms)) more.over);
       read = rw read (ap (λ rest. m ∷ rest) more.read);
       ending = rw read more.ending;
@@ -66,6 +69,7 @@ begins-one {M} {F} first written Good code again m good ms next bytes rest at is
     ended : (p over : List ℕ) → p ++ over ≡ written m → length p < length (written m) → read_on first p at 0 ≡ record { placed = []; ending = Rest (length p) }
     ended [] over same less = refl
     ended (b ∷ bs) over same less = rw (first-short first written Good code again m good (b ∷ bs) over same less) refl
+
     by_length : ((length bytes < length (written m)) ⊎ (length (written m) ≤ length bytes)) → Begins first written (m ∷ ms) bytes at
     by_length (inl short) =
         let cut = two_fronts bytes (written m) rest (flat_map written ms) is (omega (arith, short)) in
@@ -150,7 +154,7 @@ reads-then first code (b ∷ bytes) tail at zero within done =
   where
     reads-then-front : {M F : Type 0} (first : List ℕ → Front M F) → IsPrefixCode first → (b : ℕ) (bytes tail : List ℕ) (at : ℕ) → (read_on first (b ∷ bytes) at 0).ending ≡ Rest 0
         → ((skip : ℕ) → skip ≤ length bytes → (read_on first bytes (at + 1) skip).ending ≡ Rest 0
-            → read_on first (bytes ++ tail) (at + 1) skip ≡ then_reading (read_on first bytes (at + 1) skip).placed (read_on first tail ((at + 1) + length bytes) 0))
+        → read_on first (bytes ++ tail) (at + 1) skip ≡ then_reading (read_on first bytes (at + 1) skip).placed (read_on first tail ((at + 1) + length bytes) 0))
         → read_on first (b ∷ bytes ++ tail) at 0 ≡ then_reading (read_on first (b ∷ bytes) at 0).placed (read_on first tail ((at + 1) + length bytes) 0)
     reads-then-front {M} {F} first code b bytes tail at done next = by_front (first (b ∷ bytes)) refl
       where

@@ -1,21 +1,20 @@
 -- What is written of a message is spelled, and so it is read again.
-use Rattle.std.proofs.Common.{◌≡◌, ℕ, ◌+◌, ◌-◌, ◌<◌, ◌≤◌, ◌^◌, ◌⊎◌, inl, inr, suc, List, [], ◌∷◌, ◌++◌, length, take, drop, replicate, Option, Some, None, Bool, true, false, refl, sym, ◌∙◌, ap, subst, arith, length-append, append_assoc}
+use Rattle.std.proofs.Common.{◌≡◌, ℕ, ◌-◌, ◌<◌, ◌≤◌, ◌^◌, List, [], ◌∷◌, ◌++◌, length, replicate, refl, sym, ◌∙◌, ap, arith, length-append, append_assoc}
 use Rattle.std.proofs.lemmas.List.{length-replicate, append-nil}
 use Rattle.std.proofs.lemmas.Nat.{from_le_bytes-to_le_bytes_4}
 use Rattle.std.proofs.lemmas.Int.{to_z-of_z, ints}
-use Rattle.std.specs.Int.{w32, to_le_bytes, from_le_bytes, cast_unsigned, cast_signed}
-use Rattle.std.specs.Int.RustNames.{FitsSigned}
+use Rattle.std.specs.Int.{w32, cast_unsigned, cast_signed}
 use Rattle.qrexec_frame.specs.declared.channel.Channel.{Channel}
 use Rattle.qrexec_frame.specs.declared.message.Message.{Message}
 use Rattle.qrexec_frame.specs.declared.message.Message.TheVariants as message
 use Rattle.qrexec_frame.specs.declared.kind.Kind.{Kind}
 use Rattle.qrexec_frame.specs.declared.kind.Kind.TheVariants as kind
-use Rattle.qrexec_frame.specs.Kinds.{kind_on, number_of, least_len, most_len, has_line}
-use Rattle.qrexec_frame.specs.Messages.{kind_of, body_of, four, framed, written, Fits, HasNumbers, IsSpellable, GoesOn}
-use Rattle.qrexec_frame.specs.Texts.{HasNoNul, FitsText, padded, ended, field_text, line_text, is_nul}
+use Rattle.qrexec_frame.specs.Kinds.{kind_on, number_of, least_len, most_len}
+use Rattle.qrexec_frame.specs.Messages.{kind_of, body_of, four, written, Fits, HasNumbers, IsSpellable, GoesOn}
+use Rattle.qrexec_frame.specs.Texts.{HasNoNul, padded, ended, field_text, line_text}
 use Rattle.qrexec_frame.specs.Grammar.{number_at, last_byte, Says, Spelled}
 use Rattle.qrexec_frame.specs.Fronts.{front}
-use Rattle.qrexec_frame.specs.Streams.{Front, Whole, IsReadAgain}
+use Rattle.qrexec_frame.specs.Streams.{IsReadAgain}
 use Rattle.qrexec_frame.proofs.TextLaws.{field_text-padded, line_text-ended, last_byte-ended}
 use Rattle.qrexec_frame.proofs.GrammarLaws.{Spelled-front, most_len-le}
 
@@ -87,15 +86,21 @@ body-says (message.Stderr bytes) fits numbers = refl
 body-says (message.ExitCode code) fits numbers =
     let small : cast_unsigned w32 code < 2 ^ 32 = omega (arith, ints) in
     sym (ap (cast_signed w32) (from_le_bytes-to_le_bytes_4 (cast_unsigned w32 code) small) ∙ to_z-of_z w32 code numbers)
-body-says (message.Exec domain port line) fits numbers =
-    (sym (four-number domain [] numbers.0), sym (four-number port (ended line) numbers.1),
-     (last_byte-ended (four domain ++ (four port ++ line)), sym (line_text-ended (four domain ++ four port) line 8 refl fits.no_nul)))
-body-says (message.JustExec domain port line) fits numbers =
-    (sym (four-number domain [] numbers.0), sym (four-number port (ended line) numbers.1),
-     (last_byte-ended (four domain ++ (four port ++ line)), sym (line_text-ended (four domain ++ four port) line 8 refl fits.no_nul)))
-body-says (message.Connect domain port ident) fits numbers =
-    (sym (four-number domain [] numbers.0), sym (four-number port (padded 32 ident) numbers.1),
-     sym (last_field (four domain ++ four port) ident 8 32 refl fits.no_nul (omega (arith, fits.within))))
+body-says (message.Exec domain port line) fits numbers = (
+  sym (four-number domain [] numbers.0),
+  sym (four-number port (ended line) numbers.1),
+  (last_byte-ended (four domain ++ (four port ++ line)), sym (line_text-ended (four domain ++ four port) line 8 refl fits.no_nul)),
+)
+body-says (message.JustExec domain port line) fits numbers = (
+  sym (four-number domain [] numbers.0),
+  sym (four-number port (ended line) numbers.1),
+  (last_byte-ended (four domain ++ (four port ++ line)), sym (line_text-ended (four domain ++ four port) line 8 refl fits.no_nul)),
+)
+body-says (message.Connect domain port ident) fits numbers = (
+  sym (four-number domain [] numbers.0),
+  sym (four-number port (padded 32 ident) numbers.1),
+  sym (last_field (four domain ++ four port) ident 8 32 refl fits.no_nul (omega (arith, fits.within))),
+)
 body-says (message.Refused ident) fits numbers = sym (last_field [] ident 0 32 refl fits.no_nul (omega (arith, fits.within)))
 body-says (message.Terminated domain port) fits numbers = (sym (four-number domain [] numbers.0), sym (four-number port [] numbers.1))
 body-says (message.Trigger3 target ident service) fits numbers =
@@ -103,19 +108,23 @@ body-says (message.Trigger3 target ident service) fits numbers =
     let second : length (padded 32 ident) ≡ 32 = length-padded 32 ident (omega (arith, fits.1.within)) in
     let both : length (padded 64 target ++ padded 32 ident) ≡ 96 = omega (arith, first, second, length-append (padded 64 target) (padded 32 ident)) in
     let parts : (padded 64 target ++ padded 32 ident) ++ ended service ≡ padded 64 target ++ (padded 32 ident ++ ended service) = append_assoc (padded 64 target) (padded 32 ident) (ended service) in
-    let all : ((padded 64 target ++ padded 32 ident) ++ service) ++ (0 ∷ []) ≡ padded 64 target ++ (padded 32 ident ++ ended service) = append_assoc (padded 64 target ++ padded 32 ident) service (0 ∷ []) ∙ parts in
-    (sym (field_text-padded [] target (padded 32 ident ++ ended service) 0 64 refl fits.0.no_nul (omega (arith, fits.0.within))),
-     sym (field_text-padded (padded 64 target) ident (ended service) 64 32 first fits.1.no_nul (omega (arith, fits.1.within))),
-     (ap last_byte (sym all) ∙ last_byte-ended ((padded 64 target ++ padded 32 ident) ++ service),
-      sym (ap (line_text 96) (sym parts) ∙ line_text-ended (padded 64 target ++ padded 32 ident) service 96 both fits.2.no_nul)))
+    let all : ((padded 64 target ++ padded 32 ident) ++ service) ++ (0 ∷ []) ≡ padded 64 target ++ (padded 32 ident ++ ended service) = append_assoc (padded 64 target ++ padded 32 ident) service (0 ∷ []) ∙ parts in (
+      sym (field_text-padded [] target (padded 32 ident ++ ended service) 0 64 refl fits.0.no_nul (omega (arith, fits.0.within))),
+      sym (field_text-padded (padded 64 target) ident (ended service) 64 32 first fits.1.no_nul (omega (arith, fits.1.within))),
+      (
+        ap last_byte (sym all) ∙ last_byte-ended ((padded 64 target ++ padded 32 ident) ++ service),
+        sym (ap (line_text 96) (sym parts) ∙ line_text-ended (padded 64 target ++ padded 32 ident) service 96 both fits.2.no_nul),
+      ),
+    )
 body-says (message.Trigger target ident service) fits numbers =
     let first : length (padded 64 service) ≡ 64 = length-padded 64 service (omega (arith, fits.2.within)) in
     let second : length (padded 32 target) ≡ 32 = length-padded 32 target (omega (arith, fits.0.within)) in
     let both : length (padded 64 service ++ padded 32 target) ≡ 96 = omega (arith, first, second, length-append (padded 64 service) (padded 32 target)) in
-    let parts : (padded 64 service ++ padded 32 target) ++ padded 32 ident ≡ padded 64 service ++ (padded 32 target ++ padded 32 ident) = append_assoc (padded 64 service) (padded 32 target) (padded 32 ident) in
-    (sym (field_text-padded [] service (padded 32 target ++ padded 32 ident) 0 64 refl fits.2.no_nul (omega (arith, fits.2.within))),
-     sym (field_text-padded (padded 64 service) target (padded 32 ident) 64 32 first fits.0.no_nul (omega (arith, fits.0.within))),
-     sym (ap (field_text 96 32) (sym parts) ∙ last_field (padded 64 service ++ padded 32 target) ident 96 32 both fits.1.no_nul (omega (arith, fits.1.within))))
+    let parts : (padded 64 service ++ padded 32 target) ++ padded 32 ident ≡ padded 64 service ++ (padded 32 target ++ padded 32 ident) = append_assoc (padded 64 service) (padded 32 target) (padded 32 ident) in (
+      sym (field_text-padded [] service (padded 32 target ++ padded 32 ident) 0 64 refl fits.2.no_nul (omega (arith, fits.2.within))),
+      sym (field_text-padded (padded 64 service) target (padded 32 ident) 64 32 first fits.0.no_nul (omega (arith, fits.0.within))),
+      sym (ap (field_text 96 32) (sym parts) ∙ last_field (padded 64 service ++ padded 32 target) ident 96 32 both fits.1.no_nul (omega (arith, fits.1.within))),
+    )
 
 -- the written spelling spells the message
 pub written-spelled : (channel : Channel) (m : Message) → IsSpellable m → GoesOn channel m → Spelled channel (written m) m

@@ -1,5 +1,5 @@
 -- The grammar of qrexec messages as a relation on whole byte lists, and the conditions of the faults.
-use Rattle.std.specs.Prelude.{◌≡◌, ◌≢◌, ℕ, ◌+◌, ◌-◌, ◌<◌, ◌≤◌, ◌⊎◌, List, length, take, drop, slice_index, Option, Some, None, true}
+use Rattle.std.specs.Prelude.{◌≡◌, ◌≢◌, ℕ, ◌+◌, ◌-◌, ◌<◌, ◌≤◌, ◌⊎◌, List, length, take, drop, slice_index, Some, None, true}
 use Rattle.std.specs.Int.{w32, from_le_bytes, cast_signed}
 use Rattle.qrexec_frame.specs.declared.channel.Channel.{Channel}
 use Rattle.qrexec_frame.specs.declared.message.Message.{Message}
@@ -71,4 +71,4 @@ Shows channel bytes (UnknownType number) = (8 ≤ length bytes) × (number ≡ n
 Shows channel bytes (TooLong number len) = (kind : Kind) × HasHeader channel bytes number len kind × (65536 < len)
 Shows channel bytes (BadLength number len) = (kind : Kind) × HasHeader channel bytes number len kind × (len ≤ 65536) × ((len < least_len kind) ⊎ (most_len kind < len))
 Shows channel bytes (NoNul number) = (kind : Kind) × (len : ℕ) × HasHeader channel bytes number len kind × IsInRange kind len × (8 + len ≤ length bytes)
-  × (has_line kind ≡ true) × (last_byte (take len (drop 8 bytes)) ≢ 0)
+    × (has_line kind ≡ true) × (last_byte (take len (drop 8 bytes)) ≢ 0)

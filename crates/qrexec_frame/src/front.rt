@@ -37,26 +37,29 @@ impl<'a> Body<'a> {
         if bytes.len() < HEADER {
             return Ok(None);
         }
-        let number = u32_at(bytes, 0);
+        let kind = u32_at(bytes, 0);
         let len = u32_at(bytes, 4);
-        let Some(kind) = Kind::of(channel, number) else {
-            return Err(FrameFault::UnknownType { at, kind: number });
+        let Some(row) = Kind::of(channel, kind) else {
+            return Err(FrameFault::UnknownType { at, kind });
         };
         if len > MOST_BODY {
-            return Err(FrameFault::TooLong { at, kind: number, len });
+            return Err(FrameFault::TooLong { at, kind, len });
         }
-        if len < kind.least_len() || kind.most_len() < len {
-            return Err(FrameFault::BadLength { at, kind: number, len });
+        if len < row.least_len() || row.most_len() < len {
+            return Err(FrameFault::BadLength { at, kind, len });
         }
         let end = HEADER + len as usize;
         if bytes.len() < end {
             return Ok(None);
         }
         let body = &bytes[HEADER..end];
-        if kind.has_line() && body[body.len() - 1] != 0 {
-            return Err(FrameFault::NoNul { at, kind: number });
+        if row.has_line() && body[body.len() - 1] != 0 {
+            return Err(FrameFault::NoNul { at, kind });
         }
-        Ok(Some(Body { kind, bytes: body }))
+        Ok(Some(Body {
+            kind: row,
+            bytes: body,
+        }))
     }
 }
 

@@ -17,10 +17,9 @@ mod front;
 mod kind;
 mod line;
 mod message;
-mod text;
-
 #[cfg(test)]
 mod tests;
+mod text;
 
 pub use bytes::Bytes;
 pub use channel::Channel;

@@ -134,7 +134,11 @@ fn put_hex(line: &mut Vec<u8>, bytes: &[u8]) -> Result<(), AllocError>
     ensures { OnOk result (line.new.items ≡ line.old.items ++ encode_lower bytes.now) }
 {
     let start = line.len();
-    let Some(end) = bytes.len().checked_mul(2).and_then(|n| n.checked_add(start)) else {
+    let Some(end) = bytes
+        .len()
+        .checked_mul(2)
+        .and_then(|n| n.checked_add(start))
+    else {
         return Err(AllocError);
     };
     line.resize(end, 0)?;

@@ -10,37 +10,75 @@ use crate::text::Text;
 const MOST_BYTES: usize = 65_536;
 /// The greatest lengths of the texts, so that each fits its field with one NUL at least.
 const MOST_LINE: usize = 65_527;
+
 const MOST_SERVICE: usize = 65_439;
+
 const MOST_IN_64: usize = 63;
+
 const MOST_IN_32: usize = 31;
 
 /// A qrexec message.
 #[derive(Debug, Drop)]
 pub enum Message {
     /// `MSG_HELLO`: the sender's version of the protocol. It goes on both channels.
-    Hello { version: u32 },
+    Hello {
+        version: u32,
+    },
     /// `MSG_DATA_STDIN`: bytes of the call's input; none end it.
-    Stdin { bytes: Bytes },
+    Stdin {
+        bytes: Bytes,
+    },
     /// `MSG_DATA_STDOUT`: bytes of the call's output; none end it.
-    Stdout { bytes: Bytes },
+    Stdout {
+        bytes: Bytes,
+    },
     /// `MSG_DATA_STDERR`: bytes of the call's messages; none end them.
-    Stderr { bytes: Bytes },
+    Stderr {
+        bytes: Bytes,
+    },
     /// `MSG_DATA_EXIT_CODE`: how the call's service ended.
-    ExitCode { code: i32 },
+    ExitCode {
+        code: i32,
+    },
     /// `MSG_EXEC_CMDLINE`: run this line, and connect to this domain and port.
-    Exec { domain: u32, port: u32, line: Text },
+    Exec {
+        domain: u32,
+        port: u32,
+        line: Text,
+    },
     /// `MSG_JUST_EXEC`: run this line, with no channel.
-    JustExec { domain: u32, port: u32, line: Text },
+    JustExec {
+        domain: u32,
+        port: u32,
+        line: Text,
+    },
     /// `MSG_SERVICE_CONNECT`: the call of this ident was taken, at this domain and port.
-    Connect { domain: u32, port: u32, ident: Text },
+    Connect {
+        domain: u32,
+        port: u32,
+        ident: Text,
+    },
     /// `MSG_SERVICE_REFUSED`: the call of this ident was refused.
-    Refused { ident: Text },
+    Refused {
+        ident: Text,
+    },
     /// `MSG_CONNECTION_TERMINATED`: the channel to this domain and port has ended.
-    Terminated { domain: u32, port: u32 },
+    Terminated {
+        domain: u32,
+        port: u32,
+    },
     /// `MSG_TRIGGER_SERVICE3`: a call of a service of a target, as version 3 has it.
-    Trigger3 { target: Text, ident: Text, service: Text },
+    Trigger3 {
+        target: Text,
+        ident: Text,
+        service: Text,
+    },
     /// `MSG_TRIGGER_SERVICE`: the same as version 2 has it.
-    Trigger { target: Text, ident: Text, service: Text },
+    Trigger {
+        target: Text,
+        ident: Text,
+        service: Text,
+    },
 }
 
 impl Message {

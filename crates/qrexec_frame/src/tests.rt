@@ -51,8 +51,12 @@ fn lines_of(alloc: Global, decoder: &mut Decoder) -> Result<String, Fail> {
 
 fn fault_line(alloc: Global, fault: FrameFault) -> Result<String, Fail> {
     Ok(match fault {
-        FrameFault::UnknownType { at, kind } => format!(in alloc; "fault unknown-type {at} {kind}")?,
-        FrameFault::TooLong { at, kind, len } => format!(in alloc; "fault too-long {at} {kind} {len}")?,
+        FrameFault::UnknownType { at, kind } => format!(in alloc;
+            "fault unknown-type {at} {kind}"
+        )?,
+        FrameFault::TooLong { at, kind, len } => format!(in alloc;
+            "fault too-long {at} {kind} {len}"
+        )?,
         FrameFault::BadLength { at, kind, len } => {
             format!(in alloc; "fault bad-length {at} {kind} {len}")?
         }
@@ -81,7 +85,12 @@ fn reads_streams(rt: HostRuntime) -> Result<(), Fail> {
         (Channel::Data, &[], "rest 0"),
         (
             Channel::Data,
-            &[(HELLO, 1), ("9101000000000000", 1), ("9301000004000000", 1), ("07000000", 1)],
+            &[
+                (HELLO, 1),
+                ("9101000000000000", 1),
+                ("9301000004000000", 1),
+                ("07000000", 1),
+            ],
             "hello 3;stdout 0 -;exit 7;rest 0",
         ),
         (
@@ -91,10 +100,19 @@ fn reads_streams(rt: HostRuntime) -> Result<(), Fail> {
         ),
         (
             Channel::Data,
-            &[("9301000004000000", 1), ("ffffffff", 1), ("9201000002000000", 1), ("0aFf", 1)],
+            &[
+                ("9301000004000000", 1),
+                ("ffffffff", 1),
+                ("9201000002000000", 1),
+                ("0aFf", 1),
+            ],
             "exit -1;stderr 2 0aff;rest 0",
         ),
-        (Channel::Data, &[(HELLO, 1), ("0004000000000000", 1)], "hello 3;fault unknown-type 12 1024"),
+        (
+            Channel::Data,
+            &[(HELLO, 1), ("0004000000000000", 1)],
+            "hello 3;fault unknown-type 12 1024",
+        ),
         (
             Channel::Control,
             &[
@@ -117,13 +135,21 @@ fn reads_streams(rt: HostRuntime) -> Result<(), Fail> {
             ],
             "exec 1 513 DEFAULT:QUBESRPC echo work;rest 0",
         ),
-        (Channel::Control, &[("9001000000000000", 1)], "fault unknown-type 0 400"),
+        (
+            Channel::Control,
+            &[("9001000000000000", 1)],
+            "fault unknown-type 0 400",
+        ),
         (
             Channel::Control,
             &[("1202000061000000", 1), ("6e", 64), ("69", 32), ("65", 1)],
             "fault no-nul 0 530",
         ),
-        (Channel::Control, &[("1202000001000100", 1)], "fault too-long 0 530 65537"),
+        (
+            Channel::Control,
+            &[("1202000001000100", 1)],
+            "fault too-long 0 530 65537",
+        ),
         (
             Channel::Control,
             &[
@@ -139,7 +165,12 @@ fn reads_streams(rt: HostRuntime) -> Result<(), Fail> {
         ),
         (
             Channel::Control,
-            &[("0302000020000000", 1), ("61", 32), ("1102000008000000", 1), ("0200000001020000", 1)],
+            &[
+                ("0302000020000000", 1),
+                ("61", 32),
+                ("1102000008000000", 1),
+                ("0200000001020000", 1),
+            ],
             "refused aaaaaaaaaaaaaaaaaaaaaaaaaaaaaaa;terminated 2 513;rest 0",
         ),
     ];
@@ -158,17 +189,49 @@ fn answers_the_first_fault_that_applies(rt: HostRuntime) -> Result<(), Fail> {
     let alloc = rt.alloc();
     let rows: [(Channel, &[Part], &str); 8] = [
         // An unknown type comes before the length, and before what the body would show.
-        (Channel::Data, &[("0004000001000100", 1)], "fault unknown-type 0 1024"),
-        (Channel::Data, &[("0002000009000000", 1), ("61", 9)], "fault unknown-type 0 512"),
-        (Channel::Control, &[("9301000008000000", 1)], "fault unknown-type 0 403"),
+        (
+            Channel::Data,
+            &[("0004000001000100", 1)],
+            "fault unknown-type 0 1024",
+        ),
+        (
+            Channel::Data,
+            &[("0002000009000000", 1), ("61", 9)],
+            "fault unknown-type 0 512",
+        ),
+        (
+            Channel::Control,
+            &[("9301000008000000", 1)],
+            "fault unknown-type 0 403",
+        ),
         // A length above all comes before one outside the type's range.
-        (Channel::Data, &[("9301000001000100", 1)], "fault too-long 0 403 65537"),
-        (Channel::Control, &[("0002000001000100", 1), ("61", 9)], "fault too-long 0 512 65537"),
+        (
+            Channel::Data,
+            &[("9301000001000100", 1)],
+            "fault too-long 0 403 65537",
+        ),
+        (
+            Channel::Control,
+            &[("0002000001000100", 1), ("61", 9)],
+            "fault too-long 0 512 65537",
+        ),
         // A length outside the range comes before the missing NUL.
-        (Channel::Control, &[("0002000008000000", 1), ("61", 8)], "fault bad-length 0 512 8"),
-        (Channel::Control, &[("1202000060000000", 1), ("61", 96)], "fault bad-length 0 530 96"),
+        (
+            Channel::Control,
+            &[("0002000008000000", 1), ("61", 8)],
+            "fault bad-length 0 512 8",
+        ),
+        (
+            Channel::Control,
+            &[("1202000060000000", 1), ("61", 96)],
+            "fault bad-length 0 530 96",
+        ),
         // The missing NUL shows once the body is there.
-        (Channel::Control, &[("0002000009000000", 1), ("00", 8)], "rest 16"),
+        (
+            Channel::Control,
+            &[("0002000009000000", 1), ("00", 8)],
+            "rest 16",
+        ),
     ];
     for (channel, parts, want) in rows {
         let got = read_in_pieces(alloc, channel, &bytes_of(alloc, parts)?, 3)?;
@@ -191,9 +254,15 @@ fn messages(alloc: Global, sizes: [usize; 5]) -> Result<Vec<Message>, Fail> {
     let [bytes, line, service, long, short] = sizes;
     let mut all = Vec::new(alloc);
     all.push(Message::Hello { version: 3 })?;
-    all.push(Message::Stdin { bytes: carried(alloc, bytes)? })?;
-    all.push(Message::Stdout { bytes: carried(alloc, bytes)? })?;
-    all.push(Message::Stderr { bytes: carried(alloc, bytes)? })?;
+    all.push(Message::Stdin {
+        bytes: carried(alloc, bytes)?,
+    })?;
+    all.push(Message::Stdout {
+        bytes: carried(alloc, bytes)?,
+    })?;
+    all.push(Message::Stderr {
+        bytes: carried(alloc, bytes)?,
+    })?;
     all.push(Message::ExitCode { code: i32::MIN })?;
     all.push(Message::Exec {
         domain: 1,
@@ -210,8 +279,13 @@ fn messages(alloc: Global, sizes: [usize; 5]) -> Result<Vec<Message>, Fail> {
         port: 2,
         ident: text_of(alloc, b'i', short)?,
     })?;
-    all.push(Message::Refused { ident: text_of(alloc, b'i', short)? })?;
-    all.push(Message::Terminated { domain: 3, port: 514 })?;
+    all.push(Message::Refused {
+        ident: text_of(alloc, b'i', short)?,
+    })?;
+    all.push(Message::Terminated {
+        domain: 3,
+        port: 514,
+    })?;
     all.push(Message::Trigger3 {
         target: text_of(alloc, b't', long)?,
         ident: text_of(alloc, b'i', short)?,
@@ -226,14 +300,20 @@ fn messages(alloc: Global, sizes: [usize; 5]) -> Result<Vec<Message>, Fail> {
 }
 
 fn channel_of(message: &Message) -> Channel {
-    if message.kind() < 0x200 { Channel::Data } else { Channel::Control }
+    if message.kind() < 0x200 {
+        Channel::Data
+    } else {
+        Channel::Control
+    }
 }
 
 #[test]
 fn writes_and_reads_each_type_at_its_least_and_greatest(rt: HostRuntime) -> Result<(), Fail> {
     let alloc = rt.alloc();
     let least = [12, 8, 8, 8, 12, 17, 17, 48, 40, 16, 105, 136];
-    let greatest = [12, 65544, 65544, 65544, 12, 65544, 65544, 48, 40, 16, 65544, 136];
+    let greatest = [
+        12, 65544, 65544, 65544, 12, 65544, 65544, 48, 40, 16, 65544, 136,
+    ];
     for (sizes, lengths) in [
         ([0, 0, 0, 0, 0], least),
         ([65_536, 65_527, 65_439, 63, 31], greatest),
@@ -254,31 +334,109 @@ fn writes_and_reads_each_type_at_its_least_and_greatest(rt: HostRuntime) -> Resu
 #[test]
 fn refuses_what_is_one_byte_too_long(rt: HostRuntime) -> Result<(), Fail> {
     let alloc = rt.alloc();
-    let fixed = [true, false, false, false, true, false, false, false, false, true, false, false];
+    let fixed = [
+        true, false, false, false, true, false, false, false, false, true, false, false,
+    ];
     let too_long = messages(alloc, [65_537, 65_528, 65_440, 64, 32])?;
     for (message, fit) in too_long.iter().zip(fixed) {
         assert_eq!(rt; fits(message), fit, "{message:?}");
     }
     let rows: [(Channel, &str, &str); 20] = [
-        (Channel::Data, "9001000001000100", "fault too-long 0 400 65537"),
-        (Channel::Data, "9101000001000100", "fault too-long 0 401 65537"),
-        (Channel::Data, "9201000001000100", "fault too-long 0 402 65537"),
-        (Channel::Data, "9301000005000000", "fault bad-length 0 403 5"),
-        (Channel::Data, "9301000003000000", "fault bad-length 0 403 3"),
-        (Channel::Data, "0003000005000000", "fault bad-length 0 768 5"),
-        (Channel::Control, "0003000003000000", "fault bad-length 0 768 3"),
-        (Channel::Control, "0002000008000000", "fault bad-length 0 512 8"),
-        (Channel::Control, "0102000008000000", "fault bad-length 0 513 8"),
-        (Channel::Control, "0102000001000100", "fault too-long 0 513 65537"),
-        (Channel::Control, "0202000027000000", "fault bad-length 0 514 39"),
-        (Channel::Control, "0202000029000000", "fault bad-length 0 514 41"),
-        (Channel::Control, "030200001f000000", "fault bad-length 0 515 31"),
-        (Channel::Control, "0302000021000000", "fault bad-length 0 515 33"),
-        (Channel::Control, "100200007f000000", "fault bad-length 0 528 127"),
-        (Channel::Control, "1002000081000000", "fault bad-length 0 528 129"),
-        (Channel::Control, "1102000007000000", "fault bad-length 0 529 7"),
-        (Channel::Control, "1102000009000000", "fault bad-length 0 529 9"),
-        (Channel::Control, "1202000060000000", "fault bad-length 0 530 96"),
+        (
+            Channel::Data,
+            "9001000001000100",
+            "fault too-long 0 400 65537",
+        ),
+        (
+            Channel::Data,
+            "9101000001000100",
+            "fault too-long 0 401 65537",
+        ),
+        (
+            Channel::Data,
+            "9201000001000100",
+            "fault too-long 0 402 65537",
+        ),
+        (
+            Channel::Data,
+            "9301000005000000",
+            "fault bad-length 0 403 5",
+        ),
+        (
+            Channel::Data,
+            "9301000003000000",
+            "fault bad-length 0 403 3",
+        ),
+        (
+            Channel::Data,
+            "0003000005000000",
+            "fault bad-length 0 768 5",
+        ),
+        (
+            Channel::Control,
+            "0003000003000000",
+            "fault bad-length 0 768 3",
+        ),
+        (
+            Channel::Control,
+            "0002000008000000",
+            "fault bad-length 0 512 8",
+        ),
+        (
+            Channel::Control,
+            "0102000008000000",
+            "fault bad-length 0 513 8",
+        ),
+        (
+            Channel::Control,
+            "0102000001000100",
+            "fault too-long 0 513 65537",
+        ),
+        (
+            Channel::Control,
+            "0202000027000000",
+            "fault bad-length 0 514 39",
+        ),
+        (
+            Channel::Control,
+            "0202000029000000",
+            "fault bad-length 0 514 41",
+        ),
+        (
+            Channel::Control,
+            "030200001f000000",
+            "fault bad-length 0 515 31",
+        ),
+        (
+            Channel::Control,
+            "0302000021000000",
+            "fault bad-length 0 515 33",
+        ),
+        (
+            Channel::Control,
+            "100200007f000000",
+            "fault bad-length 0 528 127",
+        ),
+        (
+            Channel::Control,
+            "1002000081000000",
+            "fault bad-length 0 528 129",
+        ),
+        (
+            Channel::Control,
+            "1102000007000000",
+            "fault bad-length 0 529 7",
+        ),
+        (
+            Channel::Control,
+            "1102000009000000",
+            "fault bad-length 0 529 9",
+        ),
+        (
+            Channel::Control,
+            "1202000060000000",
+            "fault bad-length 0 530 96",
+        ),
         (Channel::Control, "1202000000000100", "rest 8"),
     ];
     for (channel, header, want) in rows {
@@ -301,7 +459,11 @@ fn prints_every_byte_of_a_text(rt: HostRuntime) -> Result<(), Fail> {
             b' '..=b'~' => byte as char,
             _ => '_',
         };
-        assert_eq!(rt; got.as_str(), format!(in alloc; "refused {shown};rest 0")?.as_str(), "{byte}");
+        assert_eq!(rt;
+            got.as_str(),
+            format!(in alloc; "refused {shown};rest 0")?.as_str(),
+            "{byte}"
+        );
     }
     Ok(())
 }
@@ -316,7 +478,10 @@ fn takes_a_long_message_byte_by_byte(rt: HostRuntime) -> Result<(), Fail> {
         decoder.feed(&[*byte])?;
     }
     match decoder.next() {
-        Ok(Some(Message::Stdout { bytes: payload })) => assert_eq!(rt; Some(payload.slice()), bytes.get(8..)),
+        Ok(Some(Message::Stdout { bytes: payload })) => assert_eq!(rt;
+            Some(payload.slice()),
+            bytes.get(8..)
+        ),
         other => panic!(rt; "{other:?}"),
     }
     decoder.feed(&[0x91, 0x01])?;
@@ -339,10 +504,16 @@ fn keeps_its_fault(rt: HostRuntime) -> Result<(), Fail> {
     let alloc = rt.alloc();
     let mut decoder = Decoder::new(alloc, Channel::Data);
     decoder.feed(&bytes_of(alloc, &[(HELLO, 2), ("93010000080000", 1)])?)?;
-    assert_eq!(rt; lines_of(alloc, &mut decoder)?.as_str(), "hello 3;hello 3;rest 7");
+    assert_eq!(rt;
+        lines_of(alloc, &mut decoder)?.as_str(),
+        "hello 3;hello 3;rest 7"
+    );
     decoder.feed(&[0])?;
     for _ in 0..2 {
-        assert_eq!(rt; lines_of(alloc, &mut decoder)?.as_str(), "fault bad-length 24 403 8");
+        assert_eq!(rt;
+            lines_of(alloc, &mut decoder)?.as_str(),
+            "fault bad-length 24 403 8"
+        );
         decoder.feed(&bytes_of(alloc, &[(HELLO, 1)])?)?;
         assert_eq!(rt; decoder.rest(), 8);
         assert_eq!(rt; decoder.at(), 24);
@@ -353,7 +524,10 @@ fn keeps_its_fault(rt: HostRuntime) -> Result<(), Fail> {
 #[test]
 fn refuses_a_text_with_nul(rt: HostRuntime) -> Result<(), Fail> {
     let alloc = rt.alloc();
-    assert_eq!(rt; Text::of(alloc, b"a\0b").map(|text| text.bytes().len()), Err(TextError::Nul));
+    assert_eq!(rt;
+        Text::of(alloc, b"a\0b").map(|text| text.bytes().len()),
+        Err(TextError::Nul)
+    );
     assert_eq!(rt; Text::of(alloc, b"ab")?.bytes(), b"ab".as_slice());
     assert_eq!(rt; Text::of(alloc, b"")?.bytes(), b"".as_slice());
     Ok(())
@@ -365,7 +539,10 @@ fn cleans_names(rt: HostRuntime) -> Result<(), Fail> {
     let name = Text::of(alloc, b"a b$")?;
     assert_eq!(rt; clean_name(alloc, &name)?.bytes(), b"a_b_".as_slice());
     let service = Text::of(alloc, b"echo a+b")?;
-    assert_eq!(rt; clean_service(alloc, &service)?.bytes(), b"echo_a+b".as_slice());
+    assert_eq!(rt;
+        clean_service(alloc, &service)?.bytes(),
+        b"echo_a+b".as_slice()
+    );
     let target = Text::of(alloc, b"@x:y+z")?;
     assert_eq!(rt; clean_target(alloc, &target)?.bytes(), b"@x:y_z".as_slice());
     let kept = Text::of(alloc, b"azAZ09_-.")?;

@@ -1,4 +1,3 @@
-use Rattle.std.proofs.Common.{◌≡◌}
 use Rattle.qrexec_frame.proofs.WrittenLaws.{written-spelled, is_read_again}
 use Rattle.qrexec_frame.proofs.encoding.encode.Goals as goal
 

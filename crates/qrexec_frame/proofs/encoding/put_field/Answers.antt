@@ -1,4 +1,4 @@
-use Rattle.std.proofs.Common.{◌≡◌, ℕ, refl, ◌++◌, ◌-◌, ◌≤◌, length, take, drop, replicate, ap, ◌∙◌, append_assoc, arith}
+use Rattle.std.proofs.Common.{◌≡◌, ℕ, refl, ◌-◌, ◌≤◌, length, replicate, append_assoc, arith}
 use Rattle.std.proofs.lemmas.List.{take-replicate, drop-replicate}
 use Rattle.std.specs.Prelude.{slice_range}
 use Rattle.qrexec_frame.proofs.encoding.put_field.Goals as goal

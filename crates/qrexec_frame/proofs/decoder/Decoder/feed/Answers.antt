@@ -1,4 +1,4 @@
-use Rattle.std.proofs.Common.{◌≡◌, ◌++◌, List, ℕ, subst, sym}
+use Rattle.std.proofs.Common.{◌++◌, subst, sym}
 use Rattle.std.proofs.lemmas.Result.{on_ok_weaker}
 use Rattle.qrexec_frame.specs.Decoding.{DecoderState, StandsFor}
 use Rattle.qrexec_frame.proofs.DecodingLaws.{feed-stands}

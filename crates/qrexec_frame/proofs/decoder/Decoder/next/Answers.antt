@@ -1,4 +1,3 @@
-use Rattle.std.proofs.Common.{◌≡◌, Option, Some, None, Result, Ok, Err}
 use Rattle.qrexec_frame.proofs.DecodingLaws.{answers-grammar, next-reads, next-fits}
 use Rattle.qrexec_frame.proofs.decoder.Decoder.next.Goals as goal
 

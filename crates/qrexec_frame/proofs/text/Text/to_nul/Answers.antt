@@ -1,5 +1,4 @@
-use Rattle.std.proofs.Common.{◌≡◌, ◌∙◌, ℕ, List, take, sym, subst, ap}
-use Rattle.qrexec_frame.specs.Texts.{HasNoNul}
+use Rattle.std.proofs.Common.{◌≡◌, take}
 use Rattle.qrexec_frame.proofs.TextLaws.{HasNoNul-before_first}
 use Rattle.qrexec_frame.proofs.text.Text.to_nul.Goals as goal
 
