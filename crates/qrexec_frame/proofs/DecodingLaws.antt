@@ -17,6 +17,7 @@ use Rattle.qrexec_frame.specs.Streams.{Front, Whole, Bad, Placed, Rest, FaultAt,
 use Rattle.qrexec_frame.specs.Decoding.{DecoderState, after_message, after_feed, Answers, IsOnlySpelled, FollowsGrammar, StandsFor, Reads}
 use Rattle.qrexec_frame.proofs.TextLaws.{FitsText-field, FitsText-line}
 use Rattle.qrexec_frame.proofs.StreamLaws.{read_on-whole, read_on-short, read_on-bad, reads-then}
+use Rattle.qrexec_frame.proofs.BegunLaws.{short-begun}
 use Rattle.qrexec_frame.proofs.SpellingLaws.{shown-front, front-shown}
 use Rattle.qrexec_frame.proofs.GrammarLaws.{Spelled-front, front-spelled, only_spelling, is_prefix_code}
 
@@ -84,11 +85,13 @@ spelled-begins channel bytes n m within spelled =
 
 pub answers-grammar : (old new : DecoderState) (r : Result (Option Message) NextError) → Answers old new r → FollowsGrammar old new r
 answers-grammar old new (Ok (Some m)) answer = (answer.0, only-spelled old.channel old.left answer.0 m answer.1, answer.2)
-answers-grammar old new (Ok None) answer = (
-  λ n m within spelled. let whole = spelled-begins old.channel old.left n m within spelled in let short = answer.0 in cc,
-  λ g shows. let bad = shown-front old.channel old.left g shows in let short = answer.0 in cc,
-)
-answers-grammar old new (Err (error.Fault f)) answer = (answer.0, front-shown old.channel old.left answer.0 answer.1, answer.2)
+answers-grammar old new (Ok None) answer =
+    (λ n m within spelled. let whole = spelled-begins old.channel old.left n m within spelled in let short = answer.0 in cc,
+     λ g shows. let bad = shown-front old.channel old.left g shows in let short = answer.0 in cc,
+     short-begun old.channel old.left answer.0)
+answers-grammar old new (Err (error.Fault f)) answer =
+    (answer.0, front-shown old.channel old.left answer.0 answer.1, answer.2,
+     λ n m within spelled. let whole = spelled-begins old.channel old.left n m within spelled in let bad = answer.1 in cc)
 answers-grammar old new (Err error.Memory) answer = answer.3
 
 -- ---- all bytes fed

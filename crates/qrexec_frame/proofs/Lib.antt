@@ -4,4 +4,5 @@ pub mod FrontLaws
 pub mod SpellingLaws
 pub mod GrammarLaws
 pub mod WrittenLaws
+pub mod BegunLaws
 pub mod DecodingLaws

@@ -5,7 +5,7 @@ use Rattle.qrexec_frame.specs.declared.fault.FrameFault.{FrameFault}
 use Rattle.qrexec_frame.specs.declared.fault.NextError.{NextError}
 use Rattle.qrexec_frame.specs.declared.fault.NextError.TheVariants as error
 use Rattle.qrexec_frame.specs.declared.message.Message.{Message}
-use Rattle.qrexec_frame.specs.Grammar.{Fault, Spelled, Shows}
+use Rattle.qrexec_frame.specs.Grammar.{Fault, Spelled, Shows, IsBegun}
 use Rattle.qrexec_frame.specs.Fronts.{front, reading, fault_at}
 use Rattle.qrexec_frame.specs.Streams.{Whole, Bad, Short, Placed, Rest, FaultAt}
 
@@ -47,11 +47,11 @@ pub record IsOnlySpelled (channel : Channel) (bytes : List ℕ) (n : ℕ) (m : M
   pub only : (k : ℕ) (other : Message) → k ≤ length bytes → Spelled channel (take k bytes) other → (k ≡ n) × (other ≡ m)
 
 -- what `next` answers, by the grammar: the message that the bytes begin with, the fault that shows, or
--- neither where the bytes begin no message and show no fault
+-- neither where the bytes are the beginning of a message and show no fault
 abbrev pub FollowsGrammar : DecoderState → DecoderState → Result (Option Message) NextError → Type 0
 FollowsGrammar old new (Ok (Some m)) = (n : ℕ) × IsOnlySpelled old.channel old.left n m × (new ≡ after_message old n)
-FollowsGrammar old new (Ok None) = NoneSpelled old.channel old.left × ((g : Fault) → Shows old.channel old.left g → ⊥)
-FollowsGrammar old new (Err (error.Fault f)) = (g : Fault) × Shows old.channel old.left g × (f ≡ fault_at old.at g)
+FollowsGrammar old new (Ok None) = NoneSpelled old.channel old.left × ((g : Fault) → Shows old.channel old.left g → ⊥) × IsBegun old.channel old.left
+FollowsGrammar old new (Err (error.Fault f)) = (g : Fault) × Shows old.channel old.left g × (f ≡ fault_at old.at g) × NoneSpelled old.channel old.left
 FollowsGrammar old new (Err error.Memory) = new ≡ old
 
 -- the decoder was fed these bytes and gave out these messages: the bytes given out are these messages, and

@@ -1,5 +1,5 @@
 -- The grammar of qrexec messages as a relation on whole byte lists, and the conditions of the faults.
-use Rattle.std.specs.Prelude.{◌≡◌, ◌≢◌, ℕ, ◌+◌, ◌-◌, ◌<◌, ◌≤◌, ◌⊎◌, List, length, take, drop, slice_index, Some, None, true}
+use Rattle.std.specs.Prelude.{◌≡◌, ◌≢◌, ℕ, ◌+◌, ◌-◌, ◌<◌, ◌≤◌, ◌⊎◌, List, ◌++◌, length, take, drop, slice_index, Some, None, true}
 use Rattle.std.specs.Int.{w32, from_le_bytes, cast_signed}
 use Rattle.qrexec_frame.specs.declared.channel.Channel.{Channel}
 use Rattle.qrexec_frame.specs.declared.message.Message.{Message}
@@ -72,3 +72,7 @@ Shows channel bytes (TooLong number len) = (kind : Kind) × HasHeader channel by
 Shows channel bytes (BadLength number len) = (kind : Kind) × HasHeader channel bytes number len kind × (len ≤ 65536) × ((len < least_len kind) ⊎ (most_len kind < len))
 Shows channel bytes (NoNul number) = (kind : Kind) × (len : ℕ) × HasHeader channel bytes number len kind × IsInRange kind len × (8 + len ≤ length bytes)
     × (has_line kind ≡ true) × (last_byte (take len (drop 8 bytes)) ≢ 0)
+
+-- the bytes are less than a header, or the beginning of a message
+abbrev pub IsBegun : Channel → List ℕ → Type 0
+IsBegun channel bytes = (length bytes < 8) ⊎ ((more : List ℕ) × (m : Message) × (0 < length more) × Spelled channel (bytes ++ more) m)
