@@ -85,13 +85,17 @@ spelled-begins channel bytes n m within spelled =
 
 pub answers-grammar : (old new : DecoderState) (r : Result (Option Message) NextError) → Answers old new r → FollowsGrammar old new r
 answers-grammar old new (Ok (Some m)) answer = (answer.0, only-spelled old.channel old.left answer.0 m answer.1, answer.2)
-answers-grammar old new (Ok None) answer =
-    (λ n m within spelled. let whole = spelled-begins old.channel old.left n m within spelled in let short = answer.0 in cc,
-     λ g shows. let bad = shown-front old.channel old.left g shows in let short = answer.0 in cc,
-     short-begun old.channel old.left answer.0)
-answers-grammar old new (Err (error.Fault f)) answer =
-    (answer.0, front-shown old.channel old.left answer.0 answer.1, answer.2,
-     λ n m within spelled. let whole = spelled-begins old.channel old.left n m within spelled in let bad = answer.1 in cc)
+answers-grammar old new (Ok None) answer = (
+  λ n m within spelled. let whole = spelled-begins old.channel old.left n m within spelled in let short = answer.0 in cc,
+  λ g shows. let bad = shown-front old.channel old.left g shows in let short = answer.0 in cc,
+  short-begun old.channel old.left answer.0,
+)
+answers-grammar old new (Err (error.Fault f)) answer = (
+  answer.0,
+  front-shown old.channel old.left answer.0 answer.1,
+  answer.2,
+  λ n m within spelled. let whole = spelled-begins old.channel old.left n m within spelled in let bad = answer.1 in cc,
+)
 answers-grammar old new (Err error.Memory) answer = answer.3
 
 -- ---- all bytes fed
