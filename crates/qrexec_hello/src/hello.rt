@@ -1,9 +1,8 @@
 ghost use Rattle.std.specs.Prelude.{◌≡◌, ◌≤◌, true, false};
 ghost use Rattle.qrexec_hello.specs.Greeting.{greeting};
 
-use std::marker::Model;
-
 use qrexec_frame::Message;
+use std::marker::Model;
 
 /// The lowest version that is spoken.
 const LOWEST: u32 = 2;
@@ -73,7 +72,9 @@ impl Hello {
                 Err(HelloFault::Version { got: *version })
             }
             Message::Hello { version } => Ok(self.own.min(*version)),
-            _ => Err(HelloFault::NotHello { kind: message.kind() }),
+            _ => Err(HelloFault::NotHello {
+                kind: message.kind(),
+            }),
         }
     }
 }

@@ -5,7 +5,6 @@
 #![tactic(auto)]
 
 mod hello;
-
 #[cfg(test)]
 mod tests;
 
