@@ -1,0 +1,285 @@
+-- What a decoder answers is the reading of all bytes that it was fed.
+use Rattle.std.proofs.Common.{◌≡◌, ℕ, ◌+◌, ◌<◌, ◌≤◌, ◌%◌, ◌^◌, ◌⊎◌, inl, inr, List, [], ◌∷◌, ◌++◌, length, take, drop, Option, Some, None, Result, Ok, Err, Bool, true, false, refl, sym, ◌∙◌, ap, subst, arith, length-append, append_assoc}
+use Rattle.std.proofs.lemmas.List.{length-take-le, length-drop, append-nil, take-append-drop}
+use Rattle.std.proofs.lemmas.Bool.{eqb-true, cases_Bool}
+use Rattle.std.specs.Prelude.{find, ◌==◌, IfOk, IfSome}
+use Rattle.qrexec_frame.specs.declared.channel.Channel.{Channel}
+use Rattle.qrexec_frame.specs.declared.fault.FrameFault.{FrameFault}
+use Rattle.qrexec_frame.specs.declared.fault.NextError.{NextError}
+use Rattle.qrexec_frame.specs.declared.fault.NextError.TheVariants as error
+use Rattle.qrexec_frame.specs.declared.message.Message.{Message}
+use Rattle.qrexec_frame.specs.declared.message.Message.TheVariants as message
+use Rattle.qrexec_frame.specs.Kinds.{kinds_of, kind_on, number_of, least_len, most_len}
+use Rattle.qrexec_frame.specs.Messages.{kind_of, Fits, IsSpellable, GoesOn}
+use Rattle.qrexec_frame.specs.Grammar.{number_at, Fault, UnknownType, TooLong, BadLength, NoNul, Says, Spelled, Shows}
+use Rattle.qrexec_frame.specs.Fronts.{front, reading, fault_at}
+use Rattle.qrexec_frame.specs.Streams.{Front, Whole, Bad, Placed, Rest, FaultAt, read_on, then_reading}
+use Rattle.qrexec_frame.specs.Decoding.{DecoderState, after_message, after_feed, Answers, IsOnlySpelled, FollowsGrammar, StandsFor, Reads}
+use Rattle.qrexec_frame.proofs.TextLaws.{FitsText-field, FitsText-line}
+use Rattle.qrexec_frame.proofs.StreamLaws.{read_on-whole, read_on-short, read_on-bad, reads-then}
+use Rattle.qrexec_frame.proofs.BegunLaws.{short-begun}
+use Rattle.qrexec_frame.proofs.SpellingLaws.{shown-front, front-shown}
+use Rattle.qrexec_frame.proofs.GrammarLaws.{Spelled-front, front-spelled, only_spelling, is_prefix_code}
+
+-- ---- the type and the lengths of what was read
+
+find-passes : {A : Type 0} (p : A → Bool) (xs : List A) (x : A) → find p xs ≡ Some x → p x ≡ true
+find-passes p [] x is = cc
+find-passes p (y ∷ xs) x is = by_test (λ there. find-passes p xs x there) (cases_Bool (p y))
+  where
+    by_test : (find p xs ≡ Some x → p x ≡ true) → ((p y ≡ true) ⊎ (p y ≡ false)) → p x ≡ true
+    by_test next (inl passed) = let here : Some y ≡ Some x = rw passed at is in let same : y ≡ x = cc in rw (← same) passed
+    by_test next (inr failed) = let there : find p xs ≡ Some x = rw failed at is in next there
+
+-- a spelled message's type is one of the channel
+pub spelled-goes : (channel : Channel) (bytes : List ℕ) (m : Message) → Spelled channel bytes m → GoesOn channel m
+spelled-goes channel bytes m spelled =
+    let passes = find-passes (λ k. number_at 0 bytes == number_of k) (kinds_of channel) (kind_of m) spelled.kind in
+    let same : number_at 0 bytes ≡ number_of (kind_of m) = eqb-true (number_at 0 bytes) (number_of (kind_of m)) passes in
+    ap (kind_on channel) (sym same) ∙ spelled.kind
+
+-- what a body in the range says has room in its fields
+says-fits : (body : List ℕ) (m : Message) → Says body m → least_len (kind_of m) ≤ length body → length body ≤ most_len (kind_of m) → Fits m
+says-fits body (message.Hello version) says least most = _
+says-fits body (message.Stdin bytes) says least most = rw says most
+says-fits body (message.Stdout bytes) says least most = rw says most
+says-fits body (message.Stderr bytes) says least most = rw says most
+says-fits body (message.ExitCode code) says least most = _
+says-fits body (message.Exec domain port line) says least most = rw says.2.1 (FitsText-line 8 65527 body says.2.0 (omega (arith, least)) (omega (arith, most)))
+says-fits body (message.JustExec domain port line) says least most = rw says.2.1 (FitsText-line 8 65527 body says.2.0 (omega (arith, least)) (omega (arith, most)))
+says-fits body (message.Connect domain port ident) says least most = rw says.2 (FitsText-field 8 32 body)
+says-fits body (message.Refused ident) says least most = rw says (FitsText-field 0 32 body)
+says-fits body (message.Terminated domain port) says least most = _
+says-fits body (message.Trigger3 target ident service) says least most =
+    (rw says.0 (FitsText-field 0 64 body), rw says.1 (FitsText-field 64 32 body), rw says.2.1 (FitsText-line 96 65439 body says.2.0 (omega (arith, least)) (omega (arith, most))))
+says-fits body (message.Trigger target ident service) says least most =
+    (rw says.1 (FitsText-field 64 32 body), rw says.2 (FitsText-field 96 32 body), rw says.0 (FitsText-field 0 64 body))
+
+pub spelled-fits : (channel : Channel) (bytes : List ℕ) (m : Message) → Spelled channel bytes m → Fits m
+spelled-fits channel bytes m spelled =
+    let size : length (drop 8 bytes) ≡ number_at 4 bytes = omega (arith, spelled.len, length-drop 8 bytes) in
+    says-fits (drop 8 bytes) m spelled.says (rw size spelled.least) (rw size spelled.most)
+
+-- ---- one answer by the grammar
+
+-- what a whole message at the front leaves no room for
+pub only-spelled : (channel : Channel) (bytes : List ℕ) (n : ℕ) (m : Message) → front channel bytes ≡ Whole m n → IsOnlySpelled channel bytes n m
+only-spelled channel bytes n m is =
+    let found = front-spelled channel bytes m n is in
+    record {
+      within = found.1;
+      spelled = found.2;
+      only = λ k other within spelled.
+          let parts : take k bytes ++ drop k bytes ≡ take n bytes ++ drop n bytes = take-append-drop k bytes ∙ sym (take-append-drop n bytes) in
+          let one = only_spelling channel (take k bytes) (take n bytes) (drop k bytes) (drop n bytes) other m spelled found.2 parts in
+          (sym (length-take-le k bytes within) ∙ ap length one.0 ∙ length-take-le n bytes found.1, one.1);
+    }
+
+-- a spelled beginning stands at the front
+spelled-begins : (channel : Channel) (bytes : List ℕ) (n : ℕ) (m : Message) → n ≤ length bytes → Spelled channel (take n bytes) m → front channel bytes ≡ Whole m n
+spelled-begins channel bytes n m within spelled =
+    ap (front channel) (sym (take-append-drop n bytes)) ∙ Spelled-front channel (take n bytes) (drop n bytes) m spelled ∙ ap (λ k. as_front m k) (length-take-le n bytes within)
+  where
+    as_front : Message → ℕ → Front Message Fault
+    as_front message k = Whole message k
+
+pub answers-grammar : (old new : DecoderState) (r : Result (Option Message) NextError) → Answers old new r → FollowsGrammar old new r
+answers-grammar old new (Ok (Some m)) answer = (answer.0, only-spelled old.channel old.left answer.0 m answer.1, answer.2)
+answers-grammar old new (Ok None) answer = (
+  λ n m within spelled. let whole = spelled-begins old.channel old.left n m within spelled in let short = answer.0 in cc,
+  λ g shows. let bad = shown-front old.channel old.left g shows in let short = answer.0 in cc,
+  short-begun old.channel old.left answer.0,
+)
+answers-grammar old new (Err (error.Fault f)) answer = (
+  answer.0,
+  front-shown old.channel old.left answer.0 answer.1,
+  answer.2,
+  λ n m within spelled. let whole = spelled-begins old.channel old.left n m within spelled in let bad = answer.1 in cc,
+)
+answers-grammar old new (Err error.Memory) answer = answer.3
+
+-- ---- all bytes fed
+
+-- a new decoder stands for nothing
+pub new-stands : (channel : Channel) → StandsFor (record { channel = channel; left = []; at = 0; fault = None }) [] []
+new-stands channel = record { before = []; after = []; fed_is = refl; at_is = refl; given_is = refl; none_after = λ _. refl; faulty = λ f is. cc }
+
+-- the reading of all bytes fed goes on from what was given
+pub stands-reading : (d : DecoderState) (fed : List ℕ) (given : List (Placed Message)) (s : StandsFor d fed given)
+    → reading d.channel fed ≡ then_reading given (read_on (front d.channel) (d.left ++ s.after) (length s.before) 0)
+stands-reading d fed given s =
+    let done : (read_on (front d.channel) s.before 0 0).ending ≡ Rest 0 = ap (λ r. r.ending) s.given_is in
+    let placed : (read_on (front d.channel) s.before 0 0).placed ≡ given = ap (λ r. r.placed) s.given_is in
+    let zero_first : 0 + length s.before ≡ length s.before = omega arith in
+    let all = reads-then (front d.channel) (is_prefix_code d.channel) s.before (d.left ++ s.after) 0 0 (omega arith) done in
+    ap (reading d.channel) s.fed_is ∙ all ∙ rw (placed, zero_first) refl
+
+-- more bytes for a decoder; those for a faulted one are passed over
+pub feed-stands : (d : DecoderState) (fed piece : List ℕ) (given : List (Placed Message)) → StandsFor d fed given → StandsFor (after_feed d piece) (fed ++ piece) given
+feed-stands d fed piece given s = by_fault d.fault refl
+  where
+    Stands : DecoderState → Type 0
+    Stands e = StandsFor e (fed ++ piece) given
+
+    by_fault : (o : Option FrameFault) → d.fault ≡ o → StandsFor (after_feed d piece) (fed ++ piece) given
+    by_fault None is =
+        let none : s.after ≡ [] = s.none_after is in
+        let state : record d { left = d.left ++ piece } ≡ after_feed d piece = rw is refl in
+        let P : DecoderState → Type 0 = λ e. StandsFor e (fed ++ piece) given in
+        subst P state (record {
+          before = s.before;
+          after = [];
+          fed_is = ap (λ x. x ++ piece) s.fed_is ∙ rw none (simp (append_assoc, append-nil));
+          at_is = s.at_is;
+          given_is = s.given_is;
+          none_after = λ _. refl;
+          faulty = λ f some. cc;
+        })
+    by_fault (Some f) is =
+        let state : d ≡ after_feed d piece = rw is refl in
+        let P : DecoderState → Type 0 = λ e. StandsFor e (fed ++ piece) given in
+        subst P state (record {
+          before = s.before;
+          after = s.after ++ piece;
+          fed_is = ap (λ x. x ++ piece) s.fed_is ∙ simp append_assoc;
+          at_is = s.at_is;
+          given_is = s.given_is;
+          none_after = λ none. cc;
+          faulty = s.faulty;
+        })
+
+-- an offset counted modulo 2 ^ 64 stands for itself in a fault
+fault_at-mod : (at : ℕ) (g : Fault) → fault_at (at % 2 ^ 64) g ≡ fault_at at g
+fault_at-mod at g = by_fault g
+  where
+    twice : (at % 2 ^ 64) % 2 ^ 64 ≡ at % 2 ^ 64
+    twice = omega arith
+
+    by_fault : (g : Fault) → fault_at (at % 2 ^ 64) g ≡ fault_at at g
+    by_fault (UnknownType number) = rw twice refl
+    by_fault (TooLong number len) = rw twice refl
+    by_fault (BadLength number len) = rw twice refl
+    by_fault (NoNul number) = rw twice refl
+
+-- where the bytes that are left show a fault, the reading of all bytes ends with it
+bad-reading : (d : DecoderState) (fed : List ℕ) (given : List (Placed Message)) (s : StandsFor d fed given) (g : Fault) → front d.channel d.left ≡ Bad g
+    → reading d.channel fed ≡ record { placed = given; ending = FaultAt (length s.before) g }
+bad-reading d fed given s g bad =
+    let stays : front d.channel (d.left ++ s.after) ≡ Bad g = (is_prefix_code d.channel).bad_stays d.left s.after g bad in
+    let some : 0 < length (d.left ++ s.after) = shown-some d.channel (d.left ++ s.after) g (front-shown d.channel (d.left ++ s.after) g stays) in
+    let ended = read_on-bad (front d.channel) (d.left ++ s.after) (length s.before) g some stays in
+    stands-reading d fed given s ∙ rw ended (rw (append-nil given) refl)
+  where
+    shown-some : (channel : Channel) (bytes : List ℕ) (g : Fault) → Shows channel bytes g → 0 < length bytes
+    shown-some channel bytes (UnknownType number) shows = omega (arith, shows.0)
+    shown-some channel bytes (TooLong number len) shows = omega (arith, shows.1.there)
+    shown-some channel bytes (BadLength number len) shows = omega (arith, shows.1.there)
+    shown-some channel bytes (NoNul number) shows = omega (arith, shows.2.there)
+
+-- a message that was given is the next of the reading
+message-stands : (d : DecoderState) (fed : List ℕ) (given : List (Placed Message)) (s : StandsFor d fed given) (m : Message) (n : ℕ) → d.fault ≡ None → front d.channel d.left ≡ Whole m n
+    → StandsFor (after_message d n) fed (given ++ record { at = length s.before; message = m } ∷ [])
+message-stands d fed given s m n sound whole = record {
+  before = s.before ++ take n d.left;
+  after = [];
+  fed_is = s.fed_is ∙ rw (s.none_after sound) parts;
+  at_is = omega (arith, s.at_is, size, length-append s.before (take n d.left));
+  given_is = joined ∙ rw (placed, zero_first) (rw one refl);
+  none_after = λ _. refl;
+  faulty = λ f some. cc;
+}
+  where
+    found : (0 < n) × (n ≤ length d.left) × Spelled d.channel (take n d.left) m
+    found = front-spelled d.channel d.left m n whole
+
+    size : length (take n d.left) ≡ n
+    size = length-take-le n d.left found.1
+
+    parts : s.before ++ (d.left ++ []) ≡ (s.before ++ take n d.left) ++ (drop n d.left ++ [])
+    parts = rw (append-nil d.left, append-nil (drop n d.left)) (ap (λ x. s.before ++ x) (sym (take-append-drop n d.left)) ∙ sym (append_assoc s.before (take n d.left) (drop n d.left)))
+
+    done : (read_on (front d.channel) s.before 0 0).ending ≡ Rest 0
+    done = ap (λ r. r.ending) s.given_is
+
+    placed : (read_on (front d.channel) s.before 0 0).placed ≡ given
+    placed = ap (λ r. r.placed) s.given_is
+
+    zero_first : 0 + length s.before ≡ length s.before
+    zero_first = omega arith
+
+    joined : reading d.channel (s.before ++ take n d.left) ≡ then_reading (read_on (front d.channel) s.before 0 0).placed (read_on (front d.channel) (take n d.left) (0 + length s.before) 0)
+    joined = reads-then (front d.channel) (is_prefix_code d.channel) s.before (take n d.left) 0 0 (omega arith) done
+
+    last : read_on (front d.channel) (take n d.left ++ []) (length s.before) 0 ≡ record { placed = record { at = length s.before; message = m } ∷ []; ending = Rest 0 }
+    last = read_on-whole (front d.channel) m (take n d.left) [] (length s.before) (omega (arith, size, found.0)) (Spelled-front d.channel (take n d.left) [] m found.2)
+
+    one : read_on (front d.channel) (take n d.left) (length s.before) 0 ≡ record { placed = record { at = length s.before; message = m } ∷ []; ending = Rest 0 }
+    one = ap (λ bytes. read_on (front d.channel) bytes (length s.before) 0) (sym (append-nil (take n d.left))) ∙ last
+
+-- an answer of a decoder that is not faulted tells the reading of all bytes fed
+answers-reads : (old new : DecoderState) (r : Result (Option Message) NextError) → old.fault ≡ None → Answers old new r → (fed : List ℕ) (given : List (Placed Message)) → StandsFor old fed given
+    → Reads old new fed given r
+answers-reads old new (Ok (Some m)) sound answer fed given s =
+    let P : DecoderState → Type 0 = λ d. StandsFor d fed (given ++ record { at = length s.before; message = m } ∷ []) in
+    (length s.before, s.at_is, subst P (sym answer.2) (message-stands old fed given s m answer.0 sound answer.1))
+answers-reads old new (Ok None) sound answer fed given s =
+    let P : DecoderState → Type 0 = λ d. StandsFor d fed given in
+    let left : old.left ++ s.after ≡ old.left = rw (s.none_after sound) (append-nil old.left) in
+    let short = read_on-short (front old.channel) old.left (length s.before) answer.0 in
+    (subst P (sym answer.1) s, stands-reading old fed given s ∙ rw left (rw short (rw (append-nil given) refl)))
+answers-reads old new (Err (error.Fault f)) sound answer fed given s =
+    let P : DecoderState → Type 0 = λ d. StandsFor d fed given in
+    let stands : StandsFor (record old { fault = Some f }) fed given = record {
+      before = s.before;
+      after = s.after;
+      fed_is = s.fed_is;
+      at_is = s.at_is;
+      given_is = s.given_is;
+      none_after = λ none. cc;
+      faulty = λ other is. (answer.0, answer.1, (let same : f ≡ other = cc in sym same ∙ answer.2));
+    } in (
+      length s.before,
+      answer.0,
+      subst P (sym answer.3) stands,
+      bad-reading old fed given s answer.0 answer.1,
+      answer.2 ∙ ap (λ at. fault_at at answer.0) s.at_is ∙ fault_at-mod (length s.before) answer.0,
+    )
+answers-reads old new (Err error.Memory) sound answer fed given s =
+    let P : DecoderState → Type 0 = λ d. StandsFor d fed given in subst P (sym answer.3) s
+
+-- a faulted decoder answers its fault
+faulted-reads : (old new : DecoderState) (f : FrameFault) → old.fault ≡ Some f → new ≡ old → (fed : List ℕ) (given : List (Placed Message)) → StandsFor old fed given
+    → Reads old new fed given (Err (error.Fault f))
+faulted-reads old new f is same fed given s =
+    let P : DecoderState → Type 0 = λ d. StandsFor d fed given in
+    let bad = s.faulty f is in
+    (length s.before, bad.0, subst P (sym same) s, bad-reading old fed given s bad.0 bad.1, bad.2 ∙ ap (λ at. fault_at at bad.0) s.at_is ∙ fault_at-mod (length s.before) bad.0)
+
+-- every answer of a decoder tells the reading of all bytes fed
+pub next-reads : (old new : DecoderState) (r : Result (Option Message) NextError) → (old.fault ≡ None → Answers old new r)
+    → ((f : FrameFault) → old.fault ≡ Some f → (r ≡ Err (error.Fault f)) × (new ≡ old)) → (fed : List ℕ) (given : List (Placed Message)) → StandsFor old fed given → Reads old new fed given r
+next-reads old new r answer faulted fed given s = by_fault old.fault refl
+  where
+    by_fault : (o : Option FrameFault) → old.fault ≡ o → Reads old new fed given r
+    by_fault None is = answers-reads old new r is (answer is) fed given s
+    by_fault (Some f) is =
+        let told = faulted f is in
+        let P : Result (Option Message) NextError → Type 0 = λ q. Reads old new fed given q in
+        subst P (sym told.0) (faulted-reads old new f is told.1 fed given s)
+
+-- what a decoder gives is of its channel
+pub next-goes : (old new : DecoderState) (m : Message) → (old.fault ≡ None → Answers old new (Ok (Some m)))
+    → ((f : FrameFault) → old.fault ≡ Some f → (Ok (Some m) ≡ Err (error.Fault f)) × (new ≡ old)) → GoesOn old.channel m
+next-goes old new m answer faulted = by_fault old.fault refl
+  where
+    by_fault : (o : Option FrameFault) → old.fault ≡ o → GoesOn old.channel m
+    by_fault None is = let a = answer is in spelled-goes old.channel (take a.0 old.left) m (front-spelled old.channel old.left m a.0 a.1).2
+    by_fault (Some f) is = let told = (faulted f is).0 in cc
+
+-- what a decoder gives has a spelling and is of its channel
+pub next-fits : (old new : DecoderState) (r : Result (Option Message) NextError) → (old.fault ≡ None → Answers old new r)
+    → ((f : FrameFault) → old.fault ≡ Some f → (r ≡ Err (error.Fault f)) × (new ≡ old)) → IfOk r (λ found. IfSome found IsSpellable)
+    → IfOk r (λ found. IfSome found (λ m. IsSpellable m × GoesOn old.channel m))
+next-fits old new (Ok (Some m)) answer faulted fits = (fits, next-goes old new m answer faulted)
+next-fits old new (Ok None) answer faulted fits = fits
+next-fits old new (Err e) answer faulted fits = fits

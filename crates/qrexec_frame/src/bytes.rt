@@ -1,0 +1,33 @@
+ghost use Rattle.std.specs.Prelude.{◌≡◌};
+
+use std::marker::Model;
+
+/// The bytes that a message carries, any bytes.
+#[derive(Debug, Drop)]
+pub struct Bytes {
+    list: Vec<u8>,
+}
+
+impl Model for Bytes {
+    ghost use Rattle.std.specs.Prelude.{List, ℕ};
+
+    ghost Value = { List ℕ };
+
+    ghost view = { λ b. b.list.items };
+}
+
+impl Bytes {
+    /// Keeps a list of bytes as it is.
+    pub fn of(list: Vec<u8>) -> Bytes
+        ensures { result ≡ list.items }
+    {
+        Bytes { list }
+    }
+
+    /// Lends the bytes.
+    pub fn slice(&self) -> &[u8]
+        ensures { result.now ≡ self.now }
+    {
+        self.list.as_slice()
+    }
+}

@@ -1,0 +1,155 @@
+ghost use Rattle.std.specs.Prelude.{◌≡◌, ℕ, List, [], ◌++◌, length, Option, Some, None, IsOk, IsSome, IfOk, IfSome, OnOk, OnErr};
+ghost use Rattle.qrexec_frame.specs.declared.fault.FrameFault.{FrameFault};
+ghost use Rattle.qrexec_frame.specs.declared.message.Message.{Message};
+ghost use Rattle.qrexec_frame.specs.Streams.{Placed};
+ghost use Rattle.qrexec_frame.specs.Messages.{IsSpellable, GoesOn};
+ghost use Rattle.qrexec_frame.specs.Decoding.{after_feed, Answers, FollowsGrammar, StandsFor, Reads};
+
+use crate::channel::Channel;
+use crate::encoding::HEADER;
+use crate::fault::{FrameFault, NextError};
+use crate::front::{Body, message_of};
+use crate::message::Message;
+use std::alloc::Global;
+use std::marker::Model;
+use vchan_io::Memory;
+
+/// Reads the messages of a channel from bytes that come in any pieces.
+///
+/// It keeps the place up to which its bytes were given out, and `next` moves that place and no byte.
+#[derive(Debug, Drop)]
+pub struct Decoder {
+    channel: Channel,
+    bytes: Vec<u8>,
+    given: usize,
+    at: u64,
+    fault: Option<FrameFault>,
+}
+
+impl Model for Decoder {
+    ghost use Rattle.std.specs.Prelude.{◌≤◌, length, drop};
+    ghost use Rattle.qrexec_frame.specs.Decoding.{DecoderState};
+
+    ghost Value = { DecoderState };
+
+    ghost view = { λ d. record { channel = d.channel; left = drop d.given d.bytes.items; at = d.at; fault = d.fault } };
+
+    ghost invariant = { λ d. d.given ≤ length d.bytes.items };
+}
+
+impl Decoder {
+    /// A decoder of a channel's messages, which was fed nothing.
+    pub fn new(alloc: Global, channel: Channel) -> Decoder
+        ensures state { result ≡ record { channel = channel; left = []; at = 0; fault = None } }
+        ensures stream { StandsFor result [] [] }
+    {
+        Decoder {
+            channel,
+            bytes: Vec::new(alloc),
+            given: 0,
+            at: 0,
+            fault: None,
+        }
+    }
+
+    /// Takes the next bytes of the stream. A faulted decoder stays as it is.
+    ///
+    /// Want of memory leaves the decoder as it was.
+    pub fn feed(&mut self, piece: &[u8]) -> Result<(), Memory>
+        ensures ok { OnOk result (self.new ≡ after_feed self.old piece.now) }
+        ensures err { OnErr result (self.new ≡ self.old) }
+        ensures faulted { IsSome self.old.fault → IsOk result }
+
+        // What it stood for, and this piece.
+        ensures stream { (fed : List ℕ) (given : List (Placed Message)) → StandsFor self.old fed given →
+            OnOk result (StandsFor self.new (fed ++ piece.now) given) }
+    {
+        self.take(piece)
+    }
+
+    // `feed` by the bytes that it holds.
+    fn take(&mut self, piece: &[u8]) -> Result<(), Memory>
+        ensures ok { OnOk result (self.new ≡ after_feed self.old piece.now) }
+        ensures err { OnErr result (self.new ≡ self.old) }
+        ensures faulted { IsSome self.old.fault → IsOk result }
+    {
+        if self.fault.is_some() {
+            return Ok(());
+        }
+        if self.given >= self.bytes.len() - self.given {
+            self.close_up();
+        }
+        self.bytes.extend_from_slice(piece)?;
+        Ok(())
+    }
+
+    // Moves the bytes that weren't given out to the beginning.
+    fn close_up(&mut self)
+        ensures { self.new ≡ self.old }
+    {
+        let left = self.bytes.len() - self.given;
+        self.bytes.copy_within(self.given.., 0);
+        self.bytes.truncate(left);
+        self.given = 0;
+    }
+
+    /// Gives the next message of the stream, or `None` where the bytes not yet given out are no whole
+    /// message and no fault shows in them.
+    ///
+    /// `Fault` comes where the bytes show a fault in a message's place, the first that applies, and at
+    /// every later call. Want of memory leaves the decoder as it was.
+    pub fn next(&mut self) -> Result<Option<Message>, NextError>
+        ensures answer { self.old.fault ≡ None → Answers self.old self.new result }
+        ensures grammar { self.old.fault ≡ None → FollowsGrammar self.old self.new result }
+        ensures faulted { (f : FrameFault) → self.old.fault ≡ Some f →
+            (result ≡ Err (NextError.Fault f)) × (self.new ≡ self.old) }
+        ensures fits { IfOk result (λ found. IfSome found (λ m. IsSpellable m × GoesOn self.old.channel m)) }
+
+        // The messages and the end of all bytes fed, however they were cut.
+        ensures stream { (fed : List ℕ) (given : List (Placed Message)) → StandsFor self.old fed given →
+            Reads self.old self.new fed given result }
+    {
+        self.give()
+    }
+
+    // `next` by what stands at the front.
+    fn give(&mut self) -> Result<Option<Message>, NextError>
+        ensures answer { self.old.fault ≡ None → Answers self.old self.new result }
+        ensures faulted { (f : FrameFault) → self.old.fault ≡ Some f →
+            (result ≡ Err (NextError.Fault f)) × (self.new ≡ self.old) }
+        ensures fits { IfOk result (λ found. IfSome found (λ m. IsSpellable m)) }
+    {
+        if let Some(fault) = self.fault {
+            return Err(NextError::Fault(fault));
+        }
+        let alloc = *self.bytes.allocator();
+        match Body::at_front(self.channel, self.at, &self.bytes[self.given..]) {
+            Ok(None) => Ok(None),
+            Ok(Some(body)) => {
+                let len = HEADER + body.bytes.len();
+                let message = message_of(alloc, body.kind, body.bytes)?;
+                self.given += len;
+                self.at = self.at.wrapping_add(len as u64);
+                Ok(Some(message))
+            }
+            Err(fault) => {
+                self.fault = Some(fault);
+                Err(NextError::Fault(fault))
+            }
+        }
+    }
+
+    /// How many bytes were not given out yet.
+    pub fn rest(&self) -> usize
+        ensures { result ≡ length self.now.left }
+    {
+        self.bytes.len() - self.given
+    }
+
+    /// The offset of the first byte that was not given out yet, counted modulo 2^64.
+    pub fn at(&self) -> u64
+        ensures { result ≡ self.now.at }
+    {
+        self.at
+    }
+}

@@ -1,0 +1,158 @@
+//! What stands at the front of some bytes of a channel.
+ghost use Rattle.std.specs.Prelude.{◌≡◌, ◌+◌, ◌≤◌, length, IfOk};
+ghost use Rattle.qrexec_frame.specs.Kinds.{least_len, most_len};
+ghost use Rattle.qrexec_frame.specs.Grammar.{number_at};
+ghost use Rattle.qrexec_frame.specs.Fronts.{made};
+ghost use Rattle.qrexec_frame.specs.Messages.{HasNumbers};
+ghost use Rattle.qrexec_frame.specs.Texts.{field_text, line_text};
+
+use crate::bytes::Bytes;
+use crate::channel::Channel;
+use crate::encoding::HEADER;
+use crate::fault::FrameFault;
+use crate::kind::{Kind, MOST_BODY};
+use crate::message::Message;
+use crate::text::Text;
+use std::alloc::{AllocError, Global};
+
+/// The type and the body of a whole message.
+#[derive(Clone, Copy, Debug)]
+pub(crate) struct Body<'a> {
+    pub(crate) kind: Kind,
+    pub(crate) bytes: &'a [u8],
+}
+
+impl<'a> Body<'a> {
+    ghost use Rattle.qrexec_frame.specs.Bodies.{StandsAtFront};
+
+    /// The body of the message at the front of some bytes of a channel, the first of which has the offset
+    /// `at`; `None` where that message isn't whole and no fault shows.
+    pub(crate) fn at_front(
+        channel: Channel,
+        at: u64,
+        bytes: &'a [u8],
+    ) -> Result<Option<Body<'a>>, FrameFault>
+        ensures { StandsAtFront channel at bytes.now result }
+    {
+        if bytes.len() < HEADER {
+            return Ok(None);
+        }
+        let kind = u32_at(bytes, 0);
+        let len = u32_at(bytes, 4);
+        let Some(row) = Kind::of(channel, kind) else {
+            return Err(FrameFault::UnknownType { at, kind });
+        };
+        if len > MOST_BODY {
+            return Err(FrameFault::TooLong { at, kind, len });
+        }
+        if len < row.least_len() || row.most_len() < len {
+            return Err(FrameFault::BadLength { at, kind, len });
+        }
+        let end = HEADER + len as usize;
+        if bytes.len() < end {
+            return Ok(None);
+        }
+        let body = &bytes[HEADER..end];
+        if row.has_line() && body[body.len() - 1] != 0 {
+            return Err(FrameFault::NoNul { at, kind });
+        }
+        Ok(Some(Body {
+            kind: row,
+            bytes: body,
+        }))
+    }
+}
+
+/// The message of a type with this body, whose length is in the type's range.
+pub(crate) fn message_of(alloc: Global, kind: Kind, body: &[u8]) -> Result<Message, AllocError>
+    requires least { least_len kind ≤ length body.now }
+    requires most { length body.now ≤ most_len kind }
+    ensures made { IfOk result (λ m. m ≡ made kind body.now) }
+    ensures numbers { IfOk result HasNumbers }
+{
+    match kind {
+        Kind::Hello => Ok(Message::Hello {
+            version: u32_at(body, 0),
+        }),
+        Kind::Stdin => Ok(Message::Stdin {
+            bytes: copied(alloc, body)?,
+        }),
+        Kind::Stdout => Ok(Message::Stdout {
+            bytes: copied(alloc, body)?,
+        }),
+        Kind::Stderr => Ok(Message::Stderr {
+            bytes: copied(alloc, body)?,
+        }),
+        Kind::ExitCode => Ok(Message::ExitCode {
+            code: u32_at(body, 0).cast_signed(),
+        }),
+        Kind::Exec => Ok(Message::Exec {
+            domain: u32_at(body, 0),
+            port: u32_at(body, 4),
+            line: line(alloc, body, 8)?,
+        }),
+        Kind::JustExec => Ok(Message::JustExec {
+            domain: u32_at(body, 0),
+            port: u32_at(body, 4),
+            line: line(alloc, body, 8)?,
+        }),
+        Kind::Connect => Ok(Message::Connect {
+            domain: u32_at(body, 0),
+            port: u32_at(body, 4),
+            ident: field(alloc, body, 8, 32)?,
+        }),
+        Kind::Refused => Ok(Message::Refused {
+            ident: field(alloc, body, 0, 32)?,
+        }),
+        Kind::Terminated => Ok(Message::Terminated {
+            domain: u32_at(body, 0),
+            port: u32_at(body, 4),
+        }),
+        Kind::Trigger3 => Ok(Message::Trigger3 {
+            target: field(alloc, body, 0, 64)?,
+            ident: field(alloc, body, 64, 32)?,
+            service: line(alloc, body, 96)?,
+        }),
+        Kind::Trigger => Ok(Message::Trigger {
+            service: field(alloc, body, 0, 64)?,
+            target: field(alloc, body, 64, 32)?,
+            ident: field(alloc, body, 96, 32)?,
+        }),
+    }
+}
+
+fn copied(alloc: Global, body: &[u8]) -> Result<Bytes, AllocError>
+    ensures { IfOk result (λ b. b ≡ body.now) }
+{
+    Ok(Bytes::of(Vec::from_slice(alloc, body)?))
+}
+
+// A fixed field, whose last byte counts as NUL.
+fn field(alloc: Global, body: &[u8], start: usize, len: usize) -> Result<Text, AllocError>
+    requires some { 1 ≤ len }
+    requires within { start + len ≤ length body.now }
+    ensures { IfOk result (λ text. text ≡ field_text start len body.now) }
+{
+    Text::to_nul(alloc, &body[start..start + len - 1])
+}
+
+// A line or a service, which goes to the end of the body.
+fn line(alloc: Global, body: &[u8], start: usize) -> Result<Text, AllocError>
+    requires { start ≤ length body.now }
+    ensures { IfOk result (λ text. text ≡ line_text start body.now) }
+{
+    Text::to_nul(alloc, &body[start..])
+}
+
+// A number of four bytes, the lowest first.
+fn u32_at(bytes: &[u8], start: usize) -> u32
+    requires { start + 4 ≤ length bytes.now }
+    ensures { result ≡ number_at start bytes.now }
+{
+    u32::from_le_bytes([
+        bytes[start],
+        bytes[start + 1],
+        bytes[start + 2],
+        bytes[start + 3],
+    ])
+}

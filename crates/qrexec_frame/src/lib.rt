@@ -1,0 +1,32 @@
+//! The messages of qrexec, the service calls of Qubes OS: how each is written, and how a stream of them
+//! is read.
+//!
+//! It serves every crate that speaks qrexec: the two sides of a call, the broker and the scenarios. The
+//! types, bodies and limits are those of the qrexec protocol's descriptions, versions 2 and 3, by their
+//! names `MSG_HELLO`, `MSG_DATA_STDIN` and so on. A message is a header of two 32-bit numbers, type and
+//! length, and a body of that length, all little-endian.
+#![tactic(auto)]
+
+mod bytes;
+mod channel;
+mod clean;
+mod decoder;
+mod encoding;
+mod fault;
+mod front;
+mod kind;
+mod line;
+mod message;
+#[cfg(test)]
+mod tests;
+mod text;
+
+pub use bytes::Bytes;
+pub use channel::Channel;
+pub use clean::{clean_name, clean_service, clean_target};
+pub use decoder::Decoder;
+pub use encoding::encode;
+pub use fault::{FrameFault, NextError};
+pub use line::message_line;
+pub use message::{Message, fits};
+pub use text::{Text, TextError};

@@ -1,0 +1,105 @@
+ghost use Rattle.std.specs.Prelude.{◌≡◌, ◌↔◌, ◌≤◌, length, position, Contains, IfOk};
+ghost use Rattle.std.specs.List.{before_first, position_or_len};
+ghost use Rattle.qrexec_frame.specs.Names.{cleaned};
+ghost use Rattle.qrexec_frame.specs.Texts.{HasNoNul, is_nul};
+ghost use Rattle.qrexec_frame.specs.declared.text.TextError.TheVariants as error;
+
+use crate::clean::Letters;
+use std::alloc::{AllocError, Global};
+use std::marker::Model;
+use thiserror::Error;
+
+/// A text of a message: bytes without NUL. What is said with it is a name, an identifier or a line.
+#[derive(Debug, Drop)]
+pub struct Text {
+    bytes: Vec<u8>,
+}
+
+impl Model for Text {
+    ghost use Rattle.std.specs.Prelude.{List, ℕ};
+    ghost use Rattle.qrexec_frame.specs.Texts.{HasNoNul};
+
+    ghost Value = { List ℕ };
+
+    ghost view = { λ t. t.bytes.items };
+
+    ghost invariant = { λ t. HasNoNul t.bytes.items };
+}
+
+/// Why bytes are no text.
+#[derive(Clone, Copy, Debug, PartialEq, Eq, Error)]
+pub enum TextError {
+    /// A byte is NUL.
+    #[error("a byte of the text is NUL")]
+    Nul,
+    /// An allocation was refused.
+    #[error("out of memory")]
+    Memory,
+}
+
+impl From<AllocError> for TextError {
+    ghost from_gives = { λ _ e. e ≡ error.Memory };
+
+    fn from(_refused: AllocError) -> TextError {
+        TextError::Memory
+    }
+}
+
+impl Text {
+    /// The text of these bytes. `Nul` comes exactly where one of them is NUL.
+    pub fn of(alloc: Global, bytes: &[u8]) -> Result<Text, TextError>
+        ensures text { IfOk result (λ text. text ≡ bytes.now) }
+        ensures nul { (result ≡ Err TextError.Nul) ↔ Contains bytes.now 0 }
+    {
+        if bytes.contains(&0) {
+            return Err(TextError::Nul);
+        }
+        let bytes = Vec::from_slice(alloc, bytes)?;
+        Ok(Text { bytes })
+    }
+
+    /// Lends the bytes, none of which is NUL.
+    pub fn bytes(&self) -> &[u8]
+        ensures bytes { result.now ≡ self.now }
+        ensures no_nul { HasNoNul result.now }
+    {
+        self.bytes.as_slice()
+    }
+
+    /// The text of a field of a message: its bytes before the first NUL.
+    pub(crate) fn to_nul(alloc: Global, bytes: &[u8]) -> Result<Text, AllocError>
+        ensures { IfOk result (λ text. text ≡ before_first is_nul bytes.now) }
+    {
+        let bytes = Vec::from_slice(alloc, &bytes[..len_to_nul(bytes)])?;
+        Ok(Text { bytes })
+    }
+
+    /// A text with `_` in place of every byte that isn't one of the letters.
+    pub(crate) fn cleaned(alloc: Global, text: &Text, letters: Letters) -> Result<Text, AllocError>
+        ensures { IfOk result (λ clean. clean ≡ cleaned letters text.now) }
+    {
+        let bytes = clean_bytes(alloc, text.bytes(), letters)?;
+        Ok(Text { bytes })
+    }
+}
+
+fn clean_bytes(alloc: Global, bytes: &[u8], letters: Letters) -> Result<Vec<u8>, AllocError>
+    ensures { IfOk result (λ clean. clean.items ≡ cleaned letters bytes.now) }
+{
+    bytes.iter().map(|b| letters.kept(*b)).collect(alloc)
+}
+
+// How many bytes stand before the first NUL.
+fn len_to_nul(bytes: &[u8]) -> usize
+    ensures len { result ≡ position_or_len is_nul bytes.now }
+    ensures within { result ≤ length bytes.now }
+{
+    first_nul(bytes).unwrap_or(bytes.len())
+}
+
+// Where the first NUL stands.
+fn first_nul(bytes: &[u8]) -> Option<usize>
+    ensures { result ≡ position is_nul bytes.now }
+{
+    bytes.iter().position(|b| *b == 0)
+}

@@ -1,0 +1,8 @@
+-- One side of a greeting, as contracts see it.
+use Rattle.std.specs.Prelude.{ℕ, Bool}
+
+pub record GreetingSide : Type 0 where
+  -- the version that it speaks
+  pub own : ℕ
+  -- whether the other side's greeting wasn't taken yet
+  pub waiting : Bool

@@ -1,0 +1,80 @@
+ghost use Rattle.std.specs.Prelude.{◌≡◌, ◌≤◌, true, false};
+ghost use Rattle.qrexec_hello.specs.Greeting.{greeting};
+
+use qrexec_frame::Message;
+use std::marker::Model;
+
+/// The lowest version that is spoken.
+const LOWEST: u32 = 2;
+
+/// One side's greeting: its own version, and whether it still waits for the other side's.
+#[derive(Debug, Drop)]
+pub struct Hello {
+    own: u32,
+    waiting: bool,
+}
+
+impl Model for Hello {
+    ghost use Rattle.std.specs.Prelude.{◌≤◌};
+    ghost use Rattle.qrexec_hello.specs.Side.{GreetingSide};
+
+    ghost Value = { GreetingSide };
+
+    ghost view = { λ h. record { own = h.own; waiting = h.waiting } };
+}
+
+/// Why the other side's greeting was refused.
+#[derive(Clone, Copy, Debug, PartialEq, Eq)]
+pub enum HelloFault {
+    /// Its first message is no `MSG_HELLO`, but one of this type.
+    NotHello { kind: u32 },
+    /// It speaks a version below 2.
+    Version { got: u32 },
+}
+
+impl Hello {
+    /// A side that speaks this version, 2 or 3, and has taken nothing yet.
+    pub fn start(own: u32) -> Hello
+        requires { (2 ≤ own) × (own ≤ 3) }
+        ensures { result ≡ record { own = own; waiting = true } }
+    {
+        Hello { own, waiting: true }
+    }
+
+    /// The message that says this version, 2 or 3.
+    pub fn announce(own: u32) -> Message
+        requires { (2 ≤ own) × (own ≤ 3) }
+        ensures { result ≡ Message.Hello own }
+    {
+        Message::Hello { version: own }
+    }
+
+    /// Whether the other side's greeting wasn't taken yet.
+    pub fn waiting(&self) -> bool
+        ensures { result ≡ self.now.waiting }
+    {
+        self.waiting
+    }
+
+    /// Takes the other side's first message, and answers the version that both go on with: the lower
+    /// of the two. It may be called once, which `waiting` tests.
+    ///
+    /// `NotHello` comes exactly where the message is no `MSG_HELLO`, and `Version` exactly where it
+    /// says a version below 2.
+    pub fn took(&mut self, message: &Message) -> Result<u32, HelloFault>
+        requires { self.old.waiting ≡ true }
+        ensures greeting { result ≡ greeting self.old.own message.now }
+        ensures spent { self.new ≡ record self.old { waiting = false } }
+    {
+        self.waiting = false;
+        match message {
+            Message::Hello { version } if *version < LOWEST => {
+                Err(HelloFault::Version { got: *version })
+            }
+            Message::Hello { version } => Ok(self.own.min(*version)),
+            _ => Err(HelloFault::NotHello {
+                kind: message.kind(),
+            }),
+        }
+    }
+}

@@ -1,0 +1,11 @@
+//! The greeting of a qrexec channel: each side says its version first, and both go on with the lower one.
+//!
+//! It serves the two sides of a call, and the agent and the broker on a control channel. The message is
+//! `MSG_HELLO` of the qrexec protocol; versions 2 and 3 are spoken here.
+#![tactic(auto)]
+
+mod hello;
+#[cfg(test)]
+mod tests;
+
+pub use hello::{Hello, HelloFault};
