@@ -1,14 +1,16 @@
 -- Laws of the bytes of numbers, the lowest first.
-use Rattle.std.proofs.Common.{◌≡◌, ℕ, zero, suc, ◌+◌, ◌*◌, ◌/◌, ◌%◌, ◌^◌, ◌<◌, ◌≤◌, List, [], ◌∷◌, length, get_or, bit_and, refl, sym, ap, ◌∙◌, arith}
+use Rattle.std.proofs.Common.{◌≡◌, ℕ, zero, suc, ◌+◌, ◌*◌, ◌/◌, ◌%◌, ◌^◌, ◌<◌, List, [], ◌∷◌, get_or, bit_and, refl, sym, ap, ◌∙◌, arith}
 use Rattle.std.specs.Int.{byte_at, bytes_low_first}
 use Rattle.std.proofs.Math.Nat.{pow-suc, mul_comm, div-div-eq-div-mul, zero-div}
 use Rattle.std.proofs.lemmas.Nat.{and_mask}
 use Rattle.ring_words.specs.Image.{byte_of, number_from}
 
+-- std's byte of a number
 byte_at-is : (place n : ℕ) → byte_at place n ≡ byte_of n place
 byte_at-is zero n = omega arith
 byte_at-is (suc place) n = refl
 
+-- a byte of some of the bytes of a number
 get_or-bytes : (from count n k : ℕ) → k < count → get_or (bytes_low_first from count n) k 0 ≡ byte_of n (from + k)
 get_or-bytes from zero n k h = absurd (omega (arith, h))
 get_or-bytes from (suc count) n zero h = byte_at-is from n ∙ ap (λ (i : ℕ). byte_of n i) (omega arith)

@@ -136,10 +136,14 @@ unfoldable pub page_shown : List ℕ → Orders → PageWords
 page_shown image orders =
     record { orders = orders; list = header_shown image ++ ring_shown image orders.left ++ ring_shown image orders.right }
 
--- something of a page lies at the offset
+-- one of the pieces has a byte at the offset
 abbrev pub IsCovered : List Piece → ℕ → Type 0
 IsCovered [] at = ⊥
 IsCovered (piece ∷ others) at = (piece.offset ≤ at) × (at < piece.offset + piece.count) ⊎ IsCovered others at
+
+-- a field lies at the offset of a page's image, or a ring's byte
+unfoldable pub IsShown : PageWords → ℕ → Type 0
+IsShown page at = IsCovered (pieces page) at
 
 -- both rings lie in the page
 abbrev pub AreWithinPage : Orders → Type 0

@@ -1,4 +1,5 @@
-use Rattle.ring_words.proofs.ImageLaws.{image_laid, zero_at}
+use Rattle.ring_words.proofs.ImageLaws.{image_laid}
+use Rattle.ring_words.proofs.PieceLaws.{zero_at}
 use Rattle.ring_words.proofs.image.page_image.Goals as goal
 
 pub returns : goal.returns

@@ -1,6 +1,6 @@
 use Rattle.std.proofs.Common.{arith}
 use Rattle.ring_words.specs.Image.{bytes_piece}
-use Rattle.ring_words.proofs.ImageLaws.{lay_one}
+use Rattle.ring_words.proofs.PieceLaws.{lay_one}
 use Rattle.ring_words.proofs.image.put_bytes.Goals as goal
 
 pub returns : goal.returns

@@ -2,7 +2,7 @@ use Rattle.std.proofs.Common.{◌+◌, ◌-◌, ◌∙◌, ap, arith, get_or, �
 use Rattle.std.proofs.lemmas.List.{get_or-take, places}
 use Rattle.ring_words.specs.Image.{number_piece}
 use Rattle.ring_words.proofs.ByteLaws.{low_byte}
-use Rattle.ring_words.proofs.ImageLaws.{lay_part}
+use Rattle.ring_words.proofs.PieceLaws.{lay_part}
 use Rattle.ring_words.proofs.image.put_field.Goals as goal
 
 pub returns : goal.returns

@@ -1,7 +1,8 @@
 use Rattle.std.proofs.Common.{refl}
 use Rattle.ring_words.specs.declared.page.WordName.TheVariants.{LeftCons, LeftProd, RightCons, RightProd, CliLive, SrvLive, CliNotify, SrvNotify}
 use Rattle.ring_words.specs.Image.{field_at, left_order, right_order}
-use Rattle.ring_words.proofs.ImageLaws.{lay_field, lay_nothing}
+use Rattle.ring_words.proofs.ImageLaws.{lay_field}
+use Rattle.ring_words.proofs.PieceLaws.{lay_nothing}
 use Rattle.ring_words.proofs.image.put_header.Goals as goal
 
 pub returns : goal.returns

@@ -1,10 +1,7 @@
-use Rattle.std.proofs.Common.{◌≡◌, ◌+◌, ◌∙◌, ap, arith, refl, sym, ℕ, List}
-use Rattle.std.specs.List.{between}
+use Rattle.std.proofs.Common.{arith}
 use Rattle.ring_words.proofs.ImageLaws.{lay_ring, lay_no_ring}
 use Rattle.ring_words.proofs.RingLaws.{size-within}
-use Rattle.ring_words.specs.Image.{ring_offset}
 use Rattle.ring_words.specs.Page.{order_of}
-use Rattle.ring_words.specs.Rings.{size}
 use Rattle.ring_words.proofs.image.put_ring.Goals as goal
 
 pub returns-in_default : goal.returns-in_default

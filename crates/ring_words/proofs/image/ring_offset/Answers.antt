@@ -1,4 +1,4 @@
-use Rattle.std.proofs.Common.{◌≤◌, ◌+◌, ◌^◌, ℕ, arith, subst, sym, ◌∙◌, lit≤}
+use Rattle.std.proofs.Common.{◌≤◌, ◌+◌, ◌^◌, ℕ, subst, sym, ◌∙◌, lit≤}
 use Rattle.ring_words.specs.Rings.{size}
 use Rattle.ring_words.proofs.image.ring_offset.Goals as goal
 
