@@ -1,3 +1,6 @@
 pub mod RingLaws
 pub mod PageLaws
+pub mod PieceLaws
+pub mod ByteLaws
 pub mod ChoiceLaws
+pub mod ImageLaws

@@ -2,3 +2,4 @@ pub mod Rings
 pub mod Page
 pub mod Choice
 pub mod PageWords
+pub mod Image

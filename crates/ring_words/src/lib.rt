@@ -6,6 +6,7 @@
 #![tactic(auto)]
 
 mod choice;
+mod image;
 mod layout;
 mod numbers;
 mod order;
@@ -13,6 +14,7 @@ mod page;
 mod words;
 
 pub use choice::{BadOrders, SizeTooLarge, check_orders, choose_orders};
+pub use image::{ImageError, page_image, words_of_image};
 pub use layout::Layout;
 pub use numbers::{place, ready, room};
 pub use order::{Order, Orders};

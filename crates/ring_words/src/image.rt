@@ -1,0 +1,373 @@
+//! A page's words as the bytes of its shared page, and back. Where each field lies is
+//! `struct vchan_interface` of Xen's `public/io/libxenvchan.h`; where the small rings lie is
+//! libxenvchan's `init.c`.
+ghost use Rattle.std.specs.Prelude.{◌≡◌, ◌+◌, ◌*◌, ◌≤◌, ◌<◌, ◌++◌, ◌⊎◌, ◌↔◌, ◌∷◌, [], ℕ, length, map, slice_index, slice_range, IfErr, IfOk, IfSome, OnOk, IsErrAnd};
+ghost use Rattle.ring_words.specs.Choice.{AreBadOrders};
+ghost use Rattle.ring_words.specs.Image.{AreNamed, AreWithinPage, IsBadOrders, IsShown, Lays, bytes_piece, field_piece, fields, header_shown, image_of, left_order, number_from, number_piece, page_shown, right_order, ring_offset as offset_of_ring, ring_pieces, ring_shown, shown};
+ghost use Rattle.ring_words.specs.Rings.{number_of, size};
+
+use crate::choice::{self, check_orders};
+use crate::layout::Layout;
+use crate::order::Order;
+use crate::page::{Ring, WordName};
+use crate::words::Words;
+use std::alloc::{AllocError, Global};
+
+/// The bytes of a page.
+const PAGE_SIZE: usize = 4096;
+
+/// Where a ring of order 10 lies in the page.
+const SMALL_RING_OFFSET: usize = 1024;
+
+/// Where a ring of order 11 lies in the page.
+const LARGE_RING_OFFSET: usize = 2048;
+
+/// Why the bytes of a page give no words.
+#[derive(Clone, Copy, Debug, PartialEq, Eq)]
+pub enum ImageError {
+    /// The two order fields aren't the orders of a page's rings.
+    BadOrders {
+        /// What the field `left_order` says.
+        left: u16,
+        /// What the field `right_order` says.
+        right: u16,
+    },
+    /// There was no memory for the words.
+    Memory,
+}
+
+impl From<choice::BadOrders> for ImageError {
+    ghost use Rattle.ring_words.specs.declared.image.ImageError.TheVariants.{BadOrders};
+
+    ghost from_gives = { λ bad e. e ≡ BadOrders bad.left bad.right };
+
+    fn from(bad: choice::BadOrders) -> ImageError {
+        ImageError::BadOrders {
+            left: bad.left,
+            right: bad.right,
+        }
+    }
+}
+
+impl From<AllocError> for ImageError {
+    ghost use Rattle.ring_words.specs.declared.image.ImageError.TheVariants.{Memory};
+
+    ghost from_gives = { λ _ e. e ≡ Memory };
+
+    fn from(_error: AllocError) -> ImageError {
+        ImageError::Memory
+    }
+}
+
+/// The bytes of the page in memory: the low bits of each field at its offset, little-endian, and
+/// the rings of order 10 and 11. The grant list, the bytes 24 to 1,023, is zeros, and so is the
+/// place of a ring that the page doesn't have. It takes no memory.
+pub fn page_image(words: &Words) -> [u8; PAGE_SIZE]
+    ensures { result ≡ image_of words.now }
+{
+    let mut image = [0; PAGE_SIZE];
+    put_header(&mut image, words);
+    put_ring(&mut image, words, Ring::Left);
+    put_ring(&mut image, words, Ring::Right);
+    image
+}
+
+/// Puts the fields before the grant list.
+fn put_header(image: &mut [u8; PAGE_SIZE], words: &Words)
+    ensures { Lays (map (field_piece words.now) fields) image.old image.new }
+{
+    put_field(image, 0, 4, words.load(WordName::LeftCons));
+    put_field(image, 4, 4, words.load(WordName::LeftProd));
+    put_field(image, 8, 4, words.load(WordName::RightCons));
+    put_field(image, 12, 4, words.load(WordName::RightProd));
+    put_field(image, 16, 2, words.load(WordName::LeftOrder));
+    put_field(image, 18, 2, words.load(WordName::RightOrder));
+    put_field(image, 20, 1, words.load(WordName::CliLive));
+    put_field(image, 21, 1, words.load(WordName::SrvLive));
+    put_field(image, 22, 1, words.load(WordName::CliNotify));
+    put_field(image, 23, 1, words.load(WordName::SrvNotify));
+}
+
+/// Puts the low bytes of a word at an offset, the lowest first.
+fn put_field(image: &mut [u8; PAGE_SIZE], offset: usize, bytes: usize, word: u64)
+    requires within { offset + bytes ≤ 4096 }
+    requires of_word { bytes ≤ 8 }
+    ensures { Lays (number_piece offset bytes word ∷ []) image.old image.new }
+{
+    image[offset..offset + bytes].copy_from_slice(&word.to_le_bytes()[..bytes]);
+}
+
+/// Puts a ring where the page has it.
+fn put_ring(image: &mut [u8; PAGE_SIZE], words: &Words, ring: Ring)
+    ensures { Lays (ring_pieces words.now ring) image.old image.new }
+{
+    let layout = Layout::new(words.orders());
+    let order = layout.orders.order_of(ring);
+    let Some(offset) = ring_offset(order) else {
+        return;
+    };
+    let first = layout.word(WordName::RingByte { ring, at: 0 });
+    put_bytes(
+        image,
+        offset,
+        &words.list()[first..first + order.size() as usize],
+    );
+}
+
+/// Puts the low byte of each word, from an offset on.
+fn put_bytes(image: &mut [u8; PAGE_SIZE], offset: usize, words: &[u64])
+    requires { offset + length words.now ≤ 4096 }
+    ensures { Lays (bytes_piece offset words.now ∷ []) image.old image.new }
+{
+    for (at, word) in words.iter().enumerate() {
+        image[offset + at] = (*word & 0xff) as u8;
+    }
+}
+
+/// Where a ring of that order lies in the page, if it does.
+fn ring_offset(order: Order) -> Option<usize>
+    ensures offset { result ≡ offset_of_ring order }
+    ensures within { IfSome result (λ offset. offset + size order ≤ 4096) }
+{
+    match order.number() {
+        10 => Some(SMALL_RING_OFFSET),
+        11 => Some(LARGE_RING_OFFSET),
+        _ => None,
+    }
+}
+
+/// The words that the bytes of a page show: its fields, and its rings of order 10 and 11. Every
+/// word of a larger ring is 0, and so are the pending and the gone words. The grant list, the
+/// bytes 24 to 1,023, is passed over.
+///
+/// # Errors
+///
+/// [`ImageError::BadOrders`], with the two order fields, where [`check_orders`] refuses them, and
+/// [`ImageError::Memory`].
+pub fn words_of_image(alloc: Global, image: &[u8; PAGE_SIZE]) -> Result<Words, ImageError>
+    ensures bad_orders { IsErrAnd result IsBadOrders
+        ↔ AreBadOrders (shown image.now left_order) (shown image.now right_order) }
+    ensures named { IfErr result (AreNamed (shown image.now left_order) (shown image.now right_order)) }
+    ensures orders { IfOk result (λ words. (number_of words.orders.left ≡ shown image.now left_order)
+        × (number_of words.orders.right ≡ shown image.now right_order)) }
+    ensures words { IfOk result (λ words. words ≡ page_shown image.now words.orders) }
+
+    // The image of the words is the given one wherever it shows something of them.
+    ensures shows_again { IfOk result (λ words. (at : ℕ) → IsShown words at
+        → slice_index (image_of words) at ≡ slice_index image.now at) }
+    ensures round_trip { IfOk result (λ words. AreWithinPage words.orders
+        → (at : ℕ) → (at < 24) ⊎ (1024 ≤ at)
+        → slice_index (image_of words) at ≡ slice_index image.now at) }
+{
+    let orders = check_orders(order_shown(image, 16), order_shown(image, 18))?;
+    let mut list = Vec::with_capacity(alloc, Layout::new(orders).count())?;
+    list.extend_from_slice(&header_shown(image))?;
+    extend_ring(&mut list, image, orders.left)?;
+    extend_ring(&mut list, image, orders.right)?;
+    Ok(Words::of(orders, list))
+}
+
+/// The words before the rings.
+fn header_shown(image: &[u8; PAGE_SIZE]) -> [u64; 14]
+    ensures { result ≡ header_shown image.now }
+{
+    [
+        index_shown(image, 0),
+        index_shown(image, 4),
+        index_shown(image, 8),
+        index_shown(image, 12),
+        u64::from(order_shown(image, 16)),
+        u64::from(order_shown(image, 18)),
+        u64::from(image[20]),
+        u64::from(image[21]),
+        u64::from(image[22]),
+        u64::from(image[23]),
+        0,
+        0,
+        0,
+        0,
+    ]
+}
+
+/// The index in the field at an offset.
+fn index_shown(image: &[u8; PAGE_SIZE], offset: usize) -> u64
+    requires { offset + 4 ≤ 4096 }
+    ensures { result ≡ number_from (slice_range image.now offset (offset + 4)) }
+{
+    u64::from(u32::from_le_bytes([
+        image[offset],
+        image[offset + 1],
+        image[offset + 2],
+        image[offset + 3],
+    ]))
+}
+
+/// The order in the field at an offset.
+fn order_shown(image: &[u8; PAGE_SIZE], offset: usize) -> u16
+    requires { offset + 2 ≤ 4096 }
+    ensures { result ≡ number_from (slice_range image.now offset (offset + 2)) }
+{
+    u16::from_le_bytes([image[offset], image[offset + 1]])
+}
+
+/// Adds the words of a ring.
+fn extend_ring(list: &mut Vec<u64>, image: &[u8; PAGE_SIZE], order: Order) -> Result<(), AllocError>
+    ensures { OnOk result (list.new.items ≡ list.old.items ++ ring_shown image.now order) }
+{
+    let size = order.size() as usize;
+    match ring_offset(order) {
+        Some(offset) => list.extend(
+            image[offset..offset + size]
+                .iter()
+                .map(|byte| u64::from(*byte)),
+        ),
+        None => list.resize(list.len() + size, 0),
+    }
+}
+
+#[cfg(test)]
+mod tests {
+    use super::*;
+    use std::process::Abort;
+    use std::test::Fail;
+
+    /// A page with a client, the first bytes of its image and the others that aren't 0.
+    #[derive(Clone, Copy)]
+    struct Row {
+        orders: (u16, u16),
+        indices: [u64; 4],
+        ring: &'static [(Ring, u32, u64)],
+        head: &'static [u8; 24],
+        bytes: &'static [(usize, u8)],
+        lost: WordName,
+    }
+
+    const ROWS: [Row; 4] = [
+        // Ten bytes that the server has read, from the index 4,294,967,290 on.
+        Row {
+            orders: (10, 11),
+            indices: [4, 4, 4_294_967_290, 4_294_967_290],
+            ring: &[
+                (Ring::Left, 1018, 0x30),
+                (Ring::Left, 1023, 0x35),
+                (Ring::Left, 0, 0x36),
+                (Ring::Left, 3, 0x39),
+            ],
+            head: b"\x04\0\0\0\x04\0\0\0\xfa\xff\xff\xff\xfa\xff\xff\xff\x0a\0\x0b\0\x01\x01\0\x01",
+            bytes: &[(2042, 0x30), (2047, 0x35), (1024, 0x36), (1027, 0x39)],
+            lost: WordName::SrvPending,
+        },
+        // Five bytes of a client that has just connected.
+        Row {
+            orders: (10, 11),
+            indices: [0, 5, 0, 0],
+            ring: &[(Ring::Left, 0, 0x68), (Ring::Left, 4, 0x6f)],
+            head: b"\0\0\0\0\x05\0\0\0\0\0\0\0\0\0\0\0\x0a\0\x0b\0\x01\x01\0\x01",
+            bytes: &[(1024, 0x68), (1028, 0x6f)],
+            lost: WordName::SrvPending,
+        },
+        // One byte.
+        Row {
+            orders: (10, 11),
+            indices: [0, 1, 0, 0],
+            ring: &[(Ring::Left, 0, 0x61)],
+            head: b"\0\0\0\0\x01\0\0\0\0\0\0\0\0\0\0\0\x0a\0\x0b\0\x01\x01\0\x01",
+            bytes: &[(1024, 0x61)],
+            lost: WordName::CliGone,
+        },
+        // A ring of order 12, which isn't in the image.
+        Row {
+            orders: (11, 12),
+            indices: [0, 0, 0, 2],
+            ring: &[(Ring::Left, 2047, 0x62)],
+            head: b"\0\0\0\0\0\0\0\0\0\0\0\0\x02\0\0\0\x0b\0\x0c\0\x01\x01\0\x01",
+            bytes: &[(4095, 0x62)],
+            lost: WordName::RingByte {
+                ring: Ring::Right,
+                at: 0,
+            },
+        },
+    ];
+
+    /// The row's page, in which a word that its image doesn't show holds that value.
+    fn page(alloc: Global, row: Row, lost: u64) -> Result<Words, Fail> {
+        let (left, right) = row.orders;
+        let orders = check_orders(left, right)?;
+        let mut page = Words::of(orders, vec![in alloc; 0u64; Layout::new(orders).count()]?);
+        set(&mut page, WordName::LeftCons, row.indices[0]);
+        set(&mut page, WordName::LeftProd, row.indices[1]);
+        set(&mut page, WordName::RightCons, row.indices[2]);
+        set(&mut page, WordName::RightProd, row.indices[3]);
+        set(&mut page, WordName::LeftOrder, u64::from(left));
+        set(&mut page, WordName::RightOrder, u64::from(right));
+        set(&mut page, WordName::CliLive, 1);
+        set(&mut page, WordName::SrvLive, 1);
+        set(&mut page, WordName::SrvNotify, 1);
+        for (ring, at, byte) in row.ring {
+            set(
+                &mut page,
+                WordName::RingByte {
+                    ring: *ring,
+                    at: *at,
+                },
+                *byte,
+            );
+        }
+        set(&mut page, row.lost, lost);
+        Ok(page)
+    }
+
+    /// Stores a value in a word, where the page has it.
+    fn set(page: &mut Words, name: WordName, value: u64) {
+        if Layout::new(page.orders()).has(name) {
+            page.store(name, value);
+        }
+    }
+
+    /// The row's image.
+    fn image(row: Row) -> [u8; PAGE_SIZE] {
+        let mut image = [0; PAGE_SIZE];
+        let head = row.head;
+        image[..24].copy_from_slice(head);
+        for (at, byte) in row.bytes {
+            if *at < PAGE_SIZE {
+                image[*at] = *byte;
+            }
+        }
+        image
+    }
+
+    /// Checks the row's image, and the words that it shows.
+    fn check(rt: &(impl Abort + Alloc<A = Global>), row: Row) -> Result<(), Fail> {
+        let shown = page_image(&page(rt.alloc(), row, 1)?);
+        let words = words_of_image(rt.alloc(), &shown)?;
+        let kept = page(rt.alloc(), row, 0)?;
+        assert_eq!(rt; shown, image(row), "at {:?}", row.head);
+        assert_eq!(rt; words.orders(), kept.orders(), "at {:?}", row.head);
+        assert_eq!(rt; words.list(), kept.list(), "at {:?}", row.head);
+        Ok(())
+    }
+
+    #[test]
+    fn images_of_pages(rt: HostRuntime) -> Result<(), Fail> {
+        for row in ROWS {
+            check(&rt, row)?;
+        }
+        Ok(())
+    }
+
+    #[test]
+    fn names_bad_orders(rt: HostRuntime) -> Result<(), Fail> {
+        let mut image = [0; PAGE_SIZE];
+        image[16..20].copy_from_slice(b"\x0a\0\x0a\0");
+        let refused = words_of_image(rt.alloc(), &image).err();
+        assert_eq!(rt;
+            refused,
+            Some(ImageError::BadOrders {
+                left: 10,
+                right: 10
+            })
+        );
+        Ok(())
+    }
+}
