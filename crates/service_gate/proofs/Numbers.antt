@@ -2,6 +2,7 @@
 use Rattle.std.proofs.Common.{◌≡◌, ◌≢◌, ◌⊎◌, ℕ, ◌<◌, ◌≤◌, ◌^◌, Bool, true, false, ◌&&◌, nat_le, ◌==◌, if◌then◌else◌, List, [], ◌∷◌, length, get_or, decimal, bytes_eq, Option, Some, None, refl, sym, ap, ◌∙◌, subst, arith, lit<, inl, inr, ⊎_elim}
 use Rattle.std.proofs.lemmas.Fmt.{first_decimal, decimal_digit, decimal_is_IsNumeral, decimal-digits_value, IsAscii-decimal}
 use Rattle.std.proofs.lemmas.Bool.{eqb-true, leb-true, le-leb}
+use Rattle.std.specs.Cmp.Derive.{both_true}
 use Rattle.std.proofs.lemmas.Slice.Eq.{bytes_eq-Decides}
 use Rattle.std.proofs.lemmas.Str.{IsUtf8-from_ascii}
 use Rattle.std.proofs.lemmas.Str.Parse.{IsNumeralModel, without_leading_plus_none}
@@ -90,3 +91,11 @@ read most n text s same plain zero h le =
     let value : n ≡ digits_value 10 text = h.1 ∙ ap (digits_value 10) e in
     let is = subst (λ l. IsNumeral 10 l × (digits_value 10 l < 2 ^ 32)) e h.0 in
     ap Some value ∙ spelled most text is.0 is.1 zero (omega arith)
+
+-- what is printed of a number spells it
+pub number_of : (most n : ℕ) → most < 2 ^ 32 → n ≤ most → number_to most (decimal n) ≡ Some n
+number_of most n small le =
+    let v : digits_value 10 (decimal n) ≡ n = (decimal_is_IsNumeral n (omega arith)).1 in
+    let a = le-leb (digits_value 10 (decimal n)) most (omega arith) in
+    let b = (bytes_eq-Decides (decimal n) (decimal (digits_value 10 (decimal n)))).1 (ap decimal (sym v)) in
+    sym (ap Some (sym v) ∙ provided _ _ (both_true a b))

@@ -1,5 +1,5 @@
 -- The built-in services: their names, and what each makes of its whole input.
-use Rattle.std.specs.Prelude.{ℕ, ◌%◌, ◌^◌, pos, nat_le, Bool, true, false, not, ◌&&◌, if◌then◌else◌, List, [], ◌∷◌, ◌++◌, take, drop, length, map, codes, decimal, bytes_eq, Option, Some, None, option_map, option_and_then}
+use Rattle.std.specs.Prelude.{◌≡◌, ◌⊎◌, ℕ, ◌≤◌, ◌%◌, ◌^◌, pos, nat_le, Bool, true, false, not, ◌&&◌, if◌then◌else◌, List, [], ◌∷◌, ◌++◌, take, drop, length, map, codes, decimal, bytes_eq, Option, Some, None, option_map, option_and_then}
 use Rattle.std.specs.Option.{option_or}
 use Rattle.std.specs.Char.{to_ascii_uppercase}
 use Rattle.std.specs.Str.Parse.{digits_value}
@@ -58,3 +58,13 @@ service name input =
     else if bytes_eq name (codes "count") then Some (writes (count_line (length input)))
     else if bytes_eq name (codes "split") then Some (splits true input)
     else numbered_service name input
+
+-- the name is the prefix and then a number of at most `most`
+abbrev pub IsNumbered : List ℕ → ℕ → List ℕ → Type 0
+IsNumbered prefix most name = (n : ℕ) × (n ≤ most) × (name ≡ prefix ++ decimal n)
+
+-- the text is the name of a service
+abbrev pub IsName : List ℕ → Type 0
+IsName name =
+    (name ≡ codes "echo") ⊎ (name ≡ codes "upper") ⊎ (name ≡ codes "count") ⊎ (name ≡ codes "split")
+    ⊎ IsNumbered (codes "first+") most_first name ⊎ IsNumbered (codes "exit+") most_exit name

@@ -1,6 +1,8 @@
 //! Which built-in service a name asks for.
-ghost use Rattle.std.specs.Prelude.{◌≡◌, ◌≤◌, ℕ, List, IfSome, option_map};
-ghost use Rattle.service_gate.specs.ServiceResult.{service, numbered_service, number_to as spelled_to};
+ghost use Rattle.std.specs.Prelude.{◌≡◌, ◌≤◌, ◌++◌, ℕ, true, List, length, map, take, codes, decimal, IfSome, option_map};
+ghost use Rattle.std.specs.Char.{to_ascii_uppercase};
+ghost use Rattle.service_gate.specs.ServiceResult.{service, numbered_service, count_line, splits, exits, IsName, number_to as spelled_to};
+ghost use Rattle.service_gate.specs.Triple.{writes};
 ghost use Rattle.service_gate.specs.Owing.{builtin_owes};
 
 use crate::builtin::Builtin;
@@ -68,3 +70,16 @@ fn number_to(most: u32, text: &[u8]) -> Option<u32>
     };
     if number <= most { Some(number) } else { None }
 }
+
+/// What the services are, name by name: each of the six kinds of name has its service, and a text
+/// that is none of them has none.
+#[tactic(auto, unfolding(crate::specs::ServiceResult::service))]
+pub fn services_by_name()
+    ensures echo { (input : List ℕ) → service (codes "echo") input ≡ Some (writes input) }
+    ensures upper { (input : List ℕ) → service (codes "upper") input ≡ Some (writes (map to_ascii_uppercase input)) }
+    ensures count { (input : List ℕ) → service (codes "count") input ≡ Some (writes (count_line (length input))) }
+    ensures first { (n : ℕ) (input : List ℕ) → n ≤ 1048576 → service (codes "first+" ++ decimal n) input ≡ Some (writes (take n input)) }
+    ensures split { (input : List ℕ) → service (codes "split") input ≡ Some (splits true input) }
+    ensures exit { (n : ℕ) (input : List ℕ) → n ≤ 255 → service (codes "exit+" ++ decimal n) input ≡ Some (exits n) }
+    ensures others { (name : List ℕ) (input : List ℕ) → ¬ IsName name → service name input ≡ None }
+{}
