@@ -1,0 +1,68 @@
+//! The calling thread's account of a run: its pass, and the answers so far.
+ghost use Rattle.std.specs.Prelude.{◌≡◌, ◌≤◌, ◌<◌, ◌+◌, ◌-◌, [], ◌++◌, length, vec_len, vec_capacity, IfOk, OnOk, All, Some, None, replicate, slice_set};
+ghost use Rattle.std.specs.List.{AllZip};
+ghost use Rattle.crossbeam_queue.specs.Passes.{view, IsPassOf};
+ghost use Rattle.task_pool.specs.Hand.{hand};
+ghost use Rattle.task_pool.specs.Rule.{Keeps, Settled};
+
+use crate::queue::{Parting, TaskPass, TaskQueue};
+use crate::task::PoolTask;
+use crate::turn::try_turn;
+use crate::waiting::{Finished, Tried};
+use crate::worker::Worker;
+use service_gate::Gate;
+use std::alloc::{AllocError, Global};
+use std::sync::Wait;
+
+/// The calling thread's pass, with the answers of the places that it keeps.
+#[derive(Drop)]
+pub struct Account<T: PoolTask> {
+    /// The pass that began with all parts.
+    pub pass: TaskPass<T>,
+    /// The answers, place by place.
+    pub answers: Vec<Option<T::Done>>,
+}
+
+/// So many answers that are still to come.
+pub(crate) fn blank_answers<D: Drop>(
+    alloc: Global,
+    count: usize,
+) -> Result<Vec<Option<D>>, AllocError>
+    ensures { IfOk result (λ v. v.items ≡ replicate count None) }
+{
+    let mut answers = Vec::with_capacity(alloc, count)?;
+    for _place in 0..count {
+        answers.push_reserved(None);
+    }
+    Ok(answers)
+}
+
+/// Writes a result down at its place.
+fn write_down<D: Drop>(answers: &mut Vec<Option<D>>, finished: Finished<D>)
+    requires { finished.place < vec_len answers.old }
+    ensures { answers.new.items ≡ slice_set answers.old.items finished.place (Some finished.done) }
+{
+    let Finished { place, done } = finished;
+    answers[place as usize] = Some(done);
+}
+
+impl<T: PoolTask> Account<T> {
+    /// Takes a worker's pass back, and writes its results down.
+    pub(crate) fn take_back(&mut self, queue: &TaskQueue<T>, worker: Worker<T>)
+        requires pass { IsPassOf queue.now self.old.pass }
+        requires part { 0 < (view self.old.pass).parts }
+        requires settled { Settled T.owes (view self.old.pass).laid (view self.old.pass).kept self.old.answers.items }
+        requires worker { IsPassOf queue.now worker.pass }
+        requires keeps { Keeps T.owes (view self.old.pass).laid worker.finished.items (view worker.pass) }
+        ensures pass { IsPassOf queue.now self.new.pass }
+        ensures parts { (view self.new.pass).parts ≡ (view self.old.pass).parts + 1 }
+        ensures laid { (view self.new.pass).laid ≡ (view self.old.pass).laid }
+        ensures settled { Settled T.owes (view self.old.pass).laid (view self.new.pass).kept self.new.answers.items }
+    {
+        let Worker { pass, finished } = worker;
+        queue.absorb::<Parting<T>>(&mut self.pass, pass);
+        for result in finished {
+            write_down(&mut self.answers, result);
+        }
+    }
+}
