@@ -103,3 +103,7 @@ module _ {T D : Type 0} (owes : T → D → Type 0) where
     pub size : length answers ≡ length laid
     pub owed : (k : ℕ) (done : D) → slice_get answers k ≡ Some (Some done) → (first : T) × (slice_get laid k ≡ Some first) × owes first done
     pub filled : AllByRecursion (λ e. (done : D) × (slice_get answers e.0 ≡ Some (Some done))) kept
+
+-- a pass keeps each place of the laid tasks once, however the places are weighed
+abbrev pub IsWhole : {T : Type 0} → List T → List (ℕ × T) → Type 0
+IsWhole laid kept = (weight : ℕ → ℕ) → kept_weight weight kept ≡ below weight (length laid)

@@ -1,9 +1,9 @@
 //! The calling thread's account of a run: its pass, and the answers so far.
 ghost use Rattle.std.specs.Prelude.{◌≡◌, ◌≤◌, ◌<◌, ◌+◌, ◌-◌, [], ◌++◌, length, vec_len, vec_capacity, IfOk, OnOk, All, Some, None, replicate, slice_set};
-ghost use Rattle.std.specs.List.{AllZip};
+ghost use Rattle.std.specs.List.{AllByRecursion, AllZip};
 ghost use Rattle.crossbeam_queue.specs.Passes.{view, IsPassOf};
 ghost use Rattle.task_pool.specs.Hand.{hand};
-ghost use Rattle.task_pool.specs.Rule.{Keeps, Settled};
+ghost use Rattle.task_pool.specs.Rule.{Keeps, Settled, IsWhole};
 
 use crate::queue::{Parting, TaskPass, TaskQueue};
 use crate::task::PoolTask;
@@ -64,5 +64,57 @@ impl<T: PoolTask> Account<T> {
         for result in finished {
             write_down(&mut self.answers, result);
         }
+    }
+
+    /// Takes all workers' passes back, and writes their results down.
+    pub(crate) fn take_all_back(&mut self, queue: &TaskQueue<T>, workers: Vec<Worker<T>>)
+        requires pass { IsPassOf queue.now self.old.pass }
+        requires part { 0 < (view self.old.pass).parts }
+        requires settled { Settled T.owes (view self.old.pass).laid (view self.old.pass).kept self.old.answers.items }
+        requires back { AllByRecursion (λ w. IsPassOf queue.now w.pass × Keeps T.owes (view self.old.pass).laid w.finished.items (view w.pass)) workers.items }
+        ensures pass { IsPassOf queue.now self.new.pass }
+        ensures parts { (view self.new.pass).parts ≡ (view self.old.pass).parts + vec_len workers }
+        ensures laid { (view self.new.pass).laid ≡ (view self.old.pass).laid }
+        ensures settled { Settled T.owes (view self.old.pass).laid (view self.new.pass).kept self.new.answers.items }
+    {
+        for worker in workers {
+            self.take_back(queue, worker);
+        }
+    }
+
+    /// Turns the tasks that are left in rounds, one turn each, until every task is done.
+    pub(crate) fn finish<G: Gate, R: Wait>(&mut self, rt: &R, queue: &TaskQueue<T>, gate: &G)
+        requires pass { IsPassOf queue.now self.old.pass }
+        requires all { (view self.old.pass).parts ≡ 1024 }
+        requires settled { Settled T.owes (view self.old.pass).laid (view self.old.pass).kept self.old.answers.items }
+        ensures laid { (view self.new.pass).laid ≡ (view self.old.pass).laid }
+        ensures whole { IsWhole (view self.old.pass).laid (view self.new.pass).kept }
+        ensures settled { Settled T.owes (view self.old.pass).laid (view self.new.pass).kept self.new.answers.items }
+    {
+        for _ in rt.forever() {
+            match try_turn(rt, queue, gate, &mut self.pass) {
+                Tried::Idle => return,
+                Tried::Again => {}
+                Tried::Over(finished) => write_down(&mut self.answers, finished),
+            }
+        }
+        unreachable!()
+    }
+
+    /// The answers in the order of the places, in the vector that was made for them.
+    pub(crate) fn into_dones(self, mut dones: Vec<T::Done>) -> Vec<T::Done>
+        requires settled { Settled T.owes (view self.pass).laid (view self.pass).kept self.answers.items }
+        requires whole { IsWhole (view self.pass).laid (view self.pass).kept }
+        requires none { dones.items ≡ [] }
+        requires room { vec_len self.answers ≤ vec_capacity dones }
+        ensures { AllZip T.owes (view self.pass).laid result.items }
+    {
+        for answer in self.answers {
+            match answer {
+                Some(done) => dones.push_reserved(done),
+                None => unreachable!(),
+            }
+        }
+        dones
     }
 }
