@@ -102,7 +102,7 @@ module _ {T D : Type 0} (owes : T → D → Type 0) where
               let e = total-set (λ (u : Hand T). kept_weight weight u.kept) views port v w at in
               let p = h.once weight in
               let before : kept_weight weight v.kept ≡ kept_weight weight rest + weight x.place =
-                  ap (kept_weight weight) is ∙ (total-append (λ (e : ℕ × T). weight e.0) rest ((x.place, first) ∷ []) ∙ ap (λ k. kept_weight weight rest + k) (omega arith)) in
+              ap (kept_weight weight) is ∙ (total-append (λ (e : ℕ × T). weight e.0) rest ((x.place, first) ∷ []) ∙ ap (λ k. kept_weight weight rest + k) (omega arith)) in
               let after : kept_weight weight w.kept ≡ kept_weight weight rest = ap (kept_weight weight) front in
               omega (arith, total-append (λ (y : Waiting T). weight y.place) items (x ∷ []));
           waiting = all-append (Owing owes h.laid) items (x ∷ []) h.waiting
@@ -133,7 +133,7 @@ module _ {T D : Type 0} (owes : T → D → Type 0) where
               let e = total-set (λ (u : Hand T). kept_weight weight u.kept) views port v w at in
               let p = h.once weight in
               let size : below weight (length longer) ≡ below weight (length h.laid) + weight x.place =
-                  ap (below weight) (length-append v.laid (x.task ∷ []) ∙ add-one (length v.laid)) ∙ (ap (λ k. below weight k + weight (length v.laid)) (ap length same) ∙ ap (λ k. below weight (length h.laid) + weight k) (sym next)) in
+              ap (below weight) (length-append v.laid (x.task ∷ []) ∙ add-one (length v.laid)) ∙ (ap (λ k. below weight k + weight (length v.laid)) (ap length same) ∙ ap (λ k. below weight (length h.laid) + weight k) (sym next)) in
               omega (arith, total-append (λ (y : Waiting T). weight y.place) items (x ∷ []));
           waiting = all-append (Owing owes longer) items (x ∷ [])
               (all-map (Owing owes h.laid) (Owing owes longer) (λ y owing. record { first = owing.first; at = stays y.place owing.first owing.at; pays = owing.pays }) items h.waiting)
@@ -141,14 +141,14 @@ module _ {T D : Type 0} (owes : T → D → Type 0) where
           hands = hands_set longer views port w
               (record { knows = λ _. refl; idle = λ none. absurd (omega arith); placed = all-map (IsLaid h.laid) (IsLaid longer) (λ e there. stays e.0 e.1 there) v.kept mine.placed })
               (λ j u other there.
-                let le = two_terms_le (λ (u : Hand T). u.parts) views port j v u at there other in
-                let p = h.parts in
-                let none : u.parts ≡ 0 = omega arith in
-                record {
-                  knows = λ some_part. absurd (omega arith);
-                  idle = (h.hands j u there).idle;
-                  placed = subst (AllByRecursion (IsLaid longer)) (sym ((h.hands j u there).idle none)) tt;
-                });
+              let le = two_terms_le (λ (u : Hand T). u.parts) views port j v u at there other in
+              let p = h.parts in
+              let none : u.parts ≡ 0 = omega arith in
+              record {
+                knows = λ some_part. absurd (omega arith);
+                idle = (h.hands j u there).idle;
+                placed = subst (AllByRecursion (IsLaid longer)) (sym ((h.hands j u there).idle none)) tt;
+              });
         },
         refl,
       )
@@ -191,8 +191,8 @@ module _ {T D : Type 0} (owes : T → D → Type 0) where
         waiting = h.waiting;
         hands = hands_set h.laid (set views port both) other spent (record { knows = λ part. absurd (omega arith); idle = λ _. refl; placed = tt })
             (λ j y _ there. hands_set h.laid views port both
-                (record { knows = λ _. mine.knows some_part; idle = λ none. absurd (omega arith); placed = all-append (IsLaid h.laid) v.kept u.kept mine.placed theirs.placed })
-                (λ i x _ at. h.hands i x at) j y there);
+            (record { knows = λ _. mine.knows some_part; idle = λ none. absurd (omega arith); placed = all-append (IsLaid h.laid) v.kept u.kept mine.placed theirs.placed })
+            (λ i x _ at. h.hands i x at) j y there);
       }
 
   pub counts : (port : ℕ) (v : Hand T) → Learns (Holds owes) port v (Counts v)
@@ -200,7 +200,7 @@ module _ {T D : Type 0} (owes : T → D → Type 0) where
       let mine = h.hands port v at in
       let same : length v.laid ≡ length h.laid = ap length (mine.knows (omega arith)) in
       let alone = total-alone (λ (u : Hand T). kept_weight weight u.kept) (λ (u : Hand T). u.parts) views port v
-          (λ j u there none. ap (kept_weight weight) ((h.hands j u there).idle none)) at (h.parts ∙ sym all) in
+      (λ j u there none. ap (kept_weight weight) ((h.hands j u there).idle none)) at (h.parts ∙ sym all) in
       let p = h.once weight in
       let size : below weight (length v.laid) ≡ below weight (length h.laid) = ap (below weight) same in
       omega arith

@@ -40,19 +40,21 @@ module _ {T D : Type 0} (owes : T → D → Type 0) where
         size = length-set answers f.place (Some f.done) ∙ settled.size;
         owed = λ k done at. ⊎_elim
             (λ (here : (k ≡ f.place) × (slice_get (set answers f.place (Some f.done)) k ≡ Some (Some f.done))).
-              let same : f.done ≡ done = let two = here.1 in cc in
-              (e.1, ap (slice_get laid) (here.0 ∙ paid.0) ∙ paid.1, subst (owes e.1) same paid.2))
+            let same : f.done ≡ done = let two = here.1 in cc in
+            (e.1, ap (slice_get laid) (here.0 ∙ paid.0) ∙ paid.1, subst (owes e.1) same paid.2))
             (λ (there : (k ≢ f.place) × (slice_get (set answers f.place (Some f.done)) k ≡ slice_get answers k)). settled.owed k done (sym there.1 ∙ at))
             (set_cases answers f.place k (Some f.done) lt);
         filled = all-append _ kept (e ∷ [])
             (all-map _ _ (λ o was. ⊎_elim
-              (λ (here : (o.0 ≡ f.place) × (slice_get (set answers f.place (Some f.done)) o.0 ≡ Some (Some f.done))). (f.done, here.1))
-              (λ (there : (o.0 ≢ f.place) × (slice_get (set answers f.place (Some f.done)) o.0 ≡ slice_get answers o.0)). (was.0, there.1 ∙ was.1))
-              (set_cases answers f.place o.0 (Some f.done) lt)) kept settled.filled)
-            (⊎_elim
-              (λ (here : (e.0 ≡ f.place) × (slice_get (set answers f.place (Some f.done)) e.0 ≡ Some (Some f.done))). (f.done, here.1))
-              (λ (there : (e.0 ≢ f.place) × (slice_get (set answers f.place (Some f.done)) e.0 ≡ slice_get answers e.0)). absurd (there.0 (sym paid.0)))
-              (set_cases answers f.place e.0 (Some f.done) lt), tt);
+            (λ (here : (o.0 ≡ f.place) × (slice_get (set answers f.place (Some f.done)) o.0 ≡ Some (Some f.done))). (f.done, here.1))
+            (λ (there : (o.0 ≢ f.place) × (slice_get (set answers f.place (Some f.done)) o.0 ≡ slice_get answers o.0)). (was.0, there.1 ∙ was.1))
+            (set_cases answers f.place o.0 (Some f.done) lt)) kept settled.filled) (
+              ⊎_elim
+                  (λ (here : (e.0 ≡ f.place) × (slice_get (set answers f.place (Some f.done)) e.0 ≡ Some (Some f.done))). (f.done, here.1))
+                  (λ (there : (e.0 ≢ f.place) × (slice_get (set answers f.place (Some f.done)) e.0 ≡ slice_get answers e.0)). absurd (there.0 (sym paid.0)))
+                  (set_cases answers f.place e.0 (Some f.done) lt),
+              tt,
+            );
       }
 
   -- A pass came back that keeps `theirs`, beside those `before`: some of its results are written, the others are left.

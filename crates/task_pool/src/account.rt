@@ -9,10 +9,14 @@ use crate::queue::{Parting, TaskPass, TaskQueue};
 use crate::task::PoolTask;
 use crate::turn::try_turn;
 use crate::waiting::{Finished, Tried};
-use crate::worker::Worker;
+use crate::worker::{Worker, work};
+use crossbeam_utils::CachePadded;
 use service_gate::Gate;
 use std::alloc::{AllocError, Global};
 use std::sync::Wait;
+use std::sync::atomic::AtomicU64;
+use std::thread;
+use std::thread::Threads;
 
 /// The calling thread's pass, with the answers of the places that it keeps.
 #[derive(Drop)]
@@ -47,6 +51,55 @@ fn write_down<D: Drop>(answers: &mut Vec<Option<D>>, finished: Finished<D>)
 }
 
 impl<T: PoolTask> Account<T> {
+    /// So many workers, each with a pass of its own and room for a result of each task.
+    pub(crate) fn hire(
+        &mut self,
+        alloc: Global,
+        queue: &TaskQueue<T>,
+        workers: u32,
+        count: usize,
+    ) -> Result<Vec<Worker<T>>, AllocError>
+        requires pass { IsPassOf queue.now self.old.pass }
+        requires parts { (view self.old.pass).parts ≡ 1024 }
+        requires few { workers ≤ 16 }
+        requires count { length (view self.old.pass).laid ≤ count }
+        ensures pass { OnOk result (IsPassOf queue.now self.new.pass) }
+        ensures parts { IfOk result (λ hired. (view self.new.pass).parts + vec_len hired ≡ 1024) }
+        ensures few { IfOk result (λ hired. vec_len hired ≡ workers) }
+        ensures rest { OnOk result (((view self.new.pass).laid ≡ (view self.old.pass).laid) × ((view self.new.pass).kept ≡ (view self.old.pass).kept) × (self.new.answers ≡ self.old.answers)) }
+        ensures hired { IfOk result (λ hired. All (λ w. IsPassOf queue.now w.pass × Keeps T.owes (view self.old.pass).laid w.finished.items (view w.pass) × (length (view self.old.pass).laid ≤ vec_capacity w.finished)) hired.items) }
+    {
+        let mut hired = Vec::with_capacity(alloc, workers as usize)?;
+        for _worker in 0..workers {
+            let finished = Vec::with_capacity(alloc, count)?;
+            let pass = queue.another::<Parting<T>>(&mut self.pass);
+            hired.push_reserved(Worker { pass, finished });
+        }
+        Ok(hired)
+    }
+
+    /// Lets the workers work, each in a thread of its own, until every task is done.
+    pub(crate) fn employ<G: Gate, R: Threads + Wait + Sync>(
+        &self,
+        rt: &R,
+        queue: &TaskQueue<T>,
+        gate: &G,
+        count: u64,
+        workers: Vec<Worker<T>>,
+    ) -> Result<Vec<Worker<T>>, AllocError>
+        requires hired { All (λ w. IsPassOf queue.now w.pass × Keeps T.owes (view self.now.pass).laid w.finished.items (view w.pass) × (length (view self.now.pass).laid ≤ vec_capacity w.finished)) workers.items }
+        ensures few { IfOk result (λ back. vec_len back ≡ vec_len workers) }
+        ensures back { IfOk result (λ back. AllByRecursion (λ w. IsPassOf queue.now w.pass × Keeps T.owes (view self.now.pass).laid w.finished.items (view w.pass)) back.items) }
+    {
+        let over = CachePadded::new(AtomicU64::new(0));
+        let shared = &over;
+        let turns = |worker: Worker<T>| -> Worker<T>
+            requires { IsPassOf queue.now worker.pass × Keeps T.owes (view worker.pass).laid worker.finished.items (view worker.pass) × (length (view worker.pass).laid ≤ vec_capacity worker.finished) }
+            ensures { IsPassOf queue.entry.now result.pass × Keeps T.owes (view worker.pass).laid result.finished.items (view result.pass) }
+        { work(rt, queue, gate, count, shared, worker) };
+        thread::map_vec(rt, workers, &turns)
+    }
+
     /// Takes a worker's pass back, and writes its results down.
     pub(crate) fn take_back(&mut self, queue: &TaskQueue<T>, worker: Worker<T>)
         requires pass { IsPassOf queue.now self.old.pass }

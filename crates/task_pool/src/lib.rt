@@ -8,10 +8,14 @@
 mod account;
 mod hand;
 mod lay;
+mod pool;
 mod queue;
 mod task;
+#[cfg(test)]
+mod tests;
 mod turn;
 mod waiting;
 mod worker;
 
+pub use pool::{MOST_WORKERS, run_pool};
 pub use task::{PoolTask, Turn};

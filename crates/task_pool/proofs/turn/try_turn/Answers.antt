@@ -12,8 +12,7 @@ pop_as-requires-clause-rule g c = (
 pub push_as-requires-clause-rule : goal.push_as-requires-clause-rule
 push_as-requires-clause-rule g c =
     let taken = c.loop.invariant.taken in
-    let part : 0 < (view c.loop.pass).parts = subst (λ n. 0 < n) (sym (ap (λ v. v.parts) taken.keeps)) c.requires.part in
-    (
+    let part : 0 < (view c.loop.pass).parts = subst (λ n. 0 < n) (sym (ap (λ v. v.parts) taken.keeps)) c.requires.part in (
       gives g.T.PoolTask.owes _ c.loop.pass.id (view c.loop.pass) _ (view c.args.pass.now).kept taken.first part (ap (λ v. v.kept) taken.keeps)
           (λ done owed. taken.pays done (c.in-Again.ensures done owed)),
       counts g.T.PoolTask.owes c.loop.pass.id (view c.loop.pass),

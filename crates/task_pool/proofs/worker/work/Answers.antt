@@ -7,8 +7,8 @@ pub push_reserved-requires : goal.push_reserved-requires
 push_reserved-requires g c =
     let known = c.loop.invariant in
     let short =
-        keeps_room g.T.PoolTask.owes (view c.args.worker.pass).laid c.loop.finished.items c.in-Over.result (view c.loop.pass) (view c.try_turn.new.pass) known.keeps
-        c.in-Over.ensures.tried in
+    keeps_room g.T.PoolTask.owes (view c.args.worker.pass).laid c.loop.finished.items c.in-Over.result (view c.loop.pass) (view c.try_turn.new.pass) known.keeps
+    c.in-Over.ensures.tried in
     let ok = c.loop.finished.ok in
     omega arith
 

@@ -22,7 +22,7 @@ pub loop-answer-preserved : goal.loop-answer-preserved
 loop-answer-preserved g c =
     let known = c.loop-answer.invariant in
     let here : into_iter_items c.loop-answer.answer-iterator ≡ Some c.in-Some-answer.done ∷ into_iter_items c.next.new.self =
-        c.in-Some.ensures.steps.0 ∙ ap (λ a. a ∷ into_iter_items c.next.new.self) c.in-Some-answer.is in
+    c.in-Some.ensures.steps.0 ∙ ap (λ a. a ∷ into_iter_items c.next.new.self) c.in-Some-answer.is in
     let pushed = c.push_reserved.ensures in
     record {
       can_next = tt;
@@ -35,7 +35,7 @@ loop-answer-preserved g c =
 pub unreachable-requires : goal.unreachable-requires
 unreachable-requires g c =
     let here : into_iter_items c.loop-answer.answer-iterator ≡ None ∷ into_iter_items c.next.new.self =
-        c.in-Some.ensures.steps.0 ∙ ap (λ a. a ∷ into_iter_items c.next.new.self) c.in-None-answer.is in
+    c.in-Some.ensures.steps.0 ∙ ap (λ a. a ∷ into_iter_items c.next.new.self) c.in-None-answer.is in
     answering_none g.T.PoolTask.owes (view c.args.self.pass).laid (into_iter_items c.next.new.self) c.loop-answer.dones.items (rw here at c.loop-answer.invariant.answering)
 
 pub returns : goal.returns

@@ -32,7 +32,7 @@ write_down-requires g c =
     let theirs = view c.args.worker.pass in
     let settling = rw c.in-Some.ensures.steps.0 at c.loop-result.invariant.settling in
     let lt : c.in-Some.result.place < length c.loop-result.self.answers.items =
-        settling_place g.T.PoolTask.owes before.laid before.kept theirs.kept c.in-Some.result _ c.loop-result.self.answers.items settling in
+    settling_place g.T.PoolTask.owes before.laid before.kept theirs.kept c.in-Some.result _ c.loop-result.self.answers.items settling in
     let ok = c.loop-result.self.answers.ok in
     omega arith
 
