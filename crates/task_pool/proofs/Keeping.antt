@@ -1,10 +1,9 @@
 -- A pass keeps the places of the results that go with it.
-use Rattle.std.proofs.Common.{◌≡◌, ℕ, ◌+◌, ◌<◌, List, [], ◌∷◌, ◌++◌, length, refl, sym, ap, ◌∙◌, subst, arith}
+use Rattle.std.proofs.Common.{◌≡◌, ◌<◌, List, [], ◌∷◌, ◌++◌, length, sym, ap, ◌∙◌, subst, arith}
 use Rattle.std.specs.List.{AllZip}
 use Rattle.std.proofs.lemmas.Slice.Zip.{AllZip-long}
 use Rattle.task_pool.specs.declared.hand.Hand.{Hand}
 use Rattle.task_pool.specs.declared.waiting.Finished.{Finished}
-use Rattle.task_pool.specs.Hand.{hand}
 use Rattle.task_pool.specs.Rule.{IsPaid, Ends, Keeps}
 
 pub all_zip-append : {A B : Type 0} (R : A → B → Type 0) (xs us : List A) (ys vs : List B) → AllZip R xs ys → AllZip R us vs → AllZip R (xs ++ us) (ys ++ vs)

@@ -1,5 +1,5 @@
 -- Each move keeps the rule of the queue of waiting tasks.
-use Rattle.std.proofs.Common.{◌≡◌, ◌≢◌, ◌⊎◌, ℕ, zero, suc, ◌+◌, ◌-◌, ◌≤◌, ◌<◌, List, [], ◌∷◌, ◌++◌, length, set, take, slice_get, Some, refl, sym, ap, ◌∙◌, subst, ⊎_elim, arith, length-append, add-one}
+use Rattle.std.proofs.Common.{◌≡◌, ◌≢◌, ℕ, zero, suc, ◌+◌, ◌-◌, ◌<◌, List, [], ◌∷◌, ◌++◌, length, set, take, slice_get, Some, refl, sym, ap, ◌∙◌, subst, ⊎_elim, arith, length-append, add-one}
 use Rattle.std.proofs.Math.Seq.{take-append_seam}
 use Rattle.std.specs.List.{AllByRecursion}
 use mathlib.Core.Option.{some, some-injective, some-ne-none}
@@ -9,7 +9,7 @@ use Rattle.crossbeam_queue.proofs.Lists.{at_set, at_snoc}
 use Rattle.task_pool.specs.declared.hand.Hand.{Hand}
 use Rattle.task_pool.specs.declared.waiting.Waiting.{Waiting}
 use Rattle.task_pool.specs.Hand.{hand, all_parts}
-use Rattle.task_pool.specs.Rule.{total, below, kept_weight, waiting_weight, IsLaid, Fits, Owing, Holds, Takes, Lays, Gives, Counts}
+use Rattle.task_pool.specs.Rule.{below, kept_weight, IsLaid, Fits, Owing, Holds, Takes, Lays, Gives, Counts}
 use Rattle.task_pool.proofs.Totals.{total-append, total-set, term_le, two_terms_le, total-alone, total-ones, below-ones}
 
 -- facts of each element

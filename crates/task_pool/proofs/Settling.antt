@@ -1,9 +1,9 @@
 -- The answers, as results are written down.
 use Rattle.std.proofs.Common.{◌≡◌, ◌≢◌, ◌⊎◌, ℕ, zero, suc, ◌<◌, List, [], ◌∷◌, ◌++◌, length, set, replicate, slice_get, Option, Some, None, refl, sym, ap, ◌∙◌, subst, inl, inr, ⊎_elim, arith, length-set, append_assoc, append-nil}
-use Rattle.std.specs.List.{AllByRecursion, AllZip}
+use Rattle.std.specs.List.{AllZip}
 use Rattle.std.proofs.lemmas.Option.{slice_get_within}
 use Rattle.task_pool.specs.declared.waiting.Finished.{Finished}
-use Rattle.task_pool.specs.Rule.{IsLaid, IsPaid, Settled}
+use Rattle.task_pool.specs.Rule.{IsPaid, Settled}
 use Rattle.task_pool.proofs.Rules.{all-append, all-map}
 
 -- what is read after a write

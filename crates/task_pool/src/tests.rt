@@ -47,10 +47,30 @@ fn rising(alloc: Global, count: u32) -> Result<Vec<Steps>, AllocError>
     Ok(tasks)
 }
 
+// Counts the turns.
+#[derive(Drop)]
+struct Counted {
+    turns: AtomicU64,
+}
+
+impl Gate for Counted {
+    fn enter(&self, _task: u32) {
+        self.turns.fetch_add(1, Ordering::SeqCst);
+    }
+}
+
 #[test]
 fn forty_tasks(rt: HostRuntime) -> Result<(), Fail> {
     for workers in [1, 3, 16] {
-        let dones = run_pool(&rt, rt.alloc(), rising(rt.alloc(), 40)?, workers, &OpenGate)?;
+        let gate = Counted {
+            turns: AtomicU64::new(0),
+        };
+        let dones = run_pool(&rt, rt.alloc(), rising(rt.alloc(), 40)?, workers, &gate)?;
+        assert_eq!(rt;
+            gate.turns.load(Ordering::SeqCst),
+            820,
+            "with {workers} workers"
+        );
         assert_eq!(rt; dones.len(), 40, "with {workers} workers");
         for (place, done) in dones.iter().enumerate() {
             assert_eq!(rt; *done as usize, place + 1, "with {workers} workers");

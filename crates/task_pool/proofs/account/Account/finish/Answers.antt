@@ -1,4 +1,4 @@
-use Rattle.std.proofs.Common.{◌≡◌, ◌∙◌, ap, sym, subst}
+use Rattle.std.proofs.Common.{◌∙◌, ap, subst}
 use Rattle.crossbeam_queue.specs.Passes.{view}
 use Rattle.task_pool.specs.Rule.{IsPaid}
 use Rattle.task_pool.proofs.Settling.{settled_more}

@@ -1,4 +1,4 @@
-use Rattle.std.proofs.Common.{◌<◌, ap, arith}
+use Rattle.std.proofs.Common.{ap, arith}
 use Rattle.crossbeam_queue.specs.Passes.{view}
 use Rattle.task_pool.proofs.Rules.{forks}
 use Rattle.task_pool.proofs.account.Account.hire.Goals as goal

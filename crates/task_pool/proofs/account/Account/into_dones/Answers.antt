@@ -2,7 +2,7 @@ use Rattle.std.proofs.Common.{◌≡◌, ◌∙◌, [], ◌∷◌, Some, None, l
 use Rattle.std.proofs.lemmas.Grind.{common_steps}
 use Rattle.std.specs.Vec.Iter.{into_iter_items}
 use Rattle.crossbeam_queue.specs.Passes.{view}
-use Rattle.task_pool.proofs.Answering.{Answering, all_answered, answering_begins, answering_none, answering_more, answering_ends}
+use Rattle.task_pool.proofs.Answering.{all_answered, answering_begins, answering_none, answering_more, answering_ends}
 use Rattle.task_pool.proofs.account.Account.into_dones.Goals as goal
 
 pub loop-answer-init : goal.loop-answer-init

@@ -1,10 +1,9 @@
-use Rattle.std.proofs.Common.{◌≡◌, ◌<◌, ◌∙◌, [], length, sym, subst, arith}
+use Rattle.std.proofs.Common.{◌≡◌, ◌<◌, ◌∙◌, [], length, arith}
 use Rattle.std.proofs.lemmas.Grind.{common_steps}
 use Rattle.std.specs.Vec.Iter.{into_iter_items}
 use Rattle.crossbeam_queue.specs.Passes.{view}
-use Rattle.task_pool.specs.Rule.{Settled}
 use Rattle.task_pool.proofs.Rules.{merges}
-use Rattle.task_pool.proofs.Settling.{Settling, settling_begins, settling_place, settling_more, settling_ends}
+use Rattle.task_pool.proofs.Settling.{settling_begins, settling_place, settling_more, settling_ends}
 use Rattle.task_pool.proofs.account.Account.take_back.Goals as goal
 
 pub absorb-requires-clause-rule : goal.absorb-requires-clause-rule
