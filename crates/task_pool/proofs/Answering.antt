@@ -3,7 +3,8 @@ use Rattle.std.proofs.Common.{◌≡◌, ◌≢◌, ◌⊎◌, ℕ, zero, suc, �
 use Rattle.std.specs.List.{AllByRecursion, AllZip}
 use Rattle.std.proofs.lemmas.Bool.Decides.{nat_tests, eqb_tells}
 use Rattle.std.proofs.lemmas.Option.{slice_get_within}
-use Rattle.task_pool.specs.Rule.{below, kept_weight, Settled, IsWhole}
+use Rattle.task_pool.specs.Rule.{below, kept_weight}
+use Rattle.task_pool.specs.Results.{Settled, IsWhole}
 use Rattle.task_pool.proofs.Keeping.{all_zip-append}
 
 -- one at the place k, and nothing at any other

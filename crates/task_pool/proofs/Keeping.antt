@@ -4,7 +4,7 @@ use Rattle.std.specs.List.{AllZip}
 use Rattle.std.proofs.lemmas.Slice.Zip.{AllZip-long}
 use Rattle.task_pool.specs.declared.hand.Hand.{Hand}
 use Rattle.task_pool.specs.declared.waiting.Finished.{Finished}
-use Rattle.task_pool.specs.Rule.{IsPaid, Ends, Keeps}
+use Rattle.task_pool.specs.Results.{IsPaid, Ends, Keeps}
 
 pub all_zip-append : {A B : Type 0} (R : A → B → Type 0) (xs us : List A) (ys vs : List B) → AllZip R xs ys → AllZip R us vs → AllZip R (xs ++ us) (ys ++ vs)
 all_zip-append R [] us [] vs h k = k

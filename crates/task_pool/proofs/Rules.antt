@@ -47,11 +47,11 @@ module _ {T D : Type 0} (owes : T → D → Type 0) where
   hands_set laid views port w mine others j u e =
       ⊎_elim (λ (x : (j ≡ port) × (w ≡ u)). subst (Fits laid) x.1 mine) (λ (x : (j ≢ port) × (get_elem? views j ≡ some u)). others j u x.0 x.1) (at_set views port j w u e)
 
-  begins_at : (pass : ℕ) (v : Hand T) → get_elem? (hand 1024 [] [] ∷ []) pass ≡ some v → Fits [] v
+  begins_at : (pass : ℕ) (v : Hand T) → get_elem? (hand all_parts [] [] ∷ []) pass ≡ some v → Fits [] v
   begins_at zero v at = subst (Fits []) (some-injective _ v at) (record { knows = λ _. refl; idle = λ none. absurd (omega arith); placed = tt })
   begins_at (suc pass) v at = absurd (some-ne-none v (sym at))
 
-  pub begins : Holds owes [] (hand 1024 [] [] ∷ [])
+  pub begins : Holds owes [] (hand all_parts [] [] ∷ [])
   begins = record { laid = []; parts = refl; once = λ weight. refl; waiting = tt; hands = begins_at }
 
   -- a pass with a part keeps fewer places than were laid, while one waits
@@ -211,3 +211,7 @@ never_full v items room all none full counted short =
     let p = counted all (λ _. 1) in
     let k : kept_weight (λ _. 1) v.kept ≡ 0 = ap (kept_weight (λ _. 1)) none in
     omega (arith, total-ones items, below-ones (length v.laid))
+
+-- a pass that takes or gives keeps its parts
+pub still_part : {T : Type 0} (parts : ℕ) (w : Hand T) (laid : List T) (kept : List (ℕ × T)) → w ≡ hand parts laid kept → 0 < parts → 0 < w.parts
+still_part parts w laid kept is part = let e : w.parts ≡ parts = ap (λ (y : Hand _). y.parts) is in omega arith

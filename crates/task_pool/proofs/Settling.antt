@@ -3,7 +3,7 @@ use Rattle.std.proofs.Common.{◌≡◌, ◌≢◌, ◌⊎◌, ℕ, zero, suc, �
 use Rattle.std.specs.List.{AllZip}
 use Rattle.std.proofs.lemmas.Option.{slice_get_within}
 use Rattle.task_pool.specs.declared.waiting.Finished.{Finished}
-use Rattle.task_pool.specs.Rule.{IsPaid, Settled}
+use Rattle.task_pool.specs.Results.{IsPaid, Settled}
 use Rattle.task_pool.proofs.Rules.{all-append, all-map}
 
 -- what is read after a write

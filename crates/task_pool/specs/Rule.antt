@@ -1,14 +1,10 @@
 -- The rule of the queue of waiting tasks: each place waits, or is kept by one pass, once.
-use Rattle.std.specs.Prelude.{◌≡◌, ℕ, zero, suc, ◌+◌, ◌-◌, ◌<◌, List, [], ◌∷◌, ◌++◌, length, take, slice_get, Option, Some}
-use Rattle.std.specs.List.{AllByRecursion, AllZip}
+use Rattle.std.specs.Prelude.{◌≡◌, ℕ, zero, suc, ◌+◌, ◌-◌, ◌<◌, List, [], ◌∷◌, ◌++◌, length, take, slice_get, Some}
+use Rattle.std.specs.List.{AllByRecursion}
 use mathlib.Core.Option.{some}
 use lib.ListN.{get_elem?}
 use Rattle.task_pool.specs.declared.hand.Hand.{Hand}
 use Rattle.task_pool.specs.declared.waiting.Waiting.{Waiting}
-use Rattle.task_pool.specs.declared.waiting.Finished.{Finished}
-use Rattle.task_pool.specs.declared.waiting.Tried.{Tried}
-use Rattle.task_pool.specs.declared.waiting.Tried.TheVariants.{Idle, Again, Over}
-use Rattle.crossbeam_queue.specs.Fifo.{Held}
 use Rattle.task_pool.specs.Hand.{hand, all_parts}
 
 -- f of each element, added up
@@ -73,37 +69,3 @@ Gives v x w = w ≡ hand v.parts v.laid (take (length v.kept - 1) v.kept)
 -- what the pass with all parts learns: each place is kept by it or waits, once
 abbrev pub Counts : {T : Type 0} → Hand T → List (Waiting T) → Type 0
 Counts v items = v.parts ≡ all_parts → (weight : ℕ → ℕ) → kept_weight weight v.kept + waiting_weight weight items ≡ below weight (length v.laid)
-
-module _ {T D : Type 0} (owes : T → D → Type 0) where
-  -- a result for the place, which the task first laid there owed
-  abbrev pub IsPaid : List T → (ℕ × T) → Finished D → Type 0
-  IsPaid laid e f = (f.place ≡ e.0) × IsLaid laid e × owes e.1 f.done
-
-  -- what a turn tells that brought a task to its end: its place is kept, and the result was owed there
-  pub record Ends (v : Hand T) (f : Finished D) (w : Hand T) : Type 0 where
-    pub first : T
-    pub keeps : w ≡ hand v.parts v.laid (v.kept ++ (f.place, first) ∷ [])
-    pub paid : IsPaid v.laid (f.place, first) f
-    pub room : length v.kept < length v.laid
-
-  -- what a try to make a turn tells: no task waited at one moment; or one made a turn and waits again; or one is done
-  abbrev pub Tries : Hand T → Tried D → Hand T → Type 0
-  Tries v Idle w = (w ≡ v) × Held 0 (Counts v)
-  Tries v Again w = w ≡ v
-  Tries v (Over f) w = Ends v f w
-
-  -- a pass with one part, to which these tasks were laid, keeps just the places of these results
-  pub record Keeps (laid : List T) (finished : List (Finished D)) (v : Hand T) : Type 0 where
-    pub part : v.parts ≡ 1
-    pub knows : v.laid ≡ laid
-    pub paid : AllZip (IsPaid laid) v.kept finished
-
-  -- the answers are as owed at their places, and there is one at each place that is kept
-  pub record Settled (laid : List T) (kept : List (ℕ × T)) (answers : List (Option D)) : Type 0 where
-    pub size : length answers ≡ length laid
-    pub owed : (k : ℕ) (done : D) → slice_get answers k ≡ Some (Some done) → (first : T) × (slice_get laid k ≡ Some first) × owes first done
-    pub filled : AllByRecursion (λ e. (done : D) × (slice_get answers e.0 ≡ Some (Some done))) kept
-
--- a pass keeps each place of the laid tasks once, however the places are weighed
-abbrev pub IsWhole : {T : Type 0} → List T → List (ℕ × T) → Type 0
-IsWhole laid kept = (weight : ℕ → ℕ) → kept_weight weight kept ≡ below weight (length laid)

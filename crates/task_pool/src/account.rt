@@ -2,9 +2,10 @@
 ghost use Rattle.std.specs.Prelude.{◌≡◌, ◌≤◌, ◌<◌, ◌+◌, ◌-◌, [], ◌++◌, length, vec_len, vec_capacity, IfOk, OnOk, All, Some, None, replicate, slice_set};
 ghost use Rattle.std.specs.List.{AllByRecursion, AllZip};
 ghost use Rattle.crossbeam_queue.specs.Passes.{view, IsPassOf};
-ghost use Rattle.task_pool.specs.Hand.{hand};
-ghost use Rattle.task_pool.specs.Rule.{Keeps, Settled, IsWhole};
+ghost use Rattle.task_pool.specs.Hand.{all_parts};
+ghost use Rattle.task_pool.specs.Results.{Keeps, Settled, IsWhole};
 
+use crate::pool::MOST_WORKERS;
 use crate::queue::{Parting, TaskPass, TaskQueue};
 use crate::task::PoolTask;
 use crate::turn::try_turn;
@@ -20,7 +21,7 @@ use std::thread::Threads;
 
 /// The calling thread's pass, with the answers of the places that it keeps.
 #[derive(Drop)]
-pub struct Account<T: PoolTask> {
+pub(crate) struct Account<T: PoolTask> {
     /// The pass that began with all parts.
     pub pass: TaskPass<T>,
     /// The answers, place by place.
@@ -60,11 +61,11 @@ impl<T: PoolTask> Account<T> {
         count: usize,
     ) -> Result<Vec<Worker<T>>, AllocError>
         requires pass { IsPassOf queue.now self.old.pass }
-        requires parts { (view self.old.pass).parts ≡ 1024 }
-        requires few { workers ≤ 16 }
+        requires parts { (view self.old.pass).parts ≡ all_parts }
+        requires few { workers ≤ MOST_WORKERS }
         requires count { length (view self.old.pass).laid ≤ count }
         ensures pass { OnOk result (IsPassOf queue.now self.new.pass) }
-        ensures parts { IfOk result (λ hired. (view self.new.pass).parts + vec_len hired ≡ 1024) }
+        ensures parts { IfOk result (λ hired. (view self.new.pass).parts + vec_len hired ≡ all_parts) }
         ensures few { IfOk result (λ hired. vec_len hired ≡ workers) }
         ensures rest { OnOk result (((view self.new.pass).laid ≡ (view self.old.pass).laid) × ((view self.new.pass).kept ≡ (view self.old.pass).kept) × (self.new.answers ≡ self.old.answers)) }
         ensures hired { IfOk result (λ hired. All (λ w. IsPassOf queue.now w.pass × Keeps T.owes (view self.old.pass).laid w.finished.items (view w.pass) × (length (view self.old.pass).laid ≤ vec_capacity w.finished)) hired.items) }
@@ -138,7 +139,7 @@ impl<T: PoolTask> Account<T> {
     /// Turns the tasks that are left in rounds, one turn each, until every task is done.
     pub(crate) fn finish<G: Gate, R: Wait>(&mut self, rt: &R, queue: &TaskQueue<T>, gate: &G)
         requires pass { IsPassOf queue.now self.old.pass }
-        requires all { (view self.old.pass).parts ≡ 1024 }
+        requires all { (view self.old.pass).parts ≡ all_parts }
         requires settled { Settled T.owes (view self.old.pass).laid (view self.old.pass).kept self.old.answers.items }
         ensures laid { (view self.new.pass).laid ≡ (view self.old.pass).laid }
         ensures whole { IsWhole (view self.old.pass).laid (view self.new.pass).kept }

@@ -2,7 +2,7 @@
 use std::collections::LinkedList;
 
 /// What a pass of the queue knows. No value of it is made: it exists in contracts alone.
-pub struct Hand<T> {
+pub(crate) struct Hand<T> {
     /// Its parts of the right to know every pass.
     pub parts: u64,
     /// The tasks as they were laid in the queue at first, in the order of their places.

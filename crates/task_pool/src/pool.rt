@@ -22,8 +22,9 @@ pub const MOST_WORKERS: u32 = 16;
 /// which turns it on. After the workers have ended the calling thread turns what is left in
 /// rounds, one turn each.
 ///
-/// All memory for answers is taken before the workers start. After want of memory the tasks are
-/// dropped. Nothing is promised of time, of fairness, or that two workers ever run at once.
+/// All memory for answers is taken before the workers start. `Memory` comes at want of memory
+/// alone, and the tasks are then dropped. Nothing is promised of time, of fairness, or that two
+/// workers ever run at once.
 pub fn run_pool<T: PoolTask, G: Gate, R: Threads + Wait + Sync>(
     rt: &R,
     alloc: Global,

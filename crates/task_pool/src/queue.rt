@@ -4,7 +4,7 @@
 //! of them, lays the tasks, and cuts a part off for each worker.
 ghost use Rattle.std.specs.Prelude.{◌≡◌, ◌+◌, ◌-◌, [], ◌++◌};
 ghost use Rattle.task_pool.specs.Rule.{Holds, Takes, Lays, Gives, Counts};
-ghost use Rattle.task_pool.specs.Hand.{hand};
+ghost use Rattle.task_pool.specs.Hand.{hand, all_parts};
 
 use crate::hand::Hand;
 use crate::task::PoolTask;
@@ -14,16 +14,16 @@ use crossbeam_queue::{Pass, RuledArrayQueue};
 use std::marker::PhantomData;
 
 /// The rule of the queue: each place waits, or is kept by one pass, once.
-pub struct Law<T>(PhantomData<T>);
+pub(crate) struct Law<T>(PhantomData<T>);
 
 impl<T: PoolTask> Protocol<Waiting<T>, Hand<T>> for Law<T> {
     ghost holds = { Holds T.owes };
 
-    ghost first = { hand 1024 [] [] };
+    ghost first = { hand all_parts [] [] };
 }
 
 /// A task is laid at the next place.
-pub struct Laying<T>(PhantomData<T>);
+pub(crate) struct Laying<T>(PhantomData<T>);
 
 impl<T: PoolTask> Outcome<Waiting<T>, Hand<T>> for Laying<T> {
     ghost then = { Lays };
@@ -34,7 +34,7 @@ impl<T: PoolTask> Lesson<Waiting<T>, Hand<T>> for Laying<T> {
 }
 
 /// A task is taken for a turn.
-pub struct Taking<T>(PhantomData<T>);
+pub(crate) struct Taking<T>(PhantomData<T>);
 
 impl<T: PoolTask> Outcome<Waiting<T>, Hand<T>> for Taking<T> {
     ghost then = { Takes T.owes };
@@ -45,7 +45,7 @@ impl<T: PoolTask> Lesson<Waiting<T>, Hand<T>> for Taking<T> {
 }
 
 /// A task is given back after a turn.
-pub struct Giving<T>(PhantomData<T>);
+pub(crate) struct Giving<T>(PhantomData<T>);
 
 impl<T: PoolTask> Outcome<Waiting<T>, Hand<T>> for Giving<T> {
     ghost then = { Gives };
@@ -56,7 +56,7 @@ impl<T: PoolTask> Lesson<Waiting<T>, Hand<T>> for Giving<T> {
 }
 
 /// A part is cut off for a worker, or a worker's pass comes back.
-pub struct Parting<T>(PhantomData<T>);
+pub(crate) struct Parting<T>(PhantomData<T>);
 
 impl<T: PoolTask> Split<Hand<T>> for Parting<T> {
     ghost left = { λ v. hand (v.parts - 1) v.laid v.kept };
@@ -71,7 +71,7 @@ impl<T: PoolTask> Join<Hand<T>> for Parting<T> {
 }
 
 /// The queue of the tasks that wait.
-pub type TaskQueue<T> = RuledArrayQueue<Waiting<T>, Hand<T>, Law<T>>;
+pub(crate) type TaskQueue<T> = RuledArrayQueue<Waiting<T>, Hand<T>, Law<T>>;
 
 /// What a thread holds to use the queue.
-pub type TaskPass<T> = Pass<Waiting<T>, Hand<T>>;
+pub(crate) type TaskPass<T> = Pass<Waiting<T>, Hand<T>>;

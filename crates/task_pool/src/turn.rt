@@ -1,7 +1,7 @@
 //! One turn: a task leaves the queue, makes its turn and comes back, or is done.
 ghost use Rattle.std.specs.Prelude.{◌<◌};
 ghost use Rattle.crossbeam_queue.specs.Passes.{view, IsPassOf};
-ghost use Rattle.task_pool.specs.Rule.{Tries};
+ghost use Rattle.task_pool.specs.Results.{Tries};
 
 use crate::queue::{Giving, Taking, TaskPass, TaskQueue};
 use crate::task::{PoolTask, Turn};

@@ -2,7 +2,7 @@
 
 /// A task that waits for its next turn.
 #[derive(Drop)]
-pub struct Waiting<T> {
+pub(crate) struct Waiting<T> {
     /// Its place in the list of tasks.
     pub place: u32,
     /// The task.
@@ -11,7 +11,7 @@ pub struct Waiting<T> {
 
 /// What a task gave.
 #[derive(Drop)]
-pub struct Finished<D> {
+pub(crate) struct Finished<D> {
     /// Its place in the list of tasks.
     pub place: u32,
     /// What it gave.
@@ -20,7 +20,7 @@ pub struct Finished<D> {
 
 /// What came of a try to make a turn.
 #[derive(Drop)]
-pub enum Tried<D> {
+pub(crate) enum Tried<D> {
     /// No task waited.
     Idle,
     /// A task made a turn, and waits again.

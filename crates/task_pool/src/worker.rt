@@ -1,7 +1,7 @@
 //! The workers: each makes turns until every task is done.
 ghost use Rattle.std.specs.Prelude.{◌≡◌, ◌≤◌, ◌<◌, [], length, vec_len, vec_capacity, IfOk, All};
 ghost use Rattle.crossbeam_queue.specs.Passes.{view, IsPassOf};
-ghost use Rattle.task_pool.specs.Rule.{Keeps};
+ghost use Rattle.task_pool.specs.Results.{Keeps};
 
 use crate::queue::{TaskPass, TaskQueue};
 use crate::task::PoolTask;
@@ -15,7 +15,7 @@ use std::thread;
 
 /// What a worker holds: its pass, and what those tasks gave that it brought to their end.
 #[derive(Drop)]
-pub struct Worker<T: PoolTask> {
+pub(crate) struct Worker<T: PoolTask> {
     /// Its pass of the queue.
     pub pass: TaskPass<T>,
     /// The results, with room for one of each task.

@@ -1,6 +1,6 @@
 use Rattle.std.proofs.Common.{◌≤◌, length, vec_capacity}
 use Rattle.crossbeam_queue.specs.Passes.{view, IsPassOf}
-use Rattle.task_pool.specs.Rule.{Keeps}
+use Rattle.task_pool.specs.Results.{Keeps}
 use Rattle.task_pool.proofs.worker.work.Given as goal
 
 abbrev pub invariant-loop : goal.invariant-loop

@@ -1,6 +1,6 @@
 use Rattle.std.proofs.Common.{◌∙◌, ap, subst}
 use Rattle.crossbeam_queue.specs.Passes.{view}
-use Rattle.task_pool.specs.Rule.{IsPaid}
+use Rattle.task_pool.specs.Results.{IsPaid}
 use Rattle.task_pool.proofs.Settling.{settled_more}
 use Rattle.task_pool.proofs.account.Account.finish.Goals as goal
 

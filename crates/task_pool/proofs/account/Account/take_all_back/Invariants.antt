@@ -2,7 +2,7 @@ use Rattle.std.proofs.Common.{◌≡◌, ◌<◌, ◌+◌, length}
 use Rattle.std.specs.List.{AllByRecursion}
 use Rattle.std.specs.Vec.Iter.{into_iter_items}
 use Rattle.crossbeam_queue.specs.Passes.{view, IsPassOf}
-use Rattle.task_pool.specs.Rule.{Keeps, Settled}
+use Rattle.task_pool.specs.Results.{Keeps, Settled}
 use Rattle.task_pool.proofs.account.Account.take_all_back.Given as goal
 
 abbrev pub invariant-loop-worker : goal.invariant-loop-worker
