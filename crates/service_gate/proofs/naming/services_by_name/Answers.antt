@@ -1,0 +1,12 @@
+use Rattle.std.proofs.Common.{lit<}
+use Rattle.service_gate.specs.ServiceResult.{service}
+use Rattle.service_gate.proofs.Numbers.{number_of}
+use Rattle.service_gate.proofs.naming.services_by_name.Goals as goal
+
+pub returns-clause-first : goal.returns-clause-first
+unfolding service
+returns-clause-first c n input le = rw (number_of 1048576 n (lit< tt) le)
+
+pub returns-clause-exit : goal.returns-clause-exit
+unfolding service
+returns-clause-exit c n input le = rw (number_of 255 n (lit< tt) le)

@@ -1,0 +1,3 @@
+pub mod Triple
+pub mod ServiceResult
+pub mod Owing

@@ -1,0 +1,24 @@
+//! The services that answer calls, and the gate that a worker of a pool passes.
+//!
+//! A service reads its input piece by piece, writes to two outputs and ends with an exit code,
+//! as the program behind a qrexec service call does. The built-in services stand for such
+//! programs; a caller may hand in an object of its own. The crates of sessions, of the broker
+//! and of the pool of workers build on it.
+#![tactic(auto)]
+
+mod answer;
+mod append;
+mod boxed;
+mod builtin;
+mod gate;
+mod naming;
+mod service;
+#[cfg(test)]
+mod tests;
+
+pub use answer::{Answer, serve};
+pub use boxed::Boxed;
+pub use builtin::Builtin;
+pub use gate::{Gate, OpenGate};
+pub use naming::services_by_name;
+pub use service::Service;

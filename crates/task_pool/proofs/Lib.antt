@@ -1,0 +1,5 @@
+pub mod Answering
+pub mod Keeping
+pub mod Settling
+pub mod Totals
+pub mod Rules

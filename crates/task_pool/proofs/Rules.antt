@@ -1,0 +1,217 @@
+-- Each move keeps the rule of the queue of waiting tasks.
+use Rattle.std.proofs.Common.{◌≡◌, ◌≢◌, ℕ, zero, suc, ◌+◌, ◌-◌, ◌<◌, List, [], ◌∷◌, ◌++◌, length, set, take, slice_get, Some, refl, sym, ap, ◌∙◌, subst, ⊎_elim, arith, length-append, add-one}
+use Rattle.std.proofs.Math.Seq.{take-append_seam}
+use Rattle.std.specs.List.{AllByRecursion}
+use mathlib.Core.Option.{some, some-injective, some-ne-none}
+use lib.ListN.{get_elem?}
+use Rattle.crossbeam_queue.specs.Fifo.{Pushes, Pops, Forks, Merges, Learns}
+use Rattle.crossbeam_queue.proofs.Lists.{at_set, at_snoc}
+use Rattle.task_pool.specs.declared.hand.Hand.{Hand}
+use Rattle.task_pool.specs.declared.waiting.Waiting.{Waiting}
+use Rattle.task_pool.specs.Hand.{hand, all_parts}
+use Rattle.task_pool.specs.Rule.{below, kept_weight, IsLaid, Fits, Owing, Holds, Takes, Lays, Gives, Counts}
+use Rattle.task_pool.proofs.Totals.{total-append, total-set, term_le, two_terms_le, total-alone, total-ones, below-ones}
+
+-- facts of each element
+pub all-append : {X : Type 0} (P : X → Type 0) (xs ys : List X) → AllByRecursion P xs → AllByRecursion P ys → AllByRecursion P (xs ++ ys)
+all-append P [] ys h k = k
+all-append P (x ∷ xs) ys h k = (h.0, all-append P xs ys h.1 k)
+
+pub all-front : {X : Type 0} (P : X → Type 0) (xs ys : List X) → AllByRecursion P (xs ++ ys) → AllByRecursion P xs
+all-front P [] ys h = tt
+all-front P (x ∷ xs) ys h = (h.0, all-front P xs ys h.1)
+
+pub all-back : {X : Type 0} (P : X → Type 0) (xs ys : List X) → AllByRecursion P (xs ++ ys) → AllByRecursion P ys
+all-back P [] ys h = h
+all-back P (x ∷ xs) ys h = all-back P xs ys h.1
+
+pub all-map : {X : Type 0} (P Q : X → Type 0) → ((x : X) → P x → Q x) → (xs : List X) → AllByRecursion P xs → AllByRecursion Q xs
+all-map P Q go [] h = tt
+all-map P Q go (x ∷ xs) h = (go x h.0, all-map P Q go xs h.1)
+
+-- what was laid stays where it is
+laid_longer : {T : Type 0} (laid more : List T) (i : ℕ) (t : T) → slice_get laid i ≡ Some t → slice_get (laid ++ more) i ≡ Some t
+laid_longer [] more i t at = cc
+laid_longer (x ∷ laid) more zero t at = at
+laid_longer (x ∷ laid) more (suc i) t at = laid_longer laid more i t at
+
+laid_last : {T : Type 0} (laid : List T) (t : T) (i : ℕ) → i ≡ length laid → slice_get (laid ++ t ∷ []) i ≡ Some t
+laid_last [] t zero e = refl
+laid_last [] t (suc i) e = absurd (omega arith)
+laid_last (x ∷ laid) t zero e = absurd (omega arith)
+laid_last (x ∷ laid) t (suc i) e = laid_last laid t i (omega arith)
+
+module _ {T D : Type 0} (owes : T → D → Type 0) where
+  hands_set : (laid : List T) (views : List (Hand T)) (port : ℕ) (w : Hand T) → Fits laid w → ((j : ℕ) (u : Hand T) → j ≢ port → get_elem? views j ≡ some u → Fits laid u)
+      → (j : ℕ) (u : Hand T) → get_elem? (set views port w) j ≡ some u → Fits laid u
+  hands_set laid views port w mine others j u e =
+      ⊎_elim (λ (x : (j ≡ port) × (w ≡ u)). subst (Fits laid) x.1 mine) (λ (x : (j ≢ port) × (get_elem? views j ≡ some u)). others j u x.0 x.1) (at_set views port j w u e)
+
+  begins_at : (pass : ℕ) (v : Hand T) → get_elem? (hand all_parts [] [] ∷ []) pass ≡ some v → Fits [] v
+  begins_at zero v at = subst (Fits []) (some-injective _ v at) (record { knows = λ _. refl; idle = λ none. absurd (omega arith); placed = tt })
+  begins_at (suc pass) v at = absurd (some-ne-none v (sym at))
+
+  pub begins : Holds owes [] (hand all_parts [] [] ∷ [])
+  begins = record { laid = []; parts = refl; once = λ weight. refl; waiting = tt; hands = begins_at }
+
+  -- a pass with a part keeps fewer places than were laid, while one waits
+  room : (v : Hand T) (x : Waiting T) (items : List (Waiting T)) (views : List (Hand T)) (port : ℕ) → 0 < v.parts → get_elem? views port ≡ some v
+      → (h : Holds owes (x ∷ items) views) → length v.kept < length v.laid
+  room v x items views port some_part at h =
+      let same : length v.laid ≡ length h.laid = ap length ((h.hands port v at).knows some_part) in
+      let sum = h.once (λ _. 1) in
+      let mine = term_le (λ (u : Hand T). kept_weight (λ _. 1) u.kept) views port v at in
+      let kept : kept_weight (λ _. 1) v.kept ≡ length v.kept = total-ones v.kept in
+      omega (arith, below-ones (length h.laid))
+
+  pub takes : (port : ℕ) (v : Hand T) → 0 < v.parts → Pops (Holds owes) port v (Takes owes v)
+  takes port v some_part x items views h at =
+      let mine = h.hands port v at in
+      let first = h.waiting.0 in
+      let w : Hand T = hand v.parts v.laid (v.kept ++ (x.place, first.first) ∷ []) in (
+        w,
+        record {
+          laid = h.laid;
+          parts = (let e = total-set (λ (u : Hand T). u.parts) views port v w at in let p = h.parts in omega arith);
+          once = λ weight.
+              let e = total-set (λ (u : Hand T). kept_weight weight u.kept) views port v w at in
+              let p = h.once weight in
+              omega (arith, total-append (λ (e : ℕ × T). weight e.0) v.kept ((x.place, first.first) ∷ []));
+          waiting = h.waiting.1;
+          hands = hands_set h.laid views port w
+              (record { knows = mine.knows; idle = λ none. absurd (omega arith); placed = all-append (IsLaid h.laid) v.kept ((x.place, first.first) ∷ []) mine.placed (first.at, tt) })
+              (λ j u other there. h.hands j u there);
+        },
+        record { first = first.first; keeps = refl; at = ap (λ l. slice_get l x.place) (mine.knows some_part) ∙ first.at; pays = first.pays; room = room v x items views port some_part at h },
+      )
+
+  pub gives : (n port : ℕ) (v : Hand T) (x : Waiting T) (rest : List (ℕ × T)) (first : T) → 0 < v.parts → v.kept ≡ rest ++ (x.place, first) ∷ []
+      → ((done : D) → owes x.task done → owes first done) → Pushes (Holds owes) n port v x (Gives v x)
+  gives n port v x rest first some_part is pays items views _ h at =
+      let mine = h.hands port v at in
+      let count : length v.kept ≡ length rest + 1 = ap length is ∙ length-append rest ((x.place, first) ∷ []) in
+      let less : length v.kept - 1 ≡ length rest = omega arith in
+      let front : take (length v.kept - 1) v.kept ≡ rest = ap (λ k. take k v.kept) less ∙ (ap (λ l. take (length rest) l) is ∙ take-append_seam rest ((x.place, first) ∷ [])) in
+      let placed : AllByRecursion (IsLaid h.laid) (rest ++ (x.place, first) ∷ []) = subst (AllByRecursion (IsLaid h.laid)) is mine.placed in
+      let w : Hand T = hand v.parts v.laid (take (length v.kept - 1) v.kept) in (
+        w,
+        record {
+          laid = h.laid;
+          parts = (let e = total-set (λ (u : Hand T). u.parts) views port v w at in let p = h.parts in omega arith);
+          once = λ weight.
+              let e = total-set (λ (u : Hand T). kept_weight weight u.kept) views port v w at in
+              let p = h.once weight in
+              let before : kept_weight weight v.kept ≡ kept_weight weight rest + weight x.place =
+              ap (kept_weight weight) is ∙ (total-append (λ (e : ℕ × T). weight e.0) rest ((x.place, first) ∷ []) ∙ ap (λ k. kept_weight weight rest + k) (omega arith)) in
+              let after : kept_weight weight w.kept ≡ kept_weight weight rest = ap (kept_weight weight) front in
+              omega (arith, total-append (λ (y : Waiting T). weight y.place) items (x ∷ []));
+          waiting = all-append (Owing owes h.laid) items (x ∷ []) h.waiting
+              (record { first = first; at = (all-back (IsLaid h.laid) rest ((x.place, first) ∷ []) placed).0; pays = pays }, tt);
+          hands = hands_set h.laid views port w
+              (record {
+                knows = mine.knows;
+                idle = λ none. absurd (omega arith);
+                placed = subst (AllByRecursion (IsLaid h.laid)) (sym front) (all-front (IsLaid h.laid) rest ((x.place, first) ∷ []) placed);
+              })
+              (λ j u other there. h.hands j u there);
+        },
+        refl,
+      )
+
+  pub lays : (n port : ℕ) (v : Hand T) (x : Waiting T) → v.parts ≡ all_parts → x.place ≡ length v.laid → Pushes (Holds owes) n port v x (Lays v x)
+  lays n port v x all next items views _ h at =
+      let mine = h.hands port v at in
+      let same : v.laid ≡ h.laid = mine.knows (omega arith) in
+      let longer : List T = v.laid ++ x.task ∷ [] in
+      let stays : (i : ℕ) (t : T) → slice_get h.laid i ≡ Some t → slice_get longer i ≡ Some t = λ i t there. laid_longer v.laid (x.task ∷ []) i t (ap (λ l. slice_get l i) same ∙ there) in
+      let w : Hand T = hand v.parts longer v.kept in (
+        w,
+        record {
+          laid = longer;
+          parts = (let e = total-set (λ (u : Hand T). u.parts) views port v w at in let p = h.parts in omega arith);
+          once = λ weight.
+              let e = total-set (λ (u : Hand T). kept_weight weight u.kept) views port v w at in
+              let p = h.once weight in
+              let size : below weight (length longer) ≡ below weight (length h.laid) + weight x.place =
+              ap (below weight) (length-append v.laid (x.task ∷ []) ∙ add-one (length v.laid)) ∙ (ap (λ k. below weight k + weight (length v.laid)) (ap length same) ∙ ap (λ k. below weight (length h.laid) + weight k) (sym next)) in
+              omega (arith, total-append (λ (y : Waiting T). weight y.place) items (x ∷ []));
+          waiting = all-append (Owing owes longer) items (x ∷ [])
+              (all-map (Owing owes h.laid) (Owing owes longer) (λ y owing. record { first = owing.first; at = stays y.place owing.first owing.at; pays = owing.pays }) items h.waiting)
+              (record { first = x.task; at = laid_last v.laid x.task x.place next; pays = λ done owed. owed }, tt);
+          hands = hands_set longer views port w
+              (record { knows = λ _. refl; idle = λ none. absurd (omega arith); placed = all-map (IsLaid h.laid) (IsLaid longer) (λ e there. stays e.0 e.1 there) v.kept mine.placed })
+              (λ j u other there.
+              let le = two_terms_le (λ (u : Hand T). u.parts) views port j v u at there other in
+              let p = h.parts in
+              let none : u.parts ≡ 0 = omega arith in
+              record {
+                knows = λ some_part. absurd (omega arith);
+                idle = (h.hands j u there).idle;
+                placed = subst (AllByRecursion (IsLaid longer)) (sym ((h.hands j u there).idle none)) tt;
+              });
+        },
+        refl,
+      )
+
+  pub forks : (port : ℕ) (v : Hand T) → 1 < v.parts → Forks (Holds owes) port v (hand (v.parts - 1) v.laid v.kept) (hand 1 v.laid [])
+  forks port v parts items views h at =
+      let mine = h.hands port v at in
+      let left : Hand T = hand (v.parts - 1) v.laid v.kept in
+      let right : Hand T = hand 1 v.laid [] in
+      let others = hands_set h.laid views port left (record { knows = λ _. mine.knows (omega arith); idle = λ none. absurd (omega arith); placed = mine.placed }) (λ j u other there. h.hands j u there) in
+      record {
+        laid = h.laid;
+        parts = (let e = total-set (λ (u : Hand T). u.parts) views port v left at in let p = h.parts in omega (arith, total-append (λ (u : Hand T). u.parts) (set views port left) (right ∷ [])));
+        once = λ weight.
+            let e = total-set (λ (u : Hand T). kept_weight weight u.kept) views port v left at in
+            let p = h.once weight in
+            omega (arith, total-append (λ (u : Hand T). kept_weight weight u.kept) (set views port left) (right ∷ []));
+        waiting = h.waiting;
+        hands = λ j u there. ⊎_elim (λ (old : get_elem? (set views port left) j ≡ some u). others j u old)
+            (λ (is : right ≡ u). subst (Fits h.laid) is (record { knows = λ _. mine.knows (omega arith); idle = λ none. refl; placed = tt }))
+            (at_snoc (set views port left) right u j there);
+      }
+
+  pub merges : (port : ℕ) (v : Hand T) (other : ℕ) (u : Hand T) → 0 < v.parts → 0 < u.parts
+      → Merges (Holds owes) port v other u (hand (v.parts + u.parts) v.laid (v.kept ++ u.kept)) (hand 0 [] [])
+  merges port v other u some_part part items views h at apart at' =
+      let mine = h.hands port v at in
+      let both : Hand T = hand (v.parts + u.parts) v.laid (v.kept ++ u.kept) in
+      let spent : Hand T = hand 0 [] [] in
+      let was : get_elem? views other ≡ some u = ⊎_elim (λ (x : (other ≡ port) × (both ≡ u)). absurd (apart x.0)) (λ (x : (other ≢ port) × (get_elem? views other ≡ some u)). x.1) (at_set views port other both u at') in
+      let theirs = h.hands other u was in
+      record {
+        laid = h.laid;
+        parts = (let e = total-set (λ (u : Hand T). u.parts) views port v both at in let d = total-set (λ (u : Hand T). u.parts) (set views port both) other u spent at' in let p = h.parts in omega arith);
+        once = λ weight.
+            let e = total-set (λ (u : Hand T). kept_weight weight u.kept) views port v both at in
+            let d = total-set (λ (u : Hand T). kept_weight weight u.kept) (set views port both) other u spent at' in
+            let p = h.once weight in
+            omega (arith, total-append (λ (e : ℕ × T). weight e.0) v.kept u.kept);
+        waiting = h.waiting;
+        hands = hands_set h.laid (set views port both) other spent (record { knows = λ part. absurd (omega arith); idle = λ _. refl; placed = tt })
+            (λ j y _ there. hands_set h.laid views port both
+            (record { knows = λ _. mine.knows some_part; idle = λ none. absurd (omega arith); placed = all-append (IsLaid h.laid) v.kept u.kept mine.placed theirs.placed })
+            (λ i x _ at. h.hands i x at) j y there);
+      }
+
+  pub counts : (port : ℕ) (v : Hand T) → Learns (Holds owes) port v (Counts v)
+  counts port v items views h at all weight =
+      let mine = h.hands port v at in
+      let same : length v.laid ≡ length h.laid = ap length (mine.knows (omega arith)) in
+      let alone = total-alone (λ (u : Hand T). kept_weight weight u.kept) (λ (u : Hand T). u.parts) views port v
+      (λ j u there none. ap (kept_weight weight) ((h.hands j u there).idle none)) at (h.parts ∙ sym all) in
+      let p = h.once weight in
+      let size : below weight (length v.laid) ≡ below weight (length h.laid) = ap (below weight) same in
+      omega arith
+
+-- a pass with all parts that keeps nothing, and laid fewer tasks than the queue has room for, never finds it full
+pub never_full : {T : Type 0} (v : Hand T) (items : List (Waiting T)) (room : ℕ) → v.parts ≡ all_parts → v.kept ≡ [] → length items ≡ room → Counts v items → length v.laid < room → ⊥
+never_full v items room all none full counted short =
+    let p = counted all (λ _. 1) in
+    let k : kept_weight (λ _. 1) v.kept ≡ 0 = ap (kept_weight (λ _. 1)) none in
+    omega (arith, total-ones items, below-ones (length v.laid))
+
+-- a pass that takes or gives keeps its parts
+pub still_part : {T : Type 0} (parts : ℕ) (w : Hand T) (laid : List T) (kept : List (ℕ × T)) → w ≡ hand parts laid kept → 0 < parts → 0 < w.parts
+still_part parts w laid kept is part = let e : w.parts ≡ parts = ap (λ (y : Hand _). y.parts) is in omega arith

@@ -1,0 +1,4 @@
+pub mod Owes
+pub mod Hand
+pub mod Rule
+pub mod Results

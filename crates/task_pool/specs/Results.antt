@@ -1,0 +1,44 @@
+-- What the tasks gave, from a turn to the answers of the pool.
+use Rattle.std.specs.Prelude.{◌≡◌, ℕ, ◌<◌, List, [], ◌∷◌, ◌++◌, length, slice_get, Option, Some}
+use Rattle.std.specs.List.{AllByRecursion, AllZip}
+use Rattle.crossbeam_queue.specs.Fifo.{Held}
+use Rattle.task_pool.specs.declared.hand.Hand.{Hand}
+use Rattle.task_pool.specs.declared.waiting.Finished.{Finished}
+use Rattle.task_pool.specs.declared.waiting.Tried.{Tried}
+use Rattle.task_pool.specs.declared.waiting.Tried.TheVariants.{Idle, Again, Over}
+use Rattle.task_pool.specs.Hand.{hand}
+use Rattle.task_pool.specs.Rule.{IsLaid, Counts, below, kept_weight}
+
+module _ {T D : Type 0} (owes : T → D → Type 0) where
+  -- a result for the place, which the task first laid there owed
+  abbrev pub IsPaid : List T → (ℕ × T) → Finished D → Type 0
+  IsPaid laid e f = (f.place ≡ e.0) × IsLaid laid e × owes e.1 f.done
+
+  -- what a turn tells that brought a task to its end: its place is kept, and the result was owed there
+  pub record Ends (v : Hand T) (f : Finished D) (w : Hand T) : Type 0 where
+    pub first : T
+    pub keeps : w ≡ hand v.parts v.laid (v.kept ++ (f.place, first) ∷ [])
+    pub paid : IsPaid v.laid (f.place, first) f
+    pub room : length v.kept < length v.laid
+
+  -- what a try to make a turn tells: no task waited at one moment; or one made a turn and waits again; or one is done
+  abbrev pub Tries : Hand T → Tried D → Hand T → Type 0
+  Tries v Idle w = (w ≡ v) × Held 0 (Counts v)
+  Tries v Again w = w ≡ v
+  Tries v (Over f) w = Ends v f w
+
+  -- a pass with one part, to which these tasks were laid, keeps just the places of these results
+  pub record Keeps (laid : List T) (finished : List (Finished D)) (v : Hand T) : Type 0 where
+    pub part : v.parts ≡ 1
+    pub knows : v.laid ≡ laid
+    pub paid : AllZip (IsPaid laid) v.kept finished
+
+  -- the answers are as owed at their places, and there is one at each place that is kept
+  pub record Settled (laid : List T) (kept : List (ℕ × T)) (answers : List (Option D)) : Type 0 where
+    pub size : length answers ≡ length laid
+    pub owed : (k : ℕ) (done : D) → slice_get answers k ≡ Some (Some done) → (first : T) × (slice_get laid k ≡ Some first) × owes first done
+    pub filled : AllByRecursion (λ e. (done : D) × (slice_get answers e.0 ≡ Some (Some done))) kept
+
+-- a pass keeps each place of the laid tasks once, however the places are weighed
+abbrev pub IsWhole : {T : Type 0} → List T → List (ℕ × T) → Type 0
+IsWhole laid kept = (weight : ℕ → ℕ) → kept_weight weight kept ≡ below weight (length laid)

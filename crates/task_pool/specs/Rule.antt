@@ -1,0 +1,71 @@
+-- The rule of the queue of waiting tasks: each place waits, or is kept by one pass, once.
+use Rattle.std.specs.Prelude.{◌≡◌, ℕ, zero, suc, ◌+◌, ◌-◌, ◌<◌, List, [], ◌∷◌, ◌++◌, length, take, slice_get, Some}
+use Rattle.std.specs.List.{AllByRecursion}
+use mathlib.Core.Option.{some}
+use lib.ListN.{get_elem?}
+use Rattle.task_pool.specs.declared.hand.Hand.{Hand}
+use Rattle.task_pool.specs.declared.waiting.Waiting.{Waiting}
+use Rattle.task_pool.specs.Hand.{hand, all_parts}
+
+-- f of each element, added up
+abbrev pub total : {X : Type 0} → (X → ℕ) → List X → ℕ
+total f [] = 0
+total f (x ∷ xs) = f x + total f xs
+
+-- the weights of the places below n, added up
+abbrev pub below : (ℕ → ℕ) → ℕ → ℕ
+below weight zero = 0
+below weight (suc n) = below weight n + weight n
+
+-- the weights of the places that a pass keeps, and of those that wait
+abbrev pub kept_weight : {T : Type 0} → (ℕ → ℕ) → List (ℕ × T) → ℕ
+kept_weight weight kept = total (λ e. weight e.0) kept
+
+abbrev pub waiting_weight : {T : Type 0} → (ℕ → ℕ) → List (Waiting T) → ℕ
+waiting_weight weight items = total (λ x. weight x.place) items
+
+-- the task was first laid at the place
+abbrev pub IsLaid : {T : Type 0} → List T → (ℕ × T) → Type 0
+IsLaid laid e = slice_get laid e.0 ≡ Some e.1
+
+-- what a pass knows fits the tasks laid: with a part it knows them all, without one it keeps nothing, and it keeps places with the tasks laid there
+pub record Fits {T : Type 0} (laid : List T) (v : Hand T) : Type 0 where
+  pub knows : 0 < v.parts → v.laid ≡ laid
+  pub idle : v.parts ≡ 0 → v.kept ≡ []
+  pub placed : AllByRecursion (IsLaid laid) v.kept
+
+module _ {T D : Type 0} (owes : T → D → Type 0) where
+  -- what a waiting task owes, the task first laid at its place owed
+  pub record Owing (laid : List T) (x : Waiting T) : Type 0 where
+    pub first : T
+    pub at : slice_get laid x.place ≡ Some first
+    pub pays : (done : D) → owes x.task done → owes first done
+
+  -- Some tasks were laid. Each of their places waits or is kept by a pass, once, however the places are weighed,
+  -- and each waiting task owes no more than the one first laid at its place.
+  pub record Holds (items : List (Waiting T)) (views : List (Hand T)) : Type 0 where
+    pub laid : List T
+    pub parts : total (λ (v : Hand T). v.parts) views ≡ all_parts
+    pub once : (weight : ℕ → ℕ) → total (λ (v : Hand T). kept_weight weight v.kept) views + waiting_weight weight items ≡ below weight (length laid)
+    pub waiting : AllByRecursion (Owing laid) items
+    pub hands : (pass : ℕ) (v : Hand T) → get_elem? views pass ≡ some v → Fits laid v
+
+  -- what a pop tells: the place is kept, with the task first laid there, and there was room for it
+  pub record Takes (v : Hand T) (x : Waiting T) (w : Hand T) : Type 0 where
+    pub first : T
+    pub keeps : w ≡ hand v.parts v.laid (v.kept ++ (x.place, first) ∷ [])
+    pub at : slice_get v.laid x.place ≡ Some first
+    pub pays : (done : D) → owes x.task done → owes first done
+    pub room : length v.kept < length v.laid
+
+-- what a push of one more task tells: it was laid at the next place
+abbrev pub Lays : {T : Type 0} → Hand T → Waiting T → Hand T → Type 0
+Lays v x w = w ≡ hand v.parts (v.laid ++ x.task ∷ []) v.kept
+
+-- what a push of a task that was taken last tells: its place is kept no longer
+abbrev pub Gives : {T : Type 0} → Hand T → Waiting T → Hand T → Type 0
+Gives v x w = w ≡ hand v.parts v.laid (take (length v.kept - 1) v.kept)
+
+-- what the pass with all parts learns: each place is kept by it or waits, once
+abbrev pub Counts : {T : Type 0} → Hand T → List (Waiting T) → Type 0
+Counts v items = v.parts ≡ all_parts → (weight : ℕ → ℕ) → kept_weight weight v.kept + waiting_weight weight items ≡ below weight (length v.laid)

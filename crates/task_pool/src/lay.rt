@@ -1,0 +1,31 @@
+//! Lays the tasks in the queue.
+ghost use Rattle.std.specs.Prelude.{◌≡◌, ◌<◌, ◌^◌, ◌++◌, [], length, vec_len, IfOk};
+ghost use Rattle.crossbeam_queue.specs.Passes.{view, IsPassOf, ruled_capacity};
+ghost use Rattle.task_pool.specs.Hand.{hand, all_parts};
+
+use crate::queue::{Laying, TaskPass, TaskQueue};
+use crate::task::PoolTask;
+use crate::waiting::Waiting;
+use std::alloc::{AllocError, Global};
+use std::sync::Wait;
+
+/// A queue with the tasks at their places, and the pass with all parts.
+pub(crate) fn lay_all<T: PoolTask, R: Wait>(
+    rt: &R,
+    alloc: Global,
+    tasks: Vec<T>,
+) -> Result<(TaskQueue<T>, TaskPass<T>), AllocError>
+    requires some { 0 < vec_len tasks }
+    requires few { vec_len tasks < 2 ^ 32 }
+    ensures { IfOk result (λ q. IsPassOf q.0 q.1 × (view q.1 ≡ hand all_parts tasks.items [])) }
+{
+    let (queue, mut pass) = TaskQueue::ruled(alloc, tasks.len())?;
+    let mut place = 0u32;
+    for task in tasks {
+        match queue.push_as::<Laying<T>, R>(rt, &mut pass, Waiting { place, task }) {
+            Ok(()) => place += 1,
+            Err(_) => unreachable!(),
+        }
+    }
+    Ok((queue, pass))
+}

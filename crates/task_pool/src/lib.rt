@@ -1,0 +1,21 @@
+//! A pool of workers that runs tasks by turns, one `Done` for each task.
+//!
+//! A task is a value that makes one turn at a time. Workers take tasks from one queue, make one
+//! turn and give them back, until each task is done. The crates whose tasks are the domains of a
+//! run, the clients of a persistent server or the hops of a relay build on it.
+#![tactic(auto)]
+
+mod account;
+mod hand;
+mod lay;
+mod pool;
+mod queue;
+mod task;
+#[cfg(test)]
+mod tests;
+mod turn;
+mod waiting;
+mod worker;
+
+pub use pool::{MOST_WORKERS, run_pool};
+pub use task::{PoolTask, Turn};

@@ -1,0 +1,77 @@
+//! The queue of waiting tasks, and the moves of a pass on it.
+//!
+//! A pass holds parts of the right to know every other pass. The calling thread begins with all
+//! of them, lays the tasks, and cuts a part off for each worker.
+ghost use Rattle.std.specs.Prelude.{◌≡◌, ◌+◌, ◌-◌, [], ◌++◌};
+ghost use Rattle.task_pool.specs.Rule.{Holds, Takes, Lays, Gives, Counts};
+ghost use Rattle.task_pool.specs.Hand.{hand, all_parts};
+
+use crate::hand::Hand;
+use crate::task::PoolTask;
+use crate::waiting::Waiting;
+use crossbeam_queue::protocol::{Join, Lesson, Outcome, Protocol, Split};
+use crossbeam_queue::{Pass, RuledArrayQueue};
+use std::marker::PhantomData;
+
+/// The rule of the queue: each place waits, or is kept by one pass, once.
+pub(crate) struct Law<T>(PhantomData<T>);
+
+impl<T: PoolTask> Protocol<Waiting<T>, Hand<T>> for Law<T> {
+    ghost holds = { Holds T.owes };
+
+    ghost first = { hand all_parts [] [] };
+}
+
+/// A task is laid at the next place.
+pub(crate) struct Laying<T>(PhantomData<T>);
+
+impl<T: PoolTask> Outcome<Waiting<T>, Hand<T>> for Laying<T> {
+    ghost then = { Lays };
+}
+
+impl<T: PoolTask> Lesson<Waiting<T>, Hand<T>> for Laying<T> {
+    ghost fact = { Counts };
+}
+
+/// A task is taken for a turn.
+pub(crate) struct Taking<T>(PhantomData<T>);
+
+impl<T: PoolTask> Outcome<Waiting<T>, Hand<T>> for Taking<T> {
+    ghost then = { Takes T.owes };
+}
+
+impl<T: PoolTask> Lesson<Waiting<T>, Hand<T>> for Taking<T> {
+    ghost fact = { Counts };
+}
+
+/// A task is given back after a turn.
+pub(crate) struct Giving<T>(PhantomData<T>);
+
+impl<T: PoolTask> Outcome<Waiting<T>, Hand<T>> for Giving<T> {
+    ghost then = { Gives };
+}
+
+impl<T: PoolTask> Lesson<Waiting<T>, Hand<T>> for Giving<T> {
+    ghost fact = { Counts };
+}
+
+/// A part is cut off for a worker, or a worker's pass comes back.
+pub(crate) struct Parting<T>(PhantomData<T>);
+
+impl<T: PoolTask> Split<Hand<T>> for Parting<T> {
+    ghost left = { λ v. hand (v.parts - 1) v.laid v.kept };
+
+    ghost right = { λ v. hand 1 v.laid [] };
+}
+
+impl<T: PoolTask> Join<Hand<T>> for Parting<T> {
+    ghost both = { λ v w. hand (v.parts + w.parts) v.laid (v.kept ++ w.kept) };
+
+    ghost spent = { hand 0 [] [] };
+}
+
+/// The queue of the tasks that wait.
+pub(crate) type TaskQueue<T> = RuledArrayQueue<Waiting<T>, Hand<T>, Law<T>>;
+
+/// What a thread holds to use the queue.
+pub(crate) type TaskPass<T> = Pass<Waiting<T>, Hand<T>>;

@@ -1,0 +1,193 @@
+ghost use Rattle.std.specs.Prelude.{◌≡◌, ◌+◌, ◌<◌, ◌^◌, IfOk, vec_len};
+
+use super::*;
+use service_gate::{Gate, OpenGate};
+use std::alloc::{AllocError, Global};
+use std::sync::atomic::{AtomicBool, AtomicU64, Ordering};
+use std::test::Fail;
+use std::thread;
+
+// A task of so many turns, which answers how many it made.
+#[derive(Drop)]
+struct Steps {
+    made: u32,
+    left: u32,
+    ghost unfinished: { 0 < left },
+    ghost fits: { made + left < 2 ^ 32 },
+}
+
+impl PoolTask for Steps {
+    type Done = u32;
+
+    ghost owes = { λ t done. done ≡ t.made + t.left };
+
+    fn turn(self) -> Turn<Steps> {
+        if self.left == 1 {
+            return Turn::Done(self.made + 1);
+        }
+        Turn::Again(Steps {
+            made: self.made + 1,
+            left: self.left - 1,
+        })
+    }
+}
+
+// So many tasks, of which the one at place k needs k + 1 turns.
+fn rising(alloc: Global, count: u32) -> Result<Vec<Steps>, AllocError>
+    requires { count < 2 ^ 16 }
+    ensures { IfOk result (λ v. vec_len v ≡ count) }
+{
+    let mut tasks = Vec::new(alloc);
+    for place in 0..count {
+        tasks.push(Steps {
+            made: 0,
+            left: place + 1,
+        })?;
+    }
+    Ok(tasks)
+}
+
+// Counts the turns.
+#[derive(Drop)]
+struct Counted {
+    turns: AtomicU64,
+}
+
+impl Gate for Counted {
+    fn enter(&self, _task: u32) {
+        self.turns.fetch_add(1, Ordering::SeqCst);
+    }
+}
+
+#[test]
+fn forty_tasks(rt: HostRuntime) -> Result<(), Fail> {
+    for workers in [1, 3, 16] {
+        let gate = Counted {
+            turns: AtomicU64::new(0),
+        };
+        let dones = run_pool(&rt, rt.alloc(), rising(rt.alloc(), 40)?, workers, &gate)?;
+        assert_eq!(rt;
+            gate.turns.load(Ordering::SeqCst),
+            820,
+            "with {workers} workers"
+        );
+        assert_eq!(rt; dones.len(), 40, "with {workers} workers");
+        for (place, done) in dones.iter().enumerate() {
+            assert_eq!(rt; *done as usize, place + 1, "with {workers} workers");
+        }
+    }
+    let none = run_pool(&rt, rt.alloc(), rising(rt.alloc(), 0)?, 3, &OpenGate)?;
+    assert!(rt; none.is_empty());
+    Ok(())
+}
+
+// How many tries a gate holds a task whose companions do not come.
+const PATIENCE: u32 = 100_000_000;
+
+// Holds the first turn of each task of a set, by the bits of their places, until all of the set
+// have entered.
+#[derive(Drop)]
+struct Together {
+    set: u64,
+    entered: AtomicU64,
+    late: AtomicBool,
+}
+
+impl Together {
+    fn of(set: u64) -> Together {
+        Together {
+            set,
+            entered: AtomicU64::new(0),
+            late: AtomicBool::new(false),
+        }
+    }
+}
+
+impl Gate for Together {
+    fn enter(&self, task: u32) {
+        let bit = 1u64 << (task % 64);
+        let before = self.entered.fetch_or(bit, Ordering::SeqCst);
+        if before & bit != 0 || self.set & bit == 0 {
+            return;
+        }
+        for _ in 0..PATIENCE {
+            if self.entered.load(Ordering::SeqCst) & self.set == self.set {
+                return;
+            }
+            thread::yield_now();
+        }
+        self.late.store(true, Ordering::SeqCst);
+    }
+}
+
+// Three tasks and two workers: the places 1 and 2 are in a turn at once.
+#[test]
+fn two_turns_at_once(rt: HostRuntime) -> Result<(), Fail> {
+    let gate = Together::of(0b110);
+    let dones = run_pool(&rt, rt.alloc(), rising(rt.alloc(), 3)?, 2, &gate)?;
+    assert_eq!(rt; dones.as_slice(), [1, 2, 3].as_slice());
+    assert!(rt; !gate.late.load(Ordering::SeqCst), "a task waited in vain");
+    Ok(())
+}
+
+// As many tasks as workers: all are in a turn at once.
+#[test]
+fn all_turns_at_once(rt: HostRuntime) -> Result<(), Fail> {
+    for workers in [2u32, 3, 16] {
+        let gate = Together::of((1 << workers) - 1);
+        let dones = run_pool(
+            &rt,
+            rt.alloc(),
+            rising(rt.alloc(), workers)?,
+            workers,
+            &gate,
+        )?;
+        assert_eq!(rt; dones.len(), workers as usize);
+        assert!(rt;
+            !gate.late.load(Ordering::SeqCst),
+            "a task of {workers} waited in vain"
+        );
+    }
+    Ok(())
+}
+
+// How many tries a gate holds the one task that should be alone.
+const SOLITUDE: u32 = 1_000_000;
+
+// Holds the first task that enters, and tells whether another one enters meanwhile.
+#[derive(Drop)]
+struct Alone {
+    came: AtomicBool,
+    holds: AtomicBool,
+    met: AtomicBool,
+}
+
+impl Gate for Alone {
+    fn enter(&self, _task: u32) {
+        if self.holds.load(Ordering::SeqCst) {
+            self.met.store(true, Ordering::SeqCst);
+        }
+        if self.came.swap(true, Ordering::SeqCst) {
+            return;
+        }
+        self.holds.store(true, Ordering::SeqCst);
+        for _ in 0..SOLITUDE {
+            thread::yield_now();
+        }
+        self.holds.store(false, Ordering::SeqCst);
+    }
+}
+
+// Three tasks and one worker: no two are in a turn at once.
+#[test]
+fn one_turn_at_a_time(rt: HostRuntime) -> Result<(), Fail> {
+    let gate = Alone {
+        came: AtomicBool::new(false),
+        holds: AtomicBool::new(false),
+        met: AtomicBool::new(false),
+    };
+    let dones = run_pool(&rt, rt.alloc(), rising(rt.alloc(), 3)?, 1, &gate)?;
+    assert_eq!(rt; dones.as_slice(), [1, 2, 3].as_slice());
+    assert!(rt; !gate.met.load(Ordering::SeqCst), "two tasks met");
+    Ok(())
+}
