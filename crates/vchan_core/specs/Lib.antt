@@ -10,3 +10,6 @@ pub mod Laws
 pub mod Page
 pub mod Past
 pub mod Turned
+pub mod SoFar
+pub mod RingLaw
+pub mod Lawful
