@@ -5,3 +5,5 @@ pub mod StepLaws
 pub mod RunLaws
 pub mod TurnLaws
 pub mod Sound
+pub mod SoFarLaws
+pub mod ChannelLaws

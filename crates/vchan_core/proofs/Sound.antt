@@ -17,7 +17,7 @@ use Rattle.vchan_core.specs.declared.call.Call.{Call}
 use Rattle.vchan_core.specs.declared.call.Call.TheVariants.{Write, Send, Read, Recv, Drain, DataReady, BufferSpace, Connect, Close, TakeEvent, Retire, PeerGone}
 use Rattle.vchan_core.specs.declared.call.EndState.{EndState}
 use Rattle.vchan_core.specs.declared.call.EndState.TheVariants.{Fresh, Open, Shut}
-use Rattle.vchan_core.specs.Plan.{Plan, does, answers, Leads, GoesOn}
+use Rattle.vchan_core.specs.Plan.{Plan, does, answers, next_op, Leads, GoesOn}
 use Rattle.vchan_core.specs.Ends.{Standing, standing_after, written_ring, read_ring, prod_word, cons_word, ask_word, notify_word, peer_live, own_live, own_pending, own_gone, peer_gone, peer_pending, mask, low8, low16, low32, write_order, read_order, free_at, ready_at, state_after, prod_after, cons_after, live_stored, prod_stored, cons_stored}
 use Rattle.vchan_core.specs.Calls.{put_bytes, take_bytes, put_index, take_index, put, take, notify, signal, ask, look_read, look_write, write, write_open, write_looked, read, read_live, read_looked, drain_found, drain_last, drain_gone, drain_further, drain_live, drain_second, drain, connect, connect_right, close, retire, retire_shut, plan_of, send, send_open, send_looked, recv, recv_live, recv_looked}
 use Rattle.vchan_core.specs.Core.{standing_along, stored_by, loaded_by, count_stored, bytes_loaded}
@@ -98,14 +98,14 @@ StaysStored CliLive Client (suc value) = ⊥
 StaysStored SrvLive Server (suc value) = ⊥
 StaysStored _ _ value = Unit {0}
 
-abbrev pub Stays : Role → Op → Type 0
-Stays role (Store word value) = StaysStored word role value
-Stays role _ = Unit {0}
+abbrev pub StaysAs : Role → Op → Type 0
+StaysAs role (Store word value) = StaysStored word role value
+StaysAs role _ = Unit {0}
 
 -- each event of the plan, whatever the values are, gives what it owes
 unfoldable pub Sound : Standing → SoFar → Plan → Type 0
 Sound e n (answers answer) = Unit {0}
-Sound e n (does op next) = OwesSound e n op × ((value : ℕ) → GoesOn (next value) → Stays e.role op × Sound e (so_far_after e.role n op value) (next value))
+Sound e n (does op next) = OwesSound e n op × ((value : ℕ) → GoesOn (next value) → StaysAs e.role op × Sound e (so_far_after e.role n op value) (next value))
 
 -- ---- the pieces
 
@@ -370,7 +370,7 @@ sound_call e Retire = sound_retire e nothing_so_far e.state
 -- ---- along a trail
 
 -- what leads to a plan that goes on goes on itself
-goes_on-Leads : (plan : Plan) (events : List PastEvent) (rest : Plan) → Leads plan events rest → GoesOn rest → GoesOn plan
+pub goes_on-Leads : (plan : Plan) (events : List PastEvent) (rest : Plan) → Leads plan events rest → GoesOn rest → GoesOn plan
 goes_on-Leads plan [] rest led more = subst GoesOn (sym led) more
 goes_on-Leads (answers answer) (event ∷ events) rest led more = absurd led
 goes_on-Leads (does op next) (event ∷ events) rest led more = tt
@@ -386,7 +386,7 @@ Sound-Leads e n (does op next) (event ∷ events) rest s led more =
     (subst (λ (o : Op). Sound e (so_far_after e.role n o event.taken) (next event.taken)) (sym led.0) (s.1 event.taken (goes_on-Leads (next event.taken) events rest led.1 more)).1) led.1 more
 
 -- the next event gives what it owes
-pub owes_sound : (e : Standing) (n : SoFar) (plan : Plan) → Sound e n plan → GoesOn plan → (op : Op) × (next : ℕ → Plan) × (plan ≡ does op next) × OwesSound e n op
+pub owes_sound : (e : Standing) (n : SoFar) (plan : Plan) → Sound e n plan → GoesOn plan → OwesSound e n (next_op plan)
 unfolding Sound
 owes_sound e n (answers answer) s more = absurd more
-owes_sound e n (does op next) s more = (op, next, refl, s.0)
+owes_sound e n (does op next) s more = s.0
