@@ -7,3 +7,5 @@ pub mod TurnLaws
 pub mod Sound
 pub mod SoFarLaws
 pub mod ChannelLaws
+pub mod EndSteps
+pub mod RingSteps
