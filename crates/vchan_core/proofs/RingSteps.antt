@@ -19,8 +19,9 @@ use Rattle.vchan_core.specs.declared.op.Op.TheVariants.{Load, LoadByte, Store, S
 use Rattle.vchan_core.specs.declared.op.PastEvent.{PastEvent}
 use Rattle.vchan_core.specs.declared.side.Side.{Side}
 use Rattle.vchan_core.specs.declared.side.Begun.{Begun}
-use Rattle.vchan_core.specs.Plan.{past}
+use Rattle.vchan_core.specs.Plan.{past, left_after}
 use Rattle.vchan_core.specs.Ends.{Standing, written_ring, read_ring, prod_word, cons_word, low32, prod_after, cons_after, prod_stored, cons_stored}
+use Rattle.vchan_core.specs.Calls.{plan_of}
 use Rattle.vchan_core.specs.Apply.{words_after, value_taken, word_of, leaves}
 use Rattle.vchan_core.specs.Core.{begun_standing, made, count_stored, bytes_loaded, sent_stored, sent_after, got_stored, got_after}
 use Rattle.vchan_core.specs.SoFar.{SoFar, so_far, so_far_after, so_far_loaded, so_far_stored, nothing_so_far, unshown, unreleased}
@@ -28,6 +29,8 @@ use Rattle.vchan_core.specs.RingLaw.{Channel, IsLawful, IsLawfulCall, AreBytes, 
 use Rattle.vchan_core.proofs.Sound.{OwesSound, OwesStored, IsFlag, StoresByte, StoresProd, StoresCons, LoadsByte}
 use Rattle.vchan_core.proofs.SoFarLaws.{so_far-push, stored-is, loaded-is}
 use Rattle.vchan_core.proofs.ChannelLaws.{lawful-same, lawful-look_write, lawful-store_byte, lawful-store_prod, lawful-look_read, lawful-load_byte, lawful-store_cons}
+use Rattle.vchan_core.proofs.Counted.{counts_within}
+use Rattle.vchan_core.proofs.StepLaws.{OwesNext, stored_most-payload}
 use Rattle.vchan_core.proofs.EndSteps.{not_yet}
 
 -- ---- the words of a ring
@@ -326,3 +329,91 @@ read_stored word Server value r orders words e cons was got trail n order sized 
     lawful-elsewhere (reading r cons got n) orders words Left word value order has tt w
 read_stored word Client value r orders words e cons was got trail n order sized has cons_is bytes_are owes w =
     lawful-elsewhere (reading r cons got n) orders words Right word value order has tt w
+
+-- ---- an event of an end
+
+-- a byte of the ring that an end writes is none of the ring that it reads
+other_byte : (role : Role) (at : ℕ) → Elsewhere (read_ring role) (RingByte (written_ring role) at)
+other_byte Server at = tt
+other_byte Client at = tt
+
+module _ (start : ℕ) (words : List ℕ) (s other : Side) (b : Begun) (c : IsLawfulCall s b) (sized : length words ≡ word_count s.orders) where
+  few : count_stored s.trail ≤ length s.payload
+  few =
+      omega (arith, (counts_within (begun_standing s b) b.call s.trail (left_after (plan_of (begun_standing s b) b.call) s.trail) c.led).0, stored_most-payload (begun_standing s b) b.call, c.pays)
+
+  -- the ring that it writes
+  wrote : (op : Op) → OwesSound (begun_standing s b) (so_far s.role s.trail) op → OwesNext s b op → IsLawful (channel_between start s.orders words (written_ring s.role) s other) →
+      IsLawful (writing (channel_between start s.orders (words_after s.orders words s.payload op) (written_ring s.role) s other) (prod_after op s.role s.prod) (sent_after op s) s.payload
+      (so_far_after s.role (so_far s.role s.trail) op (value_taken s.orders words op)))
+  wrote (Load word) owes counts w =
+      subst (λ (new : List ℕ). IsLawful (writing (channel_between start s.orders new (written_ring s.role) s other) s.prod s.sent s.payload (so_far_loaded word s.role (low32 (word_at s.orders words word)) (so_far s.role s.trail))))
+      (sym (loaded_same s.orders words word))
+      (wrote_loaded word s.role (channel_between start s.orders words (written_ring s.role) s other) s.prod s.sent s.payload (so_far s.role s.trail) (low32 (word_at s.orders words word))
+      (λ e. ap (λ (name : WordName). low32 (word_at s.orders words name)) e ∙ low32-index start (length other.got) _ w.cons) w)
+  wrote (LoadByte word at) owes counts w =
+      subst (λ (new : List ℕ). IsLawful (channel_between start s.orders new (written_ring s.role) s other)) (sym (loaded_same s.orders words word)) w
+  wrote (Store word value) owes counts w =
+      wrote_stored word s.role value (channel_between start s.orders words (written_ring s.role) s other) s.orders words (begun_standing s b) s.prod _ s.sent s.payload s.trail (so_far s.role s.trail)
+      refl sized counts.1 refl c.prod (stored-is s.role s.trail) few c.bytes owes w
+  wrote (StoreByte word at) owes counts w =
+      let same : s.prod ≡ b.prod = not_yet (so_far s.role s.trail).shown _ b.prod s.prod owes.not_shown c.prod in
+      let there : word ≡ RingByte (written_ring s.role) (place (s.prod + at) (order_of s.orders (written_ring s.role))) =
+      owes.word_is ∙ ap (λ (p : ℕ). RingByte (written_ring s.role) (place (p + at) (order_of s.orders (written_ring s.role)))) (sym same) in
+      subst (λ (name : WordName). IsLawful (writing (channel_between start s.orders (slice_set words (index_of s.orders name) (slice_index s.payload at)) (written_ring s.role) s other) s.prod s.sent s.payload
+      (record (so_far s.role s.trail) { stored = (so_far s.role s.trail).stored + 1 }))) (sym there)
+      (wrote_byte (written_ring s.role) (channel_between start s.orders words (written_ring s.role) s other) s.orders words s.prod s.sent s.payload (so_far s.role s.trail) owes.index at refl sized owes.seen owes.not_shown owes.at_is
+      (subst (λ (p : ℕ). at < room p owes.index (order_of s.orders (written_ring s.role))) (sym same) owes.has_room) w)
+  wrote (Or word bits) owes counts w =
+      lawful-elsewhere (channel_between start s.orders words (written_ring s.role) s other) s.orders words (written_ring s.role) word _ refl counts (flag_elsewhere (written_ring s.role) word owes) w
+  wrote (And word bits) owes counts w =
+      lawful-elsewhere (channel_between start s.orders words (written_ring s.role) s other) s.orders words (written_ring s.role) word _ refl counts (flag_elsewhere (written_ring s.role) word owes) w
+  wrote (Swap word value) owes counts w =
+      lawful-elsewhere (channel_between start s.orders words (written_ring s.role) s other) s.orders words (written_ring s.role) word _ refl counts (flag_elsewhere (written_ring s.role) word owes) w
+  wrote Nothing owes counts w = absurd owes
+
+  -- the ring that it reads
+  read : (op : Op) → OwesSound (begun_standing s b) (so_far s.role s.trail) op → OwesNext s b op → IsLawful (channel_between start s.orders words (read_ring s.role) other s) →
+      IsLawful (reading (channel_between start s.orders (words_after s.orders words s.payload op) (read_ring s.role) other s) (cons_after op s.role s.cons) (got_after op s)
+      (so_far_after s.role (so_far s.role s.trail) op (value_taken s.orders words op)))
+  read (Load word) owes counts w =
+      subst (λ (new : List ℕ). IsLawful (reading (channel_between start s.orders new (read_ring s.role) other s) s.cons s.got (so_far_loaded word s.role (low32 (word_at s.orders words word)) (so_far s.role s.trail))))
+      (sym (loaded_same s.orders words word))
+      (read_loaded word s.role (channel_between start s.orders words (read_ring s.role) other s) s.cons s.got (so_far s.role s.trail) (low32 (word_at s.orders words word))
+      (λ e. ap (λ (name : WordName). low32 (word_at s.orders words name)) e ∙ low32-index start (length other.sent) _ w.prod) w)
+  read (LoadByte word at) owes counts w =
+      let same : s.cons ≡ b.cons = not_yet (so_far s.role s.trail).released _ b.cons s.cons owes.not_released c.cons in
+      let there : word ≡ RingByte (read_ring s.role) (place (s.cons + length (so_far s.role s.trail).loaded) (order_of s.orders (read_ring s.role))) =
+      owes.word_is ∙ ap (λ (p : ℕ). RingByte (read_ring s.role) (place (p + at) (order_of s.orders (read_ring s.role)))) (sym same)
+      ∙ ap (λ (k : ℕ). RingByte (read_ring s.role) (place (s.cons + k) (order_of s.orders (read_ring s.role)))) owes.at_is in
+      let waits : length (so_far s.role s.trail).loaded < ready owes.index s.cons (order_of s.orders (read_ring s.role)) =
+      subst (λ (k : ℕ). k < ready owes.index s.cons (order_of s.orders (read_ring s.role))) owes.at_is (subst (λ (p : ℕ). at < ready owes.index p (order_of s.orders (read_ring s.role))) (sym same) owes.waits) in
+      subst (λ (new : List ℕ). IsLawful (reading (channel_between start s.orders new (read_ring s.role) other s) s.cons s.got
+      (record (so_far s.role s.trail) { loaded = (so_far s.role s.trail).loaded ++ word_at s.orders words word % 2 ^ 8 ∷ [] }))) (sym (loaded_same s.orders words word))
+      (read_byte (channel_between start s.orders words (read_ring s.role) other s) s.cons s.got (so_far s.role s.trail) owes.index (word_at s.orders words word % 2 ^ 8) owes.older owes.seen owes.not_released waits
+      (ap (λ (name : WordName). word_at s.orders words name % 2 ^ 8) there) w)
+  read (Store word value) owes counts w =
+      read_stored word s.role value (channel_between start s.orders words (read_ring s.role) other s) s.orders words (begun_standing s b) s.cons _ s.got s.trail (so_far s.role s.trail)
+      refl sized counts.1 c.cons (loaded-is s.role s.trail) owes w
+  read (StoreByte word at) owes counts w =
+      let there : word ≡ RingByte (written_ring s.role) (place (b.prod + at) (order_of s.orders (written_ring s.role))) = owes.word_is in
+      lawful-elsewhere (channel_between start s.orders words (read_ring s.role) other s) s.orders words (read_ring s.role) word _ refl counts.2 (subst (λ (name : WordName). Elsewhere (read_ring s.role) name) (sym there) (other_byte s.role _)) w
+  read (Or word bits) owes counts w =
+      lawful-elsewhere (channel_between start s.orders words (read_ring s.role) other s) s.orders words (read_ring s.role) word _ refl counts (flag_elsewhere (read_ring s.role) word owes) w
+  read (And word bits) owes counts w =
+      lawful-elsewhere (channel_between start s.orders words (read_ring s.role) other s) s.orders words (read_ring s.role) word _ refl counts (flag_elsewhere (read_ring s.role) word owes) w
+  read (Swap word value) owes counts w =
+      lawful-elsewhere (channel_between start s.orders words (read_ring s.role) other s) s.orders words (read_ring s.role) word _ refl counts (flag_elsewhere (read_ring s.role) word owes) w
+  read Nothing owes counts w = absurd owes
+
+  pub wrote_made : (op : Op) → OwesSound (begun_standing s b) (so_far s.role s.trail) op → OwesNext s b op → IsLawful (channel_between start s.orders words (written_ring s.role) s other) →
+      IsLawful (channel_between start s.orders (words_after s.orders words s.payload op) (written_ring s.role) (made s op (value_taken s.orders words op)) other)
+  wrote_made op owes counts w =
+      subst (λ (n : SoFar). IsLawful (writing (channel_between start s.orders (words_after s.orders words s.payload op) (written_ring s.role) s other) (prod_after op s.role s.prod) (sent_after op s) s.payload n))
+      (sym (so_far-push s.role nothing_so_far s.trail op (value_taken s.orders words op))) (wrote op owes counts w)
+
+  pub read_made : (op : Op) → OwesSound (begun_standing s b) (so_far s.role s.trail) op → OwesNext s b op → IsLawful (channel_between start s.orders words (read_ring s.role) other s) →
+      IsLawful (channel_between start s.orders (words_after s.orders words s.payload op) (read_ring s.role) other (made s op (value_taken s.orders words op)))
+  read_made op owes counts w =
+      subst (λ (n : SoFar). IsLawful (reading (channel_between start s.orders (words_after s.orders words s.payload op) (read_ring s.role) other s) (cons_after op s.role s.cons) (got_after op s) n))
+      (sym (so_far-push s.role nothing_so_far s.trail op (value_taken s.orders words op))) (read op owes counts w)
