@@ -6,6 +6,8 @@ pub mod Phases
 pub mod Core
 pub mod Counts
 pub mod Alone
+pub mod LifeLaw
+pub mod LifeLaws
 pub mod Laws
 pub mod Page
 pub mod Past
