@@ -4,4 +4,5 @@ pub mod Counted
 pub mod StepLaws
 pub mod RunLaws
 pub mod TurnLaws
+pub mod LifeTrails
 pub mod LifeSteps

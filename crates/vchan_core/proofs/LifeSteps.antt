@@ -6,6 +6,7 @@ use Rattle.vchan_core.specs.declared.call.EndState.{EndState}
 use Rattle.vchan_core.specs.declared.call.EndState.TheVariants.{Fresh, Open, Shut}
 use Rattle.vchan_core.specs.Core.{opened}
 use Rattle.vchan_core.specs.LifeLaw.{LifeLawful}
+use Rattle.vchan_core.proofs.LifeTrails.{lives_call, Lives-Leads}
 
 open_fresh : Open ≢ Fresh
 open_fresh e = cc
