@@ -6,9 +6,12 @@ pub mod Phases
 pub mod Core
 pub mod Counts
 pub mod Alone
-pub mod LifeLaw
-pub mod LifeLaws
 pub mod Laws
 pub mod Page
 pub mod Past
 pub mod Turned
+pub mod SoFar
+pub mod RingLaw
+pub mod LifeLaw
+pub mod Lawful
+pub mod LifeLaws
