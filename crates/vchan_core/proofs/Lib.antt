@@ -5,4 +5,5 @@ pub mod StepLaws
 pub mod RunLaws
 pub mod TurnLaws
 pub mod LifeTrails
+pub mod LifeWords
 pub mod LifeSteps
