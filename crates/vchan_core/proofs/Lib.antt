@@ -7,3 +7,6 @@ pub mod TurnLaws
 pub mod LifeTrails
 pub mod LifeWords
 pub mod LifeSteps
+pub mod Sound
+pub mod SoFarLaws
+pub mod ChannelLaws

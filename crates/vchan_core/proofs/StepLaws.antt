@@ -57,7 +57,7 @@ plan_left-is s m c =
 
 -- ---- the next event, counted
 
-owes_next : (e : Standing) (out into : ℕ) (now : Standing) (s l : ℕ) (plan : Plan) → Counted e out into now s l plan → GoesOn plan → Owes e out into now s l (next_op plan)
+pub owes_next : (e : Standing) (out into : ℕ) (now : Standing) (s l : ℕ) (plan : Plan) → Counted e out into now s l plan → GoesOn plan → Owes e out into now s l (next_op plan)
 unfolding Counted
 owes_next e out into now s l (answers answer) w more = absurd more
 owes_next e out into now s l (does op next) w more = w.0
