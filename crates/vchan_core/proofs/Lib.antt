@@ -4,6 +4,9 @@ pub mod Counted
 pub mod StepLaws
 pub mod RunLaws
 pub mod TurnLaws
+pub mod LifeTrails
+pub mod LifeWords
+pub mod LifeSteps
 pub mod Sound
 pub mod SoFarLaws
 pub mod ChannelLaws

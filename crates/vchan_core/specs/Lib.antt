@@ -12,4 +12,6 @@ pub mod Past
 pub mod Turned
 pub mod SoFar
 pub mod RingLaw
+pub mod LifeLaw
 pub mod Lawful
+pub mod LifeLaws
