@@ -12,3 +12,4 @@ pub mod SoFarLaws
 pub mod ChannelLaws
 pub mod EndSteps
 pub mod RingSteps
+pub mod LawfulSteps
