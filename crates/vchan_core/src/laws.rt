@@ -1,6 +1,7 @@
 //! Laws of every call, whatever values its events take. A law is a function with no body, whose
 //! contract states it.
 ghost use Rattle.vchan_core.specs.Laws.{EachCallEnds, EachCallFits, EachCallMovesAtMost};
+ghost use Rattle.vchan_core.specs.SignalLaw.{SignalsAtOpening};
 
 /// A call of `n` bytes ends within `7 + min(n, size)` events, and a drain within
 /// `10 + min(n, size)`, `size` being that of the ring which it moves bytes through.
@@ -17,4 +18,9 @@ pub fn each_call_fits()
 /// No call of `n` bytes moves more than `min(n, size)` bytes.
 pub fn each_call_moves_at_most()
     ensures { EachCallMovesAtMost }
+{}
+
+/// On a page on which nothing has happened yet no signal is lost.
+pub fn no_signal_lost_at_opening()
+    ensures { SignalsAtOpening }
 {}
