@@ -4,3 +4,5 @@ pub mod Counted
 pub mod StepLaws
 pub mod RunLaws
 pub mod TurnLaws
+pub mod Notifies
+pub mod SignalLaws

@@ -1,7 +1,7 @@
 //! Laws of every call, whatever values its events take. A law is a function with no body, whose
 //! contract states it.
 ghost use Rattle.vchan_core.specs.Laws.{EachCallEnds, EachCallFits, EachCallMovesAtMost};
-ghost use Rattle.vchan_core.specs.SignalLaw.{SignalsAtOpening};
+ghost use Rattle.vchan_core.specs.SignalLaw.{SignalsAtOpening, BeginKeepsSignals, EventKeepsSignals, CallKeepsSignals};
 
 /// A call of `n` bytes ends within `7 + min(n, size)` events, and a drain within
 /// `10 + min(n, size)`, `size` being that of the ring which it moves bytes through.
@@ -23,4 +23,19 @@ pub fn each_call_moves_at_most()
 /// On a page on which nothing has happened yet no signal is lost.
 pub fn no_signal_lost_at_opening()
     ensures { SignalsAtOpening }
+{}
+
+/// An end that begins a call loses no signal.
+pub fn begin_keeps_signals()
+    ensures { BeginKeepsSignals }
+{}
+
+/// No event of an honest end loses a signal, for itself or for its peer.
+pub fn event_keeps_signals()
+    ensures { EventKeepsSignals }
+{}
+
+/// No whole call of an honest end loses a signal.
+pub fn call_keeps_signals()
+    ensures { CallKeepsSignals }
 {}

@@ -1,0 +1,1 @@
+-- No event loses a signal.
