@@ -46,7 +46,7 @@ Notifies role (does op next) = Deed role op next × ((value : ℕ) → Notifies 
 -- ---- the pieces
 
 module _ (role : Role) where
-  notifies_answers : (answer : Answer) → Notifies role (answers answer)
+  pub notifies_answers : (answer : Answer) → Notifies role (answers answer)
   unfolding Notifies
   notifies_answers answer = tt
 
@@ -221,3 +221,8 @@ pub Notifies-after : (role : Role) (plan : Plan) (value : ℕ) → Notifies role
 unfolding Notifies
 Notifies-after role (answers answer) value w = tt
 Notifies-after role (does op next) value w = w.1 value
+
+-- the next event of such a plan is such a deed
+pub deed_of : (role : Role) (op : Op) (next : ℕ → Plan) → Notifies role (does op next) → Deed role op next
+unfolding Notifies
+deed_of role op next w = w.0
