@@ -1,13 +1,12 @@
 -- What each event of a call is to the signals: which word it is on, and what follows it.
-use Rattle.std.proofs.Common.{◌≡◌, ◌≢◌, ℕ, suc, zero, ◌+◌, ◌==◌, min, nat_lt, Bool, true, false, cond, List, [], ◌∷◌, refl, subst, ap, bit_and}
+use Rattle.std.proofs.Common.{◌≡◌, ◌≢◌, ℕ, suc, zero, ◌+◌, ◌==◌, min, nat_lt, Bool, true, false, cond, List, [], ◌∷◌, refl, ap, bit_and}
 use Rattle.std.proofs.lemmas.Bool.{ne_eqb}
-use Rattle.ring_words.specs.Rings.{place}
 use Rattle.ring_words.specs.declared.page.Role.{Role}
 use Rattle.ring_words.specs.declared.page.Ring.{Ring}
 use Rattle.ring_words.specs.declared.page.WordName.{WordName}
 use Rattle.ring_words.specs.declared.page.WordName.TheVariants.{CliLive, RingByte}
 use Rattle.vchan_core.specs.declared.op.Op.{Op}
-use Rattle.vchan_core.specs.declared.op.Op.TheVariants.{Load, LoadByte, Store, StoreByte, Or, And, Swap}
+use Rattle.vchan_core.specs.declared.op.Op.TheVariants.{Load, LoadByte, Store, StoreByte, Or, Swap}
 use Rattle.vchan_core.specs.declared.op.PastEvent.{PastEvent}
 use Rattle.vchan_core.specs.declared.call.Answer.{Answer}
 use Rattle.vchan_core.specs.declared.call.Answer.TheVariants.{Wrote, Full, NoRoom, Sent, Got, AllRead, Ready, Space, PeerGone as IsGone}
@@ -17,9 +16,9 @@ use Rattle.vchan_core.specs.declared.call.Call.{Call}
 use Rattle.vchan_core.specs.declared.call.Call.TheVariants.{Write, Send, Read, Recv, Drain, DataReady, BufferSpace, Connect, Close, TakeEvent, Retire, PeerGone}
 use Rattle.vchan_core.specs.declared.call.EndState.{EndState}
 use Rattle.vchan_core.specs.declared.call.EndState.TheVariants.{Fresh, Open, Shut}
-use Rattle.vchan_core.specs.Plan.{Plan, does, answers, next_op, after, left_after, past}
-use Rattle.vchan_core.specs.Ends.{Standing, written_ring, read_ring, prod_word, cons_word, ask_word, notify_word, own_live, own_pending, own_gone, peer_pending, mask, write_order, read_order, free_at, ready_at}
-use Rattle.vchan_core.specs.Calls.{put_bytes, take_bytes, put_index, take_index, put, take, notify, signal, ask, look_read, look_write, write, write_open, write_looked, read, read_live, read_looked, drain_found, drain_last, drain_gone, drain_further, drain_live, drain_second, drain, connect, connect_right, close, retire, retire_shut, plan_of, send, send_open, send_looked, recv, recv_live, recv_looked}
+use Rattle.vchan_core.specs.Plan.{Plan, does, answers, next_op, after, left_after}
+use Rattle.vchan_core.specs.Ends.{Standing, ask_word, own_live, own_pending, own_gone, mask, free_at, ready_at}
+use Rattle.vchan_core.specs.Calls.{put_bytes, take_bytes, put, take, notify, signal, ask, look_read, look_write, write, write_open, write_looked, read, read_live, read_looked, drain_found, drain_last, drain_gone, drain_further, drain_live, drain_second, drain, connect, connect_right, close, retire, retire_shut, plan_of, send, send_open, send_looked, recv, recv_live, recv_looked}
 use Rattle.vchan_core.specs.SignalLaw.{own_index, test_of, signal_of}
 
 -- an event of an end in this role, and the way on from it

@@ -1,10 +1,9 @@
 -- No event of an honest end loses a signal.
-use Rattle.std.proofs.Common.{◌≡◌, ◌≢◌, ◌⊎◌, inl, inr, ℕ, suc, zero, ◌+◌, ◌-◌, ◌%◌, ◌^◌, ◌<◌, ◌≤◌, ◌==◌, Bool, true, false, cond, Option, Some, None, List, [], ◌∷◌, ◌++◌, length, slice_index, slice_set, bit_and, bit_or, refl, subst, sym, ap, ◌∙◌, arith}
+use Rattle.std.proofs.Common.{◌≡◌, ◌≢◌, ◌⊎◌, inl, inr, ℕ, ◌-◌, ◌<◌, ◌≤◌, ◌==◌, Bool, true, false, cond, Option, Some, None, List, [], ◌∷◌, ◌++◌, length, slice_index, slice_set, bit_and, bit_or, refl, subst, sym, ap, ◌∙◌, arith}
 use Rattle.std.proofs.lemmas.Bool.{false≢true, eqb-false, ne_eqb}
 use Rattle.std.proofs.lemmas.Nat.{and_or_self, and_or_apart, and_assoc}
 use Rattle.std.proofs.lemmas.List.{get_or-set_same, get_or-set_other, set-get_or, length-set}
 use Rattle.std.proofs.lemmas.Option.{none-some, same_Some}
-use Rattle.ring_words.specs.Rings.{size}
 use Rattle.ring_words.specs.Page.{index_of}
 use Rattle.ring_words.specs.declared.order.Orders.{Orders}
 use Rattle.ring_words.specs.declared.page.Role.{Role}
@@ -16,7 +15,6 @@ use Rattle.ring_words.specs.declared.page.WordName.TheVariants.{LeftCons, LeftPr
 use Rattle.vchan_core.specs.declared.op.Op.{Op}
 use Rattle.vchan_core.specs.declared.op.Op.TheVariants.{Load, LoadByte, Store, StoreByte, Or, And, Swap, Nothing}
 use Rattle.vchan_core.specs.declared.op.PastEvent.{PastEvent}
-use Rattle.vchan_core.specs.declared.call.Answer.{Answer}
 use Rattle.vchan_core.specs.declared.call.Answer.TheVariants.{Done}
 use Rattle.vchan_core.specs.declared.call.Bit.{Bit}
 use Rattle.vchan_core.specs.declared.call.Bit.TheVariants.{Written, Consumed}
@@ -28,9 +26,10 @@ use Rattle.vchan_core.specs.Plan.{Plan, answers, does, next_op, after, left_afte
 use Rattle.vchan_core.specs.Ends.{written_ring, read_ring, prod_word, cons_word, ask_word, notify_word, peer_live, own_live, own_pending, peer_pending, own_gone, mask, low8, low32}
 use Rattle.vchan_core.specs.Calls.{plan_of}
 use Rattle.vchan_core.specs.Apply.{word_of, leaves, words_after, value_taken}
-use Rattle.vchan_core.specs.Core.{Core, side_of, with_side, plan_left, plan_next, op_next, taken_next, begun_standing, begins, begun, noted, noted_load, nothing_noted, made, settled, answered, carried_out, event}
+use Rattle.vchan_core.specs.Core.{Core, side_of, with_side, plan_left, op_next, begun_standing, begins, begun, noted, noted_load, nothing_noted, made, settled, answered, carried_out, event}
 use Rattle.vchan_core.specs.Alone.{alone, called}
-use Rattle.vchan_core.specs.SignalLaw.{peer, held, own_index, peer_index, asked_of, test_of, signal_of, HasJust, OwesSignal, OwesTest, IsWoken, AskStands, IndexIsTold, CloseIsTold, NoLostSignal, HasEnds}
+use Rattle.vchan_core.specs.Peer.{peer, held}
+use Rattle.vchan_core.specs.SignalLaw.{own_index, peer_index, asked_of, test_of, signal_of, HasJust, OwesSignal, OwesTest, IsWoken, AskStands, IndexIsTold, CloseIsTold, NoLostSignal, HasEnds}
 use Rattle.vchan_core.proofs.StepLaws.{event_by}
 use Rattle.vchan_core.proofs.Notifies.{Deed, loads, loads_byte, stores_byte, asks, takes_event, tests, stores_index, closes, signals, connects, retires, Notifies, notifies_answers, notifies_call, Notifies-left, deed_of}
 

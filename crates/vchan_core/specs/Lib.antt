@@ -10,4 +10,5 @@ pub mod Laws
 pub mod Page
 pub mod Past
 pub mod Turned
+pub mod Peer
 pub mod SignalLaw

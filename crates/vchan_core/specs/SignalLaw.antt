@@ -1,7 +1,6 @@
 -- No signal is lost between two honest ends: whoever asked to be woken, and saw nothing new since, is woken once there is something new.
 -- Source: libxenvchan's io.c: an index is stored before the peer's notify bit is tested, and asked for before it is looked at again.
-use Rattle.std.specs.Prelude.{◌≡◌, ◌≢◌, ◌⊎◌, ℕ, ◌-◌, ◌≤◌, ◌<◌, true, Option, Some, None, List, [], ◌∷◌, ◌++◌, length, slice_index, bit_and}
-use Rattle.ring_words.specs.Page.{index_of}
+use Rattle.std.specs.Prelude.{◌≡◌, ◌≢◌, ◌⊎◌, ℕ, ◌-◌, ◌≤◌, true, Some, None, List, [], ◌∷◌, ◌++◌, length, bit_and}
 use Rattle.ring_words.specs.declared.order.Orders.{Orders}
 use Rattle.ring_words.specs.declared.page.Role.{Role}
 use Rattle.ring_words.specs.declared.page.Role.TheVariants.{Server, Client}
@@ -20,17 +19,9 @@ use Rattle.vchan_core.specs.Plan.{past, GoesOn}
 use Rattle.vchan_core.specs.Ends.{written_ring, read_ring, prod_word, cons_word, ask_word, notify_word, peer_live, own_live, own_pending, peer_pending, mask, low8, low32}
 use Rattle.vchan_core.specs.Core.{Core, side_of, plan_left, op_next, opened, begun, event}
 use Rattle.vchan_core.specs.Alone.{called}
+use Rattle.vchan_core.specs.Peer.{peer, held}
 
 -- ---- the words and the events that are spoken of
-
--- the other end
-abbrev pub peer : Role → Role
-peer Server = Client
-peer Client = Server
-
--- what a word of the page holds
-abbrev pub held : Core → WordName → ℕ
-held core word = slice_index core.words (index_of core.orders word)
 
 -- the index of an end by whose store it does what its peer's bit asks for: it shows bytes, or it gives up their places
 abbrev pub own_index : Role → Bit → WordName
