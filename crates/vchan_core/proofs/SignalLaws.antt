@@ -1,6 +1,6 @@
 -- No event of an honest end loses a signal.
 use Rattle.std.proofs.Common.{◌≡◌, ◌≢◌, ◌⊎◌, inl, inr, ℕ, ◌-◌, ◌<◌, ◌≤◌, ◌==◌, Bool, true, false, cond, Option, Some, None, List, [], ◌∷◌, ◌++◌, length, slice_index, slice_set, bit_and, bit_or, refl, subst, sym, ap, ◌∙◌, arith}
-use Rattle.std.proofs.lemmas.Bool.{false≢true, eqb-false, ne_eqb}
+use Rattle.std.proofs.lemmas.Bool.{false≢true, eqb-false, ne_eqb, cases_eq}
 use Rattle.std.proofs.lemmas.Nat.{and_or_self, and_or_apart, and_assoc}
 use Rattle.std.proofs.lemmas.List.{get_or-set_same, get_or-set_other, set-get_or, length-set}
 use Rattle.std.proofs.lemmas.Option.{none-some, same_Some}
@@ -29,20 +29,20 @@ use Rattle.vchan_core.specs.Apply.{word_of, leaves, words_after, value_taken}
 use Rattle.vchan_core.specs.Core.{Core, side_of, with_side, plan_left, op_next, begun_standing, begins, begun, noted, noted_load, nothing_noted, made, settled, answered, carried_out, event}
 use Rattle.vchan_core.specs.Alone.{alone, called}
 use Rattle.vchan_core.specs.Peer.{peer, held}
-use Rattle.vchan_core.specs.SignalLaw.{own_index, peer_index, asked_of, test_of, signal_of, HasJust, OwesSignal, OwesTest, IsWoken, AskStands, IndexIsTold, CloseIsTold, NoLostSignal, HasEnds}
+use Rattle.vchan_core.specs.SignalLaw.{own_index, peer_index, asked_of, test_of, signal_of, HasJust, OwesSignal, OwesTest, IsWoken, AskStands, IndexIsTold, CloseIsTold, NoLostSignal, HasEnds, IsWaiting, MissesNothing}
 use Rattle.vchan_core.proofs.StepLaws.{event_by}
 use Rattle.vchan_core.proofs.Notifies.{Deed, loads, loads_byte, stores_byte, asks, takes_event, tests, stores_index, closes, signals, connects, retires, Notifies, notifies_answers, notifies_call, Notifies-left, deed_of}
 
 -- ---- an end after an event
 
-left_after-push : (plan : Plan) (events : List PastEvent) (op : Op) (value : ℕ) → left_after plan (events ++ past op value ∷ []) ≡ after (left_after plan events) value
+pub left_after-push : (plan : Plan) (events : List PastEvent) (op : Op) (value : ℕ) → left_after plan (events ++ past op value ∷ []) ≡ after (left_after plan events) value
 left_after-push (answers answer) [] op value = refl
 left_after-push (does first next) [] op value = refl
 left_after-push (answers answer) (event ∷ events) op value = refl
 left_after-push (does first next) (event ∷ events) op value = left_after-push (next event.taken) events op value
 
 -- what is left of a call after one more event
-plan_left-made : (s : Side) (op : Op) (taken : ℕ) → plan_left (made s op taken) ≡ after (plan_left s) taken
+pub plan_left-made : (s : Side) (op : Op) (taken : ℕ) → plan_left (made s op taken) ≡ after (plan_left s) taken
 plan_left-made s op taken = go s.call
   where
     go : (call : Option Begun) →
@@ -52,7 +52,7 @@ plan_left-made s op taken = go s.call
     go (Some b) = left_after-push (plan_of (begun_standing s b) b.call) s.trail op taken
 
 -- what is left of any call is made of deeds
-plan_notifies : (s : Side) → Notifies s.role (plan_left s)
+pub plan_notifies : (s : Side) → Notifies s.role (plan_left s)
 plan_notifies s = go s.call
   where
     go : (call : Option Begun) → Notifies s.role (elim call [ None ↦ answers Done | Some b ↦ left_after (plan_of (begun_standing s b) b.call) s.trail ])
@@ -817,7 +817,7 @@ step_of core Client op next role left = record {
   other_is = refl;
 }
 
-deed_next : (core : Core) (who : Role) (op : Op) (next : ℕ → Plan) → (side_of core who).role ≡ who → plan_left (side_of core who) ≡ does op next → Deed who op next
+pub deed_next : (core : Core) (who : Role) (op : Op) (next : ℕ → Plan) → (side_of core who).role ≡ who → plan_left (side_of core who) ≡ does op next → Deed who op next
 deed_next core who op next role left =
     deed_of who op next (subst (λ (p : Plan). Notifies who p) left (subst (λ (r : Role). Notifies r (plan_left (side_of core who))) role (plan_notifies (side_of core who))))
 
@@ -867,11 +867,11 @@ event_keeps core who ends more h = go who (plan_left (side_of core who)) refl mo
 
 -- ---- begins, and whole calls
 
+op_next-idle : (s : Side) → s.call ≡ None → op_next s ≡ Nothing
+op_next-idle s is = ap (λ (c : Option Begun). next_op (elim c [ None ↦ answers Done | Some b ↦ left_after (plan_of (begun_standing s b) b.call) s.trail ])) is
+
 pub begin_keeps : (core : Core) (who : Role) (call : Call) (payload : List ℕ) → (side_of core who).call ≡ None → NoLostSignal core → NoLostSignal (begun core who call payload)
 begin_keeps core who call payload idle h = renewed core who (begins (side_of core who) call payload) refl (op_next-idle (side_of core who) idle) h
-  where
-    op_next-idle : (s : Side) → s.call ≡ None → op_next s ≡ Nothing
-    op_next-idle s is = ap (λ (c : Option Begun). next_op (elim c [ None ↦ answers Done | Some b ↦ left_after (plan_of (begun_standing s b) b.call) s.trail ])) is
 
 ends_carried : (core : Core) (who : Role) (op : Op) → HasEnds core → HasEnds (carried_out core who op)
 ends_carried core Server op h = record {
@@ -900,3 +900,38 @@ call_keeps core Server call payload ends idle h =
     alone_keeps _ (begun core Server call payload) Server (ends_begun core Server call payload ends) refl (begin_keeps core Server call payload idle h)
 call_keeps core Client call payload ends idle h =
     alone_keeps _ (begun core Client call payload) Client (ends_begun core Client call payload ends) refl (begin_keeps core Client call payload idle h)
+
+-- ---- an end that waits
+
+pub misses_nothing : (core : Core) (who : Role) (bit : Bit) → NoLostSignal core → IsWaiting core who bit → MissesNothing core who bit
+misses_nothing core who bit h w = record { bit_stands = bit_stands (h.asks_stand who bit w.asked); index_stands = index_stands; peer_open = peer_open }
+  where
+    idle : op_next (side_of core (peer who)) ≡ Nothing
+    idle = op_next-idle (side_of core (peer who)) w.peer_idle
+
+    silent : (op : Op) → OwesSignal core (peer who) op → ⊥
+    silent op owes = no_signal Nothing (peer who) refl (sym idle ∙ owes.1)
+
+    bit_stands : (bit_and (held core (ask_word who)) (mask bit) ≢ 0) ⊎ (OwesSignal core (peer who) (test_of (peer who) bit) ⊎ IsWoken core who) → bit_and (held core (ask_word who)) (mask bit) ≢ 0
+    bit_stands (inl set) = set
+    bit_stands (inr (inl owes)) = absurd (silent (test_of (peer who) bit) owes)
+    bit_stands (inr (inr woken)) = absurd (woken w.unwoken)
+
+    index_stands : (index : ℕ) → (asked_of (side_of core who).notes bit).seen ≡ Some index → low32 (held core (peer_index who bit)) ≡ index
+    index_stands index seen = go (cases_eq (low32 (held core (peer_index who bit))) index)
+      where
+        told : OwesTest core (peer who) bit ⊎ (OwesSignal core (peer who) (test_of (peer who) bit) ⊎ IsWoken core who) → ⊥
+        told (inl owes) = no_test Nothing (peer who) bit refl (sym idle ∙ owes.2)
+        told (inr (inl owes)) = silent (test_of (peer who) bit) owes
+        told (inr (inr woken)) = woken w.unwoken
+
+        go : (low32 (held core (peer_index who bit)) ≡ index) ⊎ (low32 (held core (peer_index who bit)) ≢ index) → low32 (held core (peer_index who bit)) ≡ index
+        go (inl is) = is
+        go (inr differs) = absurd (told (h.indices_told who bit index w.asked seen differs))
+
+    peer_open : (live : ℕ) → (side_of core who).notes.live ≡ Some live → live ≢ 0 → low8 (held core (peer_live who)) ≢ 0
+    peer_open live seen alive shut = go (h.closes_told who live seen alive shut)
+      where
+        go : OwesSignal core (peer who) (Store (own_live (peer who)) 0) ⊎ IsWoken core who → ⊥
+        go (inl owes) = silent (Store (own_live (peer who)) 0) owes
+        go (inr woken) = woken w.unwoken

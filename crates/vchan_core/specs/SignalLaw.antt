@@ -117,3 +117,21 @@ EventKeepsSignals = (core : Core) (who : Role) → HasEnds core → GoesOn (plan
 abbrev pub CallKeepsSignals : Type 0
 CallKeepsSignals =
     (core : Core) (who : Role) (call : Call) (payload : List ℕ) → HasEnds core → (side_of core who).call ≡ None → NoLostSignal core → NoLostSignal (called core who call payload)
+
+-- ---- what an end may rely on while it waits
+
+-- an end has asked and taken no event since, no event waits for it, and its peer is between two calls
+pub record IsWaiting (core : Core) (who : Role) (bit : Bit) : Type 0 where
+  pub asked : (asked_of (side_of core who).notes bit).since ≡ true
+  pub unwoken : held core (own_pending who) ≡ 0
+  pub peer_idle : (side_of core (peer who)).call ≡ None
+
+-- its bit stands, so the peer's next bytes are signalled; the peer's index is the one that it loaded last since it asked, and the peer has not closed since it loaded the live byte
+pub record MissesNothing (core : Core) (who : Role) (bit : Bit) : Type 0 where
+  pub bit_stands : bit_and (held core (ask_word who)) (mask bit) ≢ 0
+  pub index_stands : (index : ℕ) → (asked_of (side_of core who).notes bit).seen ≡ Some index → low32 (held core (peer_index who bit)) ≡ index
+  pub peer_open : (live : ℕ) → (side_of core who).notes.live ≡ Some live → live ≢ 0 → low8 (held core (peer_live who)) ≢ 0
+
+-- an end that waits while no signal is lost misses nothing
+abbrev pub WaitMissesNothing : Type 0
+WaitMissesNothing = (core : Core) (who : Role) (bit : Bit) → NoLostSignal core → IsWaiting core who bit → MissesNothing core who bit

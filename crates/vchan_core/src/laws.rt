@@ -1,7 +1,7 @@
 //! Laws of every call, whatever values its events take. A law is a function with no body, whose
 //! contract states it.
 ghost use Rattle.vchan_core.specs.Laws.{EachCallEnds, EachCallFits, EachCallMovesAtMost};
-ghost use Rattle.vchan_core.specs.SignalLaw.{SignalsAtOpening, BeginKeepsSignals, EventKeepsSignals, CallKeepsSignals};
+ghost use Rattle.vchan_core.specs.SignalLaw.{SignalsAtOpening, BeginKeepsSignals, EventKeepsSignals, CallKeepsSignals, WaitMissesNothing};
 
 /// A call of `n` bytes ends within `7 + min(n, size)` events, and a drain within
 /// `10 + min(n, size)`, `size` being that of the ring which it moves bytes through.
@@ -38,4 +38,10 @@ pub fn event_keeps_signals()
 /// No whole call of an honest end loses a signal.
 pub fn call_keeps_signals()
     ensures { CallKeepsSignals }
+{}
+
+/// While an end waits, having asked and taken no event since, with none there to take and its peer
+/// between two calls, its bit stands, and its peer's index and live byte are as it loaded them last.
+pub fn wait_misses_nothing()
+    ensures { WaitMissesNothing }
 {}
