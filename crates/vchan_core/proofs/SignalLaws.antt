@@ -19,6 +19,7 @@ use Rattle.vchan_core.specs.declared.call.Answer.TheVariants.{Done}
 use Rattle.vchan_core.specs.declared.call.Bit.{Bit}
 use Rattle.vchan_core.specs.declared.call.Bit.TheVariants.{Written, Consumed}
 use Rattle.vchan_core.specs.declared.call.Call.{Call}
+use Rattle.vchan_core.specs.declared.call.EndState.{EndState}
 use Rattle.vchan_core.specs.declared.side.Side.{Side}
 use Rattle.vchan_core.specs.declared.side.Begun.{Begun}
 use Rattle.vchan_core.specs.declared.side.Notes.{Notes}
@@ -26,9 +27,10 @@ use Rattle.vchan_core.specs.Plan.{Plan, answers, does, next_op, after, left_afte
 use Rattle.vchan_core.specs.Ends.{written_ring, read_ring, prod_word, cons_word, ask_word, notify_word, peer_live, own_live, own_pending, peer_pending, own_gone, mask, low8, low32}
 use Rattle.vchan_core.specs.Calls.{plan_of}
 use Rattle.vchan_core.specs.Apply.{word_of, leaves, words_after, value_taken}
-use Rattle.vchan_core.specs.Core.{Core, side_of, with_side, plan_left, op_next, begun_standing, begins, begun, noted, noted_load, nothing_noted, made, settled, answered, carried_out, event}
+use Rattle.vchan_core.specs.Core.{Core, opened, plan_next, side_of, with_side, plan_left, op_next, begun_standing, begins, begun, noted, noted_load, nothing_noted, made, settled, answered, carried_out, event}
 use Rattle.vchan_core.specs.Alone.{alone, called}
 use Rattle.vchan_core.specs.Peer.{peer, held}
+use Rattle.vchan_core.specs.Reached.{IsReached, opens, begins_call, makes_event}
 use Rattle.vchan_core.specs.SignalLaw.{own_index, peer_index, asked_of, test_of, signal_of, HasJust, OwesSignal, OwesTest, IsWoken, AskStands, IndexIsTold, CloseIsTold, NoLostSignal, HasEnds, IsWaiting, MissesNothing}
 use Rattle.vchan_core.proofs.StepLaws.{event_by}
 use Rattle.vchan_core.proofs.Notifies.{Deed, loads, loads_byte, stores_byte, asks, takes_event, tests, stores_index, closes, signals, connects, retires, Notifies, notifies_answers, notifies_call, Notifies-left, deed_of}
@@ -900,6 +902,37 @@ call_keeps core Server call payload ends idle h =
     alone_keeps _ (begun core Server call payload) Server (ends_begun core Server call payload ends) refl (begin_keeps core Server call payload idle h)
 call_keeps core Client call payload ends idle h =
     alone_keeps _ (begun core Client call payload) Client (ends_begun core Client call payload ends) refl (begin_keeps core Client call payload idle h)
+
+-- ---- whatever honest ends reach
+
+ends_opened : (orders : Orders) (start : ℕ) (said : ℕ × ℕ) (state : EndState) → HasEnds (opened orders start said state)
+ends_opened orders start said state = record { header = omega arith; server_is = refl; client_is = refl }
+
+ends_settled : (core : Core) (who : Role) (rest : Plan) → HasEnds core → HasEnds (with_side core who (settled (side_of core who) rest))
+ends_settled core Server (answers answer) h = record { header = h.header; server_is = h.server_is; client_is = h.client_is }
+ends_settled core Client (answers answer) h = record { header = h.header; server_is = h.server_is; client_is = h.client_is }
+ends_settled core Server (does op next) h = h
+ends_settled core Client (does op next) h = h
+
+ends_event : (core : Core) (who : Role) → HasEnds core → HasEnds (event core who)
+unfolding event
+ends_event core Server h = ends_settled (carried_out core Server (op_next core.server)) Server (plan_next core Server) (ends_carried core Server (op_next core.server) h)
+ends_event core Client h = ends_settled (carried_out core Client (op_next core.client)) Client (plan_next core Client) (ends_carried core Client (op_next core.client) h)
+
+opened_keeps : (orders : Orders) (start : ℕ) (said : ℕ × ℕ) (state : EndState) → NoLostSignal (opened orders start said state)
+opened_keeps orders start said state = both_told (opened orders start said state) (told_nothing (opened orders start said state) Server refl) (told_nothing (opened orders start said state) Client refl)
+
+reached : (core : Core) → IsReached core → HasEnds core × NoLostSignal core
+reached core (opens orders start said state low left right open_or_fresh) = (ends_opened orders start said state, opened_keeps orders start said state)
+reached core (begins_call before who call payload there may) =
+    let was = reached before there in
+    (ends_begun before who call payload was.0, begin_keeps before who call payload may.idle was.1)
+reached core (makes_event before who there more) =
+    let was = reached before there in
+    (ends_event before who was.0, event_keeps before who was.0 more was.1)
+
+pub no_signal_lost : (core : Core) → IsReached core → NoLostSignal core
+no_signal_lost core there = (reached core there).1
 
 -- ---- an end that waits
 

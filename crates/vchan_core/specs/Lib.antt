@@ -11,4 +11,5 @@ pub mod Page
 pub mod Past
 pub mod Turned
 pub mod Peer
+pub mod Reached
 pub mod SignalLaw

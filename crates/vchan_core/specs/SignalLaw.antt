@@ -20,6 +20,7 @@ use Rattle.vchan_core.specs.Ends.{written_ring, read_ring, prod_word, cons_word,
 use Rattle.vchan_core.specs.Core.{Core, side_of, plan_left, op_next, opened, begun, event}
 use Rattle.vchan_core.specs.Alone.{called}
 use Rattle.vchan_core.specs.Peer.{peer, held}
+use Rattle.vchan_core.specs.Reached.{IsReached}
 
 -- ---- the words and the events that are spoken of
 
@@ -117,6 +118,10 @@ EventKeepsSignals = (core : Core) (who : Role) → HasEnds core → GoesOn (plan
 abbrev pub CallKeepsSignals : Type 0
 CallKeepsSignals =
     (core : Core) (who : Role) (call : Call) (payload : List ℕ) → HasEnds core → (side_of core who).call ≡ None → NoLostSignal core → NoLostSignal (called core who call payload)
+
+-- whatever two honest ends do, in any order of their events, no signal is lost
+abbrev pub NoSignalIsLost : Type 0
+NoSignalIsLost = (core : Core) → IsReached core → NoLostSignal core
 
 -- ---- what an end may rely on while it waits
 
