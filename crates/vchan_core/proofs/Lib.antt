@@ -13,3 +13,5 @@ pub mod ChannelLaws
 pub mod EndSteps
 pub mod RingSteps
 pub mod LawfulSteps
+pub mod Notifies
+pub mod SignalLaws

@@ -18,3 +18,5 @@ pub mod Peer
 pub mod TurnedLaw
 pub mod LifeLaws
 pub mod TurnedLaws
+pub mod Reached
+pub mod SignalLaw
