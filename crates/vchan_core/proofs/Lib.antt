@@ -15,3 +15,4 @@ pub mod RingSteps
 pub mod LawfulSteps
 pub mod Notifies
 pub mod SignalLaws
+pub mod WholeCalls
