@@ -16,3 +16,4 @@ pub mod LawfulSteps
 pub mod Notifies
 pub mod SignalLaws
 pub mod WholeCalls
+pub mod WorkedRow

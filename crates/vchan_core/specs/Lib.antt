@@ -20,3 +20,4 @@ pub mod LifeLaws
 pub mod TurnedLaws
 pub mod Reached
 pub mod SignalLaw
+pub mod Worked
