@@ -4,9 +4,11 @@ pub mod Counted
 pub mod StepLaws
 pub mod RunLaws
 pub mod TurnLaws
-pub mod LifeTrails
-pub mod LifeWords
-pub mod LifeSteps
 pub mod Sound
 pub mod SoFarLaws
 pub mod ChannelLaws
+pub mod EndSteps
+pub mod LifeTrails
+pub mod LifeWords
+pub mod LifeSteps
+pub mod TurnedSteps

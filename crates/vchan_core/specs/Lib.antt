@@ -14,4 +14,7 @@ pub mod SoFar
 pub mod RingLaw
 pub mod LifeLaw
 pub mod Lawful
+pub mod Peer
+pub mod TurnedLaw
 pub mod LifeLaws
+pub mod TurnedLaws
