@@ -8,7 +8,9 @@ pub mod Sound
 pub mod SoFarLaws
 pub mod ChannelLaws
 pub mod EndSteps
+pub mod RingSteps
 pub mod LifeTrails
 pub mod LifeWords
 pub mod LifeSteps
+pub mod LawfulSteps
 pub mod TurnedSteps

@@ -1,6 +1,5 @@
-use Rattle.vchan_core.proofs.SoFarLaws.{stands_so_far}
-use Rattle.vchan_core.proofs.ChannelLaws.{lawful-same}
+use Rattle.vchan_core.proofs.LawfulSteps.{lawful_event}
 use Rattle.vchan_core.proofs.laws.honest_step.Goals as goal
 
 pub returns : goal.returns
-returns c = let g = lawful-same in let h = stands_so_far in ?
+returns c core who lawful honest more = lawful_event core who lawful more
