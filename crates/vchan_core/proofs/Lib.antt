@@ -14,3 +14,6 @@ pub mod LifeWords
 pub mod LifeSteps
 pub mod LawfulSteps
 pub mod TurnedSteps
+pub mod Notifies
+pub mod SignalLaws
+pub mod KeptSteps

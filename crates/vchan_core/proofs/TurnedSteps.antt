@@ -190,7 +190,7 @@ turned_begin core Client call payload h honest idle allowed pays bytes = record 
 
 -- ---- an end is given up
 
-turned-given_up : (s : Side) (consumed : ℕ) → (given_up s consumed).turned ≡ true
+pub turned-given_up : (s : Side) (consumed : ℕ) → (given_up s consumed).turned ≡ true
 turned-given_up s consumed = go s.turned refl
   where
     go : (b : Bool) → s.turned ≡ b → (cond b s (turns s consumed)).turned ≡ true
@@ -200,7 +200,7 @@ turned-given_up s consumed = go s.turned refl
 given_up-honest : (s : Side) (consumed : ℕ) → s.turned ≡ false → given_up s consumed ≡ turns s consumed
 given_up-honest s consumed honest = ap (λ (b : Bool). cond b s (turns s consumed)) honest
 
-given_up-given : (s : Side) (consumed : ℕ) → s.turned ≡ true → given_up s consumed ≡ s
+pub given_up-given : (s : Side) (consumed : ℕ) → s.turned ≡ true → given_up s consumed ≡ s
 given_up-given s consumed given = ap (λ (b : Bool). cond b s (turns s consumed)) given
 
 -- the ring of a writer that is given up now

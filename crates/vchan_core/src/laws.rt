@@ -1,6 +1,7 @@
 //! Laws of every call, whatever values its events take. A law is a function with no body, whose
 //! contract states it.
-pub mod lives;
+pub mod kept;
+pub mod signals;
 pub mod turned;
 
 ghost use Rattle.vchan_core.specs.Laws.{EachCallEnds, EachCallFits, EachCallMovesAtMost, OpeningIsLawful, BeginIsLawful, EventIsLawful};
