@@ -1,6 +1,7 @@
 -- A page is lawful when it is opened, and stays so as honest ends begin calls and make their events.
-use Rattle.std.proofs.Common.{◌≡◌, ◌≢◌, ℕ, ◌^◌, ◌<◌, None, List, length, slice_index, slice_set, refl, subst, sym, ap, ◌∙◌, arith}
-use Rattle.std.proofs.lemmas.List.{length-set}
+use Rattle.std.proofs.Common.{◌≡◌, ◌≢◌, ℕ, ◌-◌, ◌^◌, ◌<◌, None, List, [], length, slice_index, slice_set, refl, subst, sym, ap, ◌∙◌, arith}
+use Rattle.std.proofs.lemmas.List.{length-set, length-replicate}
+use Rattle.std.proofs.lemmas.List.Elements.{All-nil}
 use Rattle.ring_words.specs.Page.{order_of, word_count}
 use Rattle.ring_words.specs.declared.order.Order.{Order}
 use Rattle.ring_words.specs.declared.order.Orders.{Orders}
@@ -9,19 +10,22 @@ use Rattle.ring_words.specs.declared.page.Role.TheVariants.{Server, Client}
 use Rattle.ring_words.specs.declared.page.Ring.{Ring}
 use Rattle.ring_words.specs.declared.page.Ring.TheVariants.{Left, Right}
 use Rattle.vchan_core.specs.declared.call.Call.{Call}
+use Rattle.vchan_core.specs.declared.call.EndState.{EndState}
+use Rattle.vchan_core.specs.declared.call.EndState.TheVariants.{Shut}
 use Rattle.vchan_core.specs.declared.side.Side.{Side}
 use Rattle.vchan_core.specs.Plan.{Plan, does, answers, next_op, after, GoesOn}
 use Rattle.vchan_core.specs.Ends.{written_ring, read_ring}
 use Rattle.vchan_core.specs.Calls.{payload_of, IsAllowed}
 use Rattle.vchan_core.specs.Apply.{words_after, value_taken, word_of}
-use Rattle.vchan_core.specs.Core.{Core, side_of, begins, begun, event, plan_left, op_next, taken_next, plan_next, made, settled}
+use Rattle.vchan_core.specs.Core.{Core, opened, side_of, begins, begun, event, plan_left, op_next, taken_next, plan_next, made, settled}
 use Rattle.vchan_core.specs.RingLaw.{IsLawful, RingLawful, CallLawful, AreBytes, channel_between, channel_of}
 use Rattle.vchan_core.specs.LifeLaw.{LifeLawful}
 use Rattle.vchan_core.specs.Lawful.{Lawful, IsEnd}
+use Rattle.vchan_core.specs.Reached.{MayBegin}
 use Rattle.vchan_core.proofs.ChannelLaws.{lawful-begin_write, lawful-begin_read}
 use Rattle.vchan_core.proofs.EndSteps.{InLawful, in_lawful, owes_now, counts_now, call_begins, call_goes_on, puts_within, takes_within}
 use Rattle.vchan_core.proofs.RingSteps.{wrote_made, read_made}
-use Rattle.vchan_core.proofs.LifeSteps.{life_begun, life_event}
+use Rattle.vchan_core.proofs.LifeSteps.{life_opened, life_begun, life_event}
 
 -- ---- the parts of a lawful page
 
@@ -161,7 +165,45 @@ rings_begun core Client call payload h allowed pays bytes =
     (begins_writer core.start core.orders core.words Left core.client core.server call payload h.left.lawful)
     (begins_reader core.start core.orders core.words Right core.client core.server call payload h.right.lawful)
 
-pub lawful_begun : (core : Core) (who : Role) (call : Call) (payload : List ℕ) → Lawful core → IsAllowed who (side_of core who).state call → length payload ≡ payload_of call → AreBytes payload →
-    Lawful (begun core who call payload)
-lawful_begun core who call payload h allowed pays bytes =
-    with_lives (begun core who call payload) (rings_begun core who call payload h allowed pays bytes) (life_begun core who call payload h.lives)
+pub lawful_begun : (core : Core) (who : Role) (call : Call) (payload : List ℕ) → Lawful core → MayBegin who (side_of core who) call payload → Lawful (begun core who call payload)
+lawful_begun core who call payload h may =
+    with_lives (begun core who call payload) (rings_begun core who call payload h may.allowed may.pays may.bytes) (life_begun core who call payload h.lives)
+
+-- ---- the opening
+
+ring_opened : (orders : Orders) (start : ℕ) (said : ℕ × ℕ) (state : EndState) (ring : Ring) → start < 2 ^ 32 → IsLawful (channel_of (opened orders start said state) ring)
+ring_opened orders start said state Left low = record {
+  prod = omega (arith, low);
+  cons = omega (arith, low);
+  own_prod = omega (arith, low);
+  own_cons = omega (arith, low);
+  prefix = ([], refl);
+  fits = omega arith;
+  bytes_sent = All-nil (λ (byte : ℕ). byte < 256);
+  waiting = λ i unread below. absurd (omega (arith, below));
+  writer_looked = tt;
+  writer_stored = λ i below. absurd (omega (arith, below));
+  reader_looked = tt;
+  reader_loaded = ([], refl);
+}
+ring_opened orders start said state Right low = record {
+  prod = omega (arith, low);
+  cons = omega (arith, low);
+  own_prod = omega (arith, low);
+  own_cons = omega (arith, low);
+  prefix = ([], refl);
+  fits = omega arith;
+  bytes_sent = All-nil (λ (byte : ℕ). byte < 256);
+  waiting = λ i unread below. absurd (omega (arith, below));
+  writer_looked = tt;
+  writer_stored = λ i below. absurd (omega (arith, below));
+  reader_looked = tt;
+  reader_loaded = ([], refl);
+}
+
+pub lawful_opened : (orders : Orders) (start : ℕ) (said : ℕ × ℕ) (state : EndState) → start < 2 ^ 32 → said.0 < 2 ^ 16 → said.1 < 2 ^ 16 → state ≢ Shut → Lawful (opened orders start said state)
+lawful_opened orders start said state low left right open_or_fresh =
+    with_lives _
+    (rings_of (opened orders start said state) (omega (arith, length-replicate {A = ℕ} (word_count orders - 14) 0)) (record { role_is = refl; orders_are = refl }) (record { role_is = refl; orders_are = refl }) tt tt
+    (ring_opened orders start said state Left low) (ring_opened orders start said state Right low))
+    (life_opened orders start said state open_or_fresh)
