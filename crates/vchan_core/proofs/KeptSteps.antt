@@ -1,7 +1,6 @@
 -- Each step of a page, by honest ends and by hostile users, keeps what holds of it, and what stands at its end.
 use Rattle.std.proofs.Common.{◌≡◌, ◌≢◌, ℕ, ◌^◌, ◌<◌, Bool, true, false, List, length, refl, subst, sym, ap, ◌∙◌, arith}
 use Rattle.std.proofs.lemmas.Bool.{false≢true}
-use Rattle.std.proofs.lemmas.Grind.{common_steps}
 use Rattle.ring_words.specs.Rings.{size}
 use Rattle.ring_words.specs.Page.{word_count}
 use Rattle.ring_words.specs.declared.order.Orders.{Orders}
@@ -24,15 +23,11 @@ use Rattle.vchan_core.specs.Peer.{peer}
 use Rattle.vchan_core.specs.SignalLaw.{NoLostSignal, HasEnds}
 use Rattle.vchan_core.specs.TurnedLaw.{TurnedLawful, KeepsCounts, turning}
 use Rattle.vchan_core.specs.Kept.{Kept, MayCome, opens, begins_call, makes_event, is_given_up, strays, StreamSettled, PageSettled}
-use Rattle.vchan_core.proofs.LifeSteps.{life_opened}
-use Rattle.vchan_core.proofs.LawfulSteps.{lawful_event, lawful_begun}
+use Rattle.vchan_core.proofs.LawfulSteps.{lawful_opened, lawful_event, lawful_begun}
 use Rattle.vchan_core.proofs.SignalLaws.{event_keeps, begin_keeps, no_signal_lost}
-use Rattle.vchan_core.proofs.TurnedSteps.{turned_event, turned_begin, first_turn, second_turn, stray, event_grows, turned-given_up, given_up-given}
+use Rattle.vchan_core.proofs.TurnedSteps.{turned_event, turned_begin, first_turn, second_turn, stray, event_grows, turned-given_up, turning_again}
 
 -- ---- the opening
-
-lawful_opened : (orders : Orders) (start : ℕ) (said : ℕ × ℕ) (state : EndState) → start < 2 ^ 32 → said.0 < 2 ^ 16 → said.1 < 2 ^ 16 → state ≢ Shut → Lawful (opened orders start said state)
-lawful_opened orders start said state low left right fresh = grind (arith, common_steps, life_opened)
 
 -- a lawful page with honest ends is lawful too where one asks for its turned ends
 lawful_turned : (core : Core) → Lawful core → Honest core → TurnedLawful core
@@ -66,7 +61,7 @@ honest_begun core Client call payload honest = honest
 
 pub kept_begun : (core : Core) (who : Role) (call : Call) (payload : List ℕ) → Kept core → (side_of core who).turned ≡ false → MayBegin who (side_of core who) call payload → Kept (begun core who call payload)
 kept_begun core who call payload h honest may = record {
-  lawful = λ both. lawful_begun core who call payload (h.lawful (honest_begun core who call payload both)) may.allowed may.pays may.bytes;
+  lawful = λ both. lawful_begun core who call payload (h.lawful (honest_begun core who call payload both)) may;
   signals = λ both. begin_keeps core who call payload may.idle (h.signals (honest_begun core who call payload both));
   turned = turned_begin core who call payload h.turned honest may.idle may.allowed may.pays may.bytes;
 }
@@ -99,10 +94,6 @@ both_honest core Client mine theirs = (theirs, mine)
 turning_given : (core : Core) (who : Role) → (side_of (turning core who) who).turned ≡ true
 turning_given core Server = turned-given_up core.server (length core.client.got)
 turning_given core Client = turned-given_up core.client (length core.server.got)
-
-turning_again : (core : Core) (who : Role) → (side_of core who).turned ≡ true → turning core who ≡ core
-turning_again core Server given = ap (λ (s : Side). record core { server = s }) (given_up-given core.server (length core.client.got) given)
-turning_again core Client given = ap (λ (s : Side). record core { client = s }) (given_up-given core.client (length core.server.got) given)
 
 turned_turning : (core : Core) (who : Role) → Kept core → TurnedLawful (turning core who)
 turned_turning core who h = go (side_of core who).turned (side_of core (peer who)).turned refl refl

@@ -25,10 +25,12 @@ use Rattle.vchan_core.specs.Turned.{turns, given_up, strays, strayed}
 use Rattle.vchan_core.specs.RingLaw.{index_at, IsPrefixOf, CallLawful, AreBytes}
 use Rattle.vchan_core.specs.Lawful.{Lawful, Honest, IsEnd}
 use Rattle.vchan_core.specs.Peer.{peer}
-use Rattle.vchan_core.specs.TurnedLaw.{TurnedLawful, KeepsCounts, ConsumedLawful, ListsStand, ListsGrow, turning}
+use Rattle.vchan_core.specs.SoFar.{SoFar, so_far}
+use Rattle.vchan_core.specs.TurnedLaw.{TurnedLawful, KeepsCounts, ConsumedLawful, ListsStand, ListsGrow, LiesAtCount, OwnCount, turning}
 use Rattle.vchan_core.proofs.Counted.{OwesIndex, counts_within}
 use Rattle.vchan_core.proofs.StepLaws.{OwesNext, stored_most-payload}
-use Rattle.vchan_core.proofs.EndSteps.{InLawful, in_lawful, counts_now, call_begins, call_goes_on}
+use Rattle.vchan_core.proofs.Sound.{OwesSound, OwesStored}
+use Rattle.vchan_core.proofs.EndSteps.{InLawful, in_lawful, owes_now, counts_now, call_begins, call_goes_on}
 use Rattle.vchan_core.proofs.LifeSteps.{got_grows}
 
 -- ---- the own counts of an end
@@ -200,7 +202,7 @@ turned-given_up s consumed = go s.turned refl
 given_up-honest : (s : Side) (consumed : ℕ) → s.turned ≡ false → given_up s consumed ≡ turns s consumed
 given_up-honest s consumed honest = ap (λ (b : Bool). cond b s (turns s consumed)) honest
 
-pub given_up-given : (s : Side) (consumed : ℕ) → s.turned ≡ true → given_up s consumed ≡ s
+given_up-given : (s : Side) (consumed : ℕ) → s.turned ≡ true → given_up s consumed ≡ s
 given_up-given s consumed given = ap (λ (b : Bool). cond b s (turns s consumed)) given
 
 -- the ring of a writer that is given up now
@@ -285,6 +287,13 @@ stray core Client op h =
       right = λ given is. absurd (apart s.turned (turned-given_up core.client (length core.server.got)) is);
     }
 
+pub turning_again : (core : Core) (who : Role) → (side_of core who).turned ≡ true → turning core who ≡ core
+turning_again core Server given = ap (λ (s : Side). record core { server = s }) (given_up-given core.server (length core.client.got) given)
+turning_again core Client given = ap (λ (s : Side). record core { client = s }) (given_up-given core.client (length core.server.got) given)
+
+pub stray_again : (core : Core) (who : Role) (op : Op) → TurnedLawful core → (side_of core who).turned ≡ true → TurnedLawful (strayed core who op)
+stray_again core who op h given = stray core who op (subst TurnedLawful (sym (turning_again core who given)) h)
+
 stands_given : (s : Side) (consumed : ℕ) → s.turned ≡ true → ListsStand s (given_up s consumed)
 stands_given s consumed given = subst (λ (t : Side). ListsStand s t) (sym (given_up-given s consumed given)) (record { turned = refl; sent = refl; got = refl; consumed = refl })
 
@@ -295,3 +304,40 @@ pub stray_keeps : (core : Core) (who : Role) (op : Op) →
     (side_of (strayed core who op) (peer who) ≡ side_of core (peer who)) × ((side_of (strayed core who op) who).turned ≡ true) × ((side_of core who).turned ≡ true → ListsStand (side_of core who) (side_of (strayed core who op) who))
 stray_keeps core Server op = (refl, turned-given_up core.server (length core.client.got), stands_strayed core.server (length core.client.got) (value_taken core.orders core.words op) op)
 stray_keeps core Client op = (refl, turned-given_up core.client (length core.server.got), stands_strayed core.client (length core.server.got) (value_taken core.orders core.words op) op)
+
+-- ---- the places of an honest end's bytes
+
+unmoved : (flag : Bool) (moved_to before now : ℕ) → flag ≡ false → now ≡ cond flag moved_to before → now ≡ before
+unmoved flag moved_to before now still is = is ∙ ap (λ (b : Bool). cond b moved_to before) still
+
+stored_count : (word : WordName) (s : Side) (e : Standing) (n : SoFar) (value : ℕ) → OwesStored word s.role e n value → OwnCount word s value
+stored_count word s e n value owes = go word s.role owes
+  where
+    go : (word : WordName) (role : Role) → OwesStored word role e n value → OwnCount word (record s { role = role }) value
+    go LeftProd Client owes = omega (arith, owes.is)
+    go RightProd Server owes = omega (arith, owes.is)
+    go LeftCons Server owes = omega (arith, owes.is)
+    go RightCons Client owes = omega (arith, owes.is)
+    go LeftProd Server owes = absurd owes
+    go RightProd Client owes = absurd owes
+    go LeftCons Client owes = absurd owes
+    go RightCons Server owes = absurd owes
+    go _ role owes = tt
+
+pub lies_at_count : (s : Side) → CallLawful s → GoesOn (plan_left s) → LiesAtCount s (op_next s)
+lies_at_count s lawful more = go (op_next s) (owes_now s i more) (counts_now s i more)
+  where
+    i : InLawful s
+    i = in_lawful s lawful more
+
+    go : (op : Op) → OwesSound (begun_standing s i.begun) (so_far s.role s.trail) op → OwesNext s i.begun op → LiesAtCount s op
+    go (StoreByte word at) owes counts =
+        (counts.0, owes.word_is ∙ ap (λ (n : ℕ). RingByte (written_ring s.role) (place (n + at) (order_of s.orders (written_ring s.role)))) (sym (unmoved (so_far s.role s.trail).shown _ i.begun.prod s.prod owes.not_shown i.lawful.prod)))
+    go (LoadByte word at) owes counts =
+        (counts.0, owes.word_is ∙ ap (λ (n : ℕ). RingByte (read_ring s.role) (place (n + at) (order_of s.orders (read_ring s.role)))) (sym (unmoved (so_far s.role s.trail).released _ i.begun.cons s.cons owes.not_released i.lawful.cons)))
+    go (Store word value) owes counts = stored_count word s (begun_standing s i.begun) (so_far s.role s.trail) value owes
+    go (Load word) owes counts = tt
+    go (Or word bits) owes counts = tt
+    go (And word bits) owes counts = tt
+    go (Swap word value) owes counts = tt
+    go Nothing owes counts = tt

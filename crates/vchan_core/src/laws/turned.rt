@@ -1,30 +1,15 @@
 //! Laws of a page whose ends may be given up to a hostile user, who may make any event.
-ghost use Rattle.vchan_core.specs.TurnedLaws.{FirstTurnIsLawful, SecondTurnIsLawful, StrayIsLawful, TurnedBeginIsLawful, TurnedEventIsLawful, EventGrowsLists, StrayKeepsLists};
+ghost use Rattle.vchan_core.specs.TurnedLaws.{TurnedEventIsLawful, StrayIsLawful, EventGrowsLists, StrayKeepsLists, BytesLieAtCounts};
 
-/// Giving up an end of a lawful page, both ends of which are honest, makes it a lawful page with an
-/// end given up.
-pub fn first_turn()
-    ensures { FirstTurnIsLawful }
-{}
-
-/// Giving up the other end too keeps it so.
-pub fn second_turn()
-    ensures { SecondTurnIsLawful }
-{}
-
-/// Any event of a hostile user keeps it so.
-pub fn stray()
-    ensures { StrayIsLawful }
-{}
-
-/// An honest end's begin of a call keeps it so.
-pub fn turned_begin()
-    ensures { TurnedBeginIsLawful }
-{}
-
-/// An honest end's next event keeps it so, whatever its peer has stored.
+/// What holds of a page with ends given up holds on when an honest end makes its next event,
+/// whatever its peer has stored.
 pub fn turned_event()
     ensures { TurnedEventIsLawful }
+{}
+
+/// It holds on whatever event the hostile user of an end given up makes.
+pub fn stray_event()
+    ensures { StrayIsLawful }
 {}
 
 /// An event of an end leaves its peer as it is, and its own lists only grow.
@@ -35,4 +20,10 @@ pub fn event_grows_lists()
 /// An event of a hostile user leaves the peer as it is, and the lists of an end given up stand.
 pub fn stray_keeps_lists()
     ensures { StrayKeepsLists }
+{}
+
+/// Whatever its peer has stored, an honest end stores and loads ring bytes at the places of its own
+/// counts alone, and the indices that it stores are its own counts.
+pub fn bytes_lie_at_counts()
+    ensures { BytesLieAtCounts }
 {}
