@@ -16,4 +16,6 @@ pub mod LawfulSteps
 pub mod Notifies
 pub mod SignalLaws
 pub mod WholeCalls
+pub mod TurnedSteps
+pub mod KeptSteps
 pub mod WorkedRow

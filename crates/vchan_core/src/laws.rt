@@ -1,7 +1,8 @@
 //! Laws of every call, whatever values its events take. A law is a function with no body, whose
 //! contract states it.
-pub mod lives;
+pub mod kept;
 pub mod signals;
+pub mod turned;
 
 ghost use Rattle.vchan_core.specs.Worked.{RowIsAsWorked};
 ghost use Rattle.vchan_core.specs.Laws.{EachCallEnds, EachCallFits, EachCallMovesAtMost, OpeningIsLawful, BeginIsLawful, EventIsLawful, CallIsLawful, ReachedIsLawful, CallIsReached};
