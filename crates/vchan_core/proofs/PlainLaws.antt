@@ -23,9 +23,8 @@ use Rattle.vchan_core.specs.Kept.{Kept}
 use Rattle.vchan_core.proofs.PlanLaws.{GoesOn-machine}
 use Rattle.vchan_core.proofs.StepLaws.{in_call, plan_left-is}
 use Rattle.vchan_core.proofs.RunLaws.{machine_stands, length-payload}
-use Rattle.vchan_core.proofs.TurnedSteps.{event_grows}
 use Rattle.vchan_core.proofs.KeptSteps.{kept_begun, kept_event}
-use Rattle.vchan_core.proofs.WholeCalls.{call_keeps_it}
+use Rattle.vchan_core.proofs.WholeCalls.{kept_called}
 
 -- the end was given up exactly where the page says so
 turned_stands : (core : Core) (page : Plain) (who : Role) → StandsFor core page → turned_of page who ≡ false → (side_of core who).turned ≡ false
@@ -71,17 +70,6 @@ pub kept_step : (core : Core) (page : Plain) (who : Role) → StandsFor core pag
 kept_step core page who h honest busy kept = kept_event core who kept (turned_stands core page who h honest) (goes_on_stands core page who h busy)
 
 -- ---- whole calls
-
-turned_begun : (core : Core) (who : Role) (call : Call) (payload : List ℕ) → (side_of core who).turned ≡ false → (side_of (begun core who call payload) who).turned ≡ false
-turned_begun core Server call payload honest = honest
-turned_begun core Client call payload honest = honest
-
--- a whole call of an honest end
-pub kept_called : (core : Core) (who : Role) (call : Call) (payload : List ℕ) → Kept core → (side_of core who).turned ≡ false → MayBegin who (side_of core who) call payload → Kept (called core who call payload)
-kept_called core who call payload kept honest may =
-    (call_keeps_it (λ (now : Core). Kept now × ((side_of now who).turned ≡ false)) who
-    (λ now h more. (kept_event now who h.0 h.1 more, (event_grows now who).1.turned ∙ h.1)) core call payload
-    (kept_begun core who call payload kept honest may, turned_begun core who call payload honest)).0
 
 pub kept_call : (core : Core) (page : Plain) (who : Role) (call : Call) (source : List ℕ) → StandsFor core page → turned_of page who ≡ false → Allows (machine_of page who) call → payload_of call ≤ length source → ((k : ℕ) → slice_index source k < 256) →
     Kept core → Kept (called core who call (take (payload_of call) source))

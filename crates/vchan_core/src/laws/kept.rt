@@ -1,5 +1,5 @@
 //! Laws of a page at each moment, whether its ends are honest or were given up, and of its end.
-ghost use Rattle.vchan_core.specs.Kept.{OpeningIsKept, BeginIsKept, EventIsKept, TurnIsKept, StrayIsKept, EachIsKept, KeptSettles};
+ghost use Rattle.vchan_core.specs.Kept.{OpeningIsKept, BeginIsKept, EventIsKept, CallIsKept, TurnIsKept, StrayIsKept, EachIsKept, KeptSettles};
 
 /// What holds of a page holds when it is opened.
 pub fn opening_is_kept()
@@ -14,6 +14,11 @@ pub fn begin_is_kept()
 /// It holds on when an honest end makes the next event of its call.
 pub fn event_is_kept()
     ensures { EventIsKept }
+{}
+
+/// It holds on when an honest end makes a whole call, and the other end no event.
+pub fn call_is_kept()
+    ensures { CallIsKept }
 {}
 
 /// It holds on when an end is given up to a hostile user.
