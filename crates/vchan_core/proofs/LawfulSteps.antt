@@ -32,6 +32,7 @@ use Rattle.vchan_core.proofs.LifeSteps.{life_opened, life_begun, life_event}
 -- all but its lives
 record Rings (core : Core) : Type 0 where
   sized : length core.words ≡ word_count core.orders
+  said_fits : (core.said.0 < 2 ^ 16) × (core.said.1 < 2 ^ 16)
   server_end : IsEnd Server core.orders core.server
   client_end : IsEnd Client core.orders core.client
   left : RingLawful core Left
@@ -46,10 +47,11 @@ order_read : (role : Role) (orders : Orders) (s : Side) → IsEnd role orders s 
 order_read role orders s is = ap (λ (r : Role). order_of orders (read_ring r)) (sym is.role_is) ∙ ap (λ (o : Orders). order_of o (read_ring s.role)) (sym is.orders_are)
 
 -- two lawful rings between ends in lawful calls
-rings_of : (core : Core) → length core.words ≡ word_count core.orders → IsEnd Server core.orders core.server → IsEnd Client core.orders core.client → CallLawful core.server → CallLawful core.client →
+rings_of : (core : Core) → length core.words ≡ word_count core.orders → (core.said.0 < 2 ^ 16) × (core.said.1 < 2 ^ 16) → IsEnd Server core.orders core.server → IsEnd Client core.orders core.client → CallLawful core.server → CallLawful core.client →
     IsLawful (channel_of core Left) → IsLawful (channel_of core Right) → Rings core
-rings_of core sized server client server_call client_call left right = record {
+rings_of core sized said server client server_call client_call left right = record {
   sized = sized;
+  said_fits = said;
   server_end = server;
   client_end = client;
   left = record {
@@ -69,6 +71,7 @@ rings_of core sized server client server_call client_call left right = record {
 with_lives : (core : Core) → Rings core → LifeLawful core → Lawful core
 with_lives core r lives = record {
   sized = r.sized;
+  said_fits = r.said_fits;
   server_end = r.server_end;
   client_end = r.client_end;
   left = r.left;
@@ -120,14 +123,13 @@ module _ (start : ℕ) (orders : Orders) (words : List ℕ) (role : Role) (s oth
 rings_event : (core : Core) (who : Role) → Lawful core → GoesOn (plan_left (side_of core who)) → Rings (event core who)
 unfolding event
 rings_event core Server h more =
-    let s = core.server in
-    rings_of _ (length-set core.words _ _ ∙ h.sized)
+    rings_of _ (length-set core.words _ _ ∙ h.sized) h.said_fits
     (settled_end Server core.orders _ (plan_next core Server) (record { role_is = h.server_end.role_is; orders_are = h.server_end.orders_are })) h.client_end
     (call_goes_on core.server (taken_next core Server) h.server_call more) h.client_call
     (settled_reader core.start core.orders _ Left _ core.client (plan_next core Server) (next_reads core.start core.orders core.words Server core.server core.client h.server_end h.server_call more h.sized h.left.lawful))
     (settled_writer core.start core.orders _ Right _ core.client (plan_next core Server) (next_writes core.start core.orders core.words Server core.server core.client h.server_end h.server_call more h.sized h.right.lawful))
 rings_event core Client h more =
-    rings_of _ (length-set core.words _ _ ∙ h.sized)
+    rings_of _ (length-set core.words _ _ ∙ h.sized) h.said_fits
     h.server_end (settled_end Client core.orders _ (plan_next core Client) (record { role_is = h.client_end.role_is; orders_are = h.client_end.orders_are }))
     h.server_call (call_goes_on core.client (taken_next core Client) h.client_call more)
     (settled_writer core.start core.orders _ Left _ core.server (plan_next core Client) (next_writes core.start core.orders core.words Client core.client core.server h.client_end h.client_call more h.sized h.left.lawful))
@@ -155,12 +157,12 @@ begins_call role orders s call payload is allowed pays bytes = call_begins s cal
 rings_begun : (core : Core) (who : Role) (call : Call) (payload : List ℕ) → Lawful core → IsAllowed who (side_of core who).state call → length payload ≡ payload_of call → AreBytes payload →
     Rings (begun core who call payload)
 rings_begun core Server call payload h allowed pays bytes =
-    rings_of _ h.sized (record { role_is = h.server_end.role_is; orders_are = h.server_end.orders_are }) h.client_end
+    rings_of _ h.sized h.said_fits (record { role_is = h.server_end.role_is; orders_are = h.server_end.orders_are }) h.client_end
     (begins_call Server core.orders core.server call payload h.server_end allowed pays bytes) h.client_call
     (begins_reader core.start core.orders core.words Left core.server core.client call payload h.left.lawful)
     (begins_writer core.start core.orders core.words Right core.server core.client call payload h.right.lawful)
 rings_begun core Client call payload h allowed pays bytes =
-    rings_of _ h.sized h.server_end (record { role_is = h.client_end.role_is; orders_are = h.client_end.orders_are })
+    rings_of _ h.sized h.said_fits h.server_end (record { role_is = h.client_end.role_is; orders_are = h.client_end.orders_are })
     h.server_call (begins_call Client core.orders core.client call payload h.client_end allowed pays bytes)
     (begins_writer core.start core.orders core.words Left core.client core.server call payload h.left.lawful)
     (begins_reader core.start core.orders core.words Right core.client core.server call payload h.right.lawful)
@@ -204,6 +206,6 @@ ring_opened orders start said state Right low = record {
 pub lawful_opened : (orders : Orders) (start : ℕ) (said : ℕ × ℕ) (state : EndState) → start < 2 ^ 32 → said.0 < 2 ^ 16 → said.1 < 2 ^ 16 → state ≢ Shut → Lawful (opened orders start said state)
 lawful_opened orders start said state low left right open_or_fresh =
     with_lives _
-    (rings_of (opened orders start said state) (omega (arith, length-replicate {A = ℕ} (word_count orders - 14) 0)) (record { role_is = refl; orders_are = refl }) (record { role_is = refl; orders_are = refl }) tt tt
+    (rings_of (opened orders start said state) (omega (arith, length-replicate {A = ℕ} (word_count orders - 14) 0)) (left, right) (record { role_is = refl; orders_are = refl }) (record { role_is = refl; orders_are = refl }) tt tt
     (ring_opened orders start said state Left low) (ring_opened orders start said state Right low))
     (life_opened orders start said state open_or_fresh)

@@ -18,3 +18,4 @@ pub mod SignalLaws
 pub mod WholeCalls
 pub mod TurnedSteps
 pub mod KeptSteps
+pub mod WorkedRow

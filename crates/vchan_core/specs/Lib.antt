@@ -20,3 +20,4 @@ pub mod TurnedLaws
 pub mod Kept
 pub mod Reached
 pub mod SignalLaw
+pub mod Worked

@@ -4,6 +4,7 @@ pub mod kept;
 pub mod signals;
 pub mod turned;
 
+ghost use Rattle.vchan_core.specs.Worked.{RowIsAsWorked};
 ghost use Rattle.vchan_core.specs.Laws.{EachCallEnds, EachCallFits, EachCallMovesAtMost, OpeningIsLawful, BeginIsLawful, EventIsLawful, CallIsLawful, ReachedIsLawful, CallIsReached};
 
 /// A call of `n` bytes ends within `7 + min(n, size)` events, and a drain within
@@ -52,4 +53,10 @@ pub fn honest_ends_are_lawful()
 /// A whole call is one way in which honest ends go on.
 pub fn calls_are_reached()
     ensures { CallIsReached }
+{}
+
+/// A worked row of the laws' definitions: three bytes go through the left ring, across the end of
+/// the indices and of the ring.
+pub fn worked_row()
+    ensures { RowIsAsWorked }
 {}
