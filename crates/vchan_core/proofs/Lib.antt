@@ -19,3 +19,4 @@ pub mod WholeCalls
 pub mod TurnedSteps
 pub mod KeptSteps
 pub mod WorkedRow
+pub mod WorkedEnd

@@ -1,4 +1,5 @@
 //! Laws of a page at each moment, whether its ends are honest or were given up, and of its end.
+ghost use Rattle.vchan_core.specs.WorkedEnd.{EndIsAsWorked};
 ghost use Rattle.vchan_core.specs.Kept.{OpeningIsKept, BeginIsKept, EventIsKept, TurnIsKept, StrayIsKept, GoneIsSetOnce, EachIsKept, KeptSettles};
 
 /// What holds of a page holds when it is opened.
@@ -40,4 +41,10 @@ pub fn each_is_kept()
 /// What stands at the end of a page, and at each moment before.
 pub fn kept_settles()
     ensures { KeptSettles }
+{}
+
+/// A worked row of how a stream ends: a byte that was written before the peer closed is still read,
+/// and then all was read.
+pub fn worked_end()
+    ensures { EndIsAsWorked }
 {}
