@@ -21,3 +21,4 @@ pub mod Kept
 pub mod Reached
 pub mod SignalLaw
 pub mod Worked
+pub mod WorkedEnd
