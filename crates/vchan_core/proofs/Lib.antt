@@ -5,4 +5,5 @@ pub mod StepLaws
 pub mod RunLaws
 pub mod TurnLaws
 pub mod Notifies
+pub mod Watched
 pub mod SignalLaws
