@@ -11,3 +11,6 @@ pub mod Page
 pub mod Past
 pub mod Turned
 pub mod ListCall
+pub mod SoFar
+pub mod RingLaw
+pub mod Lawful

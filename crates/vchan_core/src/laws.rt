@@ -1,6 +1,6 @@
 //! Laws of every call, whatever values its events take. A law is a function with no body, whose
 //! contract states it.
-ghost use Rattle.vchan_core.specs.Laws.{EachCallEnds, EachCallFits, EachCallMovesAtMost};
+ghost use Rattle.vchan_core.specs.Laws.{EachCallEnds, EachCallFits, EachCallMovesAtMost, OpeningIsLawful, BeginIsLawful, EventIsLawful};
 
 /// A call of `n` bytes ends within `7 + min(n, size)` events, and a drain within
 /// `10 + min(n, size)`, `size` being that of the ring which it moves bytes through.
@@ -17,4 +17,19 @@ pub fn each_call_fits()
 /// No call of `n` bytes moves more than `min(n, size)` bytes.
 pub fn each_call_moves_at_most()
     ensures { EachCallMovesAtMost }
+{}
+
+/// A page is lawful when it is opened.
+pub fn lawful_opening()
+    ensures { OpeningIsLawful }
+{}
+
+/// An end of a lawful page that begins a call leaves the page lawful.
+pub fn lawful_begin()
+    ensures { BeginIsLawful }
+{}
+
+/// The next event of either end of a lawful page leaves the page lawful, while both are honest.
+pub fn honest_step()
+    ensures { EventIsLawful }
 {}
