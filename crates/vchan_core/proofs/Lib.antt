@@ -5,3 +5,5 @@ pub mod StepLaws
 pub mod RunLaws
 pub mod TurnLaws
 pub mod ListRows
+pub mod LifeSteps
+pub mod ListTells

@@ -12,20 +12,20 @@ use Rattle.vchan_core.specs.declared.call.Call.TheVariants.{Write, Send, Read, R
 use Rattle.vchan_core.specs.declared.call.EndState.{EndState}
 use Rattle.vchan_core.specs.declared.call.EndState.TheVariants.{Fresh, Open, Shut}
 use Rattle.vchan_core.specs.Core.{opened}
-use Rattle.vchan_core.specs.ListCall.{Channel, WholeCall, lists_of, list_calls}
+use Rattle.vchan_core.specs.ListCall.{ChannelLists, WholeCall, lists_of, list_calls}
 
 small : Orders
 small = record { left = record { number = 10; in_range = (omega arith, omega arith) }; right = record { number = 11; in_range = (omega arith, omega arith) }; distinct = λ e. absurd (omega (arith, e)) }
 
 -- the page of orders 10 and 11, its client open, all indices at this number
-page : ℕ → Channel
+page : ℕ → ChannelLists
 page start = lists_of (opened small start (10, 11) Open)
 
 by : Role → Call → List ℕ → WholeCall
 by who call payload = record { who = who; call = call; payload = payload }
 
 -- the answers, and how much of the left and of the right ring was sent and got
-tells : Channel → List WholeCall → List (Option Answer) × List ℕ
+tells : ChannelLists → List WholeCall → List (Option Answer) × List ℕ
 tells channel calls =
     let end = list_calls channel calls in
     (end.1, length end.0.client.sent ∷ length end.0.server.got ∷ length end.0.server.sent ∷ length end.0.client.got ∷ [])

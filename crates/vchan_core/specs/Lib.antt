@@ -6,11 +6,14 @@ pub mod Phases
 pub mod Core
 pub mod Counts
 pub mod Alone
+pub mod LifeLaw
+pub mod LifeLaws
 pub mod Laws
 pub mod Page
 pub mod Past
 pub mod Turned
 pub mod ListCall
+pub mod ListLaw
 pub mod SoFar
 pub mod RingLaw
 pub mod Lawful

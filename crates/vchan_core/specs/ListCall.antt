@@ -25,7 +25,7 @@ pub record ListEnd : Type 0 where
   pub got : List ℕ
 
 -- a channel: where all indices began, what the order words said then, the orders of the page, and its two ends
-pub record Channel : Type 0 where
+pub record ChannelLists : Type 0 where
   pub start : ℕ
   pub said : ℕ × ℕ
   pub orders : Orders
@@ -36,29 +36,29 @@ abbrev pub peer : Role → Role
 peer Server = Client
 peer Client = Server
 
-abbrev pub end_of : Channel → Role → ListEnd
+abbrev pub end_of : ChannelLists → Role → ListEnd
 end_of channel Server = channel.server
 end_of channel Client = channel.client
 
 -- the channel with another value for this end
-abbrev pub with_end : Channel → Role → ListEnd → Channel
+abbrev pub with_end : ChannelLists → Role → ListEnd → ChannelLists
 with_end channel Server it = record channel { server = it }
 with_end channel Client it = record channel { client = it }
 
 -- ---- what an end finds
 
 -- the bytes that wait for an end: its peer sent them, and it has not got them
-abbrev pub waiting : Channel → Role → List ℕ
+abbrev pub waiting : ChannelLists → Role → List ℕ
 waiting channel who = drop (length (end_of channel who).got) (end_of channel (peer who)).sent
 
 -- how many bytes wait for it, and how many it has room for
-abbrev pub avail : Channel → Role → ℕ
+abbrev pub avail : ChannelLists → Role → ℕ
 avail channel who = length (end_of channel (peer who)).sent - length (end_of channel who).got
 
-abbrev pub free : Channel → Role → ℕ
+abbrev pub free : ChannelLists → Role → ℕ
 free channel who = size (order_of channel.orders (written_ring who)) - (length (end_of channel who).sent - length (end_of channel (peer who)).got)
 
-abbrev pub peer_is_shut : Channel → Role → Bool
+abbrev pub peer_is_shut : ChannelLists → Role → Bool
 peer_is_shut channel who = is_shut (end_of channel (peer who)).state
 
 -- the index that a list has come to
@@ -66,46 +66,46 @@ abbrev pub index : ℕ → List ℕ → ℕ
 index start list = (start + length list) % 2 ^ 32
 
 -- an answer with the two indices of the ring that an end writes, and of the one that it reads
-abbrev pub of_written : (ℕ → ℕ → Answer) → Channel → Role → Answer
+abbrev pub of_written : (ℕ → ℕ → Answer) → ChannelLists → Role → Answer
 of_written answer channel who = answer (index channel.start (end_of channel who).sent) (index channel.start (end_of channel (peer who)).got)
 
-abbrev pub of_read : (ℕ → ℕ → Answer) → Channel → Role → Answer
+abbrev pub of_read : (ℕ → ℕ → Answer) → ChannelLists → Role → Answer
 of_read answer channel who = answer (index channel.start (end_of channel (peer who)).sent) (index channel.start (end_of channel who).got)
 
 -- ---- what an end does
 
 -- it sends the first bytes of its payload
-abbrev pub sends : Channel → Role → List ℕ → ℕ → Channel
+abbrev pub sends : ChannelLists → Role → List ℕ → ℕ → ChannelLists
 sends channel who payload count = with_end channel who (record (end_of channel who) { sent = (end_of channel who).sent ++ take count payload })
 
 -- it gets the first bytes that wait
-abbrev pub gets : Channel → Role → ℕ → Channel
+abbrev pub gets : ChannelLists → Role → ℕ → ChannelLists
 gets channel who count = with_end channel who (record (end_of channel who) { got = (end_of channel who).got ++ take count (waiting channel who) })
 
-abbrev pub comes_to : Channel → Role → EndState → Channel
+abbrev pub comes_to : ChannelLists → Role → EndState → ChannelLists
 comes_to channel who state = with_end channel who (record (end_of channel who) { state = state })
 
-abbrev pub retires : Channel → Role → Channel
+abbrev pub retires : ChannelLists → Role → ChannelLists
 retires channel who = with_end channel who (record (end_of channel who) { state = Shut; retired = true })
 
 -- ---- the calls
 
 -- the channel after a call, and the call's answer where the lists tell it
 abbrev pub Outcome : Type 0
-Outcome = Channel × Option Answer
+Outcome = ChannelLists × Option Answer
 
 -- only an answer
-abbrev pub only : Channel → Answer → Outcome
+abbrev pub only : ChannelLists → Answer → Outcome
 only channel answer = (channel, Some answer)
 
-abbrev pub sent_out : Channel → Role → List ℕ → ℕ → (ℕ → Answer) → Outcome
+abbrev pub sent_out : ChannelLists → Role → List ℕ → ℕ → (ℕ → Answer) → Outcome
 sent_out channel who payload count answer = (sends channel who payload count, Some (answer count))
 
-abbrev pub got_in : Channel → Role → ℕ → Outcome
+abbrev pub got_in : ChannelLists → Role → ℕ → Outcome
 got_in channel who count = (gets channel who count, Some (Got count))
 
 -- a whole call of an end: one row a call
-abbrev pub list_call : Channel → Role → Call → List ℕ → Outcome
+abbrev pub list_call : ChannelLists → Role → Call → List ℕ → Outcome
 list_call channel who (Write n) payload =
     if peer_is_shut channel who then only channel PeerClosed
     else (if n == 0 then only channel (Wrote 0)
@@ -146,7 +146,7 @@ pub record WholeCall : Type 0 where
   pub payload : List ℕ
 
 -- the channel after these calls, one after the other, and their answers
-abbrev pub list_calls : Channel → List WholeCall → Channel × List (Option Answer)
+abbrev pub list_calls : ChannelLists → List WholeCall → ChannelLists × List (Option Answer)
 list_calls channel [] = (channel, [])
 list_calls channel (one ∷ more) =
     let outcome = list_call channel one.who one.call one.payload in
@@ -163,7 +163,7 @@ word core name = slice_index core.words (index_of core.orders name)
 abbrev pub list_end : Core → Role → Side → ListEnd
 list_end core who side = record { state = side.state; retired = word core (own_gone who) == 1; sent = side.sent; got = side.got }
 
-abbrev pub lists_of : Core → Channel
+abbrev pub lists_of : Core → ChannelLists
 lists_of core = record {
   start = core.start;
   said = core.said;

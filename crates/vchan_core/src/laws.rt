@@ -1,5 +1,8 @@
 //! Laws of every call, whatever values its events take. A law is a function with no body, whose
 //! contract states it.
+pub mod lists;
+pub mod lives;
+
 ghost use Rattle.vchan_core.specs.Laws.{EachCallEnds, EachCallFits, EachCallMovesAtMost, OpeningIsLawful, BeginIsLawful, EventIsLawful};
 
 /// A call of `n` bytes ends within `7 + min(n, size)` events, and a drain within

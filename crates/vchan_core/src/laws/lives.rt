@@ -1,0 +1,9 @@
+//! Laws on lives: what the live bytes, the gone words and the order words say while both ends are
+//! honest, and how a stream ends.
+ghost use Rattle.vchan_core.specs.LifeLaws.{LifeOpens};
+
+/// On a page on which nothing has happened yet, opened with the client fresh or open, the laws on
+/// lives hold.
+pub fn life_opens()
+    ensures { LifeOpens }
+{}
