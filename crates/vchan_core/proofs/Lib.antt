@@ -7,3 +7,4 @@ pub mod TurnLaws
 pub mod ListRows
 pub mod LifeSteps
 pub mod ListTells
+pub mod ListPieces

@@ -1,0 +1,315 @@
+-- The pieces of a whole call, on a page that tells its lists: what each leaves of the lists, and with which answer it ends.
+use Rattle.std.proofs.Common.{◌≡◌, ◌≢◌, ℕ, suc, zero, ◌+◌, ◌-◌, ◌%◌, ◌^◌, ◌<◌, ◌≤◌, ◌==◌, ◌⊎◌, inl, inr, min, Bool, true, false, cond, if◌then◌else◌, Option, Some, None, List, [], ◌∷◌, ◌++◌, length, take, drop, get_or, set, slice_index, slice_set, bit_and, bit_or, refl, subst, sym, ap, ◌∙◌, arith, append_assoc, append-nil}
+use Rattle.std.proofs.lemmas.Bool.{cases_lt, false≢true, cases_Bool}
+use Rattle.std.proofs.lemmas.Bool.Decides.{nat_tests}
+use Rattle.std.proofs.lemmas.List.{get_or-set_same, get_or-set_other, length-set, length-append, length-take, length-drop, set-get_or, get_or-drop, get_or-take, take_more, take-append-drop, drop_at}
+use Rattle.std.specs.List.{All}
+use Rattle.std.proofs.lemmas.List.Elements.{All-take}
+use Rattle.ring_words.specs.Rings.{size, place, diff, ready, room}
+use Rattle.ring_words.specs.Page.{index_of, order_of, word_count}
+use Rattle.ring_words.proofs.RingLaws.{place_within, place_apart, place_wraps, diff_counts, size-within}
+use Rattle.ring_words.specs.declared.order.Order.{Order}
+use Rattle.ring_words.specs.declared.order.Orders.{Orders}
+use Rattle.ring_words.specs.declared.page.Role.{Role}
+use Rattle.ring_words.specs.declared.page.Role.TheVariants.{Server, Client}
+use Rattle.ring_words.specs.declared.page.Ring.{Ring}
+use Rattle.ring_words.specs.declared.page.Ring.TheVariants.{Left, Right}
+use Rattle.ring_words.specs.declared.page.WordName.{WordName}
+use Rattle.ring_words.specs.declared.page.WordName.TheVariants.{RingByte}
+use Rattle.vchan_core.specs.declared.op.Op.{Op}
+use Rattle.vchan_core.specs.declared.op.Op.TheVariants.{Load, LoadByte, Store, StoreByte, Or, And, Swap}
+use Rattle.vchan_core.specs.declared.op.PastEvent.{PastEvent}
+use Rattle.vchan_core.specs.declared.call.Answer.{Answer}
+use Rattle.vchan_core.specs.declared.call.Answer.TheVariants.{Got}
+use Rattle.vchan_core.specs.declared.call.Bit.{Bit}
+use Rattle.vchan_core.specs.declared.call.Bit.TheVariants.{Written, Consumed}
+use Rattle.vchan_core.specs.declared.call.EndState.{EndState}
+use Rattle.vchan_core.specs.declared.call.EndState.TheVariants.{Fresh, Open, Shut}
+use Rattle.vchan_core.specs.declared.side.Side.{Side}
+use Rattle.vchan_core.specs.Plan.{Plan, does, answers, past}
+use Rattle.vchan_core.specs.Ends.{Standing, written_ring, read_ring, prod_word, cons_word, ask_word, notify_word, own_live, own_gone, own_pending, peer_live, peer_gone, peer_pending, mask, low8, low32, free_at, ready_at, write_order, read_order, prod_stored, cons_stored, live_stored}
+use Rattle.vchan_core.specs.Calls.{look_read, look_write, ask, signal, notify, put_bytes, take_bytes, put_index, take_index, put, take as take_plan}
+use Rattle.vchan_core.specs.Apply.{words_after, value_taken}
+use Rattle.vchan_core.specs.Page.{live_word}
+use Rattle.vchan_core.specs.Core.{Core, made, answered, count_stored, bytes_loaded, stored_by, loaded_by, sent_stored, got_stored, is_shut}
+use Rattle.vchan_core.specs.Alone.{alone}
+use Rattle.vchan_core.specs.RingLaw.{IsPrefixOf, AreBytes}
+use Rattle.vchan_core.specs.ListCall.{ListEnd, ChannelLists, Outcome, peer, end_of, with_end, index, waiting, avail, free, only, sends, gets, sent_out, got_in}
+use Rattle.vchan_core.specs.ListLaw.{IsTold, count_got}
+use Rattle.vchan_core.proofs.RunLaws.{bytes_loaded-push}
+use Rattle.vchan_core.proofs.ListTells.{Told, told, at, Tells, EndIs, RingTells, tells_flags, tells_byte, tells_sent, tells_got, tells_state, tells_gone}
+
+-- ---- a plan, carried out on the words and on its end alone
+
+unfoldable pub run : Orders → List ℕ → Side → Plan → List ℕ × Side × Answer
+run orders words mine (answers answer) = (words, answered mine answer, answer)
+run orders words mine (does op next) = run orders (words_after orders words mine.payload op) (made mine op (value_taken orders words op)) (next (value_taken orders words op))
+
+-- a core state, by its two ends
+abbrev pub core_by : Role → ChannelLists → List ℕ → Side → Side → Core
+core_by Server channel words mine theirs = record { start = channel.start; said = channel.said; orders = channel.orders; words = words; server = mine; client = theirs }
+core_by Client channel words mine theirs = record { start = channel.start; said = channel.said; orders = channel.orders; words = words; server = theirs; client = mine }
+
+pub alone-run : (who : Role) (channel : ChannelLists) (words : List ℕ) (mine theirs : Side) (plan : Plan) →
+    alone (core_by who channel words mine theirs) who plan ≡ (core_by who channel (run channel.orders words mine plan).0 (run channel.orders words mine plan).1 theirs, (run channel.orders words mine plan).2)
+unfolding alone run
+alone-run Server channel words mine theirs (answers answer) = refl
+alone-run Server channel words mine theirs (does op next) =
+    alone-run Server channel (words_after channel.orders words mine.payload op) (made mine op (value_taken channel.orders words op)) theirs (next (value_taken channel.orders words op))
+alone-run Client channel words mine theirs (answers answer) = refl
+alone-run Client channel words mine theirs (does op next) =
+    alone-run Client channel (words_after channel.orders words mine.payload op) (made mine op (value_taken channel.orders words op)) theirs (next (value_taken channel.orders words op))
+
+-- how an end stands that begins a call
+abbrev pub standing_by : Role → ChannelLists → Standing
+standing_by who channel = record {
+  role = who;
+  orders = channel.orders;
+  state = (end_of channel who).state;
+  prod = index channel.start (end_of channel who).sent;
+  cons = index channel.start (end_of channel who).got;
+}
+
+-- ---- numbers
+
+pub low32-index : (start : ℕ) (list : List ℕ) → low32 (index start list) ≡ index start list
+low32-index start list = omega arith
+
+place-index : (start i : ℕ) (list : List ℕ) (order : Order) → place (index start list + i) order ≡ place (start + length list + i) order
+place-index start i list order =
+    sym (place_wraps (index start list + i) order) ∙ ap (λ (n : ℕ). place n order) (omega arith) ∙ place_wraps (start + length list + i) order
+
+index-more : (start k : ℕ) (list more : List ℕ) → length more ≡ k → (index start list + k) % 2 ^ 32 ≡ index start (list ++ more)
+index-more start k list more is = omega (arith, is, length-append list more)
+
+room_is : (start : ℕ) (sent got : List ℕ) (order : Order) → length got ≤ length sent → length sent ≤ length got + size order →
+    room (index start sent) (index start got) order ≡ size order - (length sent - length got)
+unfolding room
+room_is start sent got order low fits =
+    let large = size-within order in
+    let d = diff_counts start (length sent) (length got) low (omega (arith, fits, large.1)) in
+    rw d (grind (arith, nat_tests))
+
+ready_is : (start : ℕ) (sent got : List ℕ) (order : Order) → length got ≤ length sent → length sent ≤ length got + size order →
+    ready (index start sent) (index start got) order ≡ length sent - length got
+unfolding ready
+ready_is start sent got order low fits =
+    let large = size-within order in
+    let d = diff_counts start (length sent) (length got) low (omega (arith, fits, large.1)) in
+    rw d (grind (arith, nat_tests))
+
+count_stored-push : (events : List PastEvent) (op : Op) (taken : ℕ) → count_stored (events ++ past op taken ∷ []) ≡ count_stored events + stored_by op
+count_stored-push [] op taken = omega arith
+count_stored-push (event ∷ events) op taken = omega (arith, count_stored-push events op taken)
+
+byte_index : (orders : Orders) (ring : Ring) (k : ℕ) → index_of orders (RingByte ring k) ≡ index_of orders (RingByte ring 0) + k
+byte_index orders Left k = omega arith
+byte_index orders Right k = omega arith
+
+byte_in : (orders : Orders) (ring : Ring) (k : ℕ) → k < size (order_of orders ring) → index_of orders (RingByte ring k) < word_count orders
+byte_in orders Left k h = omega (arith, h)
+byte_in orders Right k h = omega (arith, h)
+
+ask_flag : (orders : Orders) (who : Role) → (8 ≤ index_of orders (ask_word who)) × (index_of orders (ask_word who) < 12)
+ask_flag orders Server = (omega arith, omega arith)
+ask_flag orders Client = (omega arith, omega arith)
+
+notify_flag : (orders : Orders) (who : Role) → (8 ≤ index_of orders (notify_word who)) × (index_of orders (notify_word who) < 12)
+notify_flag orders Server = (omega arith, omega arith)
+notify_flag orders Client = (omega arith, omega arith)
+
+peer_flag : (orders : Orders) (who : Role) → (8 ≤ index_of orders (peer_pending who)) × (index_of orders (peer_pending who) < 12)
+peer_flag orders Server = (omega arith, omega arith)
+peer_flag orders Client = (omega arith, omega arith)
+
+own_flag : (orders : Orders) (who : Role) → (8 ≤ index_of orders (own_pending who)) × (index_of orders (own_pending who) < 12)
+own_flag orders Server = (omega arith, omega arith)
+own_flag orders Client = (omega arith, omega arith)
+
+-- ---- what an end's stores tell of it
+
+told-pending : (who : Role) (s : Side) (v x : ℕ) → told (made s (Store (peer_pending who) v) x) ≡ told s
+told-pending Server s v x = refl
+told-pending Client s v x = refl
+
+told-prod : (who : Role) (s : Side) (v x : ℕ) → s.role ≡ who → told (made s (Store (prod_word (written_ring who)) v) x) ≡ record (told s) { prod = low32 v; sent = s.sent ++ take (count_stored s.trail) s.payload }
+told-prod Server s v x is = ap (λ (r : Role). record (told s) { prod = prod_stored (prod_word Right) r v s.prod; sent = sent_stored (prod_word Right) r s.trail s.payload s.sent }) is
+told-prod Client s v x is = ap (λ (r : Role). record (told s) { prod = prod_stored (prod_word Left) r v s.prod; sent = sent_stored (prod_word Left) r s.trail s.payload s.sent }) is
+
+told-cons : (who : Role) (s : Side) (v x : ℕ) → s.role ≡ who → told (made s (Store (cons_word (read_ring who)) v) x) ≡ record (told s) { cons = low32 v; got = s.got ++ bytes_loaded s.trail }
+told-cons Server s v x is = ap (λ (r : Role). record (told s) { cons = cons_stored (cons_word Left) r v s.cons; got = got_stored (cons_word Left) r s.trail s.got }) is
+told-cons Client s v x is = ap (λ (r : Role). record (told s) { cons = cons_stored (cons_word Right) r v s.cons; got = got_stored (cons_word Right) r s.trail s.got }) is
+
+told-shut : (who : Role) (s : Side) (x : ℕ) → s.role ≡ who → told (made s (Store (own_live who) 0) x) ≡ record (told s) { state = Shut }
+told-shut Server s x is = ap (λ (r : Role). record (told s) { state = live_stored (own_live Server) r 0 s.state }) is
+told-shut Client s x is = ap (λ (r : Role). record (told s) { state = live_stored (own_live Client) r 0 s.state }) is
+
+told-open : (s : Side) (x : ℕ) → s.role ≡ Client → told (made s (Store (own_live Client) 1) x) ≡ record (told s) { state = Open }
+told-open s x is = ap (λ (r : Role). record (told s) { state = live_stored (own_live Client) r 1 s.state }) is
+
+told-gone : (who : Role) (s : Side) (v x : ℕ) → told (made s (Store (own_gone who) v) x) ≡ told s
+told-gone Server s v x = refl
+told-gone Client s v x = refl
+
+-- ---- a call on its way
+
+-- the lists as they stood when the call began: what was got begins what was sent, and the rest fits its ring
+pub record Begins (who : Role) (channel : ChannelLists) : Type 0 where
+  pub written_low : length (end_of channel (peer who)).got ≤ length (end_of channel who).sent
+  pub written_fits : length (end_of channel who).sent ≤ length (end_of channel (peer who)).got + size (order_of channel.orders (written_ring who))
+  pub read_low : length (end_of channel who).got ≤ length (end_of channel (peer who)).sent
+  pub read_fits : length (end_of channel (peer who)).sent ≤ length (end_of channel who).got + size (order_of channel.orders (read_ring who))
+  pub read_split : (end_of channel who).got ++ waiting channel who ≡ (end_of channel (peer who)).sent
+
+module _ (who : Role) (channel : ChannelLists) (theirs : Told) (payload : List ℕ) (b : Begins who channel) where
+  -- nothing was moved yet
+  pub record Calm (words : List ℕ) (mine : Side) : Type 0 where
+    pub tells : Tells who channel (end_of channel who) words (told mine) theirs
+    pub pays : mine.payload ≡ payload
+    pub stored : count_stored mine.trail ≡ 0
+    pub loaded : bytes_loaded mine.trail ≡ []
+
+  -- inside a put, so many bytes stand in their places
+  pub record Putting (i : ℕ) (words : List ℕ) (mine : Side) : Type 0 where
+    pub tells : Tells who channel (end_of channel who) words (told mine) theirs
+    pub pays : mine.payload ≡ payload
+    pub stored : count_stored mine.trail ≡ i
+    pub loaded : bytes_loaded mine.trail ≡ []
+    pub placed : (j : ℕ) → j < i →
+        at channel.orders words (RingByte (written_ring who) (place (channel.start + length (end_of channel who).sent + j) (order_of channel.orders (written_ring who)))) ≡ slice_index payload j
+
+  -- inside a take, so many bytes are loaded
+  pub record Taking (i : ℕ) (words : List ℕ) (mine : Side) : Type 0 where
+    pub tells : Tells who channel (end_of channel who) words (told mine) theirs
+    pub loaded : bytes_loaded mine.trail ≡ take i (waiting channel who)
+
+  -- the lists are as the call leaves them, and so many bytes are loaded
+  pub record After (it : ListEnd) (count : ℕ) (words : List ℕ) (mine : Side) : Type 0 where
+    pub tells : Tells who channel it words (told mine) theirs
+    pub loaded : bytes_loaded mine.trail ≡ take count (waiting channel who)
+
+  -- the call is at its end
+  pub record Gives (outcome : Outcome) (r : List ℕ × Side × Answer) : Type 0 where
+    pub it : ListEnd
+    pub is : outcome.0 ≡ with_end channel who it
+    pub tells : Tells who channel it r.0 (told r.1) theirs
+    pub answer : IsTold outcome.1 r.2
+    pub bytes : bytes_loaded r.1.trail ≡ take (count_got r.2) (waiting channel who)
+
+  -- from there on the plan comes to this outcome
+  abbrev pub Ends : Plan → Outcome → Type 0
+  Ends plan outcome = (words : List ℕ) (mine : Side) → Calm words mine → Gives outcome (run channel.orders words mine plan)
+
+  abbrev pub EndsAfter : ListEnd → ℕ → Plan → Outcome → Type 0
+  EndsAfter it count plan outcome = (words : List ℕ) (mine : Side) → After it count words mine → Gives outcome (run channel.orders words mine plan)
+
+  -- ---- answers and choices
+
+  pub after_answers : (it : ListEnd) (answer : Answer) (outcome : Outcome) → outcome.0 ≡ with_end channel who it → IsTold outcome.1 answer → EndsAfter it (count_got answer) (answers answer) outcome
+  unfolding run
+  after_answers it answer outcome is told words mine a = record { it = it; is = is; tells = a.tells; answer = told; bytes = a.loaded }
+
+  pub calm_after : (words : List ℕ) (mine : Side) → Calm words mine → After (end_of channel who) 0 words mine
+  calm_after words mine c = record { tells = c.tells; loaded = c.loaded }
+
+  with-same : (who : Role) (channel : ChannelLists) → channel ≡ with_end channel who (end_of channel who)
+  with-same Server channel = refl
+  with-same Client channel = refl
+
+  -- an answer that moves nothing
+  pub ends_only : (answer : Answer) → count_got answer ≡ 0 → Ends (answers answer) (only channel answer)
+  ends_only answer none words mine c =
+      after_answers (end_of channel who) answer (only channel answer) (with-same who channel) refl words mine
+      (subst (λ (n : ℕ). After (end_of channel who) n words mine) (sym none) (calm_after words mine c))
+
+  pub ends_if : (test : Bool) (p q : Plan) (outcome : Outcome) → Ends p outcome → Ends q outcome → Ends (cond test p q) outcome
+  ends_if true p q outcome first second = first
+  ends_if false p q outcome first second = second
+
+  pub ends_cond : (test known : Bool) (p q : Plan) (one two : Outcome) → test ≡ known → (known ≡ true → Ends p one) → (known ≡ false → Ends q two) → Ends (cond test p q) (cond known one two)
+  ends_cond test known p q one two is first second = subst (λ (t : Bool). Ends (cond t p q) (cond known one two)) (sym is) (go known first second)
+    where
+      go : (t : Bool) → (t ≡ true → Ends p one) → (t ≡ false → Ends q two) → Ends (cond t p q) (cond t one two)
+      go true first second = first refl
+      go false first second = second refl
+
+  pub ends_true : (test : Bool) (p q : Plan) (outcome : Outcome) → test ≡ true → Ends p outcome → Ends (cond test p q) outcome
+  ends_true test p q outcome is first = subst (λ (t : Bool). Ends (cond t p q) outcome) (sym is) first
+
+  pub ends_false : (test : Bool) (p q : Plan) (outcome : Outcome) → test ≡ false → Ends q outcome → Ends (cond test p q) outcome
+  ends_false test p q outcome is second = subst (λ (t : Bool). Ends (cond t p q) outcome) (sym is) second
+
+  -- ---- loads and flags, which leave the lists alone
+
+  nothing_loaded : (trail : List PastEvent) (op : Op) (taken : ℕ) (bytes : List ℕ) → loaded_by op taken ≡ [] → bytes_loaded trail ≡ bytes → bytes_loaded (trail ++ past op taken ∷ []) ≡ bytes
+  nothing_loaded trail op taken bytes none is = bytes_loaded-push trail op taken ∙ ap (λ (xs : List ℕ). bytes_loaded trail ++ xs) none ∙ append-nil (bytes_loaded trail) ∙ is
+
+  nothing_stored : (trail : List PastEvent) (op : Op) (taken count : ℕ) → stored_by op ≡ 0 → count_stored trail ≡ count → count_stored (trail ++ past op taken ∷ []) ≡ count
+  nothing_stored trail op taken count none is = count_stored-push trail op taken ∙ omega (arith, none, is)
+
+  calm_load : (word : WordName) (words : List ℕ) (mine : Side) → Calm words mine → Calm (words_after channel.orders words mine.payload (Load word)) (made mine (Load word) (at channel.orders words word))
+  calm_load word words mine c = record {
+    tells = subst (λ (ws : List ℕ). Tells who channel (end_of channel who) ws (told mine) theirs) (sym (set-get_or words (index_of channel.orders word) 0)) c.tells;
+    pays = c.pays;
+    stored = nothing_stored mine.trail (Load word) (at channel.orders words word) 0 refl c.stored;
+    loaded = nothing_loaded mine.trail (Load word) (at channel.orders words word) [] refl c.loaded;
+  }
+
+  pub ends_load : (word : WordName) (value : ℕ) (next : ℕ → Plan) (outcome : Outcome) → ((words : List ℕ) (mine : Side) → Calm words mine → at channel.orders words word ≡ value) →
+      Ends (next value) outcome → Ends (does (Load word) next) outcome
+  unfolding run
+  ends_load word value next outcome is on words mine c =
+      let then_words : List ℕ = words_after channel.orders words mine.payload (Load word) in
+      let then_mine : Side = made mine (Load word) (at channel.orders words word) in
+      subst (λ (v : ℕ). Gives outcome (run channel.orders then_words then_mine (next v))) (sym (is words mine c)) (on then_words then_mine (calm_load word words mine c))
+
+  calm_or : (word : WordName) (bits : ℕ) → (8 ≤ index_of channel.orders word) × (index_of channel.orders word < 12) → (words : List ℕ) (mine : Side) → Calm words mine →
+      Calm (words_after channel.orders words mine.payload (Or word bits)) (made mine (Or word bits) (at channel.orders words word))
+  calm_or word bits flag words mine c = record {
+    tells = tells_flags who channel (end_of channel who) words (told mine) theirs (index_of channel.orders word) _ flag.0 flag.1 c.tells;
+    pays = c.pays;
+    stored = nothing_stored mine.trail (Or word bits) (at channel.orders words word) 0 refl c.stored;
+    loaded = nothing_loaded mine.trail (Or word bits) (at channel.orders words word) [] refl c.loaded;
+  }
+
+  pub ends_ask : (bit : Bit) (next : Plan) (outcome : Outcome) → Ends next outcome → Ends (ask (standing_by who channel) bit next) outcome
+  unfolding run
+  ends_ask bit next outcome on words mine c = on _ _ (calm_or (ask_word who) (mask bit) (ask_flag channel.orders who) words mine c)
+
+  after_and : (it : ListEnd) (count : ℕ) (word : WordName) (bits : ℕ) → (8 ≤ index_of channel.orders word) × (index_of channel.orders word < 12) → (words : List ℕ) (mine : Side) → After it count words mine →
+      After it count (words_after channel.orders words mine.payload (And word bits)) (made mine (And word bits) (at channel.orders words word))
+  after_and it count word bits flag words mine a = record {
+    tells = tells_flags who channel it words (told mine) theirs (index_of channel.orders word) _ flag.0 flag.1 a.tells;
+    loaded = nothing_loaded mine.trail (And word bits) (at channel.orders words word) _ refl a.loaded;
+  }
+
+  after_swap : (it : ListEnd) (count : ℕ) (word : WordName) (v : ℕ) → (8 ≤ index_of channel.orders word) × (index_of channel.orders word < 12) → (words : List ℕ) (mine : Side) → After it count words mine →
+      After it count (words_after channel.orders words mine.payload (Swap word v)) (made mine (Swap word v) (at channel.orders words word))
+  after_swap it count word v flag words mine a = record {
+    tells = tells_flags who channel it words (told mine) theirs (index_of channel.orders word) _ flag.0 flag.1 a.tells;
+    loaded = nothing_loaded mine.trail (Swap word v) (at channel.orders words word) _ refl a.loaded;
+  }
+
+  after_pending : (it : ListEnd) (count v : ℕ) (words : List ℕ) (mine : Side) → After it count words mine →
+      After it count (words_after channel.orders words mine.payload (Store (peer_pending who) v)) (made mine (Store (peer_pending who) v) 0)
+  after_pending it count v words mine a =
+      let flag = peer_flag channel.orders who in
+      record {
+        tells = subst (λ (m : Told). Tells who channel it (set words (index_of channel.orders (peer_pending who)) v) m theirs) (sym (told-pending who mine v 0))
+            (tells_flags who channel it words (told mine) theirs (index_of channel.orders (peer_pending who)) v flag.0 flag.1 a.tells);
+        loaded = nothing_loaded mine.trail (Store (peer_pending who) v) 0 _ refl a.loaded;
+      }
+
+  pub after_signal : (it : ListEnd) (count : ℕ) (next : Plan) (outcome : Outcome) → EndsAfter it count next outcome → EndsAfter it count (signal (standing_by who channel) next) outcome
+  unfolding run
+  after_signal it count next outcome on words mine a = on _ _ (after_pending it count 1 words mine a)
+
+  after_if : (it : ListEnd) (count : ℕ) (test : Bool) (p q : Plan) (outcome : Outcome) → EndsAfter it count p outcome → EndsAfter it count q outcome → EndsAfter it count (cond test p q) outcome
+  after_if it count true p q outcome first second = first
+  after_if it count false p q outcome first second = second
+
+  pub after_notify : (it : ListEnd) (count : ℕ) (bit : Bit) (next : Plan) (outcome : Outcome) → EndsAfter it count next outcome → EndsAfter it count (notify (standing_by who channel) bit next) outcome
+  unfolding run
+  after_notify it count bit next outcome on words mine a =
+      after_if it count _ next (signal (standing_by who channel) next) outcome on (after_signal it count next outcome on) _ _
+      (after_and it count (notify_word who) (18446744073709551615 - mask bit) (notify_flag channel.orders who) words mine a)
