@@ -313,3 +313,136 @@ module _ (who : Role) (channel : ChannelLists) (theirs : Told) (payload : List �
   after_notify it count bit next outcome on words mine a =
       after_if it count _ next (signal (standing_by who channel) next) outcome on (after_signal it count next outcome on) _ _
       (after_and it count (notify_word who) (18446744073709551615 - mask bit) (notify_flag channel.orders who) words mine a)
+
+  -- ---- looks: what they find is told by the lists
+
+  pub ends_look_read : (next : ℕ → Plan) (outcome : Outcome) → Ends (next (index channel.start (end_of channel (peer who)).sent)) outcome → Ends (look_read (standing_by who channel) next) outcome
+  ends_look_read next outcome on =
+      ends_load (prod_word (read_ring who)) (index channel.start (end_of channel (peer who)).sent) (λ value. next (low32 value)) outcome (λ words mine c. c.tells.reading.prod_is)
+      (subst (λ (n : ℕ). Ends (next n) outcome) (sym (low32-index channel.start (end_of channel (peer who)).sent)) on)
+
+  pub ends_look_write : (next : ℕ → Plan) (outcome : Outcome) → Ends (next (index channel.start (end_of channel (peer who)).got)) outcome → Ends (look_write (standing_by who channel) next) outcome
+  ends_look_write next outcome on =
+      ends_load (cons_word (written_ring who)) (index channel.start (end_of channel (peer who)).got) (λ value. next (low32 value)) outcome (λ words mine c. c.tells.written.cons_is)
+      (subst (λ (n : ℕ). Ends (next n) outcome) (sym (low32-index channel.start (end_of channel (peer who)).got)) on)
+
+  -- the peer's live byte says whether it is shut
+  shut_is : (state : EndState) → (low8 (live_word state) == 0) ≡ is_shut state
+  shut_is Fresh = refl
+  shut_is Open = refl
+  shut_is Shut = refl
+
+  pub ends_live : (p q : Plan) (one two : Outcome) → (is_shut (end_of channel (peer who)).state ≡ true → Ends p one) → (is_shut (end_of channel (peer who)).state ≡ false → Ends q two) →
+      Ends (does (Load (peer_live who)) (λ live. if low8 live == 0 then p else q)) (if is_shut (end_of channel (peer who)).state then one else two)
+  ends_live p q one two first second =
+      ends_load (peer_live who) (live_word (end_of channel (peer who)).state) (λ live. if low8 live == 0 then p else q) _ (λ words mine c. c.tells.theirs_words.live_is)
+      (ends_cond (low8 (live_word (end_of channel (peer who)).state) == 0) (is_shut (end_of channel (peer who)).state) p q one two (shut_is (end_of channel (peer who)).state) first second)
+
+  pub ends_gone : (next : ℕ → Plan) (outcome : Outcome) → Ends (next (if (end_of channel (peer who)).retired then 1 else 0)) outcome → Ends (does (Load (peer_gone who)) next) outcome
+  ends_gone next outcome on = ends_load (peer_gone who) (if (end_of channel (peer who)).retired then 1 else 0) next outcome (λ words mine c. c.tells.theirs_words.gone_is) on
+
+  pub free_is : free_at (standing_by who channel) (index channel.start (end_of channel (peer who)).got) ≡ free channel who
+  free_is = room_is channel.start (end_of channel who).sent (end_of channel (peer who)).got (order_of channel.orders (written_ring who)) b.written_low b.written_fits
+
+  pub avail_is : ready_at (standing_by who channel) (index channel.start (end_of channel (peer who)).sent) ≡ avail channel who
+  avail_is = ready_is channel.start (end_of channel (peer who)).sent (end_of channel who).got (order_of channel.orders (read_ring who)) b.read_low b.read_fits
+
+  -- ---- a put
+
+  -- the place of the next byte
+  next_place : ℕ → ℕ
+  next_place i = place (index channel.start (end_of channel who).sent + i) (order_of channel.orders (written_ring who))
+
+  next_place-is : (i : ℕ) → next_place i ≡ place (channel.start + length (end_of channel who).sent + i) (order_of channel.orders (written_ring who))
+  unfolding next_place
+  next_place-is i = place-index channel.start i (end_of channel who).sent (order_of channel.orders (written_ring who))
+
+  -- places less than a ring apart are two places
+  places_apart : (n m : ℕ) (order : Order) → n < m → m < n + size order → place n order ≢ place m order
+  places_apart n m order less near = place_apart n m order less near
+
+  putting_more : (i : ℕ) (words : List ℕ) (mine : Side) → length (end_of channel who).sent + i < length (end_of channel (peer who)).got + size (order_of channel.orders (written_ring who)) → Putting i words mine →
+      Putting (i + 1) (words_after channel.orders words mine.payload (StoreByte (RingByte (written_ring who) (next_place i)) i)) (made mine (StoreByte (RingByte (written_ring who) (next_place i)) i) 0)
+  unfolding next_place
+  putting_more i words mine room p = record {
+    tells = tells_byte who channel (end_of channel who) words (told mine) theirs (next_place i) (slice_index mine.payload i) (place_within _ _) behind p.tells;
+    pays = p.pays;
+    stored = count_stored-push mine.trail op 0 ∙ ap (λ (n : ℕ). n + 1) p.stored;
+    loaded = nothing_loaded mine.trail op 0 [] refl p.loaded;
+    placed = λ j less. go j less (cases_lt j i);
+  }
+    where
+      ring : Ring
+      ring = written_ring who
+
+      order : Order
+      order = order_of channel.orders (written_ring who)
+
+      from : ℕ
+      from = channel.start + length (end_of channel who).sent
+
+      op : Op
+      op = StoreByte (RingByte (written_ring who) (next_place i)) i
+
+      behind : (n : ℕ) → length (end_of channel (peer who)).got ≤ n → n < length (end_of channel who).sent → place (channel.start + n) (order_of channel.orders (written_ring who)) ≢ next_place i
+      behind n low high e =
+          places_apart (channel.start + n) (channel.start + length (end_of channel who).sent + i) (order_of channel.orders (written_ring who)) (omega (arith, high)) (omega (arith, low, room)) (e ∙ next_place-is i)
+
+      go : (j : ℕ) → j < i + 1 → (j < i) ⊎ (i ≤ j) →
+          at channel.orders (set words (index_of channel.orders (RingByte (written_ring who) (next_place i))) (slice_index mine.payload i)) (RingByte (written_ring who) (place (channel.start + length (end_of channel who).sent + j) (order_of channel.orders (written_ring who)))) ≡ slice_index payload j
+      go j less (inl old) =
+          get_or-set_other words (index_of channel.orders (RingByte (written_ring who) (next_place i))) (index_of channel.orders (RingByte (written_ring who) (place (channel.start + length (end_of channel who).sent + j) (order_of channel.orders (written_ring who))))) (slice_index mine.payload i) 0
+          (λ e. places_apart (channel.start + length (end_of channel who).sent + j) (channel.start + length (end_of channel who).sent + i) (order_of channel.orders (written_ring who)) (omega (arith, old)) (omega (arith, room, b.written_low))
+          (omega (arith, e, byte_index channel.orders (written_ring who) (next_place i), byte_index channel.orders (written_ring who) (place (channel.start + length (end_of channel who).sent + j) (order_of channel.orders (written_ring who)))) ∙ next_place-is i))
+          ∙ p.placed j old
+      go j less (inr new) =
+          let same : j ≡ i = omega (arith, less, new) in
+          let there : place (channel.start + length (end_of channel who).sent + j) (order_of channel.orders (written_ring who)) ≡ next_place i = ap (λ (n : ℕ). place (channel.start + length (end_of channel who).sent + n) (order_of channel.orders (written_ring who))) same ∙ sym (next_place-is i) in
+          let within : index_of channel.orders (RingByte (written_ring who) (next_place i)) < length words = subst (λ (n : ℕ). index_of channel.orders (RingByte (written_ring who) (next_place i)) < n) (sym p.tells.sized) (byte_in channel.orders (written_ring who) (next_place i) (place_within _ _)) in
+          ap (λ (k : ℕ). at channel.orders (set words (index_of channel.orders (RingByte (written_ring who) (next_place i))) (slice_index mine.payload i)) (RingByte (written_ring who) k)) there
+          ∙ get_or-set_same words (index_of channel.orders (RingByte (written_ring who) (next_place i))) (slice_index mine.payload i) 0 within
+          ∙ ap (λ (xs : List ℕ). slice_index xs i) p.pays ∙ ap (λ (n : ℕ). slice_index payload n) (sym same)
+
+  put_bytes_on : (k i : ℕ) (next : Plan) (outcome : Outcome) → length (end_of channel who).sent + (i + k) ≤ length (end_of channel (peer who)).got + size (order_of channel.orders (written_ring who)) →
+      ((words : List ℕ) (mine : Side) → Putting (i + k) words mine → Gives outcome (run channel.orders words mine next)) →
+      (words : List ℕ) (mine : Side) → Putting i words mine → Gives outcome (run channel.orders words mine (put_bytes (standing_by who channel) i k next))
+  unfolding run next_place
+  put_bytes_on zero i next outcome room on words mine p = on words mine (subst (λ (n : ℕ). Putting n words mine) (omega arith) p)
+  put_bytes_on (suc k) i next outcome room on words mine p =
+      put_bytes_on k (i + 1) next outcome (omega (arith, room)) (λ ws m q. on ws m (subst (λ (n : ℕ). Putting n ws m) (omega arith) q)) _ _
+      (putting_more i words mine (omega (arith, room)) p)
+
+  -- the index store of a put
+  shown : (k : ℕ) (words : List ℕ) (mine : Side) → length (end_of channel who).sent + k ≤ length (end_of channel (peer who)).got + size (order_of channel.orders (written_ring who)) → k ≤ length payload → AreBytes payload →
+      Putting k words mine →
+      After (record (end_of channel who) { sent = (end_of channel who).sent ++ take k payload }) 0
+      (words_after channel.orders words mine.payload (Store (prod_word (written_ring who)) ((index channel.start (end_of channel who).sent + k) % 2 ^ 32)))
+      (made mine (Store (prod_word (written_ring who)) ((index channel.start (end_of channel who).sent + k) % 2 ^ 32)) 0)
+  shown k words mine room enough bytes p =
+      let it = end_of channel who in
+      let v : ℕ = (index channel.start it.sent + k) % 2 ^ 32 in
+      let long : length (take k payload) ≡ k = omega (arith, length-take k payload, enough) in
+      let is : v ≡ index channel.start (it.sent ++ take k payload) = index-more channel.start k it.sent (take k payload) long in
+      let own : low32 v ≡ index channel.start (it.sent ++ take k payload) = ap low32 is ∙ low32-index channel.start (it.sent ++ take k payload) in
+      let stands : (i : ℕ) → i < length (take k payload) → at channel.orders words (RingByte (written_ring who) (place (channel.start + length it.sent + i) (order_of channel.orders (written_ring who)))) ≡ slice_index (take k payload) i =
+      λ i less. p.placed i (omega (arith, less, long)) ∙ sym (get_or-take k payload i 0 (omega (arith, less, long))) in
+      let then_told : told (made mine (Store (prod_word (written_ring who)) v) 0) ≡ record (told mine) { prod = low32 v; sent = mine.sent ++ take k payload } =
+      told-prod who mine v 0 p.tells.mine_is.role_is ∙ ap (λ (n : ℕ). record (told mine) { prod = low32 v; sent = mine.sent ++ take n mine.payload }) p.stored
+      ∙ ap (λ (xs : List ℕ). record (told mine) { prod = low32 v; sent = mine.sent ++ take k xs }) p.pays in
+      record {
+        tells = subst (λ (m : Told). Tells who channel (record it { sent = it.sent ++ take k payload }) (set words (index_of channel.orders (prod_word (written_ring who))) v) m theirs) (sym then_told)
+            (tells_sent who channel it words (told mine) theirs (take k payload) v (low32 v) is own (omega (arith, room, long)) (All-take (λ (byte : ℕ). byte < 256) k payload bytes) stands p.tells);
+        loaded = nothing_loaded mine.trail (Store (prod_word (written_ring who)) v) 0 [] refl p.loaded;
+      }
+
+  pub ends_put : (k : ℕ) (answer : ℕ → Answer) → k ≤ free channel who → k ≤ length payload → AreBytes payload → count_got (answer k) ≡ 0 →
+      Ends (put (standing_by who channel) k (answers (answer k))) (sent_out channel who payload k answer)
+  unfolding run
+  ends_put k answer fits enough bytes none words mine c =
+      let it = record (end_of channel who) { sent = (end_of channel who).sent ++ take k payload } in
+      let room : length (end_of channel who).sent + k ≤ length (end_of channel (peer who)).got + size (order_of channel.orders (written_ring who)) = omega (arith, fits, b.written_low, b.written_fits) in
+      put_bytes_on k 0 (put_index (standing_by who channel) k (answers (answer k))) (sent_out channel who payload k answer) (omega (arith, room))
+      (λ ws m p. after_notify it 0 Written (answers (answer k)) (sent_out channel who payload k answer)
+      (subst (λ (n : ℕ). EndsAfter it n (answers (answer k)) (sent_out channel who payload k answer)) none (after_answers it (answer k) (sent_out channel who payload k answer) refl refl)) _ _
+      (shown k ws m room enough bytes (subst (λ (n : ℕ). Putting n ws m) (omega arith) p)))
+      words mine (record { tells = c.tells; pays = c.pays; stored = c.stored; loaded = c.loaded; placed = λ j less. absurd (omega (arith, less)) })
