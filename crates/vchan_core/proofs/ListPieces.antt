@@ -15,12 +15,12 @@ use Rattle.ring_words.specs.declared.page.Role.TheVariants.{Server, Client}
 use Rattle.ring_words.specs.declared.page.Ring.{Ring}
 use Rattle.ring_words.specs.declared.page.Ring.TheVariants.{Left, Right}
 use Rattle.ring_words.specs.declared.page.WordName.{WordName}
-use Rattle.ring_words.specs.declared.page.WordName.TheVariants.{RingByte}
+use Rattle.ring_words.specs.declared.page.WordName.TheVariants.{RingByte, CliLive}
 use Rattle.vchan_core.specs.declared.op.Op.{Op}
 use Rattle.vchan_core.specs.declared.op.Op.TheVariants.{Load, LoadByte, Store, StoreByte, Or, And, Swap}
 use Rattle.vchan_core.specs.declared.op.PastEvent.{PastEvent}
 use Rattle.vchan_core.specs.declared.call.Answer.{Answer}
-use Rattle.vchan_core.specs.declared.call.Answer.TheVariants.{Got}
+use Rattle.vchan_core.specs.declared.call.Answer.TheVariants.{Got, Done, Connected}
 use Rattle.vchan_core.specs.declared.call.Bit.{Bit}
 use Rattle.vchan_core.specs.declared.call.Bit.TheVariants.{Written, Consumed}
 use Rattle.vchan_core.specs.declared.call.EndState.{EndState}
@@ -28,7 +28,7 @@ use Rattle.vchan_core.specs.declared.call.EndState.TheVariants.{Fresh, Open, Shu
 use Rattle.vchan_core.specs.declared.side.Side.{Side}
 use Rattle.vchan_core.specs.Plan.{Plan, does, answers, past}
 use Rattle.vchan_core.specs.Ends.{Standing, written_ring, read_ring, prod_word, cons_word, ask_word, notify_word, own_live, own_gone, own_pending, peer_live, peer_gone, peer_pending, mask, low8, low32, free_at, ready_at, write_order, read_order, prod_stored, cons_stored, live_stored}
-use Rattle.vchan_core.specs.Calls.{look_read, look_write, ask, signal, notify, put_bytes, take_bytes, put_index, take_index, put, take as take_plan}
+use Rattle.vchan_core.specs.Calls.{look_read, look_write, ask, signal, notify, put_bytes, take_bytes, put_index, take_index, put, take as take_plan, close, retire_shut}
 use Rattle.vchan_core.specs.Apply.{words_after, value_taken}
 use Rattle.vchan_core.specs.Page.{live_word}
 use Rattle.vchan_core.specs.Core.{Core, made, answered, count_stored, bytes_loaded, stored_by, loaded_by, sent_stored, got_stored, is_shut}
@@ -446,3 +446,131 @@ module _ (who : Role) (channel : ChannelLists) (theirs : Told) (payload : List �
       (subst (λ (n : ℕ). EndsAfter it n (answers (answer k)) (sent_out channel who payload k answer)) none (after_answers it (answer k) (sent_out channel who payload k answer) refl refl)) _ _
       (shown k ws m room enough bytes (subst (λ (n : ℕ). Putting n ws m) (omega arith) p)))
       words mine (record { tells = c.tells; pays = c.pays; stored = c.stored; loaded = c.loaded; placed = λ j less. absurd (omega (arith, less)) })
+
+  -- ---- a take
+
+  wait_place : ℕ → ℕ
+  wait_place i = place (index channel.start (end_of channel who).got + i) (order_of channel.orders (read_ring who))
+
+  length-waiting : length (waiting channel who) ≡ avail channel who
+  length-waiting = length-drop (length (end_of channel who).got) (end_of channel (peer who)).sent
+
+  -- the next byte that waits stands in its place
+  waits_there : (i : ℕ) (words : List ℕ) (mine : Side) → i < avail channel who → Taking i words mine → at channel.orders words (RingByte (read_ring who) (wait_place i)) ≡ get_or (waiting channel who) i 0
+  unfolding wait_place
+  waits_there i words mine more t =
+      let got = (end_of channel who).got in
+      let sent = (end_of channel (peer who)).sent in
+      ap (λ (k : ℕ). at channel.orders words (RingByte (read_ring who) k)) (place-index channel.start i got (order_of channel.orders (read_ring who)) ∙ ap (λ (n : ℕ). place n (order_of channel.orders (read_ring who))) (omega arith))
+      ∙ t.tells.reading.waits (length got + i) (omega arith) (omega (arith, more))
+      ∙ sym (get_or-drop (length got) sent i 0)
+
+  taking_more : (i : ℕ) (words : List ℕ) (mine : Side) → i < avail channel who → Taking i words mine →
+      Taking (i + 1) (words_after channel.orders words mine.payload (LoadByte (RingByte (read_ring who) (wait_place i)) i)) (made mine (LoadByte (RingByte (read_ring who) (wait_place i)) i) (at channel.orders words (RingByte (read_ring who) (wait_place i))))
+  taking_more i words mine more t =
+      let got = (end_of channel who).got in
+      let sent = (end_of channel (peer who)).sent in
+      let word = RingByte (read_ring who) (wait_place i) in
+      let value : ℕ = at channel.orders words word in
+      let small : slice_index sent (length got + i) < 256 = t.tells.reading.bytes_sent (length got + i) 0 (omega (arith, more)) in
+      let is : value ≡ get_or (waiting channel who) i 0 = waits_there i words mine more t in
+      let low : low8 value ≡ get_or (waiting channel who) i 0 = ap low8 is ∙ omega (arith, small, get_or-drop (length got) sent i 0) in
+      record {
+        tells = subst (λ (ws : List ℕ). Tells who channel (end_of channel who) ws (told mine) theirs) (sym (set-get_or words (index_of channel.orders word) 0)) t.tells;
+        loaded = bytes_loaded-push mine.trail (LoadByte word i) value ∙ ap (λ (xs : List ℕ). xs ++ low8 value ∷ []) t.loaded
+            ∙ ap (λ (byte : ℕ). take i (waiting channel who) ++ byte ∷ []) low ∙ sym (take_more (waiting channel who) i 0 (omega (arith, more, length-waiting)));
+      }
+
+  take_bytes_on : (k i : ℕ) (next : Plan) (outcome : Outcome) → i + k ≤ avail channel who → ((words : List ℕ) (mine : Side) → Taking (i + k) words mine → Gives outcome (run channel.orders words mine next)) →
+      (words : List ℕ) (mine : Side) → Taking i words mine → Gives outcome (run channel.orders words mine (take_bytes (standing_by who channel) i k next))
+  unfolding run wait_place
+  take_bytes_on zero i next outcome room on words mine t = on words mine (subst (λ (n : ℕ). Taking n words mine) (omega arith) t)
+  take_bytes_on (suc k) i next outcome room on words mine t =
+      take_bytes_on k (i + 1) next outcome (omega (arith, room)) (λ ws m q. on ws m (subst (λ (n : ℕ). Taking n ws m) (omega arith) q)) _ _ (taking_more i words mine (omega (arith, room)) t)
+
+  -- the index store of a take
+  released : (k : ℕ) (words : List ℕ) (mine : Side) → k ≤ avail channel who → Taking k words mine →
+      After (record (end_of channel who) { got = (end_of channel who).got ++ take k (waiting channel who) }) k
+      (words_after channel.orders words mine.payload (Store (cons_word (read_ring who)) ((index channel.start (end_of channel who).got + k) % 2 ^ 32)))
+      (made mine (Store (cons_word (read_ring who)) ((index channel.start (end_of channel who).got + k) % 2 ^ 32)) 0)
+  released k words mine room t =
+      let it = end_of channel who in
+      let more : List ℕ = take k (waiting channel who) in
+      let v : ℕ = (index channel.start it.got + k) % 2 ^ 32 in
+      let long : length (take k (waiting channel who)) ≡ k = omega (arith, length-take k (waiting channel who), length-waiting, room) in
+      let is : v ≡ index channel.start (it.got ++ take k (waiting channel who)) = index-more channel.start k it.got (take k (waiting channel who)) long in
+      let own : low32 v ≡ index channel.start (it.got ++ take k (waiting channel who)) = ap low32 is ∙ low32-index channel.start (it.got ++ take k (waiting channel who)) in
+      let split : it.got ++ (take k (waiting channel who) ++ drop k (waiting channel who)) ≡ (end_of channel (peer who)).sent =
+      ap (λ (xs : List ℕ). it.got ++ xs) (take-append-drop k (waiting channel who)) ∙ b.read_split in
+      let then_told : told (made mine (Store (cons_word (read_ring who)) v) 0) ≡ record (told mine) { cons = low32 v; got = mine.got ++ take k (waiting channel who) } =
+      told-cons who mine v 0 t.tells.mine_is.role_is ∙ ap (λ (xs : List ℕ). record (told mine) { cons = low32 v; got = mine.got ++ xs }) t.loaded in
+      record {
+        tells = subst (λ (m : Told). Tells who channel (record it { got = it.got ++ take k (waiting channel who) }) (set words (index_of channel.orders (cons_word (read_ring who))) v) m theirs) (sym then_told)
+            (tells_got who channel it words (told mine) theirs (take k (waiting channel who)) (drop k (waiting channel who)) v (low32 v) is own split t.tells);
+        loaded = nothing_loaded mine.trail (Store (cons_word (read_ring who)) v) 0 (take k (waiting channel who)) refl t.loaded;
+      }
+
+  pub ends_take : (k : ℕ) → k ≤ avail channel who → Ends (take_plan (standing_by who channel) k (answers (Got k))) (got_in channel who k)
+  unfolding run
+  ends_take k fits words mine c =
+      let it = record (end_of channel who) { got = (end_of channel who).got ++ take k (waiting channel who) } in
+      take_bytes_on k 0 (take_index (standing_by who channel) k (answers (Got k))) (got_in channel who k) (omega (arith, fits))
+      (λ ws m t. after_notify it k Consumed (answers (Got k)) (got_in channel who k) (after_answers it (Got k) (got_in channel who k) refl refl) _ _
+      (released k ws m fits (subst (λ (n : ℕ). Taking n ws m) (omega arith) t)))
+      words mine (record { tells = c.tells; loaded = c.loaded })
+
+  -- ---- coming and going
+
+  after_shut : (it : ListEnd) (count : ℕ) (words : List ℕ) (mine : Side) → After it count words mine →
+      After (record it { state = Shut }) count (words_after channel.orders words mine.payload (Store (own_live who) 0)) (made mine (Store (own_live who) 0) 0)
+  after_shut it count words mine a = record {
+    tells = subst (λ (m : Told). Tells who channel (record it { state = Shut }) (set words (index_of channel.orders (own_live who)) 0) m theirs) (sym (told-shut who mine 0 a.tells.mine_is.role_is))
+        (tells_state who channel it words (told mine) theirs Shut (λ _. refl) a.tells);
+    loaded = nothing_loaded mine.trail (Store (own_live who) 0) 0 _ refl a.loaded;
+  }
+
+  -- an end closes
+  pub after_close : (it : ListEnd) (count : ℕ) (next : Plan) (outcome : Outcome) → EndsAfter (record it { state = Shut }) count next outcome → EndsAfter it count (close (standing_by who channel) next) outcome
+  unfolding run
+  after_close it count next outcome on words mine a = after_signal (record it { state = Shut }) count next outcome on _ _ (after_shut it count words mine a)
+
+  after_gone : (it : ListEnd) (count : ℕ) (words : List ℕ) (mine : Side) → it.state ≡ Shut → After it count words mine →
+      After (record it { retired = true }) count (words_after channel.orders words mine.payload (Store (own_gone who) 1)) (made mine (Store (own_gone who) 1) 0)
+  after_gone it count words mine shut a = record {
+    tells = subst (λ (m : Told). Tells who channel (record it { retired = true }) (set words (index_of channel.orders (own_gone who)) 1) m theirs) (sym (told-gone who mine 1 0))
+        (tells_gone who channel it words (told mine) theirs shut a.tells);
+    loaded = nothing_loaded mine.trail (Store (own_gone who) 1) 0 _ refl a.loaded;
+  }
+
+  -- a shut end retires
+  pub after_retire : (it : ListEnd) (outcome : Outcome) → it.state ≡ Shut → outcome.0 ≡ with_end channel who (record it { retired = true }) → IsTold outcome.1 Done → EndsAfter it 0 (retire_shut (standing_by who channel)) outcome
+  unfolding run
+  after_retire it outcome shut is told words mine a =
+      after_signal (record it { retired = true }) 0 (answers Done) outcome (after_answers (record it { retired = true }) Done outcome is told) _ _ (after_gone it 0 words mine shut a)
+
+  -- a client that connects
+  after_open : (words : List ℕ) (mine : Side) → who ≡ Client → (end_of channel who).state ≡ Fresh → Calm words mine →
+      After (record (end_of channel who) { state = Open }) 0 (words_after channel.orders words mine.payload (Store CliLive 1)) (made mine (Store CliLive 1) 0)
+  after_open words mine is fresh c =
+      let live : CliLive ≡ own_live who = ap own_live (sym is) in
+      let open_told : told (made mine (Store CliLive 1) 0) ≡ record (told mine) { state = Open } = told-open mine 0 (c.tells.mine_is.role_is ∙ is) in
+      record {
+        tells = subst (λ (m : Told). Tells who channel (record (end_of channel who) { state = Open }) (set words (index_of channel.orders CliLive) 1) m theirs) (sym open_told)
+            (subst (λ (w : WordName). Tells who channel (record (end_of channel who) { state = Open }) (set words (index_of channel.orders w) 1) (record (told mine) { state = Open }) theirs) (sym live)
+            (tells_state who channel (end_of channel who) words (told mine) theirs Open (λ r. absurd (fresh_shut (sym fresh ∙ c.tells.mine_words.retired_shut r))) c.tells));
+        loaded = nothing_loaded mine.trail (Store CliLive 1) 0 _ refl c.loaded;
+      }
+    where
+      fresh_shut : Fresh ≢ Shut
+      fresh_shut e = cc
+
+  pub ends_open : (outcome : Outcome) → who ≡ Client → (end_of channel who).state ≡ Fresh → outcome.0 ≡ with_end channel who (record (end_of channel who) { state = Open }) → IsTold outcome.1 Connected →
+      Ends (does (Store CliLive 1) (λ _. answers Connected)) outcome
+  unfolding run
+  ends_open outcome client fresh is told words mine c =
+      after_answers (record (end_of channel who) { state = Open }) Connected outcome is told _ _ (after_open words mine client fresh c)
+
+  pub ends_swap : (next : ℕ → Plan) (outcome : Outcome) → ((value : ℕ) → EndsAfter (end_of channel who) 0 (next value) outcome) → Ends (does (Swap (own_pending who) 0) next) outcome
+  unfolding run
+  ends_swap next outcome on words mine c =
+      on _ _ _ (after_swap (end_of channel who) 0 (own_pending who) 0 (own_flag channel.orders who) words mine (calm_after words mine c))
