@@ -8,3 +8,5 @@ pub mod ListRows
 pub mod LifeSteps
 pub mod ListTells
 pub mod ListPieces
+pub mod ListCalls
+pub mod ListWhole

@@ -99,7 +99,7 @@ end_same live gone live' gone' it l g t = record { live_is = l ∙ t.live_is; go
 
 -- ---- a ring whose lists grow
 
-prefix_fits : (got sent : List ℕ) → IsPrefixOf got sent → length got ≤ length sent
+pub prefix_fits : (got sent : List ℕ) → IsPrefixOf got sent → length got ≤ length sent
 prefix_fits got sent p = omega (arith, ap length p.1, length-append got p.0)
 
 -- more was sent: it stands in the places behind

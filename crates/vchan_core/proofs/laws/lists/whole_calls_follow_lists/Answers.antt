@@ -1,5 +1,5 @@
-use Rattle.vchan_core.proofs.ListPieces.{run}
+use Rattle.vchan_core.proofs.ListWhole.{tells_lists, follows_lists}
 use Rattle.vchan_core.proofs.laws.lists.whole_calls_follow_lists.Goals as goal
 
 pub returns : goal.returns
-returns c = ?
+returns c = λ core who call payload lawful life fits may. follows_lists core who call payload (tells_lists core lawful life fits) may
