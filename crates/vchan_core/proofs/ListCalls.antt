@@ -17,7 +17,8 @@ use Rattle.vchan_core.specs.Ends.{Standing, own_pending, peer_gone, peer_live, l
 use Rattle.vchan_core.specs.Calls.{write, write_open, write_looked, send, send_open, send_looked, read, read_looked, read_live, recv, recv_looked, recv_live, drain, drain_found, drain_second, drain_live, drain_further, drain_gone, drain_last, connect, connect_right, connect_looked, close, retire, retire_shut, put, take as take_plan, ask, look_read, look_write, plan_of, payload_of, IsAllowed}
 use Rattle.vchan_core.specs.Core.{is_shut}
 use Rattle.vchan_core.specs.RingLaw.{AreBytes}
-use Rattle.vchan_core.specs.ListCall.{ListEnd, ChannelLists, Outcome, peer, end_of, with_end, index, waiting, avail, free, only, sent_out, got_in, of_written, of_read, list_call, retires, peer_is_shut}
+use Rattle.vchan_core.specs.Peer.{peer}
+use Rattle.vchan_core.specs.ListCall.{ListEnd, ChannelLists, Outcome, end_of, with_end, index, waiting, avail, free, only, sent_out, got_in, of_written, of_read, list_call, retires, peer_is_shut}
 use Rattle.vchan_core.specs.ListLaw.{IsTold, count_got}
 use Rattle.vchan_core.proofs.ListTells.{Told, told, at, Tells}
 use Rattle.vchan_core.proofs.ListPieces.{run, standing_by, Begins, Calm, Gives, Ends, EndsAfter, After, after_answers, calm_after, ends_only, ends_if, ends_cond, ends_true, ends_false, ends_load, ends_ask, ends_look_read, ends_look_write, ends_live, ends_gone, free_is, avail_is, ends_put, ends_take, after_signal, after_close, after_retire, ends_open, ends_swap}

@@ -34,7 +34,8 @@ use Rattle.vchan_core.specs.Page.{live_word}
 use Rattle.vchan_core.specs.Core.{Core, made, answered, count_stored, bytes_loaded, stored_by, loaded_by, sent_stored, got_stored, is_shut}
 use Rattle.vchan_core.specs.Alone.{alone}
 use Rattle.vchan_core.specs.RingLaw.{IsPrefixOf, AreBytes}
-use Rattle.vchan_core.specs.ListCall.{ListEnd, ChannelLists, Outcome, peer, end_of, with_end, index, waiting, avail, free, only, sends, gets, sent_out, got_in}
+use Rattle.vchan_core.specs.Peer.{peer}
+use Rattle.vchan_core.specs.ListCall.{ListEnd, ChannelLists, Outcome, end_of, with_end, index, waiting, avail, free, only, sends, gets, sent_out, got_in}
 use Rattle.vchan_core.specs.ListLaw.{IsTold, count_got}
 use Rattle.vchan_core.proofs.RunLaws.{bytes_loaded-push}
 use Rattle.vchan_core.proofs.ListTells.{Told, told, at, Tells, EndIs, RingTells, tells_flags, tells_byte, tells_sent, tells_got, tells_state, tells_gone}

@@ -19,7 +19,8 @@ use Rattle.vchan_core.specs.declared.side.Side.{Side}
 use Rattle.vchan_core.specs.Ends.{written_ring, read_ring, prod_word, cons_word, own_live, own_gone, peer_live, peer_gone}
 use Rattle.vchan_core.specs.Page.{live_word}
 use Rattle.vchan_core.specs.RingLaw.{IsPrefixOf, AreBytes}
-use Rattle.vchan_core.specs.ListCall.{ListEnd, ChannelLists, peer, end_of, index}
+use Rattle.vchan_core.specs.Peer.{peer}
+use Rattle.vchan_core.specs.ListCall.{ListEnd, ChannelLists, end_of, index}
 
 -- ---- what is told
 

@@ -17,8 +17,9 @@ use Rattle.vchan_core.specs.Core.{Core, side_of, standing_of, begins, begun, byt
 use Rattle.vchan_core.specs.Alone.{alone, whole_call, called, call_answer}
 use Rattle.vchan_core.specs.RingLaw.{IsPrefixOf, RingLawful}
 use Rattle.vchan_core.specs.Lawful.{Lawful, IsEnd}
-use Rattle.vchan_core.specs.LifeLaw.{LifeLawful, TellsGone, WordsTell}
-use Rattle.vchan_core.specs.ListCall.{ListEnd, ChannelLists, Outcome, WholeCall, peer, end_of, with_end, waiting, lists_of, list_call, list_calls}
+use Rattle.vchan_core.specs.LifeLaw.{TellsGone}
+use Rattle.vchan_core.specs.Peer.{peer}
+use Rattle.vchan_core.specs.ListCall.{ListEnd, ChannelLists, Outcome, WholeCall, end_of, with_end, waiting, lists_of, list_call, list_calls}
 use Rattle.vchan_core.specs.ListLaw.{IsTold, FollowsLists, SaidFits, MayCall, MayCallAll, AreTold, called_all, count_got}
 use Rattle.vchan_core.proofs.ListTells.{Told, told, at, Tells, EndIs, EndTells, RingTells, prefix_fits}
 use Rattle.vchan_core.proofs.ListPieces.{run, core_by, alone-run, standing_by, Begins, Calm, Gives}
@@ -42,29 +43,29 @@ end_told live gone state sent got l (inr g) = record {
   retired_shut = λ _. g.1;
 }
 
-pub tells_lists : (core : Core) → Lawful core → LifeLawful core → SaidFits core → TellsLists core
-tells_lists core l life fits Server = record {
+pub tells_lists : (core : Core) → Lawful core → SaidFits core → TellsLists core
+tells_lists core l fits Server = record {
   sized = l.sized;
   mine_is = record { role_is = l.server_end.role_is; orders_are = l.server_end.orders_are; state_is = refl; sent_is = refl; got_is = refl };
   theirs_is = record { role_is = l.client_end.role_is; orders_are = l.client_end.orders_are; state_is = refl; sent_is = refl; got_is = refl };
   written = record { prod_is = l.right.lawful.prod; cons_is = l.right.lawful.cons; own_prod_is = l.right.lawful.own_prod; own_cons_is = l.right.lawful.own_cons; prefix = l.right.lawful.prefix; fits = l.right.lawful.fits; bytes_sent = l.right.lawful.bytes_sent; waits = l.right.lawful.waiting };
   reading = record { prod_is = l.left.lawful.prod; cons_is = l.left.lawful.cons; own_prod_is = l.left.lawful.own_prod; own_cons_is = l.left.lawful.own_cons; prefix = l.left.lawful.prefix; fits = l.left.lawful.fits; bytes_sent = l.left.lawful.bytes_sent; waits = l.left.lawful.waiting };
-  mine_words = end_told _ _ _ _ _ life.server_words.live life.server_words.gone;
-  theirs_words = end_told _ _ _ _ _ life.client_words.live life.client_words.gone;
-  left_order = life.left_order;
-  right_order = life.right_order;
+  mine_words = end_told _ _ _ _ _ l.lives.server_words.live l.lives.server_words.gone;
+  theirs_words = end_told _ _ _ _ _ l.lives.client_words.live l.lives.client_words.gone;
+  left_order = l.lives.left_order;
+  right_order = l.lives.right_order;
   said_fits = fits;
 }
-tells_lists core l life fits Client = record {
+tells_lists core l fits Client = record {
   sized = l.sized;
   mine_is = record { role_is = l.client_end.role_is; orders_are = l.client_end.orders_are; state_is = refl; sent_is = refl; got_is = refl };
   theirs_is = record { role_is = l.server_end.role_is; orders_are = l.server_end.orders_are; state_is = refl; sent_is = refl; got_is = refl };
   written = record { prod_is = l.left.lawful.prod; cons_is = l.left.lawful.cons; own_prod_is = l.left.lawful.own_prod; own_cons_is = l.left.lawful.own_cons; prefix = l.left.lawful.prefix; fits = l.left.lawful.fits; bytes_sent = l.left.lawful.bytes_sent; waits = l.left.lawful.waiting };
   reading = record { prod_is = l.right.lawful.prod; cons_is = l.right.lawful.cons; own_prod_is = l.right.lawful.own_prod; own_cons_is = l.right.lawful.own_cons; prefix = l.right.lawful.prefix; fits = l.right.lawful.fits; bytes_sent = l.right.lawful.bytes_sent; waits = l.right.lawful.waiting };
-  mine_words = end_told _ _ _ _ _ life.client_words.live life.client_words.gone;
-  theirs_words = end_told _ _ _ _ _ life.server_words.live life.server_words.gone;
-  left_order = life.left_order;
-  right_order = life.right_order;
+  mine_words = end_told _ _ _ _ _ l.lives.client_words.live l.lives.client_words.gone;
+  theirs_words = end_told _ _ _ _ _ l.lives.server_words.live l.lives.server_words.gone;
+  left_order = l.lives.left_order;
+  right_order = l.lives.right_order;
   said_fits = fits;
 }
 

@@ -57,12 +57,12 @@ plan_left-is s m c =
 
 -- ---- the next event, counted
 
-owes_next : (e : Standing) (out into : ℕ) (now : Standing) (s l : ℕ) (plan : Plan) → Counted e out into now s l plan → GoesOn plan → Owes e out into now s l (next_op plan)
+pub owes_next : (e : Standing) (out into : ℕ) (now : Standing) (s l : ℕ) (plan : Plan) → Counted e out into now s l plan → GoesOn plan → Owes e out into now s l (next_op plan)
 unfolding Counted
 owes_next e out into now s l (answers answer) w more = absurd more
 owes_next e out into now s l (does op next) w more = w.0
 
-stored_most-payload : (e : Standing) (call : Call) → stored_most e call ≤ payload_of call
+pub stored_most-payload : (e : Standing) (call : Call) → stored_most e call ≤ payload_of call
 stored_most-payload e (Write n) = omega arith
 stored_most-payload e (Send n) = omega arith
 stored_most-payload e (Read n) = omega arith
@@ -117,11 +117,11 @@ pub settled-on : (s : Side) (plan : Plan) → GoesOn plan → settled s plan ≡
 settled-on s (answers answer) more = absurd more
 settled-on s (does op next) more = refl
 
-standing_of-made : (s : Side) (op : Op) (taken : ℕ) → standing_of (made s op taken) ≡ standing_after (standing_of s) op
+pub standing_of-made : (s : Side) (op : Op) (taken : ℕ) → standing_of (made s op taken) ≡ standing_after (standing_of s) op
 unfolding standing_after
 standing_of-made s op taken = refl
 
-standing_along-push : (e : Standing) (events : List PastEvent) (event : PastEvent) → standing_along e (events ++ event ∷ []) ≡ standing_after (standing_along e events) event.op
+pub standing_along-push : (e : Standing) (events : List PastEvent) (event : PastEvent) → standing_along e (events ++ event ∷ []) ≡ standing_after (standing_along e events) event.op
 standing_along-push e [] event = refl
 standing_along-push e (first ∷ events) event = standing_along-push (standing_after e first.op) events event
 

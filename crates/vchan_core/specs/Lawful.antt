@@ -8,6 +8,7 @@ use Rattle.ring_words.specs.declared.page.Ring.TheVariants.{Left, Right}
 use Rattle.vchan_core.specs.declared.side.Side.{Side}
 use Rattle.vchan_core.specs.Core.{Core}
 use Rattle.vchan_core.specs.RingLaw.{RingLawful, CallLawful}
+use Rattle.vchan_core.specs.LifeLaw.{LifeLawful}
 
 -- neither end was given up to a hostile user
 abbrev pub Honest : Core → Type 0
@@ -26,3 +27,4 @@ pub record Lawful (core : Core) : Type 0 where
   pub right : RingLawful core Right
   pub server_call : CallLawful core.server
   pub client_call : CallLawful core.client
+  pub lives : LifeLawful core

@@ -6,8 +6,6 @@ pub mod Phases
 pub mod Core
 pub mod Counts
 pub mod Alone
-pub mod LifeLaw
-pub mod LifeLaws
 pub mod Laws
 pub mod Page
 pub mod Past
@@ -16,4 +14,11 @@ pub mod ListCall
 pub mod ListLaw
 pub mod SoFar
 pub mod RingLaw
+pub mod LifeLaw
 pub mod Lawful
+pub mod Peer
+pub mod TurnedLaw
+pub mod LifeLaws
+pub mod TurnedLaws
+pub mod Reached
+pub mod SignalLaw

@@ -1,13 +1,12 @@
 -- What stands between two honest ends about their lives: the live bytes, the gone words, the order words, and the end of a stream.
 -- Source: libxenvchan's io.c for the live bytes and init.c for the order words. The gone words and a drain's later looks are this project's.
-use Rattle.std.specs.Prelude.{◌≡◌, ◌≢◌, ℕ, ◌+◌, ◌%◌, ◌^◌, ◌⊎◌, Bool, true, false, ◌||◌, Option, IsSome, List, [], ◌∷◌, length, slice_index}
+use Rattle.std.specs.Prelude.{◌≡◌, ◌≢◌, ℕ, ◌⊎◌, Bool, true, false, ◌||◌, Option, IsSome, List, [], ◌∷◌, length}
 use Rattle.ring_words.specs.declared.order.Orders.{Orders}
 use Rattle.ring_words.specs.declared.page.Role.{Role}
 use Rattle.ring_words.specs.declared.page.Role.TheVariants.{Server, Client}
 use Rattle.ring_words.specs.declared.page.WordName.{WordName}
 use Rattle.ring_words.specs.declared.page.WordName.TheVariants.{LeftProd, RightProd, LeftOrder, RightOrder}
 use Rattle.ring_words.specs.Rings.{number_of}
-use Rattle.ring_words.specs.Page.{index_of}
 use Rattle.vchan_core.specs.declared.op.Op.{Op}
 use Rattle.vchan_core.specs.declared.op.Op.TheVariants.{Load}
 use Rattle.vchan_core.specs.declared.op.PastEvent.{PastEvent}
@@ -17,12 +16,9 @@ use Rattle.vchan_core.specs.declared.side.Side.{Side}
 use Rattle.vchan_core.specs.Ends.{low32, own_live, own_gone}
 use Rattle.vchan_core.specs.Page.{live_word}
 use Rattle.vchan_core.specs.Core.{Core, side_of, sees_end}
+use Rattle.vchan_core.specs.RingLaw.{index_at, word_at}
 
 -- ---- the words of a page
-
--- what a word of the page holds
-abbrev pub held : Core → WordName → ℕ
-held core word = slice_index core.words (index_of core.orders word)
 
 -- a gone word is 0 until its end is retired, and 1 from then on; a retired end is shut
 abbrev pub TellsGone : ℕ → EndState → Type 0
@@ -30,8 +26,8 @@ TellsGone gone state = (gone ≡ 0) ⊎ ((gone ≡ 1) × (state ≡ Shut))
 
 -- the live byte and the gone word of an end tell its state
 pub record WordsTell (core : Core) (who : Role) : Type 0 where
-  pub live : held core (own_live who) ≡ live_word (side_of core who).state
-  pub gone : TellsGone (held core (own_gone who)) (side_of core who).state
+  pub live : word_at core.orders core.words (own_live who) ≡ live_word (side_of core who).state
+  pub gone : TellsGone (word_at core.orders core.words (own_gone who)) (side_of core who).state
 
 -- ---- what a trail shows its end
 
@@ -83,7 +79,7 @@ OrdersGive said (event ∷ events) = OrderGives said event.op event.taken × Ord
 pub record SightLawful (start : ℕ) (mine theirs : Side) : Type 0 where
   pub saw : mine.saw ≡ true → theirs.state ≡ Shut
   pub seen : has_seen mine.role mine.trail ≡ true → theirs.state ≡ Shut
-  pub later : LooksGive ((start + length theirs.sent) % 2 ^ 32) mine.role false mine.trail
+  pub later : LooksGive (index_at start (length theirs.sent)) mine.role false mine.trail
 
 -- a drained ring has a shut writer, and all that was sent is got; a ring whose reader has ended is drained
 pub record StreamLawful (writer reader : Side) : Type 0 where
@@ -102,8 +98,8 @@ pub record LifeLawful (core : Core) : Type 0 where
   pub client_words : WordsTell core Client
   pub server_opened : core.server.state ≢ Fresh
   -- the order words stay as they were at the start
-  pub left_order : held core LeftOrder ≡ core.said.0
-  pub right_order : held core RightOrder ≡ core.said.1
+  pub left_order : word_at core.orders core.words LeftOrder ≡ core.said.0
+  pub right_order : word_at core.orders core.words RightOrder ≡ core.said.1
   -- an end has seen its peer shut only where it is, and not each has seen the other so
   pub server_sight : SightLawful core.start core.server core.client
   pub client_sight : SightLawful core.start core.client core.server

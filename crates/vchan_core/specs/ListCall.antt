@@ -1,12 +1,11 @@
 -- A channel as lists, without words, indices or events, and what each whole call does to it.
 -- Source: libxenvchan's io.c for what a call moves and answers, and init.c for the check of the orders. Drain, PeerGone and Retire are this project's.
-use Rattle.std.specs.Prelude.{◌≡◌, ℕ, ◌+◌, ◌-◌, ◌%◌, ◌^◌, ◌==◌, nat_lt, min, Bool, true, ◌&&◌, Option, Some, None, List, [], ◌∷◌, ◌++◌, length, take, drop, slice_index, if◌then◌else◌}
+use Rattle.std.specs.Prelude.{◌≡◌, ℕ, ◌+◌, ◌-◌, ◌%◌, ◌^◌, ◌==◌, nat_lt, min, Bool, true, ◌&&◌, Option, Some, None, List, [], ◌∷◌, ◌++◌, length, take, drop, if◌then◌else◌}
 use Rattle.ring_words.specs.Rings.{size}
-use Rattle.ring_words.specs.Page.{index_of, order_of}
+use Rattle.ring_words.specs.Page.{order_of}
 use Rattle.ring_words.specs.declared.order.Orders.{Orders}
 use Rattle.ring_words.specs.declared.page.Role.{Role}
 use Rattle.ring_words.specs.declared.page.Role.TheVariants.{Server, Client}
-use Rattle.ring_words.specs.declared.page.WordName.{WordName}
 use Rattle.vchan_core.specs.declared.call.Answer.{Answer}
 use Rattle.vchan_core.specs.declared.call.Answer.TheVariants.{Wrote, Full, Sent, NoRoom, Got, Empty, Short, PeerClosed, Ready, Space, Connected, BadOrders, Done, NotYet, AllRead, Gone}
 use Rattle.vchan_core.specs.declared.call.Call.{Call}
@@ -16,6 +15,7 @@ use Rattle.vchan_core.specs.declared.call.EndState.TheVariants.{Open, Shut}
 use Rattle.vchan_core.specs.declared.side.Side.{Side}
 use Rattle.vchan_core.specs.Ends.{written_ring, read_ring, own_gone}
 use Rattle.vchan_core.specs.Core.{Core, is_shut}
+use Rattle.vchan_core.specs.Peer.{peer, held}
 
 -- an end: its state, whether it has retired, all bytes that it sent into its ring and all that it got from its peer's
 pub record ListEnd : Type 0 where
@@ -31,10 +31,6 @@ pub record ChannelLists : Type 0 where
   pub orders : Orders
   pub server : ListEnd
   pub client : ListEnd
-
-abbrev pub peer : Role → Role
-peer Server = Client
-peer Client = Server
 
 abbrev pub end_of : ChannelLists → Role → ListEnd
 end_of channel Server = channel.server
@@ -155,13 +151,9 @@ list_calls channel (one ∷ more) =
 
 -- ---- the lists of a core state
 
--- a word of the page
-abbrev pub word : Core → WordName → ℕ
-word core name = slice_index core.words (index_of core.orders name)
-
 -- an end has retired where its gone word is 1
 abbrev pub list_end : Core → Role → Side → ListEnd
-list_end core who side = record { state = side.state; retired = word core (own_gone who) == 1; sent = side.sent; got = side.got }
+list_end core who side = record { state = side.state; retired = held core (own_gone who) == 1; sent = side.sent; got = side.got }
 
 abbrev pub lists_of : Core → ChannelLists
 lists_of core = record {

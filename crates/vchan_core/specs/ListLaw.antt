@@ -9,7 +9,6 @@ use Rattle.vchan_core.specs.Core.{Core, side_of, bytes_loaded}
 use Rattle.vchan_core.specs.Alone.{called, call_answer}
 use Rattle.vchan_core.specs.RingLaw.{AreBytes}
 use Rattle.vchan_core.specs.Lawful.{Lawful}
-use Rattle.vchan_core.specs.LifeLaw.{LifeLawful}
 use Rattle.vchan_core.specs.ListCall.{ChannelLists, WholeCall, end_of, lists_of, list_call, list_calls, waiting}
 
 -- the answer is the one that the lists tell, where they tell one
@@ -39,7 +38,7 @@ MayCall channel who call payload = IsAllowed who (end_of channel who).state call
 -- in a lawful core state each whole call is the call on lists; meanwhile the peer makes no event, wherever in a call of its own it stands
 abbrev pub WholeCallsFollowLists : Type 0
 WholeCallsFollowLists =
-    (core : Core) (who : Role) (call : Call) (payload : List ℕ) → Lawful core → LifeLawful core → SaidFits core → MayCall (lists_of core) who call payload → FollowsLists core who call payload
+    (core : Core) (who : Role) (call : Call) (payload : List ℕ) → Lawful core → SaidFits core → MayCall (lists_of core) who call payload → FollowsLists core who call payload
 
 -- ---- calls in a row
 
@@ -64,5 +63,5 @@ AreTold _ _ = ⊥
 -- from a lawful core state on, whole calls of both ends in any order are the calls on lists
 abbrev pub CallsInARowFollowLists : Type 0
 CallsInARowFollowLists =
-    (core : Core) (calls : List WholeCall) → Lawful core → LifeLawful core → SaidFits core → MayCallAll (lists_of core) calls →
+    (core : Core) (calls : List WholeCall) → Lawful core → SaidFits core → MayCallAll (lists_of core) calls →
     (lists_of (called_all core calls).0 ≡ (list_calls (lists_of core) calls).0) × AreTold (list_calls (lists_of core) calls).1 (called_all core calls).1

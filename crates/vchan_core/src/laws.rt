@@ -2,6 +2,7 @@
 //! contract states it.
 pub mod lists;
 pub mod lives;
+pub mod signals;
 
 ghost use Rattle.vchan_core.specs.Laws.{EachCallEnds, EachCallFits, EachCallMovesAtMost, OpeningIsLawful, BeginIsLawful, EventIsLawful};
 
