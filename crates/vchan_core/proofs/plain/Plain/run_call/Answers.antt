@@ -1,6 +1,7 @@
-use Rattle.std.proofs.Common.{◌≡◌, ℕ, ◌∙◌, arith, sym, ap, subst, refl, [], ◌∷◌, ◌++◌, length, take, Option, None, Some}
+use Rattle.std.proofs.Common.{◌≡◌, ℕ, ◌<◌, ◌∙◌, arith, sym, ap, subst, refl, [], ◌∷◌, ◌++◌, length, take, Option, None, Some}
 use Rattle.std.proofs.lemmas.List.{length_push}
 use Rattle.std.proofs.lemmas.Bool.{false≢true}
+use Rattle.std.proofs.lemmas.List.Elements.{All-from_get_or}
 use Rattle.vchan_core.specs.declared.op.PastEvent.{PastEvent}
 use Rattle.vchan_core.specs.declared.call.Answer.{Answer}
 use Rattle.vchan_core.specs.Plan.{past}
@@ -12,6 +13,7 @@ use Rattle.vchan_core.specs.Alone.{whole_call}
 use Rattle.vchan_core.specs.Past.{machine_of, words_of, orders_of, op_of, StandsFor}
 use Rattle.vchan_core.proofs.Bounds.{length-Stands}
 use Rattle.vchan_core.proofs.RunLaws.{IsStep, length-payload, runs_begun, runs_on, runs_out, then_stands, then_fills}
+use Rattle.vchan_core.proofs.ListWhole.{page_follows_lists}
 use Rattle.vchan_core.proofs.plain.Plain.run_call.Given.{Over}
 use Rattle.vchan_core.proofs.plain.Plain.run_call.Goals as goal
 
@@ -93,3 +95,8 @@ returns-in-Some-clause-buffer g c = λ core h.
     let out = runs_out core c.args.who c.args.call c.args.payload.now c.args.buf.now c.events.buf c.step.new.buf c.events.self c.step.new.self (Some c.in-Some.answer) c.requires.payload (omega arith) running (last g c) c.in-Some.answer refl in
     then_fills core c.args.who c.args.call c.args.payload.now c.args.buf.now c.events.buf c.step.new.buf c.events.self c.step.new.self (Some c.in-Some.answer) c.requires.payload (omega arith) running (last g c)
     ∙ ap (λ (p : Core × Answer). filled c.args.buf.now (bytes_loaded (side_of p.0 c.args.who).trail)) out
+
+pub returns-in-Some-clause-lists : goal.returns-in-Some-clause-lists
+returns-in-Some-clause-lists g c = λ core h lawful fits.
+    page_follows_lists core c.args.self.now c.args.who c.args.call c.args.payload.now c.requires.allowed c.requires.payload
+    (All-from_get_or (λ (byte : ℕ). byte < 256) c.args.payload.now 0 (λ i within. let low = c.type_inv.payload i in omega (arith, low))) h lawful fits
