@@ -1,27 +1,27 @@
 -- Each whole call, on a page that tells its lists, is the call on lists.
-use Rattle.std.proofs.Common.{◌≡◌, ◌≢◌, ℕ, suc, zero, ◌+◌, ◌-◌, ◌%◌, ◌^◌, ◌<◌, ◌≤◌, ◌==◌, nat_lt, ◌⊎◌, inl, inr, ◌&&◌, not, min, Bool, true, false, cond, if◌then◌else◌, Option, Some, None, List, [], ◌∷◌, ◌++◌, length, take, drop, refl, subst, sym, ap, ◌∙◌, arith}
-use Rattle.std.proofs.lemmas.Bool.{false≢true, eqb-true, eqb-false, eq-eqb, ltb-true, ltb-false}
+use Rattle.std.proofs.Common.{◌≡◌, ℕ, ◌+◌, ◌%◌, ◌^◌, ◌<◌, ◌==◌, nat_lt, ◌&&◌, not, min, Bool, true, false, cond, if◌then◌else◌, List, length, refl, subst, sym, ap, ◌∙◌, arith}
+use Rattle.std.proofs.lemmas.Bool.{false≢true, eqb-true, eq-eqb, ltb-false}
 use Rattle.ring_words.specs.declared.page.Role.{Role}
 use Rattle.ring_words.specs.declared.page.Role.TheVariants.{Server, Client}
-use Rattle.ring_words.specs.declared.page.WordName.TheVariants.{CliLive, LeftOrder, RightOrder}
-use Rattle.vchan_core.specs.declared.op.Op.TheVariants.{Load, Store, Swap}
+use Rattle.ring_words.specs.declared.page.WordName.TheVariants.{LeftOrder, RightOrder}
+use Rattle.vchan_core.specs.declared.op.Op.TheVariants.{Load}
 use Rattle.vchan_core.specs.declared.call.Answer.{Answer}
-use Rattle.vchan_core.specs.declared.call.Answer.TheVariants.{Wrote, Full, Sent, NoRoom, Got, Empty, Short, PeerClosed, Ready, Space, Connected, BadOrders, Done, Event, NotYet, AllRead, PeerGone as IsGone, Gone}
+use Rattle.vchan_core.specs.declared.call.Answer.TheVariants.{Wrote, Full, Sent, NoRoom, Got, Empty, Short, PeerClosed, Ready, Space, BadOrders, Done, Event, NotYet, AllRead, Gone}
 use Rattle.vchan_core.specs.declared.call.Bit.TheVariants.{Written, Consumed}
 use Rattle.vchan_core.specs.declared.call.Call.{Call}
 use Rattle.vchan_core.specs.declared.call.Call.TheVariants.{Write, Send, Read, Recv, Drain, DataReady, BufferSpace, Connect, Close, TakeEvent, Retire, PeerGone}
 use Rattle.vchan_core.specs.declared.call.EndState.{EndState}
 use Rattle.vchan_core.specs.declared.call.EndState.TheVariants.{Fresh, Open, Shut}
 use Rattle.vchan_core.specs.Plan.{Plan, does, answers}
-use Rattle.vchan_core.specs.Ends.{Standing, own_pending, peer_gone, peer_live, low8, low16, free_at, ready_at}
+use Rattle.vchan_core.specs.Ends.{Standing, peer_live, low8, low16, free_at, ready_at}
 use Rattle.vchan_core.specs.Calls.{write, write_open, write_looked, send, send_open, send_looked, read, read_looked, read_live, recv, recv_looked, recv_live, drain, drain_found, drain_second, drain_live, drain_further, drain_gone, drain_last, connect, connect_right, connect_looked, close, retire, retire_shut, put, take as take_plan, ask, look_read, look_write, plan_of, payload_of, IsAllowed}
 use Rattle.vchan_core.specs.Core.{is_shut}
 use Rattle.vchan_core.specs.RingLaw.{AreBytes}
 use Rattle.vchan_core.specs.Peer.{peer}
-use Rattle.vchan_core.specs.ListCall.{ListEnd, ChannelLists, Outcome, end_of, with_end, index, waiting, avail, free, only, sent_out, got_in, of_written, of_read, list_call, retires, peer_is_shut}
-use Rattle.vchan_core.specs.ListLaw.{IsTold, count_got}
-use Rattle.vchan_core.proofs.ListTells.{Told, told, at, Tells}
-use Rattle.vchan_core.proofs.ListPieces.{run, standing_by, Begins, Calm, Gives, Ends, EndsAfter, After, after_answers, calm_after, ends_only, ends_if, ends_cond, ends_true, ends_false, ends_load, ends_ask, ends_look_read, ends_look_write, ends_live, ends_gone, free_is, avail_is, ends_put, ends_take, after_signal, after_close, after_retire, ends_open, ends_swap}
+use Rattle.vchan_core.specs.ListCall.{ListEnd, ChannelLists, Outcome, end_of, with_end, index, avail, free, only, sent_out, got_in, of_written, of_read, list_call, peer_is_shut}
+use Rattle.vchan_core.specs.ListLaw.{count_got}
+use Rattle.vchan_core.proofs.ListTells.{Told}
+use Rattle.vchan_core.proofs.ListPieces.{run, standing_by, Begins, Gives, Ends, After, after_answers, calm_after, ends_only, ends_if, ends_cond, ends_true, ends_load, ends_ask, ends_look_read, ends_look_write, ends_live, ends_gone, free_is, avail_is, ends_put, ends_take, after_close, after_retire, ends_open, ends_swap}
 
 module _ (who : Role) (channel : ChannelLists) (theirs : Told) (payload : List ℕ) (b : Begins who channel) where
   -- the words of the pieces, at these arguments

@@ -1,11 +1,10 @@
 -- The pieces of a whole call, on a page that tells its lists: what each leaves of the lists, and with which answer it ends.
-use Rattle.std.proofs.Common.{◌≡◌, ◌≢◌, ℕ, suc, zero, ◌+◌, ◌-◌, ◌%◌, ◌^◌, ◌<◌, ◌≤◌, ◌==◌, ◌⊎◌, inl, inr, min, Bool, true, false, cond, if◌then◌else◌, Option, Some, None, List, [], ◌∷◌, ◌++◌, length, take, drop, get_or, set, slice_index, slice_set, bit_and, bit_or, refl, subst, sym, ap, ◌∙◌, arith, append_assoc, append-nil}
-use Rattle.std.proofs.lemmas.Bool.{cases_lt, false≢true, cases_Bool}
+use Rattle.std.proofs.Common.{◌≡◌, ◌≢◌, ℕ, suc, zero, ◌+◌, ◌-◌, ◌%◌, ◌^◌, ◌<◌, ◌≤◌, ◌==◌, ◌⊎◌, inl, inr, Bool, true, false, cond, if◌then◌else◌, List, [], ◌∷◌, ◌++◌, length, take, drop, get_or, set, slice_index, refl, subst, sym, ap, ◌∙◌, arith, append-nil}
+use Rattle.std.proofs.lemmas.Bool.{cases_lt}
 use Rattle.std.proofs.lemmas.Bool.Decides.{nat_tests}
-use Rattle.std.proofs.lemmas.List.{get_or-set_same, get_or-set_other, length-set, length-append, length-take, length-drop, set-get_or, get_or-drop, get_or-take, take_more, take-append-drop, drop_at}
-use Rattle.std.specs.List.{All}
+use Rattle.std.proofs.lemmas.List.{get_or-set_same, get_or-set_other, length-append, length-take, length-drop, set-get_or, get_or-drop, get_or-take, take_more, take-append-drop}
 use Rattle.std.proofs.lemmas.List.Elements.{All-take}
-use Rattle.ring_words.specs.Rings.{size, place, diff, ready, room}
+use Rattle.ring_words.specs.Rings.{size, place, ready, room}
 use Rattle.ring_words.specs.Page.{index_of, order_of, word_count}
 use Rattle.ring_words.proofs.RingLaws.{place_within, place_apart, place_wraps, diff_counts, size-within}
 use Rattle.ring_words.specs.declared.order.Order.{Order}
@@ -27,18 +26,18 @@ use Rattle.vchan_core.specs.declared.call.EndState.{EndState}
 use Rattle.vchan_core.specs.declared.call.EndState.TheVariants.{Fresh, Open, Shut}
 use Rattle.vchan_core.specs.declared.side.Side.{Side}
 use Rattle.vchan_core.specs.Plan.{Plan, does, answers, past}
-use Rattle.vchan_core.specs.Ends.{Standing, written_ring, read_ring, prod_word, cons_word, ask_word, notify_word, own_live, own_gone, own_pending, peer_live, peer_gone, peer_pending, mask, low8, low32, free_at, ready_at, write_order, read_order, prod_stored, cons_stored, live_stored}
+use Rattle.vchan_core.specs.Ends.{Standing, written_ring, read_ring, prod_word, cons_word, ask_word, notify_word, own_live, own_gone, own_pending, peer_live, peer_gone, peer_pending, mask, low8, low32, free_at, ready_at, prod_stored, cons_stored, live_stored}
 use Rattle.vchan_core.specs.Calls.{look_read, look_write, ask, signal, notify, put_bytes, take_bytes, put_index, take_index, put, take as take_plan, close, retire_shut}
 use Rattle.vchan_core.specs.Apply.{words_after, value_taken}
 use Rattle.vchan_core.specs.Page.{live_word}
 use Rattle.vchan_core.specs.Core.{Core, made, answered, count_stored, bytes_loaded, stored_by, loaded_by, sent_stored, got_stored, is_shut}
 use Rattle.vchan_core.specs.Alone.{alone}
-use Rattle.vchan_core.specs.RingLaw.{IsPrefixOf, AreBytes}
+use Rattle.vchan_core.specs.RingLaw.{AreBytes}
 use Rattle.vchan_core.specs.Peer.{peer}
-use Rattle.vchan_core.specs.ListCall.{ListEnd, ChannelLists, Outcome, end_of, with_end, index, waiting, avail, free, only, sends, gets, sent_out, got_in}
+use Rattle.vchan_core.specs.ListCall.{ListEnd, ChannelLists, Outcome, end_of, with_end, index, waiting, avail, free, only, sent_out, got_in}
 use Rattle.vchan_core.specs.ListLaw.{IsTold, count_got}
 use Rattle.vchan_core.proofs.RunLaws.{bytes_loaded-push}
-use Rattle.vchan_core.proofs.ListTells.{Told, told, at, Tells, EndIs, RingTells, tells_flags, tells_byte, tells_sent, tells_got, tells_state, tells_gone}
+use Rattle.vchan_core.proofs.ListTells.{Told, told, at, Tells, tells_flags, tells_byte, tells_sent, tells_got, tells_state, tells_gone}
 
 -- ---- a plan, carried out on the words and on its end alone
 

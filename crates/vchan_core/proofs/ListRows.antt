@@ -1,6 +1,5 @@
 -- Rows of whole calls on lists, computed: what the table says of small pages.
-use Rattle.std.proofs.Common.{◌≡◌, ℕ, Bool, true, false, Option, Some, None, List, [], ◌∷◌, ◌++◌, length, map, replicate, refl, arith}
-use Rattle.ring_words.specs.declared.order.Order.{Order}
+use Rattle.std.proofs.Common.{◌≡◌, ℕ, true, Option, Some, List, [], ◌∷◌, ◌++◌, length, map, replicate, refl, arith}
 use Rattle.ring_words.specs.declared.order.Orders.{Orders}
 use Rattle.ring_words.specs.Rings.{size}
 use Rattle.ring_words.specs.declared.page.Role.{Role}
@@ -8,9 +7,8 @@ use Rattle.ring_words.specs.declared.page.Role.TheVariants.{Server, Client}
 use Rattle.vchan_core.specs.declared.call.Answer.{Answer}
 use Rattle.vchan_core.specs.declared.call.Answer.TheVariants.{Wrote, Full, Sent, NoRoom, Got, Empty, Short, PeerClosed, Ready, Space, Connected, BadOrders, Done, NotYet, AllRead, Gone}
 use Rattle.vchan_core.specs.declared.call.Call.{Call}
-use Rattle.vchan_core.specs.declared.call.Call.TheVariants.{Write, Send, Read, Recv, Drain, DataReady, BufferSpace, Connect, Close, TakeEvent, Retire, PeerGone}
-use Rattle.vchan_core.specs.declared.call.EndState.{EndState}
-use Rattle.vchan_core.specs.declared.call.EndState.TheVariants.{Fresh, Open, Shut}
+use Rattle.vchan_core.specs.declared.call.Call.TheVariants.{Write, Send, Read, Recv, Drain, DataReady, BufferSpace, Connect, Close, Retire, PeerGone}
+use Rattle.vchan_core.specs.declared.call.EndState.TheVariants.{Fresh, Open}
 use Rattle.vchan_core.specs.Core.{opened}
 use Rattle.vchan_core.specs.ListCall.{ChannelLists, WholeCall, lists_of, list_calls}
 

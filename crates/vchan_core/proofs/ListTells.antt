@@ -1,12 +1,11 @@
 -- What the words of a page and the counts of its two honest ends tell of the lists, kept by each event.
-use Rattle.std.proofs.Common.{◌≡◌, ◌≢◌, ℕ, suc, zero, ◌+◌, ◌-◌, ◌%◌, ◌^◌, ◌<◌, ◌≤◌, ◌==◌, ◌⊎◌, inl, inr, min, Bool, true, false, cond, if◌then◌else◌, List, [], ◌∷◌, ◌++◌, length, take, drop, get_or, set, slice_index, slice_set, refl, subst, sym, ap, ◌∙◌, arith, append_assoc}
-use Rattle.std.proofs.lemmas.Bool.{cases_lt, eqb-false, false≢true}
-use Rattle.std.proofs.lemmas.List.{get_or-set_same, get_or-set_other, length-set, length-append, length-take, get_or_append_left, get_or-append_right}
-use Rattle.std.specs.List.{All}
+use Rattle.std.proofs.Common.{◌≡◌, ◌≢◌, ℕ, ◌+◌, ◌-◌, ◌^◌, ◌<◌, ◌≤◌, ◌==◌, ◌⊎◌, inl, inr, true, false, if◌then◌else◌, List, ◌++◌, length, get_or, set, slice_index, refl, sym, ap, ◌∙◌, arith, append_assoc}
+use Rattle.std.proofs.lemmas.Bool.{cases_lt, eqb-false}
+use Rattle.std.proofs.lemmas.List.{get_or-set_same, get_or-set_other, length-set, length-append, get_or_append_left, get_or-append_right}
 use Rattle.std.proofs.lemmas.List.Elements.{All-append}
 use Rattle.ring_words.specs.Rings.{size, place}
 use Rattle.ring_words.specs.Page.{index_of, order_of, word_count}
-use Rattle.ring_words.proofs.RingLaws.{place_within, place_apart}
+use Rattle.ring_words.proofs.RingLaws.{place_within}
 use Rattle.ring_words.specs.declared.order.Order.{Order}
 use Rattle.ring_words.specs.declared.order.Orders.{Orders}
 use Rattle.ring_words.specs.declared.page.Role.{Role}
@@ -14,7 +13,7 @@ use Rattle.ring_words.specs.declared.page.Role.TheVariants.{Server, Client}
 use Rattle.ring_words.specs.declared.page.WordName.{WordName}
 use Rattle.ring_words.specs.declared.page.WordName.TheVariants.{LeftOrder, RightOrder, RingByte}
 use Rattle.vchan_core.specs.declared.call.EndState.{EndState}
-use Rattle.vchan_core.specs.declared.call.EndState.TheVariants.{Fresh, Open, Shut}
+use Rattle.vchan_core.specs.declared.call.EndState.TheVariants.{Shut}
 use Rattle.vchan_core.specs.declared.side.Side.{Side}
 use Rattle.vchan_core.specs.Ends.{written_ring, read_ring, prod_word, cons_word, own_live, own_gone, peer_live, peer_gone}
 use Rattle.vchan_core.specs.Page.{live_word}

@@ -1,16 +1,14 @@
 -- From a lawful core state whole calls are calls on lists.
-use Rattle.std.proofs.Common.{◌≡◌, ℕ, ◌+◌, ◌%◌, ◌^◌, ◌<◌, ◌≤◌, ◌==◌, ◌⊎◌, inl, inr, Bool, true, false, if◌then◌else◌, Option, Some, None, List, [], ◌∷◌, ◌++◌, length, take, drop, refl, subst, sym, ap, ◌∙◌, arith}
+use Rattle.std.proofs.Common.{◌≡◌, ℕ, ◌<◌, ◌≤◌, ◌==◌, inl, inr, Bool, true, false, if◌then◌else◌, List, [], ◌∷◌, ◌++◌, length, take, drop, refl, subst, sym, ap, ◌∙◌, arith}
 use Rattle.std.proofs.lemmas.Bool.{false≢true}
-use Rattle.std.proofs.lemmas.List.{length-append, length-take, drop_at}
+use Rattle.std.proofs.lemmas.List.{length-take, drop_at}
 use Rattle.std.proofs.lemmas.List.Elements.{All-take}
 use Rattle.ring_words.specs.declared.page.Role.{Role}
 use Rattle.ring_words.specs.declared.page.Role.TheVariants.{Server, Client}
 use Rattle.vchan_core.specs.declared.call.Answer.{Answer}
 use Rattle.vchan_core.specs.declared.call.Call.{Call}
 use Rattle.vchan_core.specs.declared.call.EndState.{EndState}
-use Rattle.vchan_core.specs.declared.call.EndState.TheVariants.{Shut}
 use Rattle.vchan_core.specs.declared.side.Side.{Side}
-use Rattle.vchan_core.specs.Plan.{Plan}
 use Rattle.vchan_core.specs.Ends.{Standing}
 use Rattle.vchan_core.specs.Page.{live_word}
 use Rattle.vchan_core.specs.Calls.{plan_of, payload_of, IsAllowed}
@@ -19,14 +17,14 @@ use Rattle.vchan_core.specs.Past.{IsMachineOf, StandsFor, machine_of}
 use Rattle.vchan_core.specs.declared.plain.Plain.{Plain}
 use Rattle.vchan_core.specs.Core.{Core, side_of, standing_of, begins, begun, bytes_loaded}
 use Rattle.vchan_core.specs.Alone.{alone, whole_call, called, call_answer}
-use Rattle.vchan_core.specs.RingLaw.{IsPrefixOf, RingLawful, AreBytes}
+use Rattle.vchan_core.specs.RingLaw.{IsPrefixOf, AreBytes}
 use Rattle.vchan_core.specs.Lawful.{Lawful, IsEnd}
 use Rattle.vchan_core.specs.LifeLaw.{TellsGone}
 use Rattle.vchan_core.specs.Peer.{peer}
-use Rattle.vchan_core.specs.ListCall.{ListEnd, ChannelLists, Outcome, WholeCall, end_of, with_end, waiting, lists_of, list_call, list_calls}
+use Rattle.vchan_core.specs.ListCall.{ListEnd, ChannelLists, WholeCall, end_of, with_end, waiting, lists_of, list_call, list_calls}
 use Rattle.vchan_core.specs.ListLaw.{IsTold, FollowsLists, SaidFits, MayCall, MayCallAll, AreTold, called_all, count_got}
-use Rattle.vchan_core.proofs.ListTells.{Told, told, at, Tells, EndIs, EndTells, RingTells, prefix_fits}
-use Rattle.vchan_core.proofs.ListPieces.{run, core_by, alone-run, standing_by, Begins, Calm, Gives}
+use Rattle.vchan_core.proofs.ListTells.{Told, told, Tells, EndIs, EndTells, prefix_fits}
+use Rattle.vchan_core.proofs.ListPieces.{run, core_by, alone-run, standing_by, Begins, Gives}
 use Rattle.vchan_core.proofs.ListCalls.{each_row}
 
 -- ---- what a lawful core state tells
@@ -253,10 +251,11 @@ all_follow_lists core (one ∷ more) t may =
 may_call : (core : Core) (page : Plain) (who : Role) (call : Call) (source : List ℕ) → IsMachineOf (side_of core who) (machine_of page who) → IsEnd who core.orders (side_of core who) → Allows (machine_of page who) call →
     payload_of call ≤ length source → AreBytes source → IsAllowed who (side_of core who).state call × (length (take (payload_of call) source) ≡ payload_of call) × AreBytes (take (payload_of call) source)
 may_call core page who call source h is allows enough bytes =
-    let e : standing (machine_of page who) ≡ standing_of (side_of core who) = h.standing_is in
-    (subst (λ (r : Role). IsAllowed r (side_of core who).state call) is.role_is (subst (λ (s : Standing). IsAllowed s.role s.state call) e allows.1),
-     omega (arith, length-take (payload_of call) source, enough),
-     All-take (λ (byte : ℕ). byte < 256) (payload_of call) source bytes)
+    let e : standing (machine_of page who) ≡ standing_of (side_of core who) = h.standing_is in (
+      subst (λ (r : Role). IsAllowed r (side_of core who).state call) is.role_is (subst (λ (s : Standing). IsAllowed s.role s.state call) e allows.1),
+      omega (arith, length-take (payload_of call) source, enough),
+      All-take (λ (byte : ℕ). byte < 256) (payload_of call) source bytes,
+    )
 
 pub page_follows_lists : (core : Core) (page : Plain) (who : Role) (call : Call) (source : List ℕ) → Allows (machine_of page who) call → payload_of call ≤ length source → AreBytes source →
     StandsFor core page → Lawful core → SaidFits core → FollowsLists core who call (take (payload_of call) source)

@@ -1,6 +1,6 @@
 -- A channel as lists, without words, indices or events, and what each whole call does to it.
 -- Source: libxenvchan's io.c for what a call moves and answers, and init.c for the check of the orders. Drain, PeerGone and Retire are this project's.
-use Rattle.std.specs.Prelude.{◌≡◌, ℕ, ◌+◌, ◌-◌, ◌%◌, ◌^◌, ◌==◌, nat_lt, min, Bool, true, ◌&&◌, Option, Some, None, List, [], ◌∷◌, ◌++◌, length, take, drop, if◌then◌else◌}
+use Rattle.std.specs.Prelude.{ℕ, ◌+◌, ◌-◌, ◌%◌, ◌^◌, ◌==◌, nat_lt, min, Bool, true, ◌&&◌, Option, Some, None, List, [], ◌∷◌, ◌++◌, length, take, drop, if◌then◌else◌}
 use Rattle.ring_words.specs.Rings.{size}
 use Rattle.ring_words.specs.Page.{order_of}
 use Rattle.ring_words.specs.declared.order.Orders.{Orders}
@@ -13,7 +13,7 @@ use Rattle.vchan_core.specs.declared.call.Call.TheVariants.{Write, Send, Read, R
 use Rattle.vchan_core.specs.declared.call.EndState.{EndState}
 use Rattle.vchan_core.specs.declared.call.EndState.TheVariants.{Open, Shut}
 use Rattle.vchan_core.specs.declared.side.Side.{Side}
-use Rattle.vchan_core.specs.Ends.{written_ring, read_ring, own_gone}
+use Rattle.vchan_core.specs.Ends.{written_ring, own_gone}
 use Rattle.vchan_core.specs.Core.{Core, is_shut}
 use Rattle.vchan_core.specs.Peer.{peer, held}
 

@@ -1,4 +1,4 @@
-use Rattle.std.proofs.Common.{◌≡◌, ℕ, ◌<◌, ◌∙◌, arith, sym, ap, subst, refl, [], ◌∷◌, ◌++◌, length, take, Option, None, Some}
+use Rattle.std.proofs.Common.{ℕ, ◌<◌, ◌∙◌, arith, sym, ap, subst, refl, [], ◌∷◌, ◌++◌, take, None, Some}
 use Rattle.std.proofs.lemmas.List.{length_push}
 use Rattle.std.proofs.lemmas.Bool.{false≢true}
 use Rattle.std.proofs.lemmas.List.Elements.{All-from_get_or}
@@ -9,7 +9,6 @@ use Rattle.vchan_core.specs.Apply.{value_taken, filled}
 use Rattle.vchan_core.specs.Calls.{payload_of}
 use Rattle.vchan_core.specs.Phases.{standing}
 use Rattle.vchan_core.specs.Core.{Core, side_of, bytes_loaded}
-use Rattle.vchan_core.specs.Alone.{whole_call}
 use Rattle.vchan_core.specs.Past.{machine_of, words_of, orders_of, op_of, StandsFor}
 use Rattle.vchan_core.proofs.Bounds.{length-Stands}
 use Rattle.vchan_core.proofs.RunLaws.{IsStep, length-payload, runs_begun, runs_on, runs_out, then_stands, then_fills}
