@@ -22,3 +22,8 @@ pub mod KeptSteps
 pub mod WorkedRow
 pub mod PlainLaws
 pub mod WorkedEnd
+pub mod ListRows
+pub mod ListTells
+pub mod ListPieces
+pub mod ListCalls
+pub mod ListWhole

@@ -10,6 +10,8 @@ pub mod Laws
 pub mod Page
 pub mod Past
 pub mod Turned
+pub mod ListCall
+pub mod ListLaw
 pub mod SoFar
 pub mod RingLaw
 pub mod LifeLaw

@@ -44,6 +44,8 @@ impl Plain {
     ghost use Rattle.vchan_core.specs.Alone.{called, call_answer};
     ghost use Rattle.vchan_core.specs.RingLaw.{AreBytes};
     ghost use Rattle.vchan_core.specs.Kept.{Kept};
+    ghost use Rattle.vchan_core.specs.Lawful.{Lawful};
+    ghost use Rattle.vchan_core.specs.ListLaw.{SaidFits, FollowsLists};
     ghost use Rattle.vchan_core.specs.Past.{machine_of, other_of, words_of, orders_of, turned_of, other_turned_of, op_of, StandsFor, HasPayload};
     ghost use Rattle.vchan_core.specs.declared.call.Call.{Call};
     ghost use Rattle.vchan_core.specs.declared.op.PastEvent.{PastEvent};
@@ -265,7 +267,8 @@ impl Plain {
 
     /// A whole call of an end; `steps` counts its events. The conditions are those of `begin` and
     /// `step`. It makes at most `7 + min(n, size)` events for a request of n bytes, and a drain at
-    /// most `10 + min(n, size)`, whatever the page holds.
+    /// most `10 + min(n, size)`, whatever the page holds. Between two honest ends it is a call on
+    /// lists, of what was sent and got.
     pub fn run_call<L: Ledger>(
         &mut self,
         who: Role,
@@ -283,6 +286,7 @@ impl Plain {
         ensures answer { (core : Core) → StandsFor core self.old → result ≡ call_answer core who call (take (payload_of call) payload.now) }
         ensures buffer { (core : Core) → StandsFor core self.old
             → buf.new ≡ filled buf.old (bytes_loaded (side_of (called core who call (take (payload_of call) payload.now)) who).trail) }
+        ensures lists { (core : Core) → StandsFor core self.old → Lawful core → SaidFits core → FollowsLists core who call (take (payload_of call) payload.now) }
         ensures trace { (events : List PastEvent) × Trace (standing (machine_of self.old who)) call events result × (steps.new ≡ steps.old + length events) }
         ensures bound { steps.new ≤ steps.old + most_events (standing (machine_of self.old who)) call }
         ensures idle { IsIdle (machine_of self.new who) }

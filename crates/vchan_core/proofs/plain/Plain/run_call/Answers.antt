@@ -1,6 +1,7 @@
-use Rattle.std.proofs.Common.{◌≡◌, ℕ, ◌∙◌, arith, sym, ap, subst, refl, [], ◌∷◌, ◌++◌, length, take, Option, None, Some}
+use Rattle.std.proofs.Common.{ℕ, ◌<◌, ◌∙◌, arith, sym, ap, subst, refl, [], ◌∷◌, ◌++◌, take, None, Some}
 use Rattle.std.proofs.lemmas.List.{length_push}
 use Rattle.std.proofs.lemmas.Bool.{false≢true}
+use Rattle.std.proofs.lemmas.List.Elements.{All-from_get_or}
 use Rattle.vchan_core.specs.declared.op.PastEvent.{PastEvent}
 use Rattle.vchan_core.specs.declared.call.Answer.{Answer}
 use Rattle.vchan_core.specs.Plan.{past}
@@ -8,11 +9,11 @@ use Rattle.vchan_core.specs.Apply.{value_taken, filled}
 use Rattle.vchan_core.specs.Calls.{payload_of}
 use Rattle.vchan_core.specs.Phases.{standing}
 use Rattle.vchan_core.specs.Core.{Core, side_of, bytes_loaded}
-use Rattle.vchan_core.specs.Alone.{whole_call}
 use Rattle.vchan_core.specs.Past.{machine_of, words_of, orders_of, op_of, StandsFor}
 use Rattle.vchan_core.proofs.Bounds.{length-Stands}
 use Rattle.vchan_core.proofs.RunLaws.{IsStep, length-payload, runs_begun, runs_on, runs_out, then_stands, then_fills}
 use Rattle.vchan_core.proofs.PlainLaws.{kept_call}
+use Rattle.vchan_core.proofs.ListWhole.{page_follows_lists}
 use Rattle.vchan_core.proofs.plain.Plain.run_call.Given.{Over}
 use Rattle.vchan_core.proofs.plain.Plain.run_call.Goals as goal
 
@@ -98,3 +99,8 @@ returns-in-Some-clause-buffer g c = λ core h.
 pub returns-in-Some-clause-kept : goal.returns-in-Some-clause-kept
 returns-in-Some-clause-kept g c = λ core h kept.
     kept_call core c.args.self.now c.args.who c.args.call c.args.payload.now h c.requires.honest c.requires.allowed c.requires.payload (λ k. omega (arith, c.type_inv.payload k)) kept
+
+pub returns-in-Some-clause-lists : goal.returns-in-Some-clause-lists
+returns-in-Some-clause-lists g c = λ core h lawful fits.
+    page_follows_lists core c.args.self.now c.args.who c.args.call c.args.payload.now c.requires.allowed c.requires.payload
+    (All-from_get_or (λ (byte : ℕ). byte < 256) c.args.payload.now 0 (λ i within. let low = c.type_inv.payload i in omega (arith, low))) h lawful fits
