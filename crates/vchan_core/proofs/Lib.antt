@@ -4,3 +4,4 @@ pub mod Counted
 pub mod StepLaws
 pub mod RunLaws
 pub mod TurnLaws
+pub mod PieceLaws

@@ -10,3 +10,4 @@ pub mod Laws
 pub mod Page
 pub mod Past
 pub mod Turned
+pub mod Pieces

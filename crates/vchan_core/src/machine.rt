@@ -5,6 +5,7 @@ use crate::words::{cons_word, low8, low16, low32, mask, peer_pending, prod_word}
 use ring_words::{Orders, Ring, Role, WordName, place, ready, room};
 
 mod moves;
+mod pieces;
 
 /// One end of a channel, as a pure machine: it says which event comes next, and takes the value
 /// that the event took. It holds no page, so the same machine drives a plain page and a shared one.
