@@ -5,3 +5,4 @@ pub mod StepLaws
 pub mod RunLaws
 pub mod TurnLaws
 pub mod PieceLaws
+pub mod LoopLaws

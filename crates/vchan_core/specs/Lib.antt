@@ -11,3 +11,4 @@ pub mod Page
 pub mod Past
 pub mod Turned
 pub mod Pieces
+pub mod Beside

@@ -24,6 +24,7 @@ impl Machine {
         requires payload { out_of self.old ≤ length payload.now }
         requires buf { into_of self.old ≤ length buf.old }
         ensures orders { words.new.orders ≡ words.old.orders }
+        ensures same { standing self.new ≡ standing self.old }
         ensures events { MakesEvents result self.old.orders payload.now self.old words.old.list buf.old self.new words.new.list buf.new }
         ensures low { ((standing self.old).prod < 2 ^ 32) × ((standing self.old).cons < 2 ^ 32) }
     {
@@ -52,6 +53,7 @@ impl Machine {
         requires orders { words.old.orders ≡ self.old.orders }
         requires payload { count ≤ length payload.now }
         ensures orders { words.new.orders ≡ words.old.orders }
+        ensures same { standing self.new ≡ standing self.old }
         ensures events { (buffer : List ℕ) → MakesEvents result self.old.orders payload.now self.old words.old.list buffer self.new words.new.list buffer }
     {
         let ring = self.written();
@@ -80,6 +82,7 @@ impl Machine {
         requires more { at < count }
         requires orders { words.now.orders ≡ self.old.orders }
         requires buf { count ≤ length buf.old }
+        ensures same { standing self.new ≡ standing self.old }
         ensures events { (payload : List ℕ) → MakesEvents result self.old.orders payload self.old words.now.list buf.old self.new words.now.list buf.new }
     {
         let ring = self.read();

@@ -17,8 +17,8 @@ use Rattle.vchan_core.specs.Pieces.{MakesEvents}
 use Rattle.vchan_core.proofs.PieceLaws.{take_piece, at_take, take_place}
 use Rattle.vchan_core.proofs.machine.Machine.take_piece.Goals as goal
 
-pub returns : goal.returns
-returns c = record { events = λ payload.
+pub returns-clause-events : goal.returns-clause-events
+returns-clause-events c = λ payload.
     let m = c.args.self.now in
     let at = c.args.at in
     let len = c.min-len.result in
@@ -49,4 +49,4 @@ returns c = record { events = λ payload.
     let moved = take_piece m list payload buffer at c.args.count len first c.args.answer (omega arith) c.requires.buf places in
     let whole : at_take m at c.args.count c.args.answer ≡ m = ap (λ (p : Option Phase). record m { phase = p }) (sym c.requires.phase) in
     subst (λ (b : List ℕ). MakesEvents len m.orders payload m list buffer (at_take m (at + len) c.args.count c.args.answer) list b) (sym laid_so)
-    (subst (λ (x : Machine). MakesEvents len m.orders payload x list buffer (at_take m (at + len) c.args.count c.args.answer) list (laid buffer at (low_bytes list index len))) whole moved) }
+    (subst (λ (x : Machine). MakesEvents len m.orders payload x list buffer (at_take m (at + len) c.args.count c.args.answer) list (laid buffer at (low_bytes list index len))) whole moved)
