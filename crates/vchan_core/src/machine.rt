@@ -177,7 +177,7 @@ impl Machine {
             unreachable!()
         };
         let moved = self.moved(phase, value);
-        self.count(self.op_at(phase));
+        self.count(phase);
         match moved {
             Move::To(phase) => {
                 self.phase = Some(phase);
@@ -190,32 +190,29 @@ impl Machine {
         }
     }
 
-    /// Takes an event of this end into its own counts and its state.
-    #[tactic(auto, unfolding(crate::specs::Ends::standing_after))]
-    fn count(&mut self, op: Op)
-        ensures standing { standing self.new ≡ standing_after (standing self.old) op }
+    /// Takes the event of a phase into its own counts and its state: an own index that it stores is
+    /// its count, and its own live byte makes its state.
+    #[tactic(auto, using(crate::proofs::PlanLaws::bytes_laws), unfolding(crate::specs::Ends::standing_after, crate::specs::Phases::rest_at, crate::specs::Calls::write, crate::specs::Calls::write_open, crate::specs::Calls::read, crate::specs::Calls::read_live, crate::specs::Calls::send, crate::specs::Calls::send_open, crate::specs::Calls::recv, crate::specs::Calls::recv_live, crate::specs::Calls::drain, crate::specs::Calls::drain_second, crate::specs::Calls::drain_live, crate::specs::Calls::drain_further, crate::specs::Calls::drain_gone, crate::specs::Calls::drain_last, crate::specs::Calls::connect, crate::specs::Calls::connect_right))]
+    fn count(&mut self, phase: Phase)
+        ensures standing { standing self.new ≡ standing_after (standing self.old) (next_op (rest_at (standing self.old) phase)) }
         ensures role { self.new.role ≡ self.old.role }
         ensures orders { self.new.orders ≡ self.old.orders }
         ensures phase { self.new.phase ≡ self.old.phase }
     {
-        if let Op::Store { word, value } = op {
-            match (word, self.role) {
-                (WordName::LeftProd, Role::Client) | (WordName::RightProd, Role::Server) => {
-                    self.prod = low32(value);
-                }
-                (WordName::LeftCons, Role::Server) | (WordName::RightCons, Role::Client) => {
-                    self.cons = low32(value);
-                }
-                (WordName::CliLive, Role::Client) => {
-                    self.state = if value == 0 {
-                        EndState::Shut
-                    } else {
-                        EndState::Open
-                    };
-                }
-                (WordName::SrvLive, Role::Server) => self.state = EndState::Shut,
-                _ => {}
+        match phase {
+            Phase::Put { at, count, .. } if at >= count => {
+                self.prod = self.prod.wrapping_add(count);
             }
+            Phase::Take { at, count, .. } if at >= count => {
+                self.cons = self.cons.wrapping_add(count);
+            }
+            Phase::ConnectStore => {
+                if matches!(self.role, Role::Client) {
+                    self.state = EndState::Open;
+                }
+            }
+            Phase::CloseStore | Phase::RetireStore => self.state = EndState::Shut,
+            _ => {}
         }
     }
 
