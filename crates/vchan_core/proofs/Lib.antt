@@ -27,3 +27,5 @@ pub mod ListTells
 pub mod ListPieces
 pub mod ListCalls
 pub mod ListWhole
+pub mod PieceLaws
+pub mod LoopLaws

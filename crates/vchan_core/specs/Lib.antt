@@ -24,3 +24,5 @@ pub mod Reached
 pub mod SignalLaw
 pub mod Worked
 pub mod WorkedEnd
+pub mod Pieces
+pub mod Beside
