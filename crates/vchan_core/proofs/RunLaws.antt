@@ -73,7 +73,7 @@ abbrev pub FillsNext : List PastEvent → ℕ → Op → Type 0
 FillsNext events most (LoadByte word at) = (at ≡ length (bytes_loaded events)) × (at < most)
 FillsNext events most _ = Unit {0}
 
-bytes_loaded-push : (events : List PastEvent) (op : Op) (taken : ℕ) → bytes_loaded (events ++ past op taken ∷ []) ≡ bytes_loaded events ++ loaded_by op taken
+pub bytes_loaded-push : (events : List PastEvent) (op : Op) (taken : ℕ) → bytes_loaded (events ++ past op taken ∷ []) ≡ bytes_loaded events ++ loaded_by op taken
 bytes_loaded-push [] op taken = append-nil (loaded_by op taken)
 bytes_loaded-push (event ∷ events) op taken =
     ap (λ (xs : List ℕ). loaded_by event.op event.taken ++ xs) (bytes_loaded-push events op taken) ∙ sym (append_assoc (loaded_by event.op event.taken) (bytes_loaded events) (loaded_by op taken))

@@ -163,7 +163,7 @@ made_stands s m m' result taken h busy leads idle stands = go result leads idle
 
 -- ---- the counts
 
-diff-same : (count : ℕ) → diff count count ≡ 0
+pub diff-same : (count : ℕ) → diff count count ≡ 0
 unfolding diff
 diff-same count = grind (arith, nat_tests)
 

@@ -10,6 +10,8 @@ pub mod Laws
 pub mod Page
 pub mod Past
 pub mod Turned
+pub mod ListCall
+pub mod ListLaw
 pub mod SoFar
 pub mod RingLaw
 pub mod LifeLaw
@@ -21,3 +23,6 @@ pub mod Kept
 pub mod Reached
 pub mod SignalLaw
 pub mod Worked
+pub mod WorkedEnd
+pub mod Pieces
+pub mod Beside

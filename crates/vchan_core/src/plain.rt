@@ -1,4 +1,4 @@
-ghost use Rattle.std.specs.Prelude.{◌≡◌, ◌≢◌, ℕ, ◌<◌, ◌≤◌, ◌+◌, ◌∷◌, ◌++◌, [], List, length, take, ◌↔◌, IsSome, IfOk, IsTrue, true, false, slice_set};
+ghost use Rattle.std.specs.Prelude.{◌≡◌, ◌≢◌, ℕ, ◌<◌, ◌≤◌, ◌+◌, ◌^◌, ◌∷◌, ◌++◌, [], List, length, take, ◌↔◌, IsSome, IfOk, IsTrue, true, false, slice_set};
 ghost use Rattle.ring_words.specs.declared.page.Role.TheVariants.{Server, Client};
 
 use crate::call::{Answer, Call, EndState};
@@ -44,6 +44,10 @@ impl Plain {
     ghost use Rattle.vchan_core.specs.Alone.{called, call_answer};
     ghost use Rattle.vchan_core.specs.RingLaw.{AreBytes};
     ghost use Rattle.vchan_core.specs.Kept.{Kept};
+    ghost use Rattle.vchan_core.specs.Lawful.{Lawful};
+    ghost use Rattle.vchan_core.specs.ListLaw.{SaidFits, FollowsLists};
+    ghost use Rattle.vchan_core.specs.Pieces.{MakesEvents};
+    ghost use Rattle.vchan_core.specs.Beside.{IsBeside};
     ghost use Rattle.vchan_core.specs.Past.{machine_of, other_of, words_of, orders_of, turned_of, other_turned_of, op_of, StandsFor, HasPayload};
     ghost use Rattle.vchan_core.specs.declared.call.Call.{Call};
     ghost use Rattle.vchan_core.specs.declared.op.PastEvent.{PastEvent};
@@ -236,6 +240,7 @@ impl Plain {
     /// bytes, the same at each step of the call; for a read, recv or drain `buf` has at least the
     /// smaller of the call's request and the ring's size. A ring byte that is loaded goes to its
     /// place in `buf`, and nothing else of `buf` changes.
+    #[inline(always)]
     pub fn step(&mut self, who: Role, payload: &[u8], buf: &mut [u8]) -> Option<Answer>
         requires busy { ¬ IsIdle (machine_of self.old who) }
         requires payload { out_of (machine_of self.old who) ≤ length payload.now }
@@ -263,9 +268,25 @@ impl Plain {
         }
     }
 
+    /// The events of an end that come next as long as they are all on bytes of one piece of a ring.
+    /// It answers how many they were, and none gives an answer.
+    fn move_piece(&mut self, who: Role, payload: &[u8], buf: &mut [u8]) -> u32
+        requires payload { out_of (machine_of self.old who) ≤ length payload.now }
+        requires buf { into_of (machine_of self.old who) ≤ length buf.old }
+        ensures page { IsBeside who self.old self.new }
+        ensures low { ((standing (machine_of self.old who)).prod < 2 ^ 32) × ((standing (machine_of self.old who)).cons < 2 ^ 32) }
+        ensures events { MakesEvents result (orders_of self.old) payload.now (machine_of self.old who) (words_of self.old) buf.old (machine_of self.new who) (words_of self.new) buf.new }
+    {
+        match who {
+            Role::Server => self.server.move_piece(&mut self.words, payload, buf),
+            Role::Client => self.client.move_piece(&mut self.words, payload, buf),
+        }
+    }
+
     /// A whole call of an end; `steps` counts its events. The conditions are those of `begin` and
     /// `step`. It makes at most `7 + min(n, size)` events for a request of n bytes, and a drain at
-    /// most `10 + min(n, size)`, whatever the page holds.
+    /// most `10 + min(n, size)`, whatever the page holds. Between two honest ends it is a call on
+    /// lists, of what was sent and got.
     pub fn run_call<L: Ledger>(
         &mut self,
         who: Role,
@@ -283,6 +304,7 @@ impl Plain {
         ensures answer { (core : Core) → StandsFor core self.old → result ≡ call_answer core who call (take (payload_of call) payload.now) }
         ensures buffer { (core : Core) → StandsFor core self.old
             → buf.new ≡ filled buf.old (bytes_loaded (side_of (called core who call (take (payload_of call) payload.now)) who).trail) }
+        ensures lists { (core : Core) → StandsFor core self.old → Lawful core → SaidFits core → FollowsLists core who call (take (payload_of call) payload.now) }
         ensures trace { (events : List PastEvent) × Trace (standing (machine_of self.old who)) call events result × (steps.new ≡ steps.old + length events) }
         ensures bound { steps.new ≤ steps.old + most_events (standing (machine_of self.old who)) call }
         ensures idle { IsIdle (machine_of self.new who) }
@@ -290,6 +312,7 @@ impl Plain {
     {
         self.begin(who, call);
         'events: loop {
+            steps.add(self.move_piece(who, payload, buf));
             steps.tick();
             if let Some(answer) = self.step(who, payload, buf) {
                 return answer;
