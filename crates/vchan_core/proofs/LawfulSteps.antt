@@ -18,7 +18,7 @@ use Rattle.vchan_core.specs.Ends.{written_ring, read_ring}
 use Rattle.vchan_core.specs.Calls.{payload_of, IsAllowed}
 use Rattle.vchan_core.specs.Apply.{words_after, value_taken, word_of}
 use Rattle.vchan_core.specs.Core.{Core, opened, side_of, begins, begun, event, plan_left, op_next, taken_next, plan_next, made, settled}
-use Rattle.vchan_core.specs.RingLaw.{IsLawful, RingLawful, CallLawful, AreBytes, channel_between, channel_of}
+use Rattle.vchan_core.specs.RingLaw.{IsLawful, ShowsBytes, RingLawful, CallLawful, AreBytes, channel_between, channel_of}
 use Rattle.vchan_core.specs.LifeLaw.{LifeLawful}
 use Rattle.vchan_core.specs.Lawful.{Lawful, IsEnd}
 use Rattle.vchan_core.specs.Reached.{MayBegin}
@@ -185,7 +185,7 @@ ring_opened orders start said state Left low = record {
   waiting = λ i unread below. absurd (omega (arith, below));
   writer_looked = tt;
   writer_stored = λ i below. absurd (omega (arith, below));
-  reader_looked = tt;
+  reader_looked = All-nil (ShowsBytes start 0 0 0);
   reader_loaded = ([], refl);
 }
 ring_opened orders start said state Right low = record {
@@ -199,7 +199,7 @@ ring_opened orders start said state Right low = record {
   waiting = λ i unread below. absurd (omega (arith, below));
   writer_looked = tt;
   writer_stored = λ i below. absurd (omega (arith, below));
-  reader_looked = tt;
+  reader_looked = All-nil (ShowsBytes start 0 0 0);
   reader_loaded = ([], refl);
 }
 

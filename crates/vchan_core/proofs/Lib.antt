@@ -20,3 +20,4 @@ pub mod TurnedSteps
 pub mod KeptSteps
 pub mod WorkedRow
 pub mod WorkedEnd
+pub mod PlainLaws

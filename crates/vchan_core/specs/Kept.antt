@@ -12,6 +12,7 @@ use Rattle.vchan_core.specs.declared.side.Side.{Side}
 use Rattle.vchan_core.specs.Plan.{GoesOn}
 use Rattle.vchan_core.specs.Ends.{own_gone}
 use Rattle.vchan_core.specs.Core.{Core, opened, begun, event, side_of, plan_left, op_next}
+use Rattle.vchan_core.specs.Alone.{called}
 use Rattle.vchan_core.specs.Turned.{strayed}
 use Rattle.vchan_core.specs.RingLaw.{IsPrefixOf}
 use Rattle.vchan_core.specs.LifeLaw.{SaysOrders, sets_gone}
@@ -51,6 +52,12 @@ BeginIsKept =
 
 abbrev pub EventIsKept : Type 0
 EventIsKept = (core : Core) (who : Role) → Kept core → (side_of core who).turned ≡ false → GoesOn (plan_left (side_of core who)) → Kept (event core who)
+
+-- a whole call of an honest end, while the other end makes no event
+abbrev pub CallIsKept : Type 0
+CallIsKept =
+    (core : Core) (who : Role) (call : Call) (payload : List ℕ) → Kept core → (side_of core who).turned ≡ false → MayBegin who (side_of core who) call payload →
+    Kept (called core who call payload)
 
 -- an end is given up
 abbrev pub TurnIsKept : Type 0

@@ -1,6 +1,6 @@
 //! Laws of a page at each moment, whether its ends are honest or were given up, and of its end.
 ghost use Rattle.vchan_core.specs.WorkedEnd.{EndIsAsWorked};
-ghost use Rattle.vchan_core.specs.Kept.{OpeningIsKept, BeginIsKept, EventIsKept, TurnIsKept, StrayIsKept, GoneIsSetOnce, EachIsKept, KeptSettles};
+ghost use Rattle.vchan_core.specs.Kept.{OpeningIsKept, BeginIsKept, EventIsKept, CallIsKept, TurnIsKept, StrayIsKept, GoneIsSetOnce, EachIsKept, KeptSettles};
 
 /// What holds of a page holds when it is opened.
 pub fn opening_is_kept()
@@ -15,6 +15,11 @@ pub fn begin_is_kept()
 /// It holds on when an honest end makes the next event of its call.
 pub fn event_is_kept()
     ensures { EventIsKept }
+{}
+
+/// It holds on when an honest end makes a whole call, and the other end no event.
+pub fn call_is_kept()
+    ensures { CallIsKept }
 {}
 
 /// It holds on when an end is given up to a hostile user.

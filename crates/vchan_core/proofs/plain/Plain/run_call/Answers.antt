@@ -12,6 +12,7 @@ use Rattle.vchan_core.specs.Alone.{whole_call}
 use Rattle.vchan_core.specs.Past.{machine_of, words_of, orders_of, op_of, StandsFor}
 use Rattle.vchan_core.proofs.Bounds.{length-Stands}
 use Rattle.vchan_core.proofs.RunLaws.{IsStep, length-payload, runs_begun, runs_on, runs_out, then_stands, then_fills}
+use Rattle.vchan_core.proofs.PlainLaws.{kept_call}
 use Rattle.vchan_core.proofs.plain.Plain.run_call.Given.{Over}
 use Rattle.vchan_core.proofs.plain.Plain.run_call.Goals as goal
 
@@ -93,3 +94,7 @@ returns-in-Some-clause-buffer g c = λ core h.
     let out = runs_out core c.args.who c.args.call c.args.payload.now c.args.buf.now c.events.buf c.step.new.buf c.events.self c.step.new.self (Some c.in-Some.answer) c.requires.payload (omega arith) running (last g c) c.in-Some.answer refl in
     then_fills core c.args.who c.args.call c.args.payload.now c.args.buf.now c.events.buf c.step.new.buf c.events.self c.step.new.self (Some c.in-Some.answer) c.requires.payload (omega arith) running (last g c)
     ∙ ap (λ (p : Core × Answer). filled c.args.buf.now (bytes_loaded (side_of p.0 c.args.who).trail)) out
+
+pub returns-in-Some-clause-kept : goal.returns-in-Some-clause-kept
+returns-in-Some-clause-kept g c = λ core h kept.
+    kept_call core c.args.self.now c.args.who c.args.call c.args.payload.now h c.requires.honest c.requires.allowed c.requires.payload (λ k. omega (arith, c.type_inv.payload k)) kept
