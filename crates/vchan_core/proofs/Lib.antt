@@ -14,6 +14,7 @@ pub mod EndSteps
 pub mod RingSteps
 pub mod LawfulSteps
 pub mod Notifies
+pub mod Watched
 pub mod SignalLaws
 pub mod WholeCalls
 pub mod TurnedSteps
