@@ -2,13 +2,13 @@
 use Rattle.std.proofs.Common.{◌≡◌, ◌≢◌, ℕ, suc, zero, ◌+◌, ◌-◌, ◌%◌, ◌^◌, ◌<◌, ◌≤◌, ◌⊎◌, inl, inr, List, [], ◌∷◌, ◌++◌, length, get_or, take, slice_index, Option, Some, None, IfSome, refl, subst, sym, ap, ◌∙◌, arith, append_assoc, append-nil}
 use Rattle.std.specs.List.{All}
 use Rattle.std.proofs.lemmas.List.{get_or_append_left, get_or-append_right, get_or-append-add, get_or-take, length-take, length-append}
-use Rattle.std.proofs.lemmas.List.Elements.{All-append, All-take}
+use Rattle.std.proofs.lemmas.List.Elements.{All-nil, All-cons, All-head, All-append, All-take}
 use Rattle.std.proofs.lemmas.Bool.{cases_lt}
 use Rattle.std.proofs.lemmas.Bool.Decides.{nat_tests}
 use Rattle.ring_words.specs.declared.order.Order.{Order}
 use Rattle.ring_words.specs.Rings.{size, place, room, ready}
 use Rattle.ring_words.proofs.RingLaws.{place_apart, place_within, diff_counts, size-within, place_wraps}
-use Rattle.vchan_core.specs.RingLaw.{Channel, IsLawful, LeavesRoom, ShowsBytes, IsPrefixOf, AreBytes, Each, index_at}
+use Rattle.vchan_core.specs.RingLaw.{Channel, IsLawful, LeavesRoom, ShowsBytes, IsPrefixOf, AreBytes, index_at}
 
 -- ---- prefixes
 
@@ -59,7 +59,8 @@ leaves_room r index k w seen h =
 
 pub shows_bytes : (r : Channel) (index k : ℕ) (older : List ℕ) → IsLawful r → r.got_before ≡ length r.got → r.prods_seen ≡ index ∷ older → k ≤ ready index r.own_cons r.order → ShowsBytes r.start (length r.sent) (length r.got) k index
 shows_bytes r index k older w before seen h =
-    let s : ShowsBytes r.start (length r.sent) r.got_before 0 index = (subst (λ (l : List ℕ). Each (ShowsBytes r.start (length r.sent) r.got_before 0) l) seen w.reader_looked).0 in
+    let s : ShowsBytes r.start (length r.sent) r.got_before 0 index =
+    All-head (ShowsBytes r.start (length r.sent) r.got_before 0) index older (subst (λ (l : List ℕ). All (ShowsBytes r.start (length r.sent) r.got_before 0) l) seen w.reader_looked) in
     let here : k ≤ ready (index_at r.start s.count) (index_at r.start (length r.got)) r.order =
     subst (λ (n : ℕ). k ≤ ready n (index_at r.start (length r.got)) r.order) s.is (subst (λ (n : ℕ). k ≤ ready index n r.order) w.own_cons h) in
     record { count = s.count; is = s.is; unread = ready_total r.start (length r.got) s.count k r.order (omega (arith, before, s.unread)) (omega (arith, s.within, w.fits)) here; within = s.within }
@@ -148,10 +149,10 @@ lawful-store_byte r index new w seen h here others =
       reader_loaded = w.reader_loaded;
     }
 
-each_more : (start sent more before : ℕ) (seen : List ℕ) → sent ≤ more → Each (ShowsBytes start sent before 0) seen → Each (ShowsBytes start more before 0) seen
-each_more start sent more before [] h w = tt
-each_more start sent more before (index ∷ seen) h w =
-    (record { count = w.0.count; is = w.0.is; unread = w.0.unread; within = omega (arith, h, w.0.within) }, each_more start sent more before seen h w.1)
+shows_more : (start sent more before : ℕ) (seen : List ℕ) → sent ≤ more → All (ShowsBytes start sent before 0) seen → All (ShowsBytes start more before 0) seen
+shows_more start sent more before seen h w = λ k d below.
+    let s = w k d below in
+    record { count = s.count; is = s.is; unread = s.unread; within = omega (arith, h, s.within) }
 
 length_sent : (xs ys : List ℕ) (k : ℕ) → k ≤ length ys → length (xs ++ take k ys) ≡ length xs + k
 length_sent xs ys k h = omega (arith, length-append xs (take k ys), length-take k ys)
@@ -182,7 +183,7 @@ lawful-store_prod r index w seen h has bytes =
       writer_looked = subst (λ (o : Option ℕ). IfSome o (LeavesRoom r.start (size r.order) (length (r.sent ++ take r.stored r.payload)) (length r.got) 0)) (sym seen)
           (record { count = g.count; is = g.is; within = g.within; room = omega (arith, g.room, n) });
       writer_stored = λ i below. absurd (omega (arith, below));
-      reader_looked = each_more r.start (length r.sent) (length (r.sent ++ take r.stored r.payload)) r.got_before r.prods_seen (omega (arith, n)) w.reader_looked;
+      reader_looked = shows_more r.start (length r.sent) (length (r.sent ++ take r.stored r.payload)) r.got_before r.prods_seen (omega (arith, n)) w.reader_looked;
       reader_loaded = prefix_more (r.got ++ r.loaded) r.sent (take r.stored r.payload) w.reader_loaded;
     }
 
@@ -218,7 +219,8 @@ lawful-look_read r before w = record {
   waiting = w.waiting;
   writer_looked = w.writer_looked;
   writer_stored = w.writer_stored;
-  reader_looked = (record { count = length r.sent; is = w.prod; unread = omega (arith, before, prefix_within r.got r.sent w.prefix); within = omega arith }, w.reader_looked);
+  reader_looked = All-cons (ShowsBytes r.start (length r.sent) r.got_before 0) r.prod r.prods_seen
+      (record { count = length r.sent; is = w.prod; unread = omega (arith, before, prefix_within r.got r.sent w.prefix); within = omega arith }) w.reader_looked;
   reader_loaded = w.reader_loaded;
 }
 
@@ -290,6 +292,6 @@ lawful-begin_read r before w = record {
   waiting = w.waiting;
   writer_looked = w.writer_looked;
   writer_stored = w.writer_stored;
-  reader_looked = tt;
+  reader_looked = All-nil (ShowsBytes r.start (length r.sent) before 0);
   reader_loaded = subst (λ (l : List ℕ). IsPrefixOf l r.sent) (sym (append-nil r.got)) w.prefix;
 }

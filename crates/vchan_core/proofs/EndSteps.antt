@@ -82,7 +82,7 @@ counts_now s i more =
 
 -- ---- a call begins, and goes on
 
-goes_on_call : (e : Standing) (call : Call) → GoesOn (plan_of e call)
+pub goes_on_call : (e : Standing) (call : Call) → GoesOn (plan_of e call)
 unfolding write read send recv drain connect
 goes_on_call e Retire = retires e.state
   where

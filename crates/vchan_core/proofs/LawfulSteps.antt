@@ -1,6 +1,7 @@
 -- A page is lawful when it is opened, and stays so as honest ends begin calls and make their events.
-use Rattle.std.proofs.Common.{◌≡◌, ◌≢◌, ℕ, ◌^◌, ◌<◌, None, List, length, slice_index, slice_set, refl, subst, sym, ap, ◌∙◌, arith}
-use Rattle.std.proofs.lemmas.List.{length-set}
+use Rattle.std.proofs.Common.{◌≡◌, ◌≢◌, ℕ, ◌-◌, ◌^◌, ◌<◌, None, List, [], length, slice_index, slice_set, refl, subst, sym, ap, ◌∙◌, arith}
+use Rattle.std.proofs.lemmas.List.{length-set, length-replicate}
+use Rattle.std.proofs.lemmas.List.Elements.{All-nil}
 use Rattle.ring_words.specs.Page.{order_of, word_count}
 use Rattle.ring_words.specs.declared.order.Order.{Order}
 use Rattle.ring_words.specs.declared.order.Orders.{Orders}
@@ -9,25 +10,29 @@ use Rattle.ring_words.specs.declared.page.Role.TheVariants.{Server, Client}
 use Rattle.ring_words.specs.declared.page.Ring.{Ring}
 use Rattle.ring_words.specs.declared.page.Ring.TheVariants.{Left, Right}
 use Rattle.vchan_core.specs.declared.call.Call.{Call}
+use Rattle.vchan_core.specs.declared.call.EndState.{EndState}
+use Rattle.vchan_core.specs.declared.call.EndState.TheVariants.{Shut}
 use Rattle.vchan_core.specs.declared.side.Side.{Side}
 use Rattle.vchan_core.specs.Plan.{Plan, does, answers, next_op, after, GoesOn}
 use Rattle.vchan_core.specs.Ends.{written_ring, read_ring}
 use Rattle.vchan_core.specs.Calls.{payload_of, IsAllowed}
 use Rattle.vchan_core.specs.Apply.{words_after, value_taken, word_of}
-use Rattle.vchan_core.specs.Core.{Core, side_of, begins, begun, event, plan_left, op_next, taken_next, plan_next, made, settled}
-use Rattle.vchan_core.specs.RingLaw.{IsLawful, RingLawful, CallLawful, AreBytes, channel_between, channel_of}
+use Rattle.vchan_core.specs.Core.{Core, opened, side_of, begins, begun, event, plan_left, op_next, taken_next, plan_next, made, settled}
+use Rattle.vchan_core.specs.RingLaw.{IsLawful, ShowsBytes, RingLawful, CallLawful, AreBytes, channel_between, channel_of}
 use Rattle.vchan_core.specs.LifeLaw.{LifeLawful}
 use Rattle.vchan_core.specs.Lawful.{Lawful, IsEnd}
+use Rattle.vchan_core.specs.Reached.{MayBegin}
 use Rattle.vchan_core.proofs.ChannelLaws.{lawful-begin_write, lawful-begin_read}
 use Rattle.vchan_core.proofs.EndSteps.{InLawful, in_lawful, owes_now, counts_now, call_begins, call_goes_on, puts_within, takes_within}
 use Rattle.vchan_core.proofs.RingSteps.{wrote_made, read_made}
-use Rattle.vchan_core.proofs.LifeSteps.{life_begun, life_event}
+use Rattle.vchan_core.proofs.LifeSteps.{life_opened, life_begun, life_event}
 
 -- ---- the parts of a lawful page
 
 -- all but its lives
 record Rings (core : Core) : Type 0 where
   sized : length core.words ≡ word_count core.orders
+  said_fits : (core.said.0 < 2 ^ 16) × (core.said.1 < 2 ^ 16)
   server_end : IsEnd Server core.orders core.server
   client_end : IsEnd Client core.orders core.client
   left : RingLawful core Left
@@ -42,10 +47,11 @@ order_read : (role : Role) (orders : Orders) (s : Side) → IsEnd role orders s 
 order_read role orders s is = ap (λ (r : Role). order_of orders (read_ring r)) (sym is.role_is) ∙ ap (λ (o : Orders). order_of o (read_ring s.role)) (sym is.orders_are)
 
 -- two lawful rings between ends in lawful calls
-rings_of : (core : Core) → length core.words ≡ word_count core.orders → IsEnd Server core.orders core.server → IsEnd Client core.orders core.client → CallLawful core.server → CallLawful core.client →
+rings_of : (core : Core) → length core.words ≡ word_count core.orders → (core.said.0 < 2 ^ 16) × (core.said.1 < 2 ^ 16) → IsEnd Server core.orders core.server → IsEnd Client core.orders core.client → CallLawful core.server → CallLawful core.client →
     IsLawful (channel_of core Left) → IsLawful (channel_of core Right) → Rings core
-rings_of core sized server client server_call client_call left right = record {
+rings_of core sized said server client server_call client_call left right = record {
   sized = sized;
+  said_fits = said;
   server_end = server;
   client_end = client;
   left = record {
@@ -65,6 +71,7 @@ rings_of core sized server client server_call client_call left right = record {
 with_lives : (core : Core) → Rings core → LifeLawful core → Lawful core
 with_lives core r lives = record {
   sized = r.sized;
+  said_fits = r.said_fits;
   server_end = r.server_end;
   client_end = r.client_end;
   left = r.left;
@@ -116,14 +123,13 @@ module _ (start : ℕ) (orders : Orders) (words : List ℕ) (role : Role) (s oth
 rings_event : (core : Core) (who : Role) → Lawful core → GoesOn (plan_left (side_of core who)) → Rings (event core who)
 unfolding event
 rings_event core Server h more =
-    let s = core.server in
-    rings_of _ (length-set core.words _ _ ∙ h.sized)
+    rings_of _ (length-set core.words _ _ ∙ h.sized) h.said_fits
     (settled_end Server core.orders _ (plan_next core Server) (record { role_is = h.server_end.role_is; orders_are = h.server_end.orders_are })) h.client_end
     (call_goes_on core.server (taken_next core Server) h.server_call more) h.client_call
     (settled_reader core.start core.orders _ Left _ core.client (plan_next core Server) (next_reads core.start core.orders core.words Server core.server core.client h.server_end h.server_call more h.sized h.left.lawful))
     (settled_writer core.start core.orders _ Right _ core.client (plan_next core Server) (next_writes core.start core.orders core.words Server core.server core.client h.server_end h.server_call more h.sized h.right.lawful))
 rings_event core Client h more =
-    rings_of _ (length-set core.words _ _ ∙ h.sized)
+    rings_of _ (length-set core.words _ _ ∙ h.sized) h.said_fits
     h.server_end (settled_end Client core.orders _ (plan_next core Client) (record { role_is = h.client_end.role_is; orders_are = h.client_end.orders_are }))
     h.server_call (call_goes_on core.client (taken_next core Client) h.client_call more)
     (settled_writer core.start core.orders _ Left _ core.server (plan_next core Client) (next_writes core.start core.orders core.words Client core.client core.server h.client_end h.client_call more h.sized h.left.lawful))
@@ -151,17 +157,55 @@ begins_call role orders s call payload is allowed pays bytes = call_begins s cal
 rings_begun : (core : Core) (who : Role) (call : Call) (payload : List ℕ) → Lawful core → IsAllowed who (side_of core who).state call → length payload ≡ payload_of call → AreBytes payload →
     Rings (begun core who call payload)
 rings_begun core Server call payload h allowed pays bytes =
-    rings_of _ h.sized (record { role_is = h.server_end.role_is; orders_are = h.server_end.orders_are }) h.client_end
+    rings_of _ h.sized h.said_fits (record { role_is = h.server_end.role_is; orders_are = h.server_end.orders_are }) h.client_end
     (begins_call Server core.orders core.server call payload h.server_end allowed pays bytes) h.client_call
     (begins_reader core.start core.orders core.words Left core.server core.client call payload h.left.lawful)
     (begins_writer core.start core.orders core.words Right core.server core.client call payload h.right.lawful)
 rings_begun core Client call payload h allowed pays bytes =
-    rings_of _ h.sized h.server_end (record { role_is = h.client_end.role_is; orders_are = h.client_end.orders_are })
+    rings_of _ h.sized h.said_fits h.server_end (record { role_is = h.client_end.role_is; orders_are = h.client_end.orders_are })
     h.server_call (begins_call Client core.orders core.client call payload h.client_end allowed pays bytes)
     (begins_writer core.start core.orders core.words Left core.client core.server call payload h.left.lawful)
     (begins_reader core.start core.orders core.words Right core.client core.server call payload h.right.lawful)
 
-pub lawful_begun : (core : Core) (who : Role) (call : Call) (payload : List ℕ) → Lawful core → IsAllowed who (side_of core who).state call → length payload ≡ payload_of call → AreBytes payload →
-    Lawful (begun core who call payload)
-lawful_begun core who call payload h allowed pays bytes =
-    with_lives (begun core who call payload) (rings_begun core who call payload h allowed pays bytes) (life_begun core who call payload h.lives)
+pub lawful_begun : (core : Core) (who : Role) (call : Call) (payload : List ℕ) → Lawful core → MayBegin who (side_of core who) call payload → Lawful (begun core who call payload)
+lawful_begun core who call payload h may =
+    with_lives (begun core who call payload) (rings_begun core who call payload h may.allowed may.pays may.bytes) (life_begun core who call payload h.lives)
+
+-- ---- the opening
+
+ring_opened : (orders : Orders) (start : ℕ) (said : ℕ × ℕ) (state : EndState) (ring : Ring) → start < 2 ^ 32 → IsLawful (channel_of (opened orders start said state) ring)
+ring_opened orders start said state Left low = record {
+  prod = omega (arith, low);
+  cons = omega (arith, low);
+  own_prod = omega (arith, low);
+  own_cons = omega (arith, low);
+  prefix = ([], refl);
+  fits = omega arith;
+  bytes_sent = All-nil (λ (byte : ℕ). byte < 256);
+  waiting = λ i unread below. absurd (omega (arith, below));
+  writer_looked = tt;
+  writer_stored = λ i below. absurd (omega (arith, below));
+  reader_looked = All-nil (ShowsBytes start 0 0 0);
+  reader_loaded = ([], refl);
+}
+ring_opened orders start said state Right low = record {
+  prod = omega (arith, low);
+  cons = omega (arith, low);
+  own_prod = omega (arith, low);
+  own_cons = omega (arith, low);
+  prefix = ([], refl);
+  fits = omega arith;
+  bytes_sent = All-nil (λ (byte : ℕ). byte < 256);
+  waiting = λ i unread below. absurd (omega (arith, below));
+  writer_looked = tt;
+  writer_stored = λ i below. absurd (omega (arith, below));
+  reader_looked = All-nil (ShowsBytes start 0 0 0);
+  reader_loaded = ([], refl);
+}
+
+pub lawful_opened : (orders : Orders) (start : ℕ) (said : ℕ × ℕ) (state : EndState) → start < 2 ^ 32 → said.0 < 2 ^ 16 → said.1 < 2 ^ 16 → state ≢ Shut → Lawful (opened orders start said state)
+lawful_opened orders start said state low left right open_or_fresh =
+    with_lives _
+    (rings_of (opened orders start said state) (omega (arith, length-replicate {A = ℕ} (word_count orders - 14) 0)) (left, right) (record { role_is = refl; orders_are = refl }) (record { role_is = refl; orders_are = refl }) tt tt
+    (ring_opened orders start said state Left low) (ring_opened orders start said state Right low))
+    (life_opened orders start said state open_or_fresh)

@@ -15,6 +15,11 @@ pub mod RingSteps
 pub mod LawfulSteps
 pub mod Notifies
 pub mod SignalLaws
+pub mod WholeCalls
+pub mod TurnedSteps
+pub mod KeptSteps
+pub mod WorkedRow
+pub mod PlainLaws
 pub mod ListRows
 pub mod ListTells
 pub mod ListPieces

@@ -52,12 +52,12 @@ alone-answers : (core : Core) (who : Role) (answer : Answer) → alone core who 
 unfolding alone
 alone-answers core who answer = refl
 
-event_by-on : (core : Core) (who : Role) (plan : Plan) → GoesOn (after plan (value_taken core.orders core.words (next_op plan))) → event_by core who plan ≡ carried_out core who (next_op plan)
+pub event_by-on : (core : Core) (who : Role) (plan : Plan) → GoesOn (after plan (value_taken core.orders core.words (next_op plan))) → event_by core who plan ≡ carried_out core who (next_op plan)
 event_by-on core who plan on =
     ap (λ (s : Side). with_side (record core { words = words_after core.orders core.words (side_of core who).payload (next_op plan) }) who s)
     (settled-on (made (side_of core who) (next_op plan) (value_taken core.orders core.words (next_op plan))) (after plan (value_taken core.orders core.words (next_op plan))) on)
 
-event_by-answers : (core : Core) (who : Role) (plan : Plan) (answer : Answer) → after plan (value_taken core.orders core.words (next_op plan)) ≡ answers answer →
+pub event_by-answers : (core : Core) (who : Role) (plan : Plan) (answer : Answer) → after plan (value_taken core.orders core.words (next_op plan)) ≡ answers answer →
     event_by core who plan ≡ with_side (carried_out core who (next_op plan)) who (answered (side_of (carried_out core who (next_op plan)) who) answer)
 event_by-answers core who plan answer is =
     let value = value_taken core.orders core.words (next_op plan) in

@@ -854,7 +854,7 @@ settled_keeps core Server (does op next) left h = h
 settled_keeps core Client (does op next) left h = h
 
 -- what is left once the op is carried out
-left_then : (core : Core) (who : Role) (op : Op) (next : ℕ → Plan) → plan_left (side_of core who) ≡ does op next → plan_left (side_of (carried_out core who op) who) ≡ next (value_taken core.orders core.words op)
+pub left_then : (core : Core) (who : Role) (op : Op) (next : ℕ → Plan) → plan_left (side_of core who) ≡ does op next → plan_left (side_of (carried_out core who op) who) ≡ next (value_taken core.orders core.words op)
 left_then core Server op next left = plan_left-made core.server op (value_taken core.orders core.words op) ∙ ap (λ (p : Plan). after p (value_taken core.orders core.words op)) left
 left_then core Client op next left = plan_left-made core.client op (value_taken core.orders core.words op) ∙ ap (λ (p : Plan). after p (value_taken core.orders core.words op)) left
 

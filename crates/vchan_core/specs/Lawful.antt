@@ -1,5 +1,5 @@
 -- A lawful core state: what holds of a page and of its two ends while both are honest.
-use Rattle.std.specs.Prelude.{◌≡◌, ℕ, false, List, length}
+use Rattle.std.specs.Prelude.{◌≡◌, ℕ, ◌^◌, ◌<◌, false, List, length}
 use Rattle.ring_words.specs.Page.{word_count}
 use Rattle.ring_words.specs.declared.order.Orders.{Orders}
 use Rattle.ring_words.specs.declared.page.Role.{Role}
@@ -21,6 +21,7 @@ pub record IsEnd (role : Role) (orders : Orders) (s : Side) : Type 0 where
 
 pub record Lawful (core : Core) : Type 0 where
   pub sized : length core.words ≡ word_count core.orders
+  pub said_fits : (core.said.0 < 2 ^ 16) × (core.said.1 < 2 ^ 16)
   pub server_end : IsEnd Server core.orders core.server
   pub client_end : IsEnd Client core.orders core.client
   pub left : RingLawful core Left

@@ -1,5 +1,5 @@
 -- Laws of every call, whatever values its events take.
-use Rattle.std.specs.Prelude.{◌≡◌, ◌≢◌, ℕ, ◌^◌, ◌<◌, ◌≤◌, None, List, length}
+use Rattle.std.specs.Prelude.{◌≢◌, ℕ, ◌^◌, ◌<◌, ◌≤◌, List, length}
 use Rattle.ring_words.specs.declared.order.Orders.{Orders}
 use Rattle.ring_words.specs.declared.page.Role.{Role}
 use Rattle.vchan_core.specs.declared.op.PastEvent.{PastEvent}
@@ -8,11 +8,12 @@ use Rattle.vchan_core.specs.declared.call.EndState.{EndState}
 use Rattle.vchan_core.specs.declared.call.EndState.TheVariants.{Shut}
 use Rattle.vchan_core.specs.Plan.{Plan, Leads, GoesOn, EndsWithin, EachDoes}
 use Rattle.vchan_core.specs.Ends.{Standing}
-use Rattle.vchan_core.specs.Calls.{plan_of, payload_of, most_events, stored_most, loaded_most, IsAllowed}
+use Rattle.vchan_core.specs.Calls.{plan_of, most_events, stored_most, loaded_most}
 use Rattle.vchan_core.specs.Apply.{Fits}
 use Rattle.vchan_core.specs.Core.{Core, opened, side_of, begun, event, plan_left, count_stored, bytes_loaded}
-use Rattle.vchan_core.specs.RingLaw.{AreBytes}
+use Rattle.vchan_core.specs.Alone.{called}
 use Rattle.vchan_core.specs.Lawful.{Lawful, Honest}
+use Rattle.vchan_core.specs.Reached.{IsReached, MayBegin}
 
 -- a call ends within its number of events
 abbrev pub EachCallEnds : Type 0
@@ -36,12 +37,25 @@ OpeningIsLawful =
     (orders : Orders) (start : ℕ) (said : ℕ × ℕ) (state : EndState) → start < 2 ^ 32 → said.0 < 2 ^ 16 → said.1 < 2 ^ 16 → state ≢ Shut →
     Lawful (opened orders start said state)
 
--- an end that is between two calls begins one that it may begin, with a payload of that call's length
+-- an end that is between two calls begins one that it may begin
 abbrev pub BeginIsLawful : Type 0
 BeginIsLawful =
-    (core : Core) (who : Role) (call : Call) (payload : List ℕ) → Lawful core → Honest core → (side_of core who).call ≡ None →
-    IsAllowed who (side_of core who).state call → length payload ≡ payload_of call → AreBytes payload → Lawful (begun core who call payload)
+    (core : Core) (who : Role) (call : Call) (payload : List ℕ) → Lawful core → Honest core → MayBegin who (side_of core who) call payload → Lawful (begun core who call payload)
 
 -- the next event of either end leads from a lawful core state to one that is lawful
 abbrev pub EventIsLawful : Type 0
 EventIsLawful = (core : Core) (who : Role) → Lawful core → Honest core → GoesOn (plan_left (side_of core who)) → Lawful (event core who)
+
+-- so does a whole call of either end, while the other makes no event
+abbrev pub CallIsLawful : Type 0
+CallIsLawful =
+    (core : Core) (who : Role) (call : Call) (payload : List ℕ) → Lawful core → Honest core → MayBegin who (side_of core who) call payload → Lawful (called core who call payload)
+
+-- whatever two honest ends do, in any order of their events, the page stays lawful
+abbrev pub ReachedIsLawful : Type 0
+ReachedIsLawful = (core : Core) → IsReached core → Lawful core
+
+-- and a whole call is one way to go on
+abbrev pub CallIsReached : Type 0
+CallIsReached =
+    (core : Core) (who : Role) (call : Call) (payload : List ℕ) → IsReached core → MayBegin who (side_of core who) call payload → IsReached (called core who call payload)

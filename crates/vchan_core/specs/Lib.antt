@@ -18,7 +18,8 @@ pub mod LifeLaw
 pub mod Lawful
 pub mod Peer
 pub mod TurnedLaw
-pub mod LifeLaws
 pub mod TurnedLaws
+pub mod Kept
 pub mod Reached
 pub mod SignalLaw
+pub mod Worked

@@ -27,11 +27,6 @@ IsPrefixOf xs ys = (rest : List ℕ) × (xs ++ rest ≡ ys)
 abbrev pub AreBytes : List ℕ → Type 0
 AreBytes = All (λ byte. byte < 256)
 
--- each number of a list is such
-abbrev pub Each : (ℕ → Type 0) → List ℕ → Type 0
-Each P [] = Unit {0}
-Each P (x ∷ xs) = P x × Each P xs
-
 -- an index after so many bytes
 abbrev pub index_at : ℕ → ℕ → ℕ
 index_at start count = (start + count) % 2 ^ 32
@@ -120,7 +115,7 @@ pub record IsLawful (r : Channel) : Type 0 where
   pub writer_looked : IfSome r.cons_seen (LeavesRoom r.start (size r.order) (length r.sent) (length r.got) 0)
   pub writer_stored : (i : ℕ) → i < r.stored → r.bytes (place (r.start + length r.sent + i) r.order) ≡ slice_index r.payload i
   -- the reader may rely on each producer index that it loaded, and what it loaded comes in `sent` behind what was got
-  pub reader_looked : Each (ShowsBytes r.start (length r.sent) r.got_before 0) r.prods_seen
+  pub reader_looked : All (ShowsBytes r.start (length r.sent) r.got_before 0) r.prods_seen
   pub reader_loaded : IsPrefixOf (r.got ++ r.loaded) r.sent
 
 -- inside a PUT of k bytes, its index not stored yet

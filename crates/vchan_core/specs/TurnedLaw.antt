@@ -1,15 +1,19 @@
 -- What holds of a page once an end was given up to a hostile user, who may store any number anywhere.
 -- The statements are this project's own.
 use Rattle.std.specs.Prelude.{◌≡◌, ℕ, ◌+◌, ◌≤◌, true, false, List, length, take}
-use Rattle.ring_words.specs.Rings.{size}
+use Rattle.ring_words.specs.Rings.{size, place}
 use Rattle.ring_words.specs.Page.{word_count, order_of}
 use Rattle.ring_words.specs.declared.page.Role.{Role}
 use Rattle.ring_words.specs.declared.page.Role.TheVariants.{Server, Client}
 use Rattle.ring_words.specs.declared.page.Ring.{Ring}
 use Rattle.ring_words.specs.declared.page.Ring.TheVariants.{Left, Right}
+use Rattle.ring_words.specs.declared.page.WordName.{WordName}
+use Rattle.ring_words.specs.declared.page.WordName.TheVariants.{LeftCons, LeftProd, RightCons, RightProd, RingByte}
+use Rattle.vchan_core.specs.declared.op.Op.{Op}
+use Rattle.vchan_core.specs.declared.op.Op.TheVariants.{LoadByte, Store, StoreByte}
 use Rattle.vchan_core.specs.declared.side.Side.{Side}
-use Rattle.vchan_core.specs.Ends.{written_ring}
-use Rattle.vchan_core.specs.Core.{Core, side_of, with_side, writer_of, reader_of}
+use Rattle.vchan_core.specs.Ends.{written_ring, read_ring, prod_stored, cons_stored}
+use Rattle.vchan_core.specs.Core.{Core, side_of, with_side, writer_of, reader_of, count_stored, bytes_loaded}
 use Rattle.vchan_core.specs.Turned.{given_up}
 use Rattle.vchan_core.specs.RingLaw.{IsPrefixOf, index_at, CallLawful}
 use Rattle.vchan_core.specs.Lawful.{IsEnd}
@@ -53,3 +57,20 @@ pub record ListsGrow (before after : Side) : Type 0 where
   pub turned : after.turned ≡ before.turned
   pub sent : IsPrefixOf before.sent after.sent
   pub got : IsPrefixOf before.got after.got
+
+-- ---- the places of an honest end's bytes
+
+-- an index that an end stores is its own count after that event
+abbrev pub OwnCount : WordName → Side → ℕ → Type 0
+OwnCount LeftProd s value = value ≡ prod_stored LeftProd s.role value s.prod
+OwnCount RightProd s value = value ≡ prod_stored RightProd s.role value s.prod
+OwnCount LeftCons s value = value ≡ cons_stored LeftCons s.role value s.cons
+OwnCount RightCons s value = value ≡ cons_stored RightCons s.role value s.cons
+OwnCount _ s value = Unit {0}
+
+-- a byte that an end stores or loads is the next one of its call, and lies in its ring at the place of its own count and the byte's number
+abbrev pub LiesAtCount : Side → Op → Type 0
+LiesAtCount s (StoreByte word at) = (at ≡ count_stored s.trail) × (word ≡ RingByte (written_ring s.role) (place (s.prod + at) (order_of s.orders (written_ring s.role))))
+LiesAtCount s (LoadByte word at) = (at ≡ length (bytes_loaded s.trail)) × (word ≡ RingByte (read_ring s.role) (place (s.cons + at) (order_of s.orders (read_ring s.role))))
+LiesAtCount s (Store word value) = OwnCount word s value
+LiesAtCount s _ = Unit {0}

@@ -1,10 +1,12 @@
 //! Laws of every call, whatever values its events take. A law is a function with no body, whose
 //! contract states it.
+pub mod kept;
 pub mod lists;
-pub mod lives;
 pub mod signals;
+pub mod turned;
 
-ghost use Rattle.vchan_core.specs.Laws.{EachCallEnds, EachCallFits, EachCallMovesAtMost, OpeningIsLawful, BeginIsLawful, EventIsLawful};
+ghost use Rattle.vchan_core.specs.Worked.{RowIsAsWorked};
+ghost use Rattle.vchan_core.specs.Laws.{EachCallEnds, EachCallFits, EachCallMovesAtMost, OpeningIsLawful, BeginIsLawful, EventIsLawful, CallIsLawful, ReachedIsLawful, CallIsReached};
 
 /// A call of `n` bytes ends within `7 + min(n, size)` events, and a drain within
 /// `10 + min(n, size)`, `size` being that of the ring which it moves bytes through.
@@ -28,7 +30,7 @@ pub fn lawful_opening()
     ensures { OpeningIsLawful }
 {}
 
-/// An end of a lawful page that begins a call leaves the page lawful.
+/// An end of a lawful page that begins a call leaves the page lawful, while both ends are honest.
 pub fn lawful_begin()
     ensures { BeginIsLawful }
 {}
@@ -36,4 +38,26 @@ pub fn lawful_begin()
 /// The next event of either end of a lawful page leaves the page lawful, while both are honest.
 pub fn honest_step()
     ensures { EventIsLawful }
+{}
+
+/// A whole call of either end of a lawful page leaves the page lawful, while both are honest.
+pub fn lawful_call()
+    ensures { CallIsLawful }
+{}
+
+/// Whatever two honest ends do, in any order of their events, the page is lawful: so the reader of
+/// each ring has got the beginning of what its writer sent.
+pub fn honest_ends_are_lawful()
+    ensures { ReachedIsLawful }
+{}
+
+/// A whole call is one way in which honest ends go on.
+pub fn calls_are_reached()
+    ensures { CallIsReached }
+{}
+
+/// A worked row of the laws' definitions: three bytes go through the left ring, across the end of
+/// the indices and of the ring.
+pub fn worked_row()
+    ensures { RowIsAsWorked }
 {}

@@ -43,7 +43,9 @@ impl Plain {
     ghost use Rattle.vchan_core.specs.Turned.{MayPoke, poked, signalled};
     ghost use Rattle.vchan_core.specs.Alone.{called, call_answer};
     ghost use Rattle.vchan_core.specs.Lawful.{Lawful};
-    ghost use Rattle.vchan_core.specs.ListLaw.{SaidFits, FollowsLists};
+    ghost use Rattle.vchan_core.specs.ListLaw.{FollowsLists};
+    ghost use Rattle.vchan_core.specs.RingLaw.{AreBytes};
+    ghost use Rattle.vchan_core.specs.Kept.{Kept};
     ghost use Rattle.vchan_core.specs.Past.{machine_of, other_of, words_of, orders_of, turned_of, other_turned_of, op_of, StandsFor, HasPayload};
     ghost use Rattle.vchan_core.specs.declared.call.Call.{Call};
     ghost use Rattle.vchan_core.specs.declared.op.PastEvent.{PastEvent};
@@ -58,7 +60,8 @@ impl Plain {
         state: EndState,
     ) -> Result<Plain, Memory>
         requires { state ≢ EndState.Shut }
-        ensures { IfOk result (λ page. StandsFor (opened orders start said state) page) }
+        ensures stands { IfOk result (λ page. StandsFor (opened orders start said state) page) }
+        ensures kept { IfOk result (λ page. Kept (opened orders start said state)) }
     {
         let index = u64::from(start);
         let live = match state {
@@ -152,6 +155,7 @@ impl Plain {
     pub fn poke(&mut self, who: Role, word: WordName, value: u64)
         requires { MayPoke (orders_of self.old) word }
         ensures stands { (core : Core) → StandsFor core self.old → StandsFor (poked core who word value) self.new }
+        ensures kept { (core : Core) → StandsFor core self.old → Kept core → Kept (poked core who word value) }
         ensures words { words_of self.new ≡ slice_set (words_of self.old) (index_of (orders_of self.old) word) value }
         ensures orders { orders_of self.new ≡ orders_of self.old }
         ensures turned { turned_of self.new who ≡ true }
@@ -176,6 +180,7 @@ impl Plain {
     /// set.
     pub fn signal(&mut self, who: Role)
         ensures stands { (core : Core) → StandsFor core self.old → StandsFor (signalled core who) self.new }
+        ensures kept { (core : Core) → StandsFor core self.old → Kept core → Kept (signalled core who) }
         ensures words { words_of self.new ≡ slice_set (words_of self.old) (index_of (orders_of self.old) (peer_pending_of who)) 1 }
         ensures orders { orders_of self.new ≡ orders_of self.old }
         ensures turned { turned_of self.new who ≡ true }
@@ -214,6 +219,7 @@ impl Plain {
         requires honest { turned_of self.old who ≡ false }
         requires allowed { Allows (machine_of self.old who) call }
         ensures stands { (core : Core) (payload : List ℕ) → StandsFor core self.old → length payload ≡ payload_of call → StandsFor (begun core who call payload) self.new }
+        ensures kept { (core : Core) (payload : List ℕ) → StandsFor core self.old → length payload ≡ payload_of call → AreBytes payload → Kept core → Kept (begun core who call payload) }
         ensures busy { ¬ IsIdle (machine_of self.new who) }
         ensures rest { rest (machine_of self.new who) ≡ plan_of (standing (machine_of self.old who)) call }
         ensures out { out_of (machine_of self.new who) ≤ payload_of call }
@@ -237,6 +243,7 @@ impl Plain {
         requires payload { out_of (machine_of self.old who) ≤ length payload.now }
         requires buf { into_of (machine_of self.old who) ≤ length buf.old }
         ensures stands { (core : Core) → StandsFor core self.old → HasPayload (side_of core who) payload.now → StandsFor (event core who) self.new }
+        ensures kept { (core : Core) → StandsFor core self.old → turned_of self.old who ≡ false → Kept core → Kept (event core who) }
         ensures answer { (core : Core) → StandsFor core self.old → result ≡ answer_in (plan_next core who) }
         ensures footprint { Fits (orders_of self.old) (length payload.now) (length buf.old) (op_of self.old who) }
         ensures buffer { buf.new ≡ buffer_after (orders_of self.old) (words_of self.old) buf.old (op_of self.old who) }
@@ -275,10 +282,11 @@ impl Plain {
         requires payload { payload_of call ≤ length payload.now }
         requires buf { loaded_most (standing (machine_of self.old who)) call ≤ length buf.old }
         ensures stands { (core : Core) → StandsFor core self.old → StandsFor (called core who call (take (payload_of call) payload.now)) self.new }
+        ensures kept { (core : Core) → StandsFor core self.old → Kept core → Kept (called core who call (take (payload_of call) payload.now)) }
         ensures answer { (core : Core) → StandsFor core self.old → result ≡ call_answer core who call (take (payload_of call) payload.now) }
         ensures buffer { (core : Core) → StandsFor core self.old
             → buf.new ≡ filled buf.old (bytes_loaded (side_of (called core who call (take (payload_of call) payload.now)) who).trail) }
-        ensures lists { (core : Core) → StandsFor core self.old → Lawful core → SaidFits core → FollowsLists core who call (take (payload_of call) payload.now) }
+        ensures lists { (core : Core) → StandsFor core self.old → Lawful core → FollowsLists core who call (take (payload_of call) payload.now) }
         ensures trace { (events : List PastEvent) × Trace (standing (machine_of self.old who)) call events result × (steps.new ≡ steps.old + length events) }
         ensures bound { steps.new ≤ steps.old + most_events (standing (machine_of self.old who)) call }
         ensures idle { IsIdle (machine_of self.new who) }

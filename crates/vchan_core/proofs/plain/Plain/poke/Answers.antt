@@ -4,6 +4,7 @@ use Rattle.ring_words.specs.PageWords.{PageWords}
 use Rattle.ring_words.specs.declared.order.Orders.{Orders}
 use Rattle.vchan_core.specs.declared.op.Op.TheVariants.{Store}
 use Rattle.vchan_core.proofs.TurnLaws.{stands_strayed}
+use Rattle.vchan_core.proofs.KeptSteps.{kept_strayed}
 use Rattle.vchan_core.proofs.plain.Plain.poke.Goals as goal
 
 pub returns-clause-stands : goal.returns-clause-stands
@@ -27,3 +28,6 @@ returns-clause-stands c = λ core h. stands_strayed core c.args.who (Store c.arg
   server_turned_is = refl;
   client_turned_is = refl;
 })
+
+pub returns-clause-kept : goal.returns-clause-kept
+returns-clause-kept c = λ core h kept. kept_strayed core c.args.who (Store c.args.word c.args.value) kept

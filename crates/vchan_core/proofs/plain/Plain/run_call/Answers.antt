@@ -13,6 +13,7 @@ use Rattle.vchan_core.specs.Past.{machine_of, words_of, orders_of, op_of, Stands
 use Rattle.vchan_core.proofs.Bounds.{length-Stands}
 use Rattle.vchan_core.proofs.RunLaws.{IsStep, length-payload, runs_begun, runs_on, runs_out, then_stands, then_fills}
 use Rattle.vchan_core.proofs.ListWhole.{page_follows_lists}
+use Rattle.vchan_core.proofs.PlainLaws.{kept_call}
 use Rattle.vchan_core.proofs.plain.Plain.run_call.Given.{Over}
 use Rattle.vchan_core.proofs.plain.Plain.run_call.Goals as goal
 
@@ -96,6 +97,10 @@ returns-in-Some-clause-buffer g c = λ core h.
     ∙ ap (λ (p : Core × Answer). filled c.args.buf.now (bytes_loaded (side_of p.0 c.args.who).trail)) out
 
 pub returns-in-Some-clause-lists : goal.returns-in-Some-clause-lists
-returns-in-Some-clause-lists g c = λ core h lawful fits.
+returns-in-Some-clause-lists g c = λ core h lawful.
     page_follows_lists core c.args.self.now c.args.who c.args.call c.args.payload.now c.requires.allowed c.requires.payload
-    (All-from_get_or (λ (byte : ℕ). byte < 256) c.args.payload.now 0 (λ i within. let low = c.type_inv.payload i in omega (arith, low))) h lawful fits
+    (All-from_get_or (λ (byte : ℕ). byte < 256) c.args.payload.now 0 (λ k within. omega (arith, c.type_inv.payload k))) h lawful
+
+pub returns-in-Some-clause-kept : goal.returns-in-Some-clause-kept
+returns-in-Some-clause-kept g c = λ core h kept.
+    kept_call core c.args.self.now c.args.who c.args.call c.args.payload.now h c.requires.honest c.requires.allowed c.requires.payload (λ k. omega (arith, c.type_inv.payload k)) kept

@@ -6,6 +6,7 @@ use Rattle.ring_words.specs.declared.order.Orders.{Orders}
 use Rattle.vchan_core.specs.declared.op.Op.TheVariants.{Store}
 use Rattle.vchan_core.specs.Ends.{peer_pending}
 use Rattle.vchan_core.proofs.TurnLaws.{stands_strayed}
+use Rattle.vchan_core.proofs.KeptSteps.{kept_strayed}
 use Rattle.vchan_core.proofs.plain.Plain.signal.Goals as goal
 
 pub returns-clause-stands : goal.returns-clause-stands
@@ -30,3 +31,6 @@ returns-clause-stands c = λ core h. stands_strayed core c.args.who (Store (peer
   server_turned_is = refl;
   client_turned_is = refl;
 })
+
+pub returns-clause-kept : goal.returns-clause-kept
+returns-clause-kept c = λ core h kept. kept_strayed core c.args.who (Store (peer_pending c.args.who) 1) kept

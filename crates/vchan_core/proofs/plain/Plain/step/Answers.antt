@@ -10,6 +10,7 @@ use Rattle.vchan_core.specs.Core.{Core, answer_in, plan_next}
 use Rattle.vchan_core.specs.Past.{machine_of, orders_of, words_of, StandsFor}
 use Rattle.vchan_core.specs.Phases.{rest, IsIdle, out_of, into_of}
 use Rattle.vchan_core.proofs.StepLaws.{Fits-more, DoesEvent, stands_server, stands_client, answer_is, keeps_orders, keeps_role}
+use Rattle.vchan_core.proofs.PlainLaws.{kept_step}
 use Rattle.vchan_core.proofs.plain.Plain.step.Goals as goal
 
 pub invariant_of-self : goal.invariant_of-self
@@ -109,3 +110,9 @@ returns-in-Client-clause-footprint c =
     let into = subst (λ (who : Role). into_of (machine_of page who) ≤ length c.args.buf.now) c.in-Client.is c.requires.buf in
     let more = Fits-more (orders_of page) (out_of page.client) (into_of page.client) (length c.args.payload.now) (length c.args.buf.now) c.next-op.result out into there in
     subst (λ (op : Op). Fits (orders_of page) (length c.args.payload.now) (length c.args.buf.now) op) (c.next-op.ensures.op ∙ ap (λ (m : Machine). next_op (rest m)) c.machine.ensures) more
+
+pub returns-in-Server-clause-kept : goal.returns-in-Server-clause-kept
+returns-in-Server-clause-kept c = λ core h honest kept. kept_step core c.args.self.now c.args.who h honest c.requires.busy kept
+
+pub returns-in-Client-clause-kept : goal.returns-in-Client-clause-kept
+returns-in-Client-clause-kept c = λ core h honest kept. kept_step core c.args.self.now c.args.who h honest c.requires.busy kept

@@ -1,0 +1,78 @@
+-- What holds of a core state for which a page stands holds on after each call on the page.
+use Rattle.std.proofs.Common.{◌≡◌, ℕ, ◌<◌, ◌≤◌, false, Option, Some, None, List, length, take, slice_index, refl, subst, sym, ap, ◌∙◌}
+use Rattle.std.proofs.lemmas.List.{get_or_default}
+use Rattle.std.proofs.lemmas.List.Elements.{All-take}
+use Rattle.ring_words.specs.declared.page.Role.{Role}
+use Rattle.ring_words.specs.declared.page.Role.TheVariants.{Server, Client}
+use Rattle.vchan_core.specs.declared.call.Call.{Call}
+use Rattle.vchan_core.specs.declared.side.Side.{Side}
+use Rattle.vchan_core.specs.declared.side.Begun.{Begun}
+use Rattle.vchan_core.specs.declared.machine.Machine.{Machine}
+use Rattle.vchan_core.specs.declared.plain.Plain.{Plain}
+use Rattle.vchan_core.specs.Plan.{Plan, does, answers, GoesOn}
+use Rattle.vchan_core.specs.Ends.{Standing}
+use Rattle.vchan_core.specs.Calls.{payload_of, IsAllowed}
+use Rattle.vchan_core.specs.Core.{Core, side_of, begun, event, plan_left, settled}
+use Rattle.vchan_core.specs.Alone.{called}
+use Rattle.vchan_core.specs.Phases.{standing, rest, IsIdle, Allows}
+use Rattle.vchan_core.specs.Past.{IsInCall, IsMachineOf, StandsFor, machine_of, turned_of}
+use Rattle.vchan_core.specs.RingLaw.{AreBytes}
+use Rattle.vchan_core.specs.Reached.{MayBegin}
+use Rattle.vchan_core.specs.TurnedLaw.{TurnedLawful}
+use Rattle.vchan_core.specs.Kept.{Kept}
+use Rattle.vchan_core.proofs.PlanLaws.{GoesOn-machine}
+use Rattle.vchan_core.proofs.StepLaws.{in_call, plan_left-is}
+use Rattle.vchan_core.proofs.RunLaws.{machine_stands, length-payload}
+use Rattle.vchan_core.proofs.KeptSteps.{kept_begun, kept_event}
+use Rattle.vchan_core.proofs.WholeCalls.{kept_called}
+
+-- the end was given up exactly where the page says so
+turned_stands : (core : Core) (page : Plain) (who : Role) → StandsFor core page → turned_of page who ≡ false → (side_of core who).turned ≡ false
+turned_stands core page Server h honest = sym h.server_turned ∙ honest
+turned_stands core page Client h honest = sym h.client_turned ∙ honest
+
+role_stands : (core : Core) (who : Role) → TurnedLawful core → (side_of core who).role ≡ who
+role_stands core Server h = h.server_end.role_is
+role_stands core Client h = h.client_end.role_is
+
+-- where the machine is idle the end is between two calls
+idle_stands : (s : Side) (m : Machine) → IsMachineOf s m → IsIdle m → s.call ≡ None
+idle_stands s m h idle = go s.call refl h.in_call
+  where
+    go : (call : Option Begun) → s.call ≡ call → IsInCall s call m → s.call ≡ None
+    go None is inside = is
+    go (Some b) is inside = absurd (inside.0 idle)
+
+-- what the page allows the end may begin
+may_begin : (core : Core) (page : Plain) (who : Role) (call : Call) (payload : List ℕ) → StandsFor core page → Kept core → Allows (machine_of page who) call → length payload ≡ payload_of call → AreBytes payload →
+    MayBegin who (side_of core who) call payload
+may_begin core page who call payload h kept allows pays bytes =
+    let m = machine_stands core page who h in
+    let same : standing (machine_of page who) ≡ record { role = (side_of core who).role; orders = (side_of core who).orders; state = (side_of core who).state; prod = (side_of core who).prod; cons = (side_of core who).cons } = m.standing_is in
+    record {
+      idle = idle_stands (side_of core who) (machine_of page who) m allows.0;
+      allowed = subst (λ (r : Role). IsAllowed r (side_of core who).state call) (role_stands core who kept.turned) (subst (λ (e : Standing). IsAllowed e.role e.state call) same allows.1);
+      pays = pays;
+      bytes = bytes;
+    }
+
+pub kept_begin : (core : Core) (page : Plain) (who : Role) (call : Call) (payload : List ℕ) → StandsFor core page → turned_of page who ≡ false → Allows (machine_of page who) call → length payload ≡ payload_of call → AreBytes payload →
+    Kept core → Kept (begun core who call payload)
+kept_begin core page who call payload h honest allows pays bytes kept =
+    kept_begun core who call payload kept (turned_stands core page who h honest) (may_begin core page who call payload h kept allows pays bytes)
+
+-- a busy machine has an event left, and so has its end
+goes_on_stands : (core : Core) (page : Plain) (who : Role) → StandsFor core page → ¬ IsIdle (machine_of page who) → GoesOn (plan_left (side_of core who))
+goes_on_stands core page who h busy =
+    subst GoesOn (sym (plan_left-is (side_of core who) (machine_of page who) (in_call (side_of core who) (machine_of page who) (machine_stands core page who h) busy))) (GoesOn-machine (machine_of page who) busy)
+
+pub kept_step : (core : Core) (page : Plain) (who : Role) → StandsFor core page → turned_of page who ≡ false → ¬ IsIdle (machine_of page who) → Kept core → Kept (event core who)
+kept_step core page who h honest busy kept = kept_event core who kept (turned_stands core page who h honest) (goes_on_stands core page who h busy)
+
+-- ---- whole calls
+
+pub kept_call : (core : Core) (page : Plain) (who : Role) (call : Call) (source : List ℕ) → StandsFor core page → turned_of page who ≡ false → Allows (machine_of page who) call → payload_of call ≤ length source → ((k : ℕ) → slice_index source k < 256) →
+    Kept core → Kept (called core who call (take (payload_of call) source))
+kept_call core page who call source h honest allows enough bytes kept =
+    kept_called core who call (take (payload_of call) source) kept (turned_stands core page who h honest)
+    (may_begin core page who call (take (payload_of call) source) h kept allows (length-payload call source enough) (All-take (λ (byte : ℕ). byte < 256) (payload_of call) source (λ k d below. subst (λ (byte : ℕ). byte < 256) (get_or_default source k 0 d below) (bytes k))))

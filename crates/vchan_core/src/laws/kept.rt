@@ -1,0 +1,42 @@
+//! Laws of a page at each moment, whether its ends are honest or were given up, and of its end.
+ghost use Rattle.vchan_core.specs.Kept.{OpeningIsKept, BeginIsKept, EventIsKept, CallIsKept, TurnIsKept, StrayIsKept, EachIsKept, KeptSettles};
+
+/// What holds of a page holds when it is opened.
+pub fn opening_is_kept()
+    ensures { OpeningIsKept }
+{}
+
+/// It holds on when an honest end begins a call that it may begin.
+pub fn begin_is_kept()
+    ensures { BeginIsKept }
+{}
+
+/// It holds on when an honest end makes the next event of its call.
+pub fn event_is_kept()
+    ensures { EventIsKept }
+{}
+
+/// It holds on when an honest end makes a whole call, and the other end no event.
+pub fn call_is_kept()
+    ensures { CallIsKept }
+{}
+
+/// It holds on when an end is given up to a hostile user.
+pub fn turn_is_kept()
+    ensures { TurnIsKept }
+{}
+
+/// It holds on whatever event a hostile user makes.
+pub fn stray_is_kept()
+    ensures { StrayIsKept }
+{}
+
+/// So it holds whatever happens to a page, in whatever order the events of its ends come.
+pub fn each_is_kept()
+    ensures { EachIsKept }
+{}
+
+/// What stands at the end of a page, and at each moment before.
+pub fn kept_settles()
+    ensures { KeptSettles }
+{}
