@@ -22,7 +22,7 @@ use Rattle.vchan_core.specs.Lawful.{Lawful, IsEnd}
 use Rattle.vchan_core.specs.LifeLaw.{TellsGone}
 use Rattle.vchan_core.specs.Peer.{peer}
 use Rattle.vchan_core.specs.ListCall.{ListEnd, ChannelLists, WholeCall, end_of, with_end, waiting, lists_of, list_call, list_calls}
-use Rattle.vchan_core.specs.ListLaw.{IsTold, FollowsLists, SaidFits, MayCall, MayCallAll, AreTold, called_all, count_got}
+use Rattle.vchan_core.specs.ListLaw.{IsTold, FollowsLists, MayCall, MayCallAll, AreTold, called_all, count_got}
 use Rattle.vchan_core.proofs.ListTells.{Told, told, Tells, EndIs, EndTells, prefix_fits}
 use Rattle.vchan_core.proofs.ListPieces.{run, core_by, alone-run, standing_by, Begins, Gives}
 use Rattle.vchan_core.proofs.ListCalls.{each_row}
@@ -45,8 +45,8 @@ end_told live gone state sent got l (inr g) = record {
   retired_shut = λ _. g.1;
 }
 
-pub tells_lists : (core : Core) → Lawful core → SaidFits core → TellsLists core
-tells_lists core l fits Server = record {
+pub tells_lists : (core : Core) → Lawful core → TellsLists core
+tells_lists core l Server = record {
   sized = l.sized;
   mine_is = record { role_is = l.server_end.role_is; orders_are = l.server_end.orders_are; state_is = refl; sent_is = refl; got_is = refl };
   theirs_is = record { role_is = l.client_end.role_is; orders_are = l.client_end.orders_are; state_is = refl; sent_is = refl; got_is = refl };
@@ -56,9 +56,9 @@ tells_lists core l fits Server = record {
   theirs_words = end_told _ _ _ _ _ l.lives.client_words.live l.lives.client_words.gone;
   left_order = l.lives.left_order;
   right_order = l.lives.right_order;
-  said_fits = fits;
+  said_fits = l.said_fits;
 }
-tells_lists core l fits Client = record {
+tells_lists core l Client = record {
   sized = l.sized;
   mine_is = record { role_is = l.client_end.role_is; orders_are = l.client_end.orders_are; state_is = refl; sent_is = refl; got_is = refl };
   theirs_is = record { role_is = l.server_end.role_is; orders_are = l.server_end.orders_are; state_is = refl; sent_is = refl; got_is = refl };
@@ -68,7 +68,7 @@ tells_lists core l fits Client = record {
   theirs_words = end_told _ _ _ _ _ l.lives.server_words.live l.lives.server_words.gone;
   left_order = l.lives.left_order;
   right_order = l.lives.right_order;
-  said_fits = fits;
+  said_fits = l.said_fits;
 }
 
 -- ---- where a call begins
@@ -258,8 +258,8 @@ may_call core page who call source h is allows enough bytes =
     )
 
 pub page_follows_lists : (core : Core) (page : Plain) (who : Role) (call : Call) (source : List ℕ) → Allows (machine_of page who) call → payload_of call ≤ length source → AreBytes source →
-    StandsFor core page → Lawful core → SaidFits core → FollowsLists core who call (take (payload_of call) source)
-page_follows_lists core page Server call source allows enough bytes h lawful fits =
-    follows_lists core Server call (take (payload_of call) source) (tells_lists core lawful fits) (may_call core page Server call source h.server lawful.server_end allows enough bytes)
-page_follows_lists core page Client call source allows enough bytes h lawful fits =
-    follows_lists core Client call (take (payload_of call) source) (tells_lists core lawful fits) (may_call core page Client call source h.client lawful.client_end allows enough bytes)
+    StandsFor core page → Lawful core → FollowsLists core who call (take (payload_of call) source)
+page_follows_lists core page Server call source allows enough bytes h lawful =
+    follows_lists core Server call (take (payload_of call) source) (tells_lists core lawful) (may_call core page Server call source h.server lawful.server_end allows enough bytes)
+page_follows_lists core page Client call source allows enough bytes h lawful =
+    follows_lists core Client call (take (payload_of call) source) (tells_lists core lawful) (may_call core page Client call source h.client lawful.client_end allows enough bytes)

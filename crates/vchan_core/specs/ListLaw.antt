@@ -27,10 +27,6 @@ pub record FollowsLists (core : Core) (who : Role) (call : Call) (payload : List
   pub answer : IsTold (list_call (lists_of core) who call payload).1 (call_answer core who call payload)
   pub bytes : bytes_loaded (side_of (called core who call payload) who).trail ≡ take (count_got (call_answer core who call payload)) (waiting (lists_of core) who)
 
--- the order words of the start have 16 bits
-abbrev pub SaidFits : Core → Type 0
-SaidFits core = (core.said.0 < 2 ^ 16) × (core.said.1 < 2 ^ 16)
-
 -- a call that an end may begin, with a payload of the call's length
 abbrev pub MayCall : ChannelLists → Role → Call → List ℕ → Type 0
 MayCall channel who call payload = IsAllowed who (end_of channel who).state call × (length payload ≡ payload_of call) × AreBytes payload
@@ -38,7 +34,7 @@ MayCall channel who call payload = IsAllowed who (end_of channel who).state call
 -- in a lawful core state each whole call is the call on lists; meanwhile the peer makes no event, wherever in a call of its own it stands
 abbrev pub WholeCallsFollowLists : Type 0
 WholeCallsFollowLists =
-    (core : Core) (who : Role) (call : Call) (payload : List ℕ) → Lawful core → SaidFits core → MayCall (lists_of core) who call payload → FollowsLists core who call payload
+    (core : Core) (who : Role) (call : Call) (payload : List ℕ) → Lawful core → MayCall (lists_of core) who call payload → FollowsLists core who call payload
 
 -- ---- calls in a row
 
@@ -63,5 +59,5 @@ AreTold _ _ = ⊥
 -- from a lawful core state on, whole calls of both ends in any order are the calls on lists
 abbrev pub CallsInARowFollowLists : Type 0
 CallsInARowFollowLists =
-    (core : Core) (calls : List WholeCall) → Lawful core → SaidFits core → MayCallAll (lists_of core) calls →
+    (core : Core) (calls : List WholeCall) → Lawful core → MayCallAll (lists_of core) calls →
     (lists_of (called_all core calls).0 ≡ (list_calls (lists_of core) calls).0) × AreTold (list_calls (lists_of core) calls).1 (called_all core calls).1

@@ -45,7 +45,7 @@ impl Plain {
     ghost use Rattle.vchan_core.specs.RingLaw.{AreBytes};
     ghost use Rattle.vchan_core.specs.Kept.{Kept};
     ghost use Rattle.vchan_core.specs.Lawful.{Lawful};
-    ghost use Rattle.vchan_core.specs.ListLaw.{SaidFits, FollowsLists};
+    ghost use Rattle.vchan_core.specs.ListLaw.{FollowsLists};
     ghost use Rattle.vchan_core.specs.Pieces.{MakesEvents};
     ghost use Rattle.vchan_core.specs.Beside.{IsBeside};
     ghost use Rattle.vchan_core.specs.Past.{machine_of, other_of, words_of, orders_of, turned_of, other_turned_of, op_of, StandsFor, HasPayload};
@@ -304,7 +304,7 @@ impl Plain {
         ensures answer { (core : Core) → StandsFor core self.old → result ≡ call_answer core who call (take (payload_of call) payload.now) }
         ensures buffer { (core : Core) → StandsFor core self.old
             → buf.new ≡ filled buf.old (bytes_loaded (side_of (called core who call (take (payload_of call) payload.now)) who).trail) }
-        ensures lists { (core : Core) → StandsFor core self.old → Lawful core → SaidFits core → FollowsLists core who call (take (payload_of call) payload.now) }
+        ensures lists { (core : Core) → StandsFor core self.old → Lawful core → FollowsLists core who call (take (payload_of call) payload.now) }
         ensures trace { (events : List PastEvent) × Trace (standing (machine_of self.old who)) call events result × (steps.new ≡ steps.old + length events) }
         ensures bound { steps.new ≤ steps.old + most_events (standing (machine_of self.old who)) call }
         ensures idle { IsIdle (machine_of self.new who) }
