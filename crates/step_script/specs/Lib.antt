@@ -3,6 +3,7 @@ pub mod Numbers
 pub mod WordsLeft
 pub mod Opening
 pub mod Script
+pub mod Grammar
 pub mod ScriptLines
 pub mod Readings
 pub mod Output

@@ -3,11 +3,23 @@ ghost use Rattle.std.specs.Prelude.{◌≡◌};
 
 use std::alloc::{AllocError, AllocFailed};
 
-/// What is wrong with a line.
+/// What is wrong with a line of a script.
 #[derive(Clone, Copy, Debug, PartialEq, Eq)]
 pub enum ScriptKind {
+    /// The first line that isn't passed over is no `open` or `fresh` line, or there is none.
+    BadHeader,
     /// The line is none that may stand there.
     BadLine,
+    /// A word isn't a number, or is one out of range.
+    BadNumber,
+    /// A word is no byte string.
+    BadHex,
+    /// A page can't have these two orders.
+    BadOrders,
+    /// The line is the 65,537th.
+    TooManyLines,
+    /// With this line the byte strings have more than 8,388,608 bytes.
+    TooManyBytes,
 }
 
 /// Why bytes weren't read as a script.
