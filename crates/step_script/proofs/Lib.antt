@@ -1,5 +1,3 @@
-pub mod WordLaws
-pub mod NumberLaws
 pub mod OrdersLaws
 pub mod ScriptLaws
 pub mod SpacedLaws

@@ -1,6 +1,3 @@
-pub mod Words
-pub mod Numbers
-pub mod WordsLeft
 pub mod Opening
 pub mod Script
 pub mod Grammar

@@ -9,13 +9,11 @@
 
 mod error;
 mod line;
-mod number;
 mod output;
 mod player;
 mod printer;
 mod reader;
 mod script;
-mod words;
 
 pub use error::{ScriptError, ScriptKind};
 pub use output::Played;

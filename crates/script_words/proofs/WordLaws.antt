@@ -4,7 +4,7 @@ use Rattle.std.proofs.Math.Seq.{take-length}
 use Rattle.std.specs.List.{slice_split, onto_first, position_or_len, position}
 use Rattle.std.proofs.lemmas.List.Splits.{slice_split_first, length-slice_split}
 use Rattle.std.proofs.lemmas.Bool.Decides.{nat_tests}
-use Rattle.step_script.specs.Words.{lines_of, without_empty_end}
+use Rattle.script_words.specs.Words.{lines_of, without_empty_end}
 
 -- a list with no separator is one piece
 pub uncut : (p : ℕ → Bool) (xs : List ℕ) → length xs ≤ position_or_len p xs → slice_split p xs ≡ xs ∷ []

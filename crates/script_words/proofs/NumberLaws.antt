@@ -5,7 +5,7 @@ use Rattle.std.specs.Str.Parse.{digits_value}
 use Rattle.std.proofs.lemmas.Str.{digit_value_digit}
 use Rattle.std.proofs.lemmas.Int.Digits.{digits_value_more}
 use Rattle.std.proofs.lemmas.Bool.Decides.{nat_tests}
-use Rattle.step_script.specs.Numbers.{number_of, is_number}
+use Rattle.script_words.specs.Numbers.{number_of, is_number}
 use Rattle.std.specs.Char.{is_ascii_digit, digit_value}
 
 both : (a b : Bool) → a ≡ true → b ≡ true → (a && b) ≡ true

@@ -1,7 +1,7 @@
 -- The words of a line that aren't read yet.
 use Rattle.std.specs.Prelude.{ℕ, List, [], Option, None, Some}
-use Rattle.step_script.specs.Words.{words_of}
-use Rattle.step_script.specs.declared.words.Words.{Words}
+use Rattle.script_words.specs.Words.{words_of}
+use Rattle.script_words.specs.declared.words.Words.{Words}
 use denote.Ref.{Bor}
 
 -- the words of what is left of the line, where anything is left
