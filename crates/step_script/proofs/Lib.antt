@@ -1,5 +1,6 @@
 pub mod OrdersLaws
--- pub mod ScriptLaws
+pub mod KeptLaws
+pub mod ScriptLaws
 -- pub mod SpacedLaws
 -- pub mod GotLaws
 -- pub mod PlayLaws

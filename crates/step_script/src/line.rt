@@ -156,8 +156,10 @@ fn read_call(
     ensures call { Gives call_seen result (call_of room who verb.now (words_left words.entry)) }
     ensures fits { IfOk result (λ call. CallKeeps room who (call_seen call)) }
 {
-    let form = call_named(who, verb).ok_or(LineError::BAD_LINE)?;
-    read_call_of_form(alloc, room, form, words)
+    match call_named(who, verb) {
+        Some(form) => read_call_of_form(alloc, room, form, words),
+        None => Err(LineError::BAD_LINE),
+    }
 }
 
 /// Reads the words behind a call's word.

@@ -1,5 +1,6 @@
 //! Reading the word of a page that a poke names.
 ghost use Rattle.std.specs.Prelude.{◌≡◌, option_copied, IfOk};
+ghost use Rattle.std.specs.Str.{all_ascii_digits};
 ghost use Rattle.script_words.specs.Numbers.{is_number};
 ghost use Rattle.step_script.specs.Pokes.{place_in, ring_byte, poked_word};
 ghost use Rattle.step_script.specs.Readings.{Gives};
@@ -58,9 +59,17 @@ fn read_ring_byte(orders: Orders, ring: Ring, place: &[u8]) -> Result<WordName, 
 fn is_number(word: &[u8]) -> bool
     ensures { result ≡ is_number word.now }
 {
-    match word {
-        [] => false,
-        [digit] => digit.is_ascii_digit(),
-        [first, ..] => *first != b'0' && word.iter().all(|digit| digit.is_ascii_digit()),
+    are_digits(word) && !word.is_empty() && (word.len() == 1 || word[0] != b'0')
+}
+
+/// Whether all bytes are decimal digits.
+fn are_digits(word: &[u8]) -> bool
+    ensures { result ≡ all_ascii_digits word.now }
+{
+    for digit in word {
+        if !digit.is_ascii_digit() {
+            return false;
+        }
     }
+    true
 }

@@ -71,13 +71,16 @@ fn start_at(reader: &mut LineReader) -> Result<u32, ScriptError>
 }
 
 /// Reads the lines behind the opening of a page with these orders.
-fn read_lines(alloc: Global, orders: Orders, reader: LineReader) -> Result<Vec<Line>, ScriptError>
+fn read_lines(
+    alloc: Global,
+    orders: Orders,
+    mut reader: LineReader,
+) -> Result<Vec<Line>, ScriptError>
     ensures lines { let due = lines_from orders 8388608 (lines_left reader.entry) in
         Reads (λ lines. lines_seen lines.items) result due }
     ensures fit { IfOk result (λ lines. All (LineFits orders) (lines_seen lines.items)) }
     ensures short { IfOk result (λ lines. sum_by payload_len (lines_seen lines.items) ≤ 8388608) }
 {
-    let mut reader = reader;
     let mut lines = Vec::new(alloc);
     let mut room = MOST_BYTES;
     while let NextLine::Line { number, text } = reader.next()? {
