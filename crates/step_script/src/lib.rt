@@ -28,5 +28,5 @@ pub use reader::parse;
 pub use script::{Opening, Script};
 pub use script_words::{ByteError, bytes_of};
 
-// #[cfg(test)]
-// mod tests;
+#[cfg(test)]
+mod tests;
