@@ -1,56 +1,45 @@
 //! Which inputs are refused, at which line and for what.
 use crate::{ScriptError, ScriptKind, parse};
-use std::alloc::{AllocError, Global};
+use std::alloc::{AllocError, AllocGlobal, Global};
+use std::process::Abort;
 use std::test::Fail;
 
-/// An input, the number of its first bad line, and what is wrong with it.
-#[derive(Clone, Copy)]
-struct Refused {
-    script: &'static str,
-    line: u32,
-    kind: ScriptKind,
-}
-
-const fn refused(script: &'static str, line: u32, kind: ScriptKind) -> Refused {
-    Refused { script, line, kind }
-}
-
-/// What is wrong with the first lines.
-const OPENINGS: [Refused; 34] = [
-    refused("", 1, ScriptKind::BadHeader),
-    refused("\n", 2, ScriptKind::BadHeader),
-    refused("# rings\n\n#", 4, ScriptKind::BadHeader),
-    refused("\n# rings\nstart 5", 3, ScriptKind::BadHeader),
-    refused("client write 61\nopen 10 11", 1, ScriptKind::BadHeader),
-    refused("open", 1, ScriptKind::BadHeader),
-    refused("open 10", 1, ScriptKind::BadHeader),
-    refused("open 10 11 ", 1, ScriptKind::BadHeader),
-    refused("OPEN 10 11", 1, ScriptKind::BadHeader),
-    refused(" open 10 11", 1, ScriptKind::BadHeader),
-    refused("open 10 11 10 11", 1, ScriptKind::BadHeader),
-    refused("fresh 10 11", 1, ScriptKind::BadHeader),
-    refused("fresh 10 11 10 11 12", 1, ScriptKind::BadHeader),
-    refused("open  11", 1, ScriptKind::BadLine),
-    refused("open x ", 1, ScriptKind::BadLine),
-    refused("fresh 10 10 x ", 1, ScriptKind::BadLine),
-    refused("open 010 11", 1, ScriptKind::BadNumber),
-    refused("open 10 11\r\n", 1, ScriptKind::BadNumber),
-    refused("open 10 65536", 1, ScriptKind::BadNumber),
-    refused("fresh 10 10 10 65536", 1, ScriptKind::BadNumber),
-    refused("open 10 65535", 1, ScriptKind::BadOrders),
-    refused("open 10 10", 1, ScriptKind::BadOrders),
-    refused("\nopen 11 11", 2, ScriptKind::BadOrders),
-    refused("open 9 11", 1, ScriptKind::BadOrders),
-    refused("fresh 10 21 10 65535", 1, ScriptKind::BadOrders),
-    refused("open 10 11\nstart", 2, ScriptKind::BadLine),
-    refused("open 10 11\nstart ", 2, ScriptKind::BadLine),
-    refused("open 10 11\nstart 1 2", 2, ScriptKind::BadLine),
-    refused("open 10 11\nstart 1\nstart 1", 3, ScriptKind::BadLine),
-    refused("open 10 11\n\nhead\nstart 1", 4, ScriptKind::BadLine),
-    refused("open 10 11\nstart 05", 2, ScriptKind::BadNumber),
-    refused("open 10 11\nstart 4294967296", 2, ScriptKind::BadNumber),
-    refused("open 10 11\n\n# one\nserver", 4, ScriptKind::BadLine),
-    refused("open 10 11\nclient write 616\nx", 2, ScriptKind::BadHex),
+/// Inputs, the number of their first bad line, and what is wrong with it.
+const OPENINGS: [(&str, u32, ScriptKind); 34] = [
+    ("", 1, ScriptKind::BadHeader),
+    ("\n", 2, ScriptKind::BadHeader),
+    ("# rings\n\n#", 4, ScriptKind::BadHeader),
+    ("\n# rings\nstart 5", 3, ScriptKind::BadHeader),
+    ("client write 61\nopen 10 11", 1, ScriptKind::BadHeader),
+    ("open", 1, ScriptKind::BadHeader),
+    ("open 10", 1, ScriptKind::BadHeader),
+    ("open 10 11 ", 1, ScriptKind::BadHeader),
+    ("OPEN 10 11", 1, ScriptKind::BadHeader),
+    (" open 10 11", 1, ScriptKind::BadHeader),
+    ("open 10 11 10 11", 1, ScriptKind::BadHeader),
+    ("fresh 10 11", 1, ScriptKind::BadHeader),
+    ("fresh 10 11 10 11 12", 1, ScriptKind::BadHeader),
+    ("open  11", 1, ScriptKind::BadLine),
+    ("open x ", 1, ScriptKind::BadLine),
+    ("fresh 10 10 x ", 1, ScriptKind::BadLine),
+    ("open 010 11", 1, ScriptKind::BadNumber),
+    ("open 10 11\r\n", 1, ScriptKind::BadNumber),
+    ("open 10 65536", 1, ScriptKind::BadNumber),
+    ("fresh 10 10 10 65536", 1, ScriptKind::BadNumber),
+    ("open 10 65535", 1, ScriptKind::BadOrders),
+    ("open 10 10", 1, ScriptKind::BadOrders),
+    ("\nopen 11 11", 2, ScriptKind::BadOrders),
+    ("open 9 11", 1, ScriptKind::BadOrders),
+    ("fresh 10 21 10 65535", 1, ScriptKind::BadOrders),
+    ("open 10 11\nstart", 2, ScriptKind::BadLine),
+    ("open 10 11\nstart ", 2, ScriptKind::BadLine),
+    ("open 10 11\nstart 1 2", 2, ScriptKind::BadLine),
+    ("open 10 11\nstart 1\nstart 1", 3, ScriptKind::BadLine),
+    ("open 10 11\n\nhead\nstart 1", 4, ScriptKind::BadLine),
+    ("open 10 11\nstart 05", 2, ScriptKind::BadNumber),
+    ("open 10 11\nstart 4294967296", 2, ScriptKind::BadNumber),
+    ("open 10 11\n\n# one\nserver", 4, ScriptKind::BadLine),
+    ("open 10 11\nclient write 616\nx", 2, ScriptKind::BadHex),
 ];
 
 /// Lines behind `open 10 11` that are none of the language.
@@ -182,8 +171,8 @@ fn repeated(alloc: Global, line: &str, count: u32) -> Result<Vec<u8>, AllocError
 
 #[test]
 fn the_first_bad_line_is_named(rt: HostRuntime) -> Result<(), Fail> {
-    for row in OPENINGS {
-        check_refused(&rt, row.script.as_bytes(), row.line, row.kind);
+    for (script, line, kind) in OPENINGS {
+        check_refused(&rt, script.as_bytes(), line, kind);
     }
     for line in BAD_LINES {
         let script = with_line(rt.alloc(), line)?;
