@@ -9,6 +9,7 @@ pub mod Forms
 pub mod Grammar
 pub mod ScriptLines
 pub mod Readings
+
 -- pub mod Output
 -- pub mod OutputLines
 -- pub mod Spaced

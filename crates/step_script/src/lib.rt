@@ -25,7 +25,7 @@ pub use error::{ScriptError, ScriptKind};
 // pub use player::play;
 // pub use printer::text;
 pub use reader::parse;
-pub use script::{Opening, Script};
+pub use script::Script;
 pub use script_words::{ByteError, bytes_of};
 
 #[cfg(test)]

@@ -4,42 +4,53 @@ use std::alloc::{AllocError, AllocGlobal, Global};
 use std::process::Abort;
 use std::test::Fail;
 
-/// Inputs, the number of their first bad line, and what is wrong with it.
-const OPENINGS: [(&str, u32, ScriptKind); 34] = [
-    ("", 1, ScriptKind::BadHeader),
-    ("\n", 2, ScriptKind::BadHeader),
-    ("# rings\n\n#", 4, ScriptKind::BadHeader),
-    ("\n# rings\nstart 5", 3, ScriptKind::BadHeader),
-    ("client write 61\nopen 10 11", 1, ScriptKind::BadHeader),
-    ("open", 1, ScriptKind::BadHeader),
-    ("open 10", 1, ScriptKind::BadHeader),
-    ("open 10 11 ", 1, ScriptKind::BadHeader),
-    ("OPEN 10 11", 1, ScriptKind::BadHeader),
-    (" open 10 11", 1, ScriptKind::BadHeader),
-    ("open 10 11 10 11", 1, ScriptKind::BadHeader),
-    ("fresh 10 11", 1, ScriptKind::BadHeader),
-    ("fresh 10 11 10 11 12", 1, ScriptKind::BadHeader),
-    ("open  11", 1, ScriptKind::BadLine),
-    ("open x ", 1, ScriptKind::BadLine),
-    ("fresh 10 10 x ", 1, ScriptKind::BadLine),
-    ("open 010 11", 1, ScriptKind::BadNumber),
-    ("open 10 11\r\n", 1, ScriptKind::BadNumber),
-    ("open 10 65536", 1, ScriptKind::BadNumber),
-    ("fresh 10 10 10 65536", 1, ScriptKind::BadNumber),
-    ("open 10 65535", 1, ScriptKind::BadOrders),
-    ("open 10 10", 1, ScriptKind::BadOrders),
-    ("\nopen 11 11", 2, ScriptKind::BadOrders),
-    ("open 9 11", 1, ScriptKind::BadOrders),
-    ("fresh 10 21 10 65535", 1, ScriptKind::BadOrders),
-    ("open 10 11\nstart", 2, ScriptKind::BadLine),
-    ("open 10 11\nstart ", 2, ScriptKind::BadLine),
-    ("open 10 11\nstart 1 2", 2, ScriptKind::BadLine),
-    ("open 10 11\nstart 1\nstart 1", 3, ScriptKind::BadLine),
-    ("open 10 11\n\nhead\nstart 1", 4, ScriptKind::BadLine),
-    ("open 10 11\nstart 05", 2, ScriptKind::BadNumber),
-    ("open 10 11\nstart 4294967296", 2, ScriptKind::BadNumber),
-    ("open 10 11\n\n# one\nserver", 4, ScriptKind::BadLine),
-    ("open 10 11\nclient write 616\nx", 2, ScriptKind::BadHex),
+/// Inputs with no line that opens a page, and where it is missed.
+const NO_HEADERS: [(&str, u32); 13] = [
+    ("", 1),
+    ("\n", 2),
+    ("# rings\n\n#", 4),
+    ("\n# rings\nstart 5", 3),
+    ("client write 61\nopen 10 11", 1),
+    ("open", 1),
+    ("open 10", 1),
+    ("open 10 11 ", 1),
+    ("OPEN 10 11", 1),
+    (" open 10 11", 1),
+    ("open 10 11 10 11", 1),
+    ("fresh 10 11", 1),
+    ("fresh 10 11 10 11 12", 1),
+];
+
+/// Inputs with a bad line among the first ones, and its number.
+const BAD_EARLY_LINES: [(&str, u32); 9] = [
+    ("open  11", 1),
+    ("open x ", 1),
+    ("fresh 10 10 x ", 1),
+    ("open 10 11\nstart", 2),
+    ("open 10 11\nstart ", 2),
+    ("open 10 11\nstart 1 2", 2),
+    ("open 10 11\nstart 1\nstart 1", 3),
+    ("open 10 11\n\nhead\nstart 1", 4),
+    ("open 10 11\n\n# one\nserver", 4),
+];
+
+/// Inputs with a bad number on the first line or the `start` line, and its number.
+const BAD_EARLY_NUMBERS: [(&str, u32); 6] = [
+    ("open 010 11", 1),
+    ("open 10 11\r\n", 1),
+    ("open 10 65536", 1),
+    ("fresh 10 10 10 65536", 1),
+    ("open 10 11\nstart 05", 2),
+    ("open 10 11\nstart 4294967296", 2),
+];
+
+/// Inputs with orders that a page can't have, and the number of the line.
+const BAD_ORDERS: [(&str, u32); 5] = [
+    ("open 10 65535", 1),
+    ("open 10 10", 1),
+    ("\nopen 11 11", 2),
+    ("open 9 11", 1),
+    ("fresh 10 21 10 65535", 1),
 ];
 
 /// Lines behind `open 10 11` that are none of the language.
@@ -143,14 +154,29 @@ const GOOD_LINES: [&str; 14] = [
 ];
 
 /// Fails where `script` isn't refused so.
-fn check_refused(
-    rt: &(impl Abort + AllocGlobal),
-    script: &[u8],
-    line: u32,
-    kind: ScriptKind,
-) {
+fn check_refused(rt: &(impl Abort + AllocGlobal), script: &[u8], line: u32, kind: ScriptKind) {
     let found = parse(rt.alloc(), script).err();
     assert_eq!(rt; found, Some(ScriptError::Bad { line, kind }));
+}
+
+/// Fails where one of these inputs isn't refused for this at its line.
+fn check_inputs(rt: &(impl Abort + AllocGlobal), inputs: &[(&str, u32)], kind: ScriptKind) {
+    for (script, line) in inputs {
+        check_refused(rt, script.as_bytes(), *line, kind);
+    }
+}
+
+/// Fails where one of these lines behind an opening isn't refused for this.
+fn check_lines(
+    rt: &(impl Abort + AllocGlobal),
+    lines: &[&str],
+    kind: ScriptKind,
+) -> Result<(), Fail> {
+    for line in lines {
+        let script = with_line(rt.alloc(), line)?;
+        check_refused(rt, script.as_slice(), 2, kind);
+    }
+    Ok(())
 }
 
 /// A script that opens a page and has this line behind it.
@@ -170,23 +196,23 @@ fn repeated(alloc: Global, line: &str, count: u32) -> Result<Vec<u8>, AllocError
 }
 
 #[test]
-fn the_first_bad_line_is_named(rt: HostRuntime) -> Result<(), Fail> {
-    for (script, line, kind) in OPENINGS {
-        check_refused(&rt, script.as_bytes(), line, kind);
-    }
-    for line in BAD_LINES {
-        let script = with_line(rt.alloc(), line)?;
-        check_refused(&rt, script.as_slice(), 2, ScriptKind::BadLine);
-    }
-    for line in BAD_NUMBERS {
-        let script = with_line(rt.alloc(), line)?;
-        check_refused(&rt, script.as_slice(), 2, ScriptKind::BadNumber);
-    }
-    for line in BAD_STRINGS {
-        let script = with_line(rt.alloc(), line)?;
-        check_refused(&rt, script.as_slice(), 2, ScriptKind::BadHex);
-    }
-    for line in GOOD_LINES {
+fn the_first_bad_line_is_named(rt: HostRuntime) {
+    check_inputs(&rt, &NO_HEADERS, ScriptKind::BadHeader);
+    check_inputs(&rt, &BAD_EARLY_LINES, ScriptKind::BadLine);
+    check_inputs(&rt, &BAD_EARLY_NUMBERS, ScriptKind::BadNumber);
+    check_inputs(&rt, &BAD_ORDERS, ScriptKind::BadOrders);
+}
+
+#[test]
+fn bad_lines_are_refused(rt: HostRuntime) -> Result<(), Fail> {
+    check_lines(&rt, &BAD_LINES, ScriptKind::BadLine)?;
+    check_lines(&rt, &BAD_NUMBERS, ScriptKind::BadNumber)?;
+    check_lines(&rt, &BAD_STRINGS, ScriptKind::BadHex)
+}
+
+#[test]
+fn lines_at_the_edge_are_taken(rt: HostRuntime) -> Result<(), Fail> {
+    for line in &GOOD_LINES {
         let script = with_line(rt.alloc(), line)?;
         assert!(rt; parse(rt.alloc(), script.as_slice()).is_ok(), "of {line}");
     }
