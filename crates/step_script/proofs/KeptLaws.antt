@@ -1,8 +1,8 @@
 -- The next line that isn't passed over.
-use Rattle.std.proofs.Common.{◌≡◌, ℕ, ◌+◌, ◌<◌, ◌≤◌, true, false, ltb, List, [], ◌∷◌, refl, ap, sym, ◌∙◌, arith}
+use Rattle.std.proofs.Common.{◌≡◌, ℕ, ◌+◌, ◌<◌, ◌≤◌, true, false, ltb, List, [], ◌∷◌, refl, ap, ◌∙◌, arith}
 use Rattle.std.proofs.lemmas.Bool.Decides.{nat_tests}
 use Rattle.script_words.specs.Words.{words_of}
-use Rattle.step_script.specs.Kept.{Lines, stops, refused, line, is_passed_over, kept_lines}
+use Rattle.step_script.specs.Kept.{stops, refused, line, is_passed_over, kept_lines}
 
 -- no line is left
 pub kept_none : (number : ℕ) (texts : List (List ℕ)) → texts ≡ [] → kept_lines number texts ≡ stops number

@@ -1,5 +1,5 @@
 -- The lines of a script, read one after another.
-use Rattle.std.proofs.Common.{◌≡◌, ℕ, ◌+◌, ◌-◌, ◌≤◌, List, [], ◌∷◌, ◌++◌, Result, Ok, Err, refl, ap, sym, ◌∙◌, arith, append_assoc, append-nil, subst, rules}
+use Rattle.std.proofs.Common.{◌≡◌, ℕ, ◌+◌, ◌-◌, List, [], ◌∷◌, ◌++◌, Result, Ok, Err, refl, ap, sym, ◌∙◌, arith, append_assoc, append-nil, subst, rules}
 use Rattle.std.specs.List.{sum_by, All}
 use Rattle.std.proofs.lemmas.List.{map-append}
 use Rattle.std.proofs.lemmas.List.Elements.{All-append}
@@ -14,7 +14,6 @@ use Rattle.step_script.specs.declared.lines.NextLine.TheVariants as nexts
 use denote.Ref.{Bor}
 use Rattle.script_words.specs.Words.{words_of}
 use Rattle.step_script.specs.declared.script.Line.{Line}
-use Rattle.step_script.specs.Forms.{LineKeeps}
 use Rattle.step_script.specs.Grammar.{at_number, line_of, lines_from}
 use Rattle.step_script.specs.Kept.{Lines, stops, refused, line}
 use Rattle.step_script.specs.LinesLeft.{IsNext}

@@ -1,5 +1,5 @@
 -- The lines of a script that aren't read yet, as contracts see them.
-use Rattle.std.specs.Prelude.{◌≡◌, ℕ, ◌+◌, Result, Ok, Err}
+use Rattle.std.specs.Prelude.{◌≡◌, ◌+◌, Result, Ok, Err}
 use Rattle.script_words.specs.Words.{lines_of, words_of}
 use Rattle.step_script.specs.declared.error.ScriptError.{ScriptError}
 use Rattle.step_script.specs.declared.error.ScriptError.TheVariants.{Bad, Memory}

@@ -1,6 +1,6 @@
 -- The words of a page that a script can poke.
 -- Source: this project's own; the fields are those of struct vchan_interface in public/io/libxenvchan.h.
-use Rattle.std.specs.Prelude.{ℕ, ◌-◌, List, ◌++◌, length, take, drop, if◌then◌else◌, ok_or, Option, None, Some, Result, Ok, Err, codes, bytes_eq}
+use Rattle.std.specs.Prelude.{ℕ, ◌-◌, List, length, take, drop, if◌then◌else◌, ok_or, Option, None, Some, Result, Ok, Err, codes, bytes_eq}
 use Rattle.std.specs.Option.{option_and_then, option_map}
 use Rattle.ring_words.specs.Page.{order_of}
 use Rattle.ring_words.specs.Rings.{size}

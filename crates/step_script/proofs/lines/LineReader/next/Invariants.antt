@@ -1,4 +1,4 @@
-use Rattle.std.proofs.Common.{◌≡◌, ◌≤◌, length}
+use Rattle.std.proofs.Common.{◌≡◌, length}
 use Rattle.step_script.specs.LinesLeft.{lines_left}
 use Rattle.step_script.proofs.lines.LineReader.next.Given as goal
 
