@@ -1,7 +1,7 @@
-pub mod WordLaws
-pub mod NumberLaws
 pub mod OrdersLaws
+pub mod KeptLaws
 pub mod ScriptLaws
-pub mod SpacedLaws
-pub mod GotLaws
-pub mod PlayLaws
+
+-- pub mod SpacedLaws
+-- pub mod GotLaws
+-- pub mod PlayLaws

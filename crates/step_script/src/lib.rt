@@ -8,21 +8,25 @@
 #![tactic(auto)]
 
 mod error;
+mod forms;
 mod line;
-mod number;
-mod output;
-mod player;
-mod printer;
+mod lines;
+mod opening;
+mod operand;
+// mod output;
+// mod player;
+mod poke;
+// mod printer;
 mod reader;
 mod script;
-mod words;
 
 pub use error::{ScriptError, ScriptKind};
-pub use output::Played;
-pub use player::play;
-pub use printer::text;
+// pub use output::Played;
+// pub use player::play;
+// pub use printer::text;
 pub use reader::parse;
 pub use script::Script;
+pub use script_words::{ByteError, bytes_of};
 
 #[cfg(test)]
 mod tests;

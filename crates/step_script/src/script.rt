@@ -1,13 +1,13 @@
 //! A script as it is played.
-use ring_words::{Orders, Role};
+use ring_words::{Orders, Role, WordName};
 use std::marker::Model;
-use vchan_core::Call;
+use vchan_core::{Call, EndState};
 
-/// A script: the orders of its page, and the calls that are made on its two ends, one after
-/// another. Contracts see it as the list of its lines.
+/// A script: how its page is opened, and the lines that are carried out on it, one after another.
+/// Contracts see it as the list of its lines, the opening first.
 #[derive(Drop)]
 pub struct Script {
-    pub(crate) orders: Orders,
+    pub(crate) opening: Opening,
     pub(crate) lines: Vec<Line>,
 }
 
@@ -17,14 +17,27 @@ impl Model for Script {
 
     ghost Value = { List StepLine };
 
-    ghost use Rattle.step_script.specs.ScriptLines.{lines_seen, AreShort};
+    ghost use Rattle.step_script.specs.ScriptLines.{lines_seen, IsScript};
 
-    ghost view = { λ s. opens s.orders ∷ lines_seen s.lines.items };
+    ghost view = { λ s. opens s.opening ∷ lines_seen s.lines.items };
 
-    ghost invariant = { λ s. AreShort s.lines.items };
+    ghost invariant = { λ s. IsScript s.opening s.lines.items };
 }
 
-/// A line after the first.
+/// How a page begins: the first line of a script, and its `start` line where it has one.
+#[derive(Clone, Copy, Debug, PartialEq, Eq)]
+pub struct Opening {
+    /// The orders of the page's rings.
+    pub orders: Orders,
+    /// What the two order words hold, the left ring's first.
+    pub said: (u16, u16),
+    /// The client's state, fresh or open.
+    pub state: EndState,
+    /// The number at which all indices begin.
+    pub start: u32,
+}
+
+/// A line after the opening that isn't passed over.
 #[derive(Drop)]
 pub(crate) enum Line {
     /// A whole call of one end.
@@ -34,72 +47,51 @@ pub(crate) enum Line {
         /// What it calls.
         call: ScriptCall,
     },
-}
-
-impl Line {
-    ghost use Rattle.std.specs.Prelude.{◌≡◌};
-    ghost use Rattle.step_script.specs.Script.{calls, payload_len};
-    ghost use Rattle.step_script.specs.ScriptLines.{call_seen, line_seen};
-
-    /// The end and what it calls.
-    pub(crate) fn call(&self) -> (Role, &ScriptCall)
-        ensures { line_seen self.now ≡ calls result.0 (call_seen result.1.now) }
-    {
-        match self {
-            Line::Call { who, call } => (*who, call),
-        }
-    }
-
-    /// The number of bytes that the line writes.
-    pub(crate) fn payload_len(&self) -> usize
-        ensures { result ≡ payload_len (line_seen self.now) }
-    {
-        let (_, call) = self.call();
-        call.payload().len()
-    }
-}
-
-/// A call as a script says it.
-#[derive(Drop)]
-pub(crate) enum ScriptCall {
-    /// Writes these bytes, as many as have room.
-    Write {
-        /// The bytes.
-        payload: Vec<u8>,
+    /// A call of one end is begun, and makes no event.
+    Begin {
+        /// The end that begins it.
+        who: Role,
+        /// What it calls.
+        call: ScriptCall,
     },
-    /// Reads up to so many bytes.
-    Read {
-        /// The most bytes.
+    /// Events of the call under way.
+    Step {
+        /// The end that makes them.
+        who: Role,
+        /// The most events, at least 1.
         most: u32,
     },
+    /// All events of the call under way that are left.
+    Finish {
+        /// The end that makes them.
+        who: Role,
+    },
+    /// A hostile store.
+    Poke {
+        /// The end that is given up.
+        who: Role,
+        /// The word that is stored to.
+        word: WordName,
+        /// What it holds then.
+        value: u64,
+    },
+    /// A hostile signal.
+    Signal {
+        /// The end that is given up.
+        who: Role,
+    },
+    /// Prints the first 24 bytes of the page's image.
+    Head,
+    /// Prints the 4,096 bytes of the page's image.
+    Image,
 }
 
-impl ScriptCall {
-    ghost use Rattle.std.specs.Prelude.{◌≡◌, ◌≤◌, length};
-    ghost use Rattle.step_script.specs.Played.{call_made};
-    ghost use Rattle.step_script.specs.ScriptLines.{call_seen};
-    ghost use Rattle.step_script.specs.Script.{bytes_written};
-
-    /// The call that it says.
-    pub(crate) fn made(&self) -> Call
-        requires { length (bytes_written (call_seen self.now)) ≤ 8388608 }
-        ensures { result ≡ call_made (call_seen self.now) }
-    {
-        match self {
-            ScriptCall::Write { payload } => Call::Write {
-                len: payload.len() as u32,
-            },
-            ScriptCall::Read { most } => Call::Read { most: *most },
-        }
-    }
-
-    /// The bytes that it writes.
-    pub(crate) fn payload(&self) -> &[u8]
-        ensures { result.now ≡ bytes_written (call_seen self.now) }
-    {
-        match self {
-            ScriptCall::Write { payload } => payload.as_slice(),
-            ScriptCall::Read { .. } => &[],
-        }
-    }
+/// A call as a script says it. A payload stands with a write and a send alone, and has the length
+/// that the call names.
+#[derive(Drop)]
+pub(crate) struct ScriptCall {
+    /// The call.
+    pub(crate) call: Call,
+    /// The bytes that it writes or sends.
+    pub(crate) payload: Vec<u8>,
 }
