@@ -1,7 +1,6 @@
-pub mod WordLaws
-pub mod NumberLaws
-pub mod OrdersLaws
-pub mod ScriptLaws
 pub mod SpacedLaws
 pub mod GotLaws
-pub mod PlayLaws
+pub mod HandLaws
+pub mod FinishLaws
+pub mod DoesLaws
+pub mod PlayerLaws

@@ -1,14 +1,7 @@
-pub mod Words
-pub mod Numbers
-pub mod WordsLeft
-pub mod Opening
 pub mod Script
-pub mod Grammar
 pub mod ScriptLines
 pub mod Readings
 pub mod Output
-pub mod OutputLines
 pub mod Spaced
 pub mod Played
-pub mod Buffers
-pub mod Pages
+pub mod Players

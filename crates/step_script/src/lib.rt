@@ -8,21 +8,22 @@
 #![tactic(auto)]
 
 mod error;
-mod line;
-mod number;
-mod output;
+mod hand;
+// mod line;
+// mod number;
+mod played;
 mod player;
 mod printer;
-mod reader;
+// mod reader;
+mod refusal;
 mod script;
-mod words;
+// mod words;
 
 pub use error::{ScriptError, ScriptKind};
-pub use output::Played;
+pub use played::{Played, text};
 pub use player::play;
-pub use printer::text;
-pub use reader::parse;
+// pub use reader::parse;
 pub use script::Script;
 
-#[cfg(test)]
-mod tests;
+// #[cfg(test)]
+// mod tests;
