@@ -1,24 +1,26 @@
 -- A call that answers Got has loaded just as many bytes.
-use Rattle.std.proofs.Common.{◌≡◌, ℕ, suc, zero, ◌+◌, min, nat_lt, Bool, true, false, cond, List, [], ◌∷◌, ◌++◌, length, refl, subst, sym, ap, ◌∙◌, arith, append_assoc, length-append, add-zero}
+use Rattle.std.proofs.Common.{◌≡◌, ℕ, suc, zero, ◌+◌, min, nat_lt, ◌==◌, ◌&&◌, not, Bool, true, false, cond, List, [], ◌∷◌, ◌++◌, length, refl, subst, sym, ap, ◌∙◌, arith, append_assoc, length-append, add-zero}
 use Rattle.ring_words.specs.declared.page.Role.{Role}
 use Rattle.ring_words.specs.declared.page.Role.TheVariants.{Server, Client}
+use Rattle.ring_words.specs.declared.page.WordName.TheVariants.{CliLive}
 use Rattle.vchan_core.specs.declared.call.Answer.{Answer}
-use Rattle.vchan_core.specs.declared.call.Answer.TheVariants.{Wrote, Full, Got, Empty, PeerClosed}
+use Rattle.vchan_core.specs.declared.call.Answer.TheVariants.{Wrote, Full, Sent, NoRoom, Got, Empty, Short, PeerClosed, Ready, Space, Connected, BadOrders, Done, Event, NotYet, AllRead, PeerGone, Gone}
 use Rattle.vchan_core.specs.declared.call.Bit.{Bit}
 use Rattle.vchan_core.specs.declared.call.Bit.TheVariants.{Written, Consumed}
+use Rattle.vchan_core.specs.declared.call.Call.{Call}
+use Rattle.vchan_core.specs.declared.call.Call.TheVariants as call
+use Rattle.vchan_core.specs.declared.call.EndState.{EndState}
+use Rattle.vchan_core.specs.declared.call.EndState.TheVariants.{Fresh, Open, Shut}
 use Rattle.vchan_core.specs.declared.op.Op.{Op}
 use Rattle.vchan_core.specs.declared.op.Op.TheVariants.{Load, LoadByte, Store, StoreByte, Or, And, Swap, Nothing}
 use Rattle.vchan_core.specs.declared.op.PastEvent.{PastEvent}
 use Rattle.vchan_core.specs.declared.side.Side.{Side}
 use Rattle.vchan_core.specs.Alone.{alone, called, call_answer}
 use Rattle.vchan_core.specs.Apply.{value_taken}
-use Rattle.vchan_core.specs.Calls.{put_bytes, take_bytes, put_index, take_index, put, take, notify, signal, ask, look_read, look_write, write, write_open, write_looked, read, read_live, read_looked, plan_of}
+use Rattle.vchan_core.specs.Calls.{put_bytes, take_bytes, put_index, take_index, put, take, notify, signal, ask, look_read, look_write, write, write_open, write_looked, read, read_live, read_looked, send, send_open, send_looked, recv, recv_live, recv_looked, drain, drain_found, drain_second, drain_live, drain_further, drain_gone, drain_last, connect, connect_right, close, retire, retire_shut, plan_of, Trace}
 use Rattle.vchan_core.specs.Core.{Core, side_of, with_side, standing_of, begun, begins, made, carried_out, answered, bytes_loaded, loaded_by}
-use Rattle.vchan_core.specs.Ends.{Standing, ready_at, free_at, low32}
-use Rattle.vchan_core.specs.Plan.{Plan, answers, does, past}
-use Rattle.step_script.specs.Script as script
-use Rattle.step_script.specs.Script.{StepCall, bytes_written}
-use Rattle.step_script.specs.Played.{call_made}
+use Rattle.vchan_core.specs.Ends.{Standing, ready_at, free_at, low16, low32}
+use Rattle.vchan_core.specs.Plan.{Plan, answers, does, past, Leads}
 
 -- the bytes loaded after an event
 abbrev pub loaded_then : Op → ℕ → ℕ
@@ -124,10 +126,132 @@ delivers_read e n =
     (λ prod. delivers_if 0 (nat_lt (ready_at e prod) n) (ask e Written (look_read e (read_looked e n))) (read_looked e n prod)
     (delivers_ask e Written 0 (look_read e (read_looked e n)) (delivers_look_read e 0 (read_looked e n) (delivers_read_looked e n))) (delivers_read_looked e n prod))
 
--- each call that a script makes
-delivers_call : (e : Standing) (call : StepCall) → Delivers 0 (plan_of e (call_made call))
-delivers_call e (script.write payload) = delivers_write e (length payload)
-delivers_call e (script.read most) = delivers_read e most
+delivers_send_looked : (e : Standing) (n cons : ℕ) → Delivers 0 (send_looked e n cons)
+unfolding send_looked
+delivers_send_looked e n cons =
+    delivers_if 0 (nat_lt (free_at e cons) n) (answers (NoRoom e.prod cons)) (put e n (answers (Sent n)))
+    (delivers_none 0 (NoRoom e.prod cons) (λ k is. cc)) (delivers_put e n 0 (answers (Sent n)) (delivers_none 0 (Sent n) (λ k is. cc)))
+
+delivers_send_open : (e : Standing) (n : ℕ) → Delivers 0 (send_open e n)
+unfolding send_open
+delivers_send_open e n =
+    delivers_look_write e 0 _
+    (λ cons. delivers_if 0 (nat_lt (free_at e cons) n) (ask e Consumed (look_write e (send_looked e n))) (send_looked e n cons)
+    (delivers_ask e Consumed 0 (look_write e (send_looked e n)) (delivers_look_write e 0 (send_looked e n) (delivers_send_looked e n))) (delivers_send_looked e n cons))
+
+delivers_send : (e : Standing) (n : ℕ) → Delivers 0 (send e n)
+unfolding send Delivers
+delivers_send e n = λ live. delivers_if 0 _ (answers PeerClosed) (send_open e n) (delivers_none 0 PeerClosed (λ k is. cc)) (delivers_send_open e n)
+
+delivers_recv_live : (e : Standing) (prod : ℕ) → Delivers 0 (recv_live e prod)
+unfolding recv_live Delivers
+delivers_recv_live e prod = λ live. delivers_if 0 _ (answers PeerClosed) (answers (Short prod e.cons)) (delivers_none 0 PeerClosed (λ k is. cc)) (delivers_none 0 (Short prod e.cons) (λ k is. cc))
+
+delivers_recv_looked : (e : Standing) (n prod : ℕ) → Delivers 0 (recv_looked e n prod)
+unfolding recv_looked
+delivers_recv_looked e n prod = delivers_if 0 (nat_lt (ready_at e prod) n) (recv_live e prod) (take e n (answers (Got n))) (delivers_recv_live e prod) (delivers_take e n)
+
+delivers_recv : (e : Standing) (n : ℕ) → Delivers 0 (recv e n)
+unfolding recv
+delivers_recv e n =
+    delivers_look_read e 0 _
+    (λ prod. delivers_if 0 (nat_lt (ready_at e prod) n) (ask e Written (look_read e (recv_looked e n))) (recv_looked e n prod)
+    (delivers_ask e Written 0 (look_read e (recv_looked e n)) (delivers_look_read e 0 (recv_looked e n) (delivers_recv_looked e n))) (delivers_recv_looked e n prod))
+
+delivers_found : (e : Standing) (n prod : ℕ) (next : Plan) → Delivers 0 next → Delivers 0 (drain_found e n prod next)
+delivers_found e n prod next d = delivers_if 0 _ next (take e (min n (ready_at e prod)) (answers (Got (min n (ready_at e prod))))) d (delivers_take e (min n (ready_at e prod)))
+
+delivers_drain_last : (e : Standing) (n prod : ℕ) → Delivers 0 (drain_last e n prod)
+unfolding drain_last
+delivers_drain_last e n prod = delivers_found e n prod (answers (PeerGone prod e.cons)) (delivers_none 0 (PeerGone prod e.cons) (λ k is. cc))
+
+delivers_drain_gone : (e : Standing) (n prod : ℕ) → Delivers 0 (drain_gone e n prod)
+unfolding drain_gone Delivers
+delivers_drain_gone e n prod =
+    λ gone. delivers_if 0 _ (answers (NotYet prod e.cons)) (look_read e (drain_last e n)) (delivers_none 0 (NotYet prod e.cons) (λ k is. cc))
+    (delivers_look_read e 0 (drain_last e n) (delivers_drain_last e n))
+
+delivers_drain_further : (e : Standing) (n prod : ℕ) → Delivers 0 (drain_further e n prod)
+unfolding drain_further
+delivers_drain_further e n prod =
+    delivers_if 0 _ (answers AllRead) (drain_found e n prod (drain_gone e n prod)) (delivers_none 0 AllRead (λ k is. cc))
+    (delivers_found e n prod (drain_gone e n prod) (delivers_drain_gone e n prod))
+
+delivers_drain_live : (e : Standing) (n prod : ℕ) → Delivers 0 (drain_live e n prod)
+unfolding drain_live Delivers
+delivers_drain_live e n prod =
+    λ live. delivers_if 0 _ (look_read e (drain_further e n)) (drain_gone e n prod)
+    (delivers_look_read e 0 (drain_further e n) (delivers_drain_further e n)) (delivers_drain_gone e n prod)
+
+delivers_drain_second : (e : Standing) (n prod : ℕ) → Delivers 0 (drain_second e n prod)
+unfolding drain_second
+delivers_drain_second e n prod = delivers_found e n prod (drain_live e n prod) (delivers_drain_live e n prod)
+
+delivers_drain : (e : Standing) (n : ℕ) → Delivers 0 (drain e n)
+unfolding drain
+delivers_drain e n =
+    delivers_look_read e 0 _
+    (λ prod. delivers_found e n prod (ask e Written (look_read e (drain_second e n)))
+    (delivers_ask e Written 0 (look_read e (drain_second e n)) (delivers_look_read e 0 (drain_second e n) (delivers_drain_second e n))))
+
+delivers_close : (e : Standing) (next : Plan) → Delivers 0 next → Delivers 0 (close e next)
+unfolding Delivers
+delivers_close e next d = λ value. delivers_signal e 0 next d
+
+delivers_retire_shut : (e : Standing) → Delivers 0 (retire_shut e)
+unfolding Delivers
+delivers_retire_shut e = λ value. delivers_signal e 0 (answers Done) (delivers_none 0 Done (λ k is. cc))
+
+delivers_retire : (e : Standing) (state : EndState) → Delivers 0 (retire e state)
+delivers_retire e Fresh = delivers_close e (retire_shut e) (delivers_retire_shut e)
+delivers_retire e Open = delivers_close e (retire_shut e) (delivers_retire_shut e)
+delivers_retire e Shut = delivers_retire_shut e
+
+delivers_connect : (e : Standing) → Delivers 0 (connect e)
+unfolding connect connect_right Delivers
+delivers_connect e =
+    λ left right. delivers_if 0 ((low16 left == e.orders.left.number) && (low16 right == e.orders.right.number)) (does (Store CliLive 1) (λ _. answers Connected)) (answers (BadOrders (low16 left) (low16 right))) (λ value. delivers_none 0 Connected (λ k is. cc)) (delivers_none 0 (BadOrders (low16 left) (low16 right)) (λ k is. cc))
+
+delivers_call : (e : Standing) (c : Call) → Delivers 0 (plan_of e c)
+unfolding Delivers
+delivers_call e (call.Write n) = delivers_write e n
+delivers_call e (call.Send n) = delivers_send e n
+delivers_call e (call.Read n) = delivers_read e n
+delivers_call e (call.Recv n) = delivers_recv e n
+delivers_call e (call.Drain n) = delivers_drain e n
+delivers_call e call.DataReady = delivers_ask e Written 0 (look_read e (λ prod. answers (Ready (ready_at e prod)))) (delivers_look_read e 0 (λ prod. answers (Ready (ready_at e prod))) (λ prod. delivers_none 0 (Ready (ready_at e prod)) (λ k is. cc)))
+delivers_call e call.BufferSpace = delivers_ask e Consumed 0 (look_write e (λ cons. answers (Space (free_at e cons)))) (delivers_look_write e 0 (λ cons. answers (Space (free_at e cons))) (λ cons. delivers_none 0 (Space (free_at e cons)) (λ k is. cc)))
+delivers_call e call.Connect = delivers_connect e
+delivers_call e call.Close = delivers_close e (answers Done) (delivers_none 0 Done (λ k is. cc))
+delivers_call e call.TakeEvent = λ old. delivers_none 0 (Event (not (old == 0))) (λ k is. cc)
+delivers_call e call.PeerGone = λ gone. delivers_none 0 (Gone (not (gone == 0))) (λ k is. cc)
+delivers_call e call.Retire = delivers_retire e e.state
+
+-- ---- a trail
+
+loaded_count : (op : Op) (taken l : ℕ) (rest : List ℕ) → l + length (loaded_by op taken ++ rest) ≡ loaded_then op l + length rest
+loaded_count (LoadByte word at) taken l rest = omega (arith, length-append {A = ℕ})
+loaded_count (Load word) taken l rest = refl
+loaded_count (Store word value) taken l rest = refl
+loaded_count (StoreByte word at) taken l rest = refl
+loaded_count (Or word bits) taken l rest = refl
+loaded_count (And word bits) taken l rest = refl
+loaded_count (Swap word value) taken l rest = refl
+loaded_count Nothing taken l rest = refl
+
+-- along any trail to a Got, as many bytes are loaded as it says
+delivered_by : (plan : Plan) (events : List PastEvent) (l k : ℕ) → Delivers l plan → Leads plan events (answers (Got k)) → l + length (bytes_loaded events) ≡ k
+unfolding Delivers
+delivered_by plan [] l k d led = omega (arith, subst (Delivers l) led d k refl)
+delivered_by (answers answer) (event ∷ events) l k d led = absurd led
+delivered_by (does op next) (event ∷ events) l k d led =
+    loaded_count event.op event.taken l (bytes_loaded events)
+    ∙ ap (λ (o : Op). loaded_then o l + length (bytes_loaded events)) led.0
+    ∙ delivered_by (next event.taken) events (loaded_then op l) k (d event.taken) led.1
+
+-- a call that answers Got has loaded just as many bytes
+pub got_by_trail : (e : Standing) (c : Call) (events : List PastEvent) (k : ℕ) → Trace e c events (Got k) → length (bytes_loaded events) ≡ k
+got_by_trail e c events k trace = omega (arith, delivered_by (plan_of e c) events 0 k (delivers_call e c) trace)
 
 -- ---- whole calls
 
@@ -168,10 +292,10 @@ got_alone (does op next) core who l d so_far k is =
     ap (λ (s : Side). length (bytes_loaded s.trail)) (side_of-with_side _ who (made (side_of core who) op value)) ∙ length-loaded-more (side_of core who).trail op value l so_far in
     got_alone (next value) (carried_out core who op) who (loaded_then op l) (d value) more k is
 
--- the bytes that a call of a script has loaded are as many as its Got says
-pub got_count : (core : Core) (who : Role) (call : StepCall) (k : ℕ) → call_answer core who (call_made call) (bytes_written call) ≡ Got k
-    → length (bytes_loaded (side_of (called core who (call_made call) (bytes_written call)) who).trail) ≡ k
+-- the same of a whole call that is made alone
+pub got_by_call : (core : Core) (who : Role) (c : Call) (payload : List ℕ) (k : ℕ) → call_answer core who c payload ≡ Got k
+    → length (bytes_loaded (side_of (called core who c payload) who).trail) ≡ k
 unfolding loaded_of
-got_count core who call k is =
-    got_alone (plan_of (standing_of (side_of core who)) (call_made call)) (begun core who (call_made call) (bytes_written call)) who 0 (delivers_call (standing_of (side_of core who)) call)
-    (ap (λ (s : Side). length (bytes_loaded s.trail)) (side_of-with_side core who (begins (side_of core who) (call_made call) (bytes_written call)))) k is
+got_by_call core who c payload k is =
+    got_alone (plan_of (standing_of (side_of core who)) c) (begun core who c payload) who 0 (delivers_call (standing_of (side_of core who)) c)
+    (ap (λ (s : Side). length (bytes_loaded s.trail)) (side_of-with_side core who (begins (side_of core who) c payload))) k is

@@ -11,15 +11,18 @@ use Rattle.vchan_core.specs.declared.call.Call.{Call}
 use Rattle.vchan_core.specs.declared.call.Call.TheVariants as call
 use Rattle.vchan_core.specs.declared.call.Answer.{Answer}
 use Rattle.vchan_core.specs.declared.call.Answer.TheVariants.{Wrote, Full, Sent, NoRoom, Got, Empty, Short, PeerClosed, Ready, Space, Connected, BadOrders, Done, Event, NotYet, AllRead, PeerGone, Gone}
-use Rattle.step_script.specs.declared.output.Refusal.{Refusal}
-use Rattle.step_script.specs.declared.output.Refusal.TheVariants.{Turned, Shut, Unconnected}
+use Rattle.step_script.specs.declared.refusal.Refusal.{Refusal}
+use Rattle.step_script.specs.declared.refusal.Refusal.TheVariants.{Turned, Idle, Shut, Unconnected}
 
 -- an output line
 pub data TextLine : Type 0 where
   -- an end's answer to a call, and the bytes that the call took
   answered : Role → Call → Answer → List ℕ → TextLine
-  -- why an end couldn't make a call
+  -- why an end couldn't do what a line says
   refused : Role → Refusal → TextLine
+  -- the first bytes of the page, and all of them
+  heads : List ℕ → TextLine
+  images : List ℕ → TextLine
   -- how many bytes a ring's writer sent, and its reader got
   lengths : Ring → ℕ → ℕ → TextLine
 
@@ -33,9 +36,10 @@ abbrev pub ring_word : Ring → List ℕ
 ring_word Left = codes "left"
 ring_word Right = codes "right"
 
--- the word for why a call couldn't be made
+-- the word for why an end couldn't
 abbrev pub refusal_word : Refusal → List ℕ
 refusal_word Turned = codes "turned"
+refusal_word Idle = codes "idle"
 refusal_word Shut = codes "shut"
 refusal_word Unconnected = codes "unconnected"
 
@@ -81,6 +85,8 @@ answer_words call (Gone is) payload = codes "gone" ∷ flag_word is ∷ []
 abbrev pub line_words : TextLine → List (List ℕ)
 line_words (answered who call answer payload) = role_word who ∷ answer_words call answer payload
 line_words (refused who why) = role_word who ∷ refusal_word why ∷ []
+line_words (heads bytes) = codes "head" ∷ bytes_word bytes ∷ []
+line_words (images bytes) = codes "image" ∷ bytes_word bytes ∷ []
 line_words (lengths ring sent got) =
     ring_word ring ∷ codes "sent" ∷ decimal sent ∷ codes "got" ∷ decimal got ∷ []
 

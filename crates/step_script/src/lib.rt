@@ -9,21 +9,22 @@
 
 mod error;
 mod forms;
+mod hand;
 mod line;
 mod lines;
 mod opening;
 mod operand;
-// mod output;
-// mod player;
+mod played;
+mod player;
 mod poke;
-// mod printer;
+mod printer;
 mod reader;
+mod refusal;
 mod script;
 
 pub use error::{ScriptError, ScriptKind};
-// pub use output::Played;
-// pub use player::play;
-// pub use printer::text;
+pub use played::{Played, text};
+pub use player::play;
 pub use reader::parse;
 pub use script::Script;
 pub use script_words::{ByteError, bytes_of};

@@ -1,98 +1,93 @@
-//! The text of the output lines.
-ghost use Rattle.std.specs.Prelude.{◌≡◌, ◌++◌, ◌∷◌, [], decimal, codes, IfOk, OnOk};
-ghost use Rattle.std.specs.List.{join_with_byte};
-ghost use Rattle.step_script.specs.Output.{answer_words, bytes_word, flag_word, line_text, line_words, refusal_word, ring_word, role_word, taken_word, text_of};
-ghost use Rattle.step_script.specs.OutputLines.{line_shown};
+//! The output lines of a script, each put behind the text that was printed before.
+ghost use Rattle.std.specs.Prelude.{◌≡◌, ◌≤◌, ◌++◌, ◌∷◌, [], decimal, codes, length, take, OnOk};
+ghost use Rattle.hex.specs.Hex.{encode_lower};
+ghost use Rattle.step_script.specs.Output.{answer_words, answered, bytes_word, flag_word, heads, images, lengths, line_text, refusal_word, refused, ring_word, role_word, taken_word};
+ghost use Rattle.step_script.specs.Players.{got_front, got_len};
 ghost use Rattle.step_script.specs.Spaced.{with_words};
 
-use crate::output::{OutputLine, Played, Refusal};
+use crate::refusal::Refusal;
 use itoa::Buffer;
 use ring_words::{Ring, Role};
-use std::alloc::{AllocError, Global};
+use std::alloc::AllocError;
 use vchan_core::{Answer, Call};
-use vchan_io::Memory;
 
-/// The most bytes of a line of text, but for those that a call took: the name of a ring, two words
-/// and two numbers of 20 digits, each behind a space or before the line feed.
-const LINE_ROOM: usize = 57;
-
-/// The text of what a script printed: one line of text for each output line, each ended by a line
-/// feed.
-///
-/// # Errors
-///
-/// [`Memory`], and no other.
-pub fn text(alloc: Global, played: &Played) -> Result<Vec<u8>, Memory>
-    ensures { IfOk result (λ bytes. bytes.items ≡ text_of played.now) }
+/// The line of an answer. The bytes that it tells of stand at the front of `buffer`.
+#[tactic(auto, using(crate::proofs::SpacedLaws::join_spaced), unfolding(crate::specs::Output::line_text))]
+pub(crate) fn push_answer(
+    out: &mut Vec<u8>,
+    who: Role,
+    call: Call,
+    answer: Answer,
+    buffer: &[u8],
+) -> Result<(), AllocError>
+    requires { got_len answer ≤ length buffer.now }
+    ensures { OnOk result (out.new.items ≡ out.old.items ++ line_text (answered who call answer (got_front answer buffer.now))) }
 {
-    let mut out = Vec::with_capacity(alloc, room_for(played.lines.as_slice()))?;
-    for line in &played.lines {
-        push_line(&mut out, line)?;
-    }
-    Ok(out)
-}
-
-/// At least the bytes of the text, or the most that a number holds.
-fn room_for(lines: &[OutputLine]) -> usize {
-    let mut room = 0usize;
-    for line in lines {
-        let payload = match line {
-            OutputLine::Answered { payload, .. } => payload.len(),
-            OutputLine::Refused { .. } | OutputLine::Lengths { .. } => 0,
-        };
-        room = room
-            .saturating_add(LINE_ROOM)
-            .saturating_add(payload.saturating_mul(2));
-    }
-    room
-}
-
-/// A line of text.
-#[tactic(auto, unfolding(crate::specs::Output::line_text))]
-fn push_line(out: &mut Vec<u8>, line: &OutputLine) -> Result<(), AllocError>
-    ensures { OnOk result (out.new.items ≡ out.old.items ++ line_text (line_shown line.now)) }
-{
-    push_words(out, line)?;
+    out.extend_from_slice(name_of_role(who))?;
+    push_answer_words(out, call, answer, buffer)?;
     out.push(b'\n')?;
     Ok(())
 }
 
-/// The words of a line, with one space between each two.
-#[tactic(auto, using(crate::proofs::SpacedLaws::join_spaced))]
-fn push_words(out: &mut Vec<u8>, line: &OutputLine) -> Result<(), AllocError>
-    ensures { let words = line_words (line_shown line.now) in
-        OnOk result (out.new.items ≡ out.old.items ++ join_with_byte 32 words) }
+/// The line of an end that couldn't do what a line says.
+#[tactic(auto, using(crate::proofs::SpacedLaws::join_spaced), unfolding(crate::specs::Output::line_text))]
+pub(crate) fn push_refusal(out: &mut Vec<u8>, who: Role, why: Refusal) -> Result<(), AllocError>
+    ensures { OnOk result (out.new.items ≡ out.old.items ++ line_text (refused who why)) }
 {
-    match line {
-        OutputLine::Answered {
-            who,
-            call,
-            answer,
-            payload,
-        } => {
-            out.extend_from_slice(name_of_role(*who))?;
-            push_answer(out, *call, *answer, payload.as_slice())
-        }
-        OutputLine::Refused { who, why } => {
-            out.extend_from_slice(name_of_role(*who))?;
-            push_word(out, name_of_refusal(*why))
-        }
-        OutputLine::Lengths { ring, sent, got } => {
-            out.extend_from_slice(name_of_ring(*ring))?;
-            push_count(out, b"sent", *sent)?;
-            push_count(out, b"got", *got)
-        }
-    }
+    out.extend_from_slice(name_of_role(who))?;
+    push_word(out, name_of_refusal(why))?;
+    out.push(b'\n')?;
+    Ok(())
+}
+
+/// The line of the first bytes of a page.
+#[tactic(auto, using(crate::proofs::SpacedLaws::join_spaced), unfolding(crate::specs::Output::line_text))]
+pub(crate) fn push_head(out: &mut Vec<u8>, bytes: &[u8]) -> Result<(), AllocError>
+    ensures { OnOk result (out.new.items ≡ out.old.items ++ line_text (heads bytes.now)) }
+{
+    out.extend_from_slice(b"head")?;
+    push_bytes(out, bytes)?;
+    out.push(b'\n')?;
+    Ok(())
+}
+
+/// The line of all bytes of a page.
+#[tactic(auto, using(crate::proofs::SpacedLaws::join_spaced), unfolding(crate::specs::Output::line_text))]
+pub(crate) fn push_image(out: &mut Vec<u8>, bytes: &[u8]) -> Result<(), AllocError>
+    ensures { OnOk result (out.new.items ≡ out.old.items ++ line_text (images bytes.now)) }
+{
+    out.extend_from_slice(b"image")?;
+    push_bytes(out, bytes)?;
+    out.push(b'\n')?;
+    Ok(())
+}
+
+/// The line of how many bytes a ring's writer sent, and its reader got.
+#[tactic(auto, using(crate::proofs::SpacedLaws::join_spaced), unfolding(crate::specs::Output::line_text))]
+pub(crate) fn push_lengths(
+    out: &mut Vec<u8>,
+    ring: Ring,
+    sent: u64,
+    got: u64,
+) -> Result<(), AllocError>
+    ensures { OnOk result (out.new.items ≡ out.old.items ++ line_text (lengths ring sent got)) }
+{
+    out.extend_from_slice(name_of_ring(ring))?;
+    push_count(out, b"sent", sent)?;
+    push_count(out, b"got", got)?;
+    out.push(b'\n')?;
+    Ok(())
 }
 
 /// The words of an answer, each behind a space.
-fn push_answer(
+fn push_answer_words(
     out: &mut Vec<u8>,
     call: Call,
     answer: Answer,
-    payload: &[u8],
+    buffer: &[u8],
 ) -> Result<(), AllocError>
-    ensures { let words = answer_words call answer payload.now in
+    requires { got_len answer ≤ length buffer.now }
+    ensures { let words = answer_words call answer (got_front answer buffer.now) in
         OnOk result (out.new.items ≡ with_words out.old.items words) }
 {
     match answer {
@@ -100,7 +95,7 @@ fn push_answer(
         Answer::Full { prod, cons } => push_pair(out, b"full", prod, cons),
         Answer::Sent { count } => push_count(out, b"sent", u64::from(count)),
         Answer::NoRoom { prod, cons } => push_pair(out, b"noroom", prod, cons),
-        Answer::Got { .. } => push_taken(out, call, payload),
+        Answer::Got { count } => push_taken(out, call, &buffer[..count as usize]),
         Answer::Empty { prod, cons } => push_pair(out, b"empty", prod, cons),
         Answer::Short { prod, cons } => push_pair(out, b"short", prod, cons),
         Answer::PeerClosed => push_word(out, b"peer-closed"),
@@ -145,15 +140,34 @@ fn push_flag(out: &mut Vec<u8>, word: &[u8], flag: bool) -> Result<(), AllocErro
 }
 
 /// The bytes that a call took, behind the call's word for them.
-fn push_taken(out: &mut Vec<u8>, call: Call, payload: &[u8]) -> Result<(), AllocError>
-    ensures { let words = taken_word call ∷ bytes_word payload.now ∷ [] in
+fn push_taken(out: &mut Vec<u8>, call: Call, bytes: &[u8]) -> Result<(), AllocError>
+    ensures { let words = taken_word call ∷ bytes_word bytes.now ∷ [] in
         OnOk result (out.new.items ≡ with_words out.old.items words) }
 {
     push_word(out, name_of_taking(call))?;
-    if payload.is_empty() {
+    push_bytes(out, bytes)
+}
+
+/// Bytes in hexadecimal behind a space, or `-` for none.
+fn push_bytes(out: &mut Vec<u8>, bytes: &[u8]) -> Result<(), AllocError>
+    ensures { OnOk result (out.new.items ≡ with_words out.old.items (bytes_word bytes.now ∷ [])) }
+{
+    if bytes.is_empty() {
         return push_word(out, b"-");
     }
-    push_word(out, hex::encode(*out.allocator(), payload)?.as_bytes())
+    out.push(b' ')?;
+    push_hex(out, bytes)
+}
+
+/// Two digits for each byte, in lower case.
+fn push_hex(out: &mut Vec<u8>, bytes: &[u8]) -> Result<(), AllocError>
+    ensures { OnOk result (out.new.items ≡ out.old.items ++ encode_lower bytes.now) }
+{
+    let start = out.len();
+    let end = start.saturating_add(bytes.len().saturating_mul(2));
+    out.resize(end, 0)?;
+    let digits = hex::encode_to_slice(bytes, &mut out.as_mut_slice()[start..]);
+    digits.map_err(|_| AllocError)
 }
 
 /// A word behind a space.
@@ -194,6 +208,7 @@ fn name_of_refusal(why: Refusal) -> &'static [u8]
 {
     match why {
         Refusal::Turned => b"turned",
+        Refusal::Idle => b"idle",
         Refusal::Shut => b"shut",
         Refusal::Unconnected => b"unconnected",
     }

@@ -23,7 +23,7 @@ use Rattle.vchan_core.specs.Calls.{put_bytes, take_bytes, put_index, take_index,
 use Rattle.vchan_core.specs.Phases.{Stands, IsIdle, rest}
 use Rattle.vchan_core.specs.declared.op.PastEvent.{PastEvent}
 
-more_time : (n m : ℕ) (plan : Plan) → n ≤ m → EndsWithin n plan → EndsWithin m plan
+pub more_time : (n m : ℕ) (plan : Plan) → n ≤ m → EndsWithin n plan → EndsWithin m plan
 unfolding EndsWithin
 more_time n m (answers answer) h w = tt
 more_time zero m (does op next) h w = absurd w

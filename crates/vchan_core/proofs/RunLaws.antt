@@ -32,7 +32,7 @@ pub machine_stands : (core : Core) (page : Plain) (who : Role) → StandsFor cor
 machine_stands core page Server h = h.server
 machine_stands core page Client h = h.client
 
-side_of-with_side : (core : Core) (who : Role) (s : Side) → side_of (with_side core who s) who ≡ s
+pub side_of-with_side : (core : Core) (who : Role) (s : Side) → side_of (with_side core who s) who ≡ s
 side_of-with_side core Server s = refl
 side_of-with_side core Client s = refl
 
@@ -42,13 +42,13 @@ with_side-twice core Client s t = refl
 
 -- ---- the plan, one event at a time
 
-alone-after : (core : Core) (who : Role) (plan : Plan) → GoesOn plan →
+pub alone-after : (core : Core) (who : Role) (plan : Plan) → GoesOn plan →
     alone (carried_out core who (next_op plan)) who (after plan (value_taken core.orders core.words (next_op plan))) ≡ alone core who plan
 unfolding alone
 alone-after core who (answers answer) more = absurd more
 alone-after core who (does op next) more = refl
 
-alone-answers : (core : Core) (who : Role) (answer : Answer) → alone core who (answers answer) ≡ (with_side core who (answered (side_of core who) answer), answer)
+pub alone-answers : (core : Core) (who : Role) (answer : Answer) → alone core who (answers answer) ≡ (with_side core who (answered (side_of core who) answer), answer)
 unfolding alone
 alone-answers core who answer = refl
 
@@ -86,7 +86,7 @@ set_next bytes buffer value within =
     ∙ ap (λ (k : ℕ). bytes ++ value ∷ drop k buffer) more ∙ sym (append_assoc bytes (value ∷ []) (drop (length (bytes ++ value ∷ [])) buffer))
 
 -- the buffer goes on being filled
-fills_on : (orders : Orders) (words start : List ℕ) (events : List PastEvent) (op : Op) → FillsNext events (length start) op →
+pub fills_on : (orders : Orders) (words start : List ℕ) (events : List PastEvent) (op : Op) → FillsNext events (length start) op →
     buffer_after orders words (filled start (bytes_loaded events)) op ≡ filled start (bytes_loaded (events ++ past op (value_taken orders words op) ∷ []))
 fills_on orders words start events op fills = go op fills ∙ ap (λ (xs : List ℕ). filled start xs) (sym (bytes_loaded-push events op (value_taken orders words op)))
   where
@@ -145,7 +145,7 @@ pub record IsStep (who : Role) (source : List ℕ) (page page' : Plain) (result 
   pub idle : IsSome result ↔ IsIdle (machine_of page' who)
 
 -- the next event fills the next place of the buffer
-fills_next : (s : Side) (m : Machine) (c : InCall s m) (orders : Orders) (out into : ℕ) → ¬ IsIdle m → Fits orders out into (next_op (rest m)) → FillsNext s.trail into (next_op (rest m))
+pub fills_next : (s : Side) (m : Machine) (c : InCall s m) (orders : Orders) (out into : ℕ) → ¬ IsIdle m → Fits orders out into (next_op (rest m)) → FillsNext s.trail into (next_op (rest m))
 fills_next s m c orders out into busy fits = go (next_op (rest m)) (owed s m c busy) fits
   where
     go : (op : Op) → OwesNext s c.begun op → Fits orders out into op → FillsNext s.trail into op
@@ -158,16 +158,16 @@ fills_next s m c orders out into busy fits = go (next_op (rest m)) (owed s m c b
     go (Swap word value) owes f = tt
     go Nothing owes f = tt
 
-settled-payload : (s : Side) (plan : Plan) → (settled s plan).payload ≡ s.payload
+pub settled-payload : (s : Side) (plan : Plan) → (settled s plan).payload ≡ s.payload
 settled-payload s (answers answer) = refl
 settled-payload s (does op next) = refl
 
-settled-trail : (s : Side) (plan : Plan) → (settled s plan).trail ≡ s.trail
+pub settled-trail : (s : Side) (plan : Plan) → (settled s plan).trail ≡ s.trail
 settled-trail s (answers answer) = refl
 settled-trail s (does op next) = refl
 
 -- the end of a core state after its event
-side_after : (now : Core) (who : Role) (m : Machine) → InCall (side_of now who) m → side_of (event now who) who ≡ side_by now.orders now.words (side_of now who) (rest m)
+pub side_after : (now : Core) (who : Role) (m : Machine) → InCall (side_of now who) m → side_of (event now who) who ≡ side_by now.orders now.words (side_of now who) (rest m)
 side_after now who m c = ap (λ (k : Core). side_of k who) (event-by now who m c) ∙ side_of-with_side (record now { words = words_after now.orders now.words (side_of now who).payload (next_op (rest m)) }) who _
 
 -- one more event of the call, whether an answer came or not

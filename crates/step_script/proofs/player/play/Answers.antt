@@ -1,39 +1,41 @@
-use Rattle.std.proofs.Common.{◌≡◌, ℕ, ◌+◌, ◌++◌, suc, List, [], ◌∷◌, drop, sym, ◌∙◌, ap, subst, add-one, drop-cons}
+use Rattle.std.proofs.Common.{◌≡◌, ℕ, ◌+◌, ◌<◌, ◌++◌, suc, List, [], ◌∷◌, drop, length, sym, ◌∙◌, ap, subst, add-one, drop-cons, slice_index_or}
 use Rattle.std.proofs.Math.ListN.{drop_of_length-le}
-use Rattle.ring_words.specs.Rings.{number_of}
-use Rattle.vchan_core.specs.Core.{opened}
+use Rattle.vchan_core.specs.Core.{Core}
 use Rattle.vchan_core.specs.Past.{StandsFor}
-use Rattle.vchan_core.specs.declared.call.EndState.TheVariants.{Open}
+use Rattle.vchan_core.specs.declared.plain.Plain.{Plain}
 use Rattle.step_script.specs.declared.script.Line.{Line}
-use Rattle.step_script.specs.declared.output.OutputLine.{OutputLine}
-use Rattle.step_script.specs.OutputLines.{lines_shown}
-use Rattle.step_script.specs.ScriptLines.{AreShort}
-use Rattle.step_script.proofs.PlayLaws.{IsPlaying, call_short, playing_first, playing_on, playing_last}
+use Rattle.step_script.specs.Script.{StepLine}
+use Rattle.step_script.specs.ScriptLines.{line_seen, lines_seen}
+use Rattle.step_script.proofs.PlayerLaws.{IsPlaying, playing_first, playing_fits, playing_last, playing_on}
 use Rattle.step_script.proofs.player.play.Goals as goal
 
 pub loop-line-init : goal.loop-line-init
 loop-line-init c =
-    let stands = subst (λ (n : ℕ). StandsFor (opened c.script.inside.orders 0 (n, c.number-2.result) Open) c.in_ok-page.page) c.number.ensures c.in_ok-page.ensures in
-    rw (c.in_ok-lines.ensures.items, c.deref-line-items.ensures.value)
-    (playing_first c.args.script.now c.script.inside.orders c.in_ok-page.page c.script.inside.lines.items (sym c.script.view_is)
-    (subst (λ (n : ℕ). StandsFor (opened c.script.inside.orders 0 (number_of c.script.inside.orders.left, n) Open) c.in_ok-page.page) c.number-2.ensures stands))
+    rw c.deref-line-items.ensures.value
+    (playing_first c.args.script.now c.script.inside.opening c.in_ok-player.player (lines_seen c.script.inside.lines.items) (sym c.script.view_is) c.script.invariant.fit c.in_ok-player.ensures.at c.in_ok-player.ensures.text)
 
-pub play_line-requires-clause-short : goal.play_line-requires-clause-short
-play_line-requires-clause-short c =
-    call_short c.deref-line-items.result.now c.loop-line.line-index c.line-item.result
-    (subst (λ (l : List Line). AreShort l) (sym c.deref-line-items.ensures.value) c.script.invariant) c.loop-line-test.true c.line-item.is
+-- the lines that are left begin with this one
+next_line : (items : List Line) (i : ℕ) (line : Line) → i < length items → line ≡ slice_index_or items i line → lines_seen (drop i items) ≡ line_seen line ∷ lines_seen (drop (i + 1) items)
+next_line items i line within is =
+    let next : drop i items ≡ line ∷ drop (i + 1) items = rw add-one (drop-cons items i line within ∙ ap (λ (l : Line). l ∷ drop (suc i) items) (sym is)) in ap lines_seen next
+
+pub play_line-requires-clause-known : goal.play_line-requires-clause-known
+play_line-requires-clause-known c = (c.loop-line.invariant.core, c.loop-line.invariant.to)
+
+pub play_line-requires-clause-fits : goal.play_line-requires-clause-fits
+play_line-requires-clause-fits c =
+    playing_fits c.args.script.now c.loop-line.player (line_seen c.line-item.result) (lines_seen (drop c.loop-line.line-index c.deref-line-items.result.now)) (lines_seen (drop (c.loop-line.line-index + 1) c.deref-line-items.result.now)) c.loop-line.invariant
+    (next_line c.deref-line-items.result.now c.loop-line.line-index c.line-item.result c.loop-line-test.true c.line-item.is)
 
 pub loop-line-preserved : goal.loop-line-preserved
 loop-line-preserved c =
-    let next : drop c.loop-line.line-index c.deref-line-items.result.now ≡ c.line-item.result ∷ drop (c.loop-line.line-index + 1) c.deref-line-items.result.now =
-    rw add-one (drop-cons c.deref-line-items.result.now c.loop-line.line-index c.line-item.result c.loop-line-test.true
-    ∙ ap (λ (l : Line). l ∷ drop (suc c.loop-line.line-index) c.deref-line-items.result.now) (sym c.line-item.is)) in
-    playing_on c.args.script.now _ _ _ _ c.line-item.result _ _ c.loop-line.invariant next c.in_ok-play_line.ensures.lines c.in_ok-play_line.ensures.stands c.in_ok-play_line.ensures.idle
+    playing_on c.args.script.now c.loop-line.player c.play_line.new.self (line_seen c.line-item.result) (lines_seen (drop c.loop-line.line-index c.deref-line-items.result.now)) (lines_seen (drop (c.loop-line.line-index + 1) c.deref-line-items.result.now)) c.loop-line.invariant
+    (next_line c.deref-line-items.result.now c.loop-line.line-index c.line-item.result c.loop-line-test.true c.line-item.is) c.in_ok-play_line.ensures.plays
 
 pub returns : goal.returns
 returns c =
     let none : drop c.loop-line.line-index c.deref-line-items.result.now ≡ [] = drop_of_length-le c.deref-line-items.result.now c.loop-line-test.false in
-    let done : IsPlaying c.args.script.now c.loop-line.page c.loop-line.lines.items [] =
-    subst (λ (l : List Line). IsPlaying c.args.script.now c.loop-line.page c.loop-line.lines.items l) none c.loop-line.invariant in
-    ap lines_shown (c.in_ok-push-2.ensures.items ∙ ap (λ (l : List OutputLine). l ++ c.ring_lengths-2.result ∷ []) c.in_ok-push.ensures.items)
-    ∙ playing_last c.args.script.now c.loop-line.page c.loop-line.lines.items c.ring_lengths.result c.ring_lengths-2.result done c.ring_lengths.ensures c.ring_lengths-2.ensures
+    let done : IsPlaying c.args.script.now c.loop-line.player [] = subst (λ (l : List Line). IsPlaying c.args.script.now c.loop-line.player (lines_seen l)) none c.loop-line.invariant in
+    c.of.ensures
+    ∙ playing_last c.args.script.now c.loop-line.player c.push_ring.new.self.text.items c.push_ring-2.new.self.text.items done c.in_ok-push_ring.ensures.text
+    (λ core stands. c.in_ok-push_ring-2.ensures.text core (subst (λ (p : Plain). StandsFor core p) (sym c.push_ring.ensures.page) stands))

@@ -1,0 +1,26 @@
+use Rattle.std.proofs.Common.{refl}
+use Rattle.step_script.specs.declared.player.Player.{Player}
+use Rattle.step_script.specs.Played.{line_done}
+use Rattle.step_script.specs.Script.{begins}
+use Rattle.step_script.specs.ScriptLines.{call_seen}
+use Rattle.step_script.proofs.DoesLaws.{on_ok_map}
+use Rattle.step_script.proofs.PlayerLaws.{keeps_begin, known_as_client, known_as_server, plays_as_client, plays_as_server}
+use Rattle.step_script.proofs.player.Player.begin.Goals as goal
+
+pub begin-requires-clause-known : goal.begin-requires-clause-known
+begin-requires-clause-known c = known_as_server c.args.who c.in-Server.is c.args.self.now c.requires.known
+
+pub begin-requires-in-Client-clause-known : goal.begin-requires-in-Client-clause-known
+begin-requires-in-Client-clause-known c = known_as_client c.args.who c.in-Client.is c.args.self.now c.requires.known
+
+pub returns-in-Server : goal.returns-in-Server
+returns-in-Server c =
+    let did = c.begin in
+    let after : Player = record { page = did.new.page; server = did.new.self; client = c.args.self.now.client; text = did.new.text } in
+    on_ok_map did.result did.ensures (plays_as_server c.args.who c.in-Server.is (line_done (begins c.args.who (call_seen c.args.call.now))) c.args.self.now after (keeps_begin c.args.who (call_seen c.args.call.now)) refl)
+
+pub returns-in-Client : goal.returns-in-Client
+returns-in-Client c =
+    let did = c.begin-in-Client in
+    let after : Player = record { page = did.new.page; server = c.args.self.now.server; client = did.new.self; text = did.new.text } in
+    on_ok_map did.result did.ensures (plays_as_client c.args.who c.in-Client.is (line_done (begins c.args.who (call_seen c.args.call.now))) c.args.self.now after (keeps_begin c.args.who (call_seen c.args.call.now)) refl)

@@ -1,0 +1,25 @@
+use Rattle.std.proofs.Common.{refl}
+use Rattle.step_script.specs.declared.player.Player.{Player}
+use Rattle.step_script.specs.Played.{line_done}
+use Rattle.step_script.specs.Script.{steps}
+use Rattle.step_script.proofs.DoesLaws.{on_ok_map}
+use Rattle.step_script.proofs.PlayerLaws.{keeps_step, known_as_client, known_as_server, plays_as_client, plays_as_server}
+use Rattle.step_script.proofs.player.Player.step.Goals as goal
+
+pub step-requires : goal.step-requires
+step-requires c = record { known = known_as_server c.args.who c.in-Server.is c.args.self.now c.requires.known }
+
+pub step-requires-in-Client : goal.step-requires-in-Client
+step-requires-in-Client c = record { known = known_as_client c.args.who c.in-Client.is c.args.self.now c.requires.known }
+
+pub returns-in-Server : goal.returns-in-Server
+returns-in-Server c =
+    let did = c.step in
+    let after : Player = record { page = did.new.page; server = did.new.self; client = c.args.self.now.client; text = did.new.text } in
+    on_ok_map did.result did.ensures (plays_as_server c.args.who c.in-Server.is (line_done (steps c.args.who c.args.most)) c.args.self.now after (keeps_step c.args.who c.args.most) refl)
+
+pub returns-in-Client : goal.returns-in-Client
+returns-in-Client c =
+    let did = c.step-in-Client in
+    let after : Player = record { page = did.new.page; server = c.args.self.now.server; client = did.new.self; text = did.new.text } in
+    on_ok_map did.result did.ensures (plays_as_client c.args.who c.in-Client.is (line_done (steps c.args.who c.args.most)) c.args.self.now after (keeps_step c.args.who c.args.most) refl)
