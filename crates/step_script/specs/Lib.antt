@@ -9,12 +9,6 @@ pub mod Forms
 pub mod Grammar
 pub mod ScriptLines
 pub mod Readings
--- pub mod Output
--- pub mod OutputLines
--- pub mod Spaced
--- pub mod Played
--- pub mod Buffers
--- pub mod Pages
 pub mod Output
 pub mod Spaced
 pub mod Played
