@@ -1,20 +1,20 @@
 -- The laws on lives: the opening has them, and a begin and each event of an honest end keep them.
-use Rattle.std.proofs.Common.{◌≡◌, ◌≢◌, ℕ, suc, zero, ◌+◌, ◌-◌, ◌%◌, ◌^◌, ◌<◌, ◌≤◌, ◌==◌, ◌⊎◌, inl, inr, Bool, true, false, not, cond, ◌||◌, ◌&&◌, Option, Some, None, IsSome, is_some, List, [], ◌∷◌, ◌++◌, length, slice_index, refl, subst, sym, ap, ◌∙◌, arith, append_assoc, append-nil, length-append}
+use Rattle.std.proofs.Common.{◌≡◌, ◌≢◌, ℕ, ◌+◌, ◌-◌, ◌^◌, ◌<◌, ◌≤◌, ◌⊎◌, inl, inr, Bool, true, false, not, cond, ◌||◌, ◌&&◌, Option, Some, None, IsSome, List, [], ◌∷◌, ◌++◌, length, refl, subst, sym, ap, ◌∙◌, arith, append-nil, length-append}
 use Rattle.std.proofs.lemmas.Bool.{false≢true, eq-eqb, eqb-true}
 use Rattle.std.proofs.lemmas.Bool.Decides.{nat_tests}
 use Rattle.std.proofs.lemmas.List.{nil_from_length}
 use Rattle.ring_words.specs.Rings.{size, diff, ready}
-use Rattle.ring_words.specs.Page.{index_of, order_of}
+use Rattle.ring_words.specs.Page.{order_of}
 use Rattle.ring_words.specs.declared.order.Order.{Order}
 use Rattle.ring_words.specs.declared.order.Orders.{Orders}
 use Rattle.ring_words.specs.declared.page.Role.{Role}
 use Rattle.ring_words.specs.declared.page.Role.TheVariants.{Server, Client}
 use Rattle.ring_words.specs.declared.page.Ring.TheVariants.{Left, Right}
 use Rattle.ring_words.specs.declared.page.WordName.{WordName}
-use Rattle.ring_words.specs.declared.page.WordName.TheVariants.{LeftCons, LeftProd, RightCons, RightProd, LeftOrder, RightOrder, CliLive, SrvLive}
+use Rattle.ring_words.specs.declared.page.WordName.TheVariants.{LeftCons, LeftProd, RightCons, RightProd, LeftOrder, RightOrder}
 use Rattle.ring_words.proofs.RingLaws.{diff_counts, size-within}
 use Rattle.vchan_core.specs.declared.op.Op.{Op}
-use Rattle.vchan_core.specs.declared.op.Op.TheVariants.{Load, LoadByte, Store, StoreByte, Or, And, Swap, Nothing}
+use Rattle.vchan_core.specs.declared.op.Op.TheVariants.{Load, Store}
 use Rattle.vchan_core.specs.declared.op.PastEvent.{PastEvent}
 use Rattle.vchan_core.specs.declared.call.Answer.{Answer}
 use Rattle.vchan_core.specs.declared.call.Answer.TheVariants.{Done, AllRead, BadOrders, PeerGone as IsGone}
@@ -25,13 +25,13 @@ use Rattle.vchan_core.specs.declared.side.Side.{Side}
 use Rattle.vchan_core.specs.declared.side.Begun.{Begun}
 use Rattle.vchan_core.specs.declared.side.EndedBy.{EndedBy}
 use Rattle.vchan_core.specs.Plan.{Plan, answers, does, GoesOn, Leads, next_op, after, past, left_after}
-use Rattle.vchan_core.specs.Ends.{Standing, state_after, cons_after, own_live, own_gone, peer_live, peer_gone, prod_word, read_ring, low32}
+use Rattle.vchan_core.specs.Ends.{Standing, state_after, cons_after, own_live, own_gone, peer_live, peer_gone, prod_word, read_ring}
 use Rattle.vchan_core.specs.Calls.{plan_of}
 use Rattle.vchan_core.specs.Apply.{words_after, value_taken}
 use Rattle.vchan_core.specs.Page.{live_word}
-use Rattle.vchan_core.specs.Core.{Core, opened, side_of, event, begun, begins, plan_left, plan_next, op_next, taken_next, begun_standing, standing_of, standing_along, made, settled, answered, saw_after, sent_after, sent_stored, got_after, got_stored, bytes_loaded, count_stored, is_shut, sees_end, ending, drains, misleads, first_ended}
+use Rattle.vchan_core.specs.Core.{Core, opened, side_of, event, begun, begins, plan_left, plan_next, op_next, taken_next, begun_standing, made, settled, answered, saw_after, sent_after, sent_stored, got_after, got_stored, bytes_loaded, is_shut, sees_end, ending, drains, misleads, first_ended}
 use Rattle.vchan_core.specs.RingLaw.{index_at, word_at, IsPrefixOf, RingLawful, CallLawful, IsLawfulIn, IsLawfulCall}
-use Rattle.vchan_core.specs.LifeLaw.{LifeLawful, SightLawful, StreamLawful, WordsTell, TellsGone, SaysOrders, OrdersGive, OrderGives, LooksGive, LookGives, LoadGives, shows_end, has_seen, sets_gone}
+use Rattle.vchan_core.specs.LifeLaw.{LifeLawful, SightLawful, StreamLawful, TellsGone, SaysOrders, OrdersGive, OrderGives, LooksGive, LookGives, LoadGives, shows_end, has_seen, sets_gone}
 use Rattle.vchan_core.specs.Peer.{peer, held}
 use Rattle.vchan_core.specs.Lawful.{Lawful}
 use Rattle.vchan_core.proofs.LifeTrails.{Lives, OwesLife, OwesStore, OwesAnswer, or_false, or_assoc, lives_call, Lives-Leads}

@@ -1,6 +1,6 @@
 -- What stands between two honest ends about their lives: the live bytes, the gone words, the order words, and the end of a stream.
 -- Source: libxenvchan's io.c for the live bytes and init.c for the order words. The gone words and a drain's later looks are this project's.
-use Rattle.std.specs.Prelude.{◌≡◌, ◌≢◌, ℕ, ◌⊎◌, Bool, true, false, ◌||◌, Option, IsSome, List, [], ◌∷◌, length}
+use Rattle.std.specs.Prelude.{◌≡◌, ◌≢◌, ℕ, ◌⊎◌, Bool, true, false, ◌||◌, IsSome, List, [], ◌∷◌, length}
 use Rattle.ring_words.specs.declared.order.Orders.{Orders}
 use Rattle.ring_words.specs.declared.page.Role.{Role}
 use Rattle.ring_words.specs.declared.page.Role.TheVariants.{Server, Client}
