@@ -61,6 +61,7 @@ pub record Channel : Type 0 where
 abbrev pub got_before : Side → ℕ
 got_before s = length s.got - (if (so_far s.role s.trail).released then length (so_far s.role s.trail).loaded else 0)
 
+-- a ring of these words, between this writer and this reader
 abbrev pub channel_between : ℕ → Orders → List ℕ → Ring → Side → Side → Channel
 channel_between start orders words ring writer reader = record {
   start = start;
@@ -98,6 +99,7 @@ pub record ShowsBytes (start sent got more index : ℕ) : Type 0 where
   pub unread : got + more ≤ count
   pub within : count ≤ sent
 
+-- what holds of a ring at each moment, while both its ends are honest
 pub record IsLawful (r : Channel) : Type 0 where
   -- the indices and the own counts are the lengths of the lists, from the start on
   pub prod : r.prod ≡ index_at r.start (length r.sent)
@@ -166,6 +168,7 @@ pub record IsLawfulCall (s : Side) (b : Begun) : Type 0 where
   pub prod : s.prod ≡ (if (so_far s.role s.trail).shown then (b.prod + (so_far s.role s.trail).stored) % 2 ^ 32 else b.prod)
   pub cons : s.cons ≡ (if (so_far s.role s.trail).released then (b.cons + length (so_far s.role s.trail).loaded) % 2 ^ 32 else b.cons)
 
+-- no call, or a lawful one
 abbrev pub IsLawfulIn : Side → Option Begun → Type 0
 IsLawfulIn s None = Unit {0}
 IsLawfulIn s (Some b) = IsLawfulCall s b

@@ -9,6 +9,7 @@ use Rattle.vchan_core.specs.declared.op.Op.TheVariants.{Load, LoadByte, Store, S
 use Rattle.vchan_core.specs.declared.op.PastEvent.{PastEvent}
 use Rattle.vchan_core.specs.Ends.{low8, low32}
 
+-- what a call has done so far
 pub record SoFar : Type 0 where
   -- the consumer index of the ring that the end writes, as it was loaded last
   pub cons_seen : Option ℕ
@@ -53,6 +54,7 @@ so_far_after role n (Store word value) taken = so_far_stored word role value n
 so_far_after role n (StoreByte word at) taken = record n { stored = n.stored + 1 }
 so_far_after role n _ taken = n
 
+-- after more events
 abbrev pub so_far_along : Role → SoFar → List PastEvent → SoFar
 so_far_along role n [] = n
 so_far_along role n (event ∷ events) = so_far_along role (so_far_after role n event.op event.taken) events
