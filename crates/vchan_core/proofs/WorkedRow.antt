@@ -1,10 +1,10 @@
 -- The worked row, by computing.
-use Rattle.std.proofs.Common.{◌≡◌, ℕ, ◌≤◌, refl, arith}
+use Rattle.std.proofs.Common.{refl, arith}
 use Rattle.ring_words.specs.Rings.{size, place, room, ready, diff}
 use Rattle.ring_words.specs.declared.order.Orders.{Orders}
 use Rattle.vchan_core.specs.Core.{event}
 use Rattle.vchan_core.specs.Calls.{write, write_open, write_looked, read, read_looked}
-use Rattle.vchan_core.specs.Worked.{writing_three, reading_five, IsHalfWritten, IsWritten, IsHalfRead, IsRead, IsWorkedRow, RowIsAsWorked}
+use Rattle.vchan_core.specs.Worked.{writing_three, reading_five, IsHalfWritten, IsWritten, IsHalfRead, IsRead, RowIsAsWorked}
 
 -- rings of 1,024 and of 2,048 bytes
 unfoldable pub small : Orders

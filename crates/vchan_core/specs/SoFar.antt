@@ -1,5 +1,5 @@
 -- What the events of a call have done so far with the two rings of its end, by its trail.
-use Rattle.std.specs.Prelude.{ℕ, ◌+◌, zero, suc, Bool, true, false, Option, Some, None, List, [], ◌∷◌, ◌++◌, if◌then◌else◌}
+use Rattle.std.specs.Prelude.{ℕ, ◌+◌, zero, Bool, true, false, Option, Some, None, List, [], ◌∷◌, ◌++◌, if◌then◌else◌}
 use Rattle.ring_words.specs.declared.page.Role.{Role}
 use Rattle.ring_words.specs.declared.page.Role.TheVariants.{Server, Client}
 use Rattle.ring_words.specs.declared.page.WordName.{WordName}
@@ -9,6 +9,7 @@ use Rattle.vchan_core.specs.declared.op.Op.TheVariants.{Load, LoadByte, Store, S
 use Rattle.vchan_core.specs.declared.op.PastEvent.{PastEvent}
 use Rattle.vchan_core.specs.Ends.{low8, low32}
 
+-- what a call has done so far
 pub record SoFar : Type 0 where
   -- the consumer index of the ring that the end writes, as it was loaded last
   pub cons_seen : Option ℕ
@@ -53,6 +54,7 @@ so_far_after role n (Store word value) taken = so_far_stored word role value n
 so_far_after role n (StoreByte word at) taken = record n { stored = n.stored + 1 }
 so_far_after role n _ taken = n
 
+-- after more events
 abbrev pub so_far_along : Role → SoFar → List PastEvent → SoFar
 so_far_along role n [] = n
 so_far_along role n (event ∷ events) = so_far_along role (so_far_after role n event.op event.taken) events
