@@ -4,3 +4,4 @@ pub mod PieceLaws
 pub mod ByteLaws
 pub mod ChoiceLaws
 pub mod ImageLaws
+pub mod LaidLaws

@@ -1,10 +1,13 @@
 //! A page's words as a list in memory.
-ghost use Rattle.std.specs.Prelude.{◌≡◌, ◌<◌, ◌^◌, length, slice_index, slice_set, vec_len};
-ghost use Rattle.ring_words.specs.Page.{Has, index_of, word_count};
+ghost use Rattle.std.specs.Prelude.{◌≡◌, ◌<◌, ◌≤◌, ◌+◌, ◌^◌, length, slice_index, slice_set, vec_len};
+ghost use Rattle.ring_words.specs.Page.{Has, index_of, order_of, word_count};
+ghost use Rattle.ring_words.specs.Rings.{size};
+ghost use Rattle.ring_words.specs.Laid.{laid, low_bytes};
+ghost use Rattle.ring_words.specs.declared.page.WordName.TheVariants.{RingByte};
 
 use crate::layout::Layout;
 use crate::order::Orders;
-use crate::page::WordName;
+use crate::page::{Ring, WordName};
 use std::marker::Model;
 
 /// The words of a page whose rings have these orders. There are always as many words as
@@ -73,13 +76,39 @@ impl Words {
         let index = Layout::new(self.orders).word(name);
         self.list[index] = value;
     }
+
+    /// Stores bytes one after another into a ring, the first at the place `at`. The last has to lie
+    /// before the ring's end. It is as if each was stored by [`Words::store`].
+    pub fn store_bytes(&mut self, ring: Ring, at: u32, bytes: &[u8])
+        requires first { at < size (order_of self.old.orders ring) }
+        requires last { at + length bytes.now ≤ size (order_of self.old.orders ring) }
+        ensures words { self.new ≡ record self.old { list = laid self.old.list (index_of self.old.orders (RingByte ring at)) bytes.now } }
+        ensures count { length self.new.list ≡ word_count self.new.orders }
+    {
+        let first = Layout::new(self.orders).word(WordName::RingByte { ring, at });
+        for i in 0..bytes.len() {
+            self.list[first + i] = u64::from(bytes[i]);
+        }
+    }
+
+    /// Loads as many bytes as `buf` has one after another from a ring, the first at the place `at`.
+    /// The last has to lie before the ring's end. A word gives its low 8 bits.
+    pub fn load_bytes(&self, ring: Ring, at: u32, buf: &mut [u8])
+        requires first { at < size (order_of self.now.orders ring) }
+        requires last { at + length buf.old ≤ size (order_of self.now.orders ring) }
+        ensures { buf.new ≡ low_bytes self.now.list (index_of self.now.orders (RingByte ring at)) (length buf.old) }
+    {
+        let first = Layout::new(self.orders).word(WordName::RingByte { ring, at });
+        for i in 0..buf.len() {
+            buf[i] = (self.list[first + i] % 256) as u8;
+        }
+    }
 }
 
 #[cfg(test)]
 mod tests {
     use super::*;
     use crate::choice::check_orders;
-    use crate::page::Ring;
     use std::test::Fail;
 
     #[test]

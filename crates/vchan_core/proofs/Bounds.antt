@@ -1,7 +1,6 @@
 -- Each call ends within its number of events, whatever values are taken.
-use Rattle.std.proofs.Common.{◌≡◌, ℕ, suc, zero, ◌+◌, ◌-◌, ◌%◌, ◌^◌, ◌==◌, ◌<◌, ◌≤◌, min, nat_lt, ◌⊎◌, inl, inr, Bool, true, false, cond, List, [], ◌∷◌, ◌++◌, length, refl, subst, sym, ap, ◌∙◌, arith}
+use Rattle.std.proofs.Common.{◌≡◌, ℕ, suc, zero, ◌+◌, ◌==◌, ◌<◌, ◌≤◌, min, nat_lt, ◌⊎◌, inl, inr, Bool, true, false, cond, List, [], ◌∷◌, ◌++◌, length, refl, subst, arith}
 use Rattle.ring_words.specs.Rings.{size}
-use Rattle.ring_words.specs.Page.{order_of}
 use Rattle.ring_words.proofs.RingLaws.{room_within, ready_within}
 use Rattle.vchan_core.specs.declared.op.Op.{Op}
 use Rattle.vchan_core.specs.declared.call.Answer.{Answer}
@@ -18,8 +17,8 @@ use Rattle.vchan_core.specs.declared.call.EndState.TheVariants.{Fresh, Open, Shu
 use Rattle.std.proofs.lemmas.Bool.{cases_lt}
 use Rattle.std.proofs.lemmas.Bool.{lt-ltb}
 use Rattle.vchan_core.specs.Plan.{Plan, does, answers, Leads, past, EndsWithin, GoesOn, next_op, after}
-use Rattle.vchan_core.specs.Ends.{write_order, read_order, Standing, written_ring, read_ring, free_at, ready_at, read_size, write_size}
-use Rattle.vchan_core.specs.Calls.{put_bytes, take_bytes, put_index, take_index, put, take, notify, signal, ask, write, write_open, write_looked, read, read_live, read_looked, drain_found, drain_last, drain_gone, drain_further, drain_live, drain_second, drain, connect, connect_right, close, retire, retire_shut, plan_of, send, send_open, send_looked, recv, recv_live, recv_looked, most_events}
+use Rattle.vchan_core.specs.Ends.{write_order, read_order, Standing, free_at, ready_at, read_size, write_size}
+use Rattle.vchan_core.specs.Calls.{put_bytes, take_bytes, put, take, notify, signal, write, write_open, write_looked, read, read_live, read_looked, drain_found, drain_last, drain_gone, drain_further, drain_live, drain_second, drain, connect, connect_right, close, retire, retire_shut, plan_of, send, send_open, send_looked, recv, recv_live, recv_looked, most_events}
 use Rattle.vchan_core.specs.Phases.{Stands, IsIdle, rest}
 use Rattle.vchan_core.specs.declared.op.PastEvent.{PastEvent}
 

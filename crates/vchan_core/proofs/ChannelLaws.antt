@@ -1,7 +1,7 @@
 -- What an event on a ring does to it keeps it lawful.
-use Rattle.std.proofs.Common.{◌≡◌, ◌≢◌, ℕ, suc, zero, ◌+◌, ◌-◌, ◌%◌, ◌^◌, ◌<◌, ◌≤◌, ◌⊎◌, inl, inr, List, [], ◌∷◌, ◌++◌, length, get_or, take, slice_index, Option, Some, None, IfSome, refl, subst, sym, ap, ◌∙◌, arith, append_assoc, append-nil}
+use Rattle.std.proofs.Common.{◌≡◌, ◌≢◌, ℕ, ◌+◌, ◌-◌, ◌%◌, ◌^◌, ◌<◌, ◌≤◌, inl, inr, List, [], ◌∷◌, ◌++◌, length, get_or, take, slice_index, Option, Some, None, IfSome, refl, subst, sym, ap, ◌∙◌, arith, append_assoc, append-nil}
 use Rattle.std.specs.List.{All}
-use Rattle.std.proofs.lemmas.List.{get_or_append_left, get_or-append_right, get_or-append-add, get_or-take, length-take, length-append}
+use Rattle.std.proofs.lemmas.List.{get_or_append_left, get_or-append_right, get_or-take, length-take, length-append}
 use Rattle.std.proofs.lemmas.List.Elements.{All-nil, All-cons, All-head, All-append, All-take}
 use Rattle.std.proofs.lemmas.Bool.{cases_lt}
 use Rattle.std.proofs.lemmas.Bool.Decides.{nat_tests}
@@ -141,7 +141,7 @@ lawful-store_byte r index new w seen h here others =
           others _ (place_within _ _) (λ e. place_apart (r.start + i) (r.start + length r.sent + r.stored) r.order (omega arith) (omega (arith, fits)) (e ∙ put_place r w)) ∙ w.waiting i unread sent;
       writer_looked = w.writer_looked;
       writer_stored = λ i below. elim (cases_lt i r.stored) [
-          inl before ↦ others _ (place_within _ _) (λ e. place_apart (r.start + length r.sent + i) (r.start + length r.sent + r.stored) r.order (omega arith) (omega (arith, fits, small)) (e ∙ put_place r w)) ∙ w.writer_stored i before
+        | inl before ↦ others _ (place_within _ _) (λ e. place_apart (r.start + length r.sent + i) (r.start + length r.sent + r.stored) r.order (omega arith) (omega (arith, fits, small)) (e ∙ put_place r w)) ∙ w.writer_stored i before
         | inr last ↦ (let same : i ≡ r.stored = omega arith in
             ap new (ap (λ (n : ℕ). place (r.start + length r.sent + n) r.order) same ∙ sym (put_place r w)) ∙ here ∙ ap (λ (n : ℕ). slice_index r.payload n) (sym same))
       ];
@@ -174,7 +174,7 @@ lawful-store_prod r index w seen h has bytes =
       fits = omega (arith, g.room, g.within, n);
       bytes_sent = All-append (λ (b : ℕ). b < 256) r.sent (take r.stored r.payload) w.bytes_sent (All-take (λ (b : ℕ). b < 256) r.stored r.payload bytes);
       waiting = λ i unread below. elim (cases_lt i (length r.sent)) [
-          inl before ↦ w.waiting i unread before ∙ sym (get_or_append_left r.sent (take r.stored r.payload) 0 i before)
+        | inl before ↦ w.waiting i unread before ∙ sym (get_or_append_left r.sent (take r.stored r.payload) 0 i before)
         | inr here ↦ (let j : length r.sent + (i - length r.sent) ≡ i = omega arith in
             let low : i - length r.sent < r.stored = omega (arith, n) in
             ap (λ (m : ℕ). r.bytes (place m r.order)) (omega (arith, j)) ∙ w.writer_stored (i - length r.sent) low

@@ -1,14 +1,14 @@
 -- Each event of a call is on the page, and its bytes are counted in order.
-use Rattle.std.proofs.Common.{◌≡◌, ℕ, suc, zero, ◌+◌, ◌-◌, ◌%◌, ◌^◌, ◌==◌, ◌<◌, ◌≤◌, min, nat_lt, ◌⊎◌, inl, inr, Bool, true, false, cond, List, [], ◌∷◌, ◌++◌, length, refl, subst, sym, ap, ◌∙◌, arith, length-append, add-zero, zero-add}
+use Rattle.std.proofs.Common.{◌≡◌, ℕ, suc, zero, ◌+◌, ◌%◌, ◌^◌, ◌==◌, ◌<◌, ◌≤◌, min, nat_lt, ◌⊎◌, inl, inr, Bool, true, false, cond, List, [], ◌∷◌, ◌++◌, length, refl, subst, sym, ap, arith, add-zero, zero-add}
 use Rattle.std.proofs.lemmas.Bool.{cases_lt, lt-ltb}
 use Rattle.ring_words.specs.Rings.{place, size}
-use Rattle.ring_words.specs.Page.{order_of, Has}
+use Rattle.ring_words.specs.Page.{Has}
 use Rattle.ring_words.specs.declared.order.Order.{Order}
 use Rattle.ring_words.specs.declared.order.Orders.{Orders}
 use Rattle.ring_words.specs.declared.page.Role.{Role}
 use Rattle.ring_words.specs.declared.page.Role.TheVariants.{Server, Client}
 use Rattle.ring_words.specs.declared.page.WordName.{WordName}
-use Rattle.ring_words.specs.declared.page.WordName.TheVariants.{LeftCons, LeftProd, RightCons, RightProd, RingByte, CliLive, LeftOrder, RightOrder}
+use Rattle.ring_words.specs.declared.page.WordName.TheVariants.{LeftCons, LeftProd, RightCons, RightProd}
 use Rattle.ring_words.proofs.RingLaws.{room_within, ready_within, size-within}
 use Rattle.vchan_core.specs.declared.op.Op.{Op}
 use Rattle.vchan_core.specs.declared.op.Op.TheVariants.{Load, LoadByte, Store, StoreByte, Or, And, Swap, Nothing}
@@ -22,8 +22,8 @@ use Rattle.vchan_core.specs.declared.call.Call.TheVariants.{Write, Send, Read, R
 use Rattle.vchan_core.specs.declared.call.EndState.{EndState}
 use Rattle.vchan_core.specs.declared.call.EndState.TheVariants.{Fresh, Open, Shut}
 use Rattle.vchan_core.specs.Plan.{Plan, does, answers, Leads, EachDoes}
-use Rattle.vchan_core.specs.Ends.{Standing, standing_after, written_ring, read_ring, prod_word, cons_word, ask_word, notify_word, peer_live, own_live, own_pending, own_gone, peer_gone, peer_pending, mask, write_order, read_order, write_size, read_size, free_at, ready_at}
-use Rattle.vchan_core.specs.Calls.{put_bytes, take_bytes, put_index, take_index, put, take, notify, signal, ask, look_read, look_write, write, write_open, write_looked, read, read_live, read_looked, drain_found, drain_last, drain_gone, drain_further, drain_live, drain_second, drain, connect, connect_right, close, retire, retire_shut, plan_of, send, send_open, send_looked, recv, recv_live, recv_looked, stored_most, loaded_most}
+use Rattle.vchan_core.specs.Ends.{Standing, standing_after, written_ring, read_ring, prod_word, cons_word, ask_word, notify_word, peer_live, own_live, own_pending, own_gone, peer_gone, peer_pending, write_order, read_order, write_size, read_size, free_at, ready_at}
+use Rattle.vchan_core.specs.Calls.{put_bytes, take_bytes, put, take, notify, signal, ask, look_read, look_write, write, write_open, write_looked, read, read_live, read_looked, drain_found, drain_last, drain_gone, drain_further, drain_live, drain_second, drain, connect, connect_right, close, retire, retire_shut, plan_of, send, send_open, send_looked, recv, recv_live, recv_looked, stored_most, loaded_most}
 use Rattle.vchan_core.specs.Apply.{Fits}
 use Rattle.vchan_core.specs.Core.{standing_along, stored_by, loaded_by, count_stored, bytes_loaded}
 

@@ -1,16 +1,14 @@
 -- A lawful call of an end, one event at a time, and what its PUT and TAKE rely on.
-use Rattle.std.proofs.Common.{◌≡◌, ℕ, suc, zero, ◌+◌, ◌-◌, ◌%◌, ◌^◌, ◌<◌, ◌≤◌, Bool, true, false, cond, Option, Some, None, List, [], ◌∷◌, ◌++◌, length, refl, subst, sym, ap, ◌∙◌, arith, length-append}
+use Rattle.std.proofs.Common.{◌≡◌, ℕ, suc, zero, ◌+◌, ◌-◌, ◌≤◌, Bool, true, false, cond, Option, Some, None, List, [], ◌∷◌, ◌++◌, length, refl, subst, sym, ap, ◌∙◌, arith, length-append}
 use Rattle.std.proofs.lemmas.Bool.{false≢true}
 use Rattle.ring_words.specs.Page.{order_of}
 use Rattle.ring_words.specs.declared.order.Order.{Order}
-use Rattle.ring_words.specs.Rings.{size, room, ready}
+use Rattle.ring_words.specs.Rings.{room, ready}
 use Rattle.ring_words.specs.declared.page.Role.{Role}
 use Rattle.ring_words.specs.declared.page.Role.TheVariants.{Server, Client}
-use Rattle.vchan_core.specs.declared.op.Op.{Op}
-use Rattle.vchan_core.specs.declared.op.PastEvent.{PastEvent}
 use Rattle.vchan_core.specs.declared.call.Answer.TheVariants.{Done}
 use Rattle.vchan_core.specs.declared.call.Call.{Call}
-use Rattle.vchan_core.specs.declared.call.Call.TheVariants.{Write, Send, Read, Recv, Drain, DataReady, BufferSpace, Connect, Close, TakeEvent, Retire, PeerGone}
+use Rattle.vchan_core.specs.declared.call.Call.TheVariants.{Retire}
 use Rattle.vchan_core.specs.declared.call.EndState.{EndState}
 use Rattle.vchan_core.specs.declared.call.EndState.TheVariants.{Fresh, Open, Shut}
 use Rattle.vchan_core.specs.declared.side.Side.{Side}
@@ -25,7 +23,7 @@ use Rattle.vchan_core.proofs.PlanLaws.{Leads-more, left_after-Leads, GoesOn-put_
 use Rattle.vchan_core.proofs.Counted.{Counted, counted_call, Counted-Leads}
 use Rattle.vchan_core.proofs.StepLaws.{OwesNext, owes_next, standing_of-made, standing_along-push}
 use Rattle.vchan_core.proofs.Sound.{Sound, OwesSound, OwesStored, StoresProd, StoresCons, sound_call, Sound-Leads, owes_sound}
-use Rattle.vchan_core.proofs.SoFarLaws.{StandsSoFar, stands_so_far}
+use Rattle.vchan_core.proofs.SoFarLaws.{stands_so_far}
 use Rattle.vchan_core.proofs.ChannelLaws.{leaves_room, shows_bytes}
 
 -- ---- the call that an end is in

@@ -1,28 +1,23 @@
 -- Each step of a page, by honest ends and by hostile users, keeps what holds of it, and what stands at its end.
 use Rattle.std.proofs.Common.{◌≡◌, ◌≢◌, ℕ, ◌^◌, ◌<◌, Bool, true, false, List, length, refl, subst, sym, ap, ◌∙◌, arith}
 use Rattle.std.proofs.lemmas.Bool.{false≢true}
-use Rattle.ring_words.specs.Rings.{size}
-use Rattle.ring_words.specs.Page.{word_count}
 use Rattle.ring_words.specs.declared.order.Orders.{Orders}
 use Rattle.ring_words.specs.declared.page.Role.{Role}
 use Rattle.ring_words.specs.declared.page.Role.TheVariants.{Server, Client}
-use Rattle.ring_words.specs.declared.page.Ring.TheVariants.{Left, Right}
 use Rattle.vchan_core.specs.declared.op.Op.{Op}
 use Rattle.vchan_core.specs.declared.call.Call.{Call}
 use Rattle.vchan_core.specs.declared.call.EndState.{EndState}
 use Rattle.vchan_core.specs.declared.call.EndState.TheVariants.{Shut}
 use Rattle.vchan_core.specs.declared.side.Side.{Side}
-use Rattle.vchan_core.specs.Plan.{Plan, GoesOn}
-use Rattle.vchan_core.specs.Core.{Core, opened, begun, event, side_of, reader_of, plan_left}
-use Rattle.vchan_core.specs.Ends.{written_ring}
-use Rattle.vchan_core.specs.Turned.{given_up, strayed}
-use Rattle.vchan_core.specs.RingLaw.{IsLawful, channel_of}
+use Rattle.vchan_core.specs.Plan.{GoesOn}
+use Rattle.vchan_core.specs.Core.{Core, opened, begun, event, side_of, plan_left}
+use Rattle.vchan_core.specs.Turned.{strayed}
 use Rattle.vchan_core.specs.Lawful.{Lawful, Honest}
 use Rattle.vchan_core.specs.Reached.{MayBegin, opens as reaches}
 use Rattle.vchan_core.specs.Peer.{peer}
-use Rattle.vchan_core.specs.SignalLaw.{NoLostSignal, HasEnds}
-use Rattle.vchan_core.specs.TurnedLaw.{TurnedLawful, KeepsCounts, turning}
-use Rattle.vchan_core.specs.Kept.{Kept, MayCome, opens, begins_call, makes_event, is_given_up, strays, StreamSettled, PageSettled}
+use Rattle.vchan_core.specs.SignalLaw.{HasEnds}
+use Rattle.vchan_core.specs.TurnedLaw.{TurnedLawful, turning}
+use Rattle.vchan_core.specs.Kept.{Kept, MayCome, opens, begins_call, makes_event, is_given_up, strays, PageSettled}
 use Rattle.vchan_core.proofs.LawfulSteps.{lawful_opened, lawful_event, lawful_begun}
 use Rattle.vchan_core.proofs.SignalLaws.{event_keeps, begin_keeps, no_signal_lost}
 use Rattle.vchan_core.proofs.TurnedSteps.{turned_event, turned_begin, first_turn, second_turn, stray, event_grows, turned-given_up, turning_again}

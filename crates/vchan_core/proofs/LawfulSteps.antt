@@ -1,9 +1,8 @@
 -- A page is lawful when it is opened, and stays so as honest ends begin calls and make their events.
-use Rattle.std.proofs.Common.{◌≡◌, ◌≢◌, ℕ, ◌-◌, ◌^◌, ◌<◌, None, List, [], length, slice_index, slice_set, refl, subst, sym, ap, ◌∙◌, arith}
+use Rattle.std.proofs.Common.{◌≡◌, ◌≢◌, ℕ, ◌-◌, ◌^◌, ◌<◌, List, [], length, refl, subst, sym, ap, ◌∙◌, arith}
 use Rattle.std.proofs.lemmas.List.{length-set, length-replicate}
 use Rattle.std.proofs.lemmas.List.Elements.{All-nil}
 use Rattle.ring_words.specs.Page.{order_of, word_count}
-use Rattle.ring_words.specs.declared.order.Order.{Order}
 use Rattle.ring_words.specs.declared.order.Orders.{Orders}
 use Rattle.ring_words.specs.declared.page.Role.{Role}
 use Rattle.ring_words.specs.declared.page.Role.TheVariants.{Server, Client}
@@ -13,17 +12,17 @@ use Rattle.vchan_core.specs.declared.call.Call.{Call}
 use Rattle.vchan_core.specs.declared.call.EndState.{EndState}
 use Rattle.vchan_core.specs.declared.call.EndState.TheVariants.{Shut}
 use Rattle.vchan_core.specs.declared.side.Side.{Side}
-use Rattle.vchan_core.specs.Plan.{Plan, does, answers, next_op, after, GoesOn}
+use Rattle.vchan_core.specs.Plan.{Plan, does, answers, GoesOn}
 use Rattle.vchan_core.specs.Ends.{written_ring, read_ring}
 use Rattle.vchan_core.specs.Calls.{payload_of, IsAllowed}
-use Rattle.vchan_core.specs.Apply.{words_after, value_taken, word_of}
+use Rattle.vchan_core.specs.Apply.{words_after, value_taken}
 use Rattle.vchan_core.specs.Core.{Core, opened, side_of, begins, begun, event, plan_left, op_next, taken_next, plan_next, made, settled}
 use Rattle.vchan_core.specs.RingLaw.{IsLawful, ShowsBytes, RingLawful, CallLawful, AreBytes, channel_between, channel_of}
 use Rattle.vchan_core.specs.LifeLaw.{LifeLawful}
 use Rattle.vchan_core.specs.Lawful.{Lawful, IsEnd}
 use Rattle.vchan_core.specs.Reached.{MayBegin}
 use Rattle.vchan_core.proofs.ChannelLaws.{lawful-begin_write, lawful-begin_read}
-use Rattle.vchan_core.proofs.EndSteps.{InLawful, in_lawful, owes_now, counts_now, call_begins, call_goes_on, puts_within, takes_within}
+use Rattle.vchan_core.proofs.EndSteps.{in_lawful, owes_now, counts_now, call_begins, call_goes_on, puts_within, takes_within}
 use Rattle.vchan_core.proofs.RingSteps.{wrote_made, read_made}
 use Rattle.vchan_core.proofs.LifeSteps.{life_opened, life_begun, life_event}
 

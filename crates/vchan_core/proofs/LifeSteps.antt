@@ -1,20 +1,20 @@
 -- The laws on lives: the opening has them, and a begin and each event of an honest end keep them.
-use Rattle.std.proofs.Common.{◌≡◌, ◌≢◌, ℕ, suc, zero, ◌+◌, ◌-◌, ◌%◌, ◌^◌, ◌<◌, ◌≤◌, ◌==◌, ◌⊎◌, inl, inr, Bool, true, false, not, ◌||◌, ◌&&◌, Option, Some, None, IsSome, is_some, List, [], ◌∷◌, ◌++◌, length, slice_index, refl, subst, sym, ap, ◌∙◌, arith, append_assoc, append-nil, length-append}
+use Rattle.std.proofs.Common.{◌≡◌, ◌≢◌, ℕ, ◌+◌, ◌-◌, ◌^◌, ◌<◌, ◌≤◌, ◌⊎◌, inl, inr, Bool, true, false, not, cond, ◌||◌, ◌&&◌, Option, Some, None, IsSome, List, [], ◌∷◌, ◌++◌, length, refl, subst, sym, ap, ◌∙◌, arith, append-nil, length-append}
 use Rattle.std.proofs.lemmas.Bool.{false≢true, eq-eqb, eqb-true}
 use Rattle.std.proofs.lemmas.Bool.Decides.{nat_tests}
 use Rattle.std.proofs.lemmas.List.{nil_from_length}
 use Rattle.ring_words.specs.Rings.{size, diff, ready}
-use Rattle.ring_words.specs.Page.{index_of, order_of}
+use Rattle.ring_words.specs.Page.{order_of}
 use Rattle.ring_words.specs.declared.order.Order.{Order}
 use Rattle.ring_words.specs.declared.order.Orders.{Orders}
 use Rattle.ring_words.specs.declared.page.Role.{Role}
 use Rattle.ring_words.specs.declared.page.Role.TheVariants.{Server, Client}
 use Rattle.ring_words.specs.declared.page.Ring.TheVariants.{Left, Right}
 use Rattle.ring_words.specs.declared.page.WordName.{WordName}
-use Rattle.ring_words.specs.declared.page.WordName.TheVariants.{LeftCons, LeftProd, RightCons, RightProd, LeftOrder, RightOrder, CliLive, SrvLive}
+use Rattle.ring_words.specs.declared.page.WordName.TheVariants.{LeftCons, LeftProd, RightCons, RightProd, LeftOrder, RightOrder}
 use Rattle.ring_words.proofs.RingLaws.{diff_counts, size-within}
 use Rattle.vchan_core.specs.declared.op.Op.{Op}
-use Rattle.vchan_core.specs.declared.op.Op.TheVariants.{Load, LoadByte, Store, StoreByte, Or, And, Swap, Nothing}
+use Rattle.vchan_core.specs.declared.op.Op.TheVariants.{Load, Store}
 use Rattle.vchan_core.specs.declared.op.PastEvent.{PastEvent}
 use Rattle.vchan_core.specs.declared.call.Answer.{Answer}
 use Rattle.vchan_core.specs.declared.call.Answer.TheVariants.{Done, AllRead, BadOrders, PeerGone as IsGone}
@@ -25,16 +25,17 @@ use Rattle.vchan_core.specs.declared.side.Side.{Side}
 use Rattle.vchan_core.specs.declared.side.Begun.{Begun}
 use Rattle.vchan_core.specs.declared.side.EndedBy.{EndedBy}
 use Rattle.vchan_core.specs.Plan.{Plan, answers, does, GoesOn, Leads, next_op, after, past, left_after}
-use Rattle.vchan_core.specs.Ends.{Standing, state_after, cons_after, own_live, own_gone, peer_live, peer_gone, prod_word, read_ring, low32}
+use Rattle.vchan_core.specs.Ends.{Standing, state_after, cons_after, own_live, own_gone, peer_live, peer_gone, prod_word, read_ring}
 use Rattle.vchan_core.specs.Calls.{plan_of}
 use Rattle.vchan_core.specs.Apply.{words_after, value_taken}
 use Rattle.vchan_core.specs.Page.{live_word}
-use Rattle.vchan_core.specs.Core.{Core, opened, side_of, event, begun, begins, plan_left, plan_next, op_next, taken_next, begun_standing, standing_of, standing_along, made, settled, answered, saw_after, sent_after, sent_stored, got_after, got_stored, bytes_loaded, count_stored, is_shut, sees_end, ending, drains, misleads, first_ended}
+use Rattle.vchan_core.specs.Core.{Core, opened, side_of, event, begun, begins, plan_left, plan_next, op_next, taken_next, begun_standing, made, settled, answered, saw_after, sent_after, sent_stored, got_after, got_stored, bytes_loaded, is_shut, sees_end, ending, drains, misleads, first_ended}
 use Rattle.vchan_core.specs.RingLaw.{index_at, word_at, IsPrefixOf, RingLawful, CallLawful, IsLawfulIn, IsLawfulCall}
-use Rattle.vchan_core.specs.LifeLaw.{LifeLawful, SightLawful, StreamLawful, WordsTell, TellsGone, SaysOrders, OrdersGive, OrderGives, LooksGive, LookGives, LoadGives, shows_end, has_seen}
+use Rattle.vchan_core.specs.LifeLaw.{LifeLawful, SightLawful, StreamLawful, TellsGone, SaysOrders, OrdersGive, OrderGives, LooksGive, LookGives, LoadGives, shows_end, has_seen, sets_gone}
+use Rattle.vchan_core.specs.Peer.{peer, held}
 use Rattle.vchan_core.specs.Lawful.{Lawful}
 use Rattle.vchan_core.proofs.LifeTrails.{Lives, OwesLife, OwesStore, OwesAnswer, or_false, or_assoc, lives_call, Lives-Leads}
-use Rattle.vchan_core.proofs.LifeWords.{spared_stays, left_order_spared, right_order_spared, peer_live_spared, peer_gone_spared, shut_stays, fresh_before, live_tells, gone_tells, shown_shut, order_given}
+use Rattle.vchan_core.proofs.LifeWords.{spared_stays, left_order_spared, right_order_spared, peer_live_spared, peer_gone_spared, shut_stays, fresh_before, live_tells, gone_tells, shown_shut, order_given, gone_is, peer_unset}
 
 -- ---- the opening
 
@@ -542,3 +543,38 @@ life_event core Client h lives more left right =
     (acts_between Client core.start core.said core.orders core.words core.client core.server h.client_call more (long_words core h) h.client_end.role_is h.client_end.orders_are (as_client core lives) h.right.lawful.prod
     (right.lawful.own_cons, right.lawful.prefix, right.lawful.fits))
     lives.server_opened
+
+-- ---- the gone words
+
+owes_life : (core : Core) (who : Role) → Lawful core → GoesOn (plan_left (side_of core who)) → OwesLife (op_next (side_of core who)) (side_of core who).role (side_of core who).state
+owes_life core Server h more =
+    owes_next core.start core.said core.orders core.words core.server core.client (in_lawful_call core.server h.server_call more) more (long_words core h)
+    (subst (λ (r : Role). Between r core.start core.said core.orders core.words core.server core.client) (sym h.server_end.role_is) (as_server core h.lives))
+    (subst (λ (r : Role). word_at core.orders core.words (prod_word (read_ring r)) ≡ index_at core.start (length core.client.sent)) (sym h.server_end.role_is) h.left.lawful.prod)
+owes_life core Client h more =
+    owes_next core.start core.said core.orders core.words core.client core.server (in_lawful_call core.client h.client_call more) more (long_words core h)
+    (subst (λ (r : Role). Between r core.start core.said core.orders core.words core.client core.server) (sym h.client_end.role_is) (as_client core h.lives))
+    (subst (λ (r : Role). word_at core.orders core.words (prod_word (read_ring r)) ≡ index_at core.start (length core.server.sent)) (sym h.client_end.role_is) h.right.lawful.prod)
+
+owes_as : (core : Core) (who : Role) → Lawful core → GoesOn (plan_left (side_of core who)) → OwesLife (op_next (side_of core who)) who (side_of core who).state
+owes_as core Server h more = subst (λ (r : Role). OwesLife (op_next core.server) r core.server.state) h.server_end.role_is (owes_life core Server h more)
+owes_as core Client h more = subst (λ (r : Role). OwesLife (op_next core.client) r core.client.state) h.client_end.role_is (owes_life core Client h more)
+
+-- the words of a gone word's end, and of its peer
+gone_own : (core : Core) (who : Role) (payload : List ℕ) → Lawful core → GoesOn (plan_left (side_of core who)) →
+    word_at core.orders (words_after core.orders core.words payload (op_next (side_of core who))) (own_gone who) ≡ cond (sets_gone (op_next (side_of core who)) who) 1 (held core (own_gone who))
+gone_own core who payload h more = gone_is core.orders core.words payload (long_words core h) (op_next (side_of core who)) who (side_of core who).state (owes_as core who h more)
+
+gone_peer : (core : Core) (who : Role) (payload : List ℕ) → Lawful core → GoesOn (plan_left (side_of core who)) →
+    word_at core.orders (words_after core.orders core.words payload (op_next (side_of core who))) (peer_gone who) ≡ cond (sets_gone (op_next (side_of core who)) (peer who)) 1 (held core (peer_gone who))
+gone_peer core who payload h more =
+    spared_stays core.orders core.words payload (op_next (side_of core who)) who (side_of core who).state _ (peer_gone_spared core.orders who) (owes_as core who h more)
+    ∙ sym (ap (λ (b : Bool). cond b 1 (held core (peer_gone who))) (peer_unset (op_next (side_of core who)) who (side_of core who).state (owes_as core who h more)))
+
+-- a gone word is set once, by its own end
+pub gone_set : (core : Core) (who whose : Role) → Lawful core → GoesOn (plan_left (side_of core who)) → held (event core who) (own_gone whose) ≡ cond (sets_gone (op_next (side_of core who)) whose) 1 (held core (own_gone whose))
+unfolding event
+gone_set core Server Server h more = gone_own core Server core.server.payload h more
+gone_set core Client Client h more = gone_own core Client core.client.payload h more
+gone_set core Server Client h more = gone_peer core Server core.server.payload h more
+gone_set core Client Server h more = gone_peer core Client core.client.payload h more

@@ -1,5 +1,5 @@
 -- What each event of a call owes to the lives of the two ends, and what an answer that ends a stream rests on.
-use Rattle.std.proofs.Common.{◌≡◌, ◌≢◌, ℕ, suc, zero, ◌+◌, ◌-◌, ◌%◌, ◌^◌, ◌<◌, ◌≤◌, ◌==◌, min, nat_lt, Bool, true, false, not, cond, ◌||◌, ◌&&◌, List, [], ◌∷◌, ◌++◌, length, refl, subst, sym, ap, ◌∙◌, arith}
+use Rattle.std.proofs.Common.{◌≡◌, ◌≢◌, ℕ, suc, zero, ◌+◌, ◌%◌, ◌^◌, ◌==◌, min, nat_lt, Bool, true, false, not, cond, ◌||◌, ◌&&◌, List, [], ◌∷◌, refl, subst, sym, ap, ◌∙◌, arith}
 use Rattle.std.proofs.lemmas.Bool.{eqb-true, eq-eqb, false≢true}
 use Rattle.ring_words.specs.Rings.{ready, number_of}
 use Rattle.ring_words.specs.Page.{order_of}
@@ -20,8 +20,8 @@ use Rattle.vchan_core.specs.declared.call.Call.TheVariants.{Write, Send, Read, R
 use Rattle.vchan_core.specs.declared.call.EndState.{EndState}
 use Rattle.vchan_core.specs.declared.call.EndState.TheVariants.{Fresh, Open, Shut}
 use Rattle.vchan_core.specs.Plan.{Plan, does, answers, Leads}
-use Rattle.vchan_core.specs.Ends.{Standing, standing_after, state_after, cons_after, written_ring, read_ring, prod_word, cons_word, ask_word, notify_word, peer_live, own_live, own_pending, own_gone, peer_gone, peer_pending, mask, low8, low16, low32, read_order, free_at, ready_at}
-use Rattle.vchan_core.specs.Calls.{put_bytes, take_bytes, put_index, take_index, put, take, notify, signal, ask, look_read, look_write, write, write_open, write_looked, read, read_live, read_looked, drain_found, drain_last, drain_gone, drain_further, drain_live, drain_second, drain, connect, connect_right, connect_looked, close, retire, retire_shut, plan_of, send, send_open, send_looked, recv, recv_live, recv_looked, IsAllowed}
+use Rattle.vchan_core.specs.Ends.{Standing, standing_after, state_after, cons_after, written_ring, read_ring, prod_word, cons_word, ask_word, notify_word, peer_live, own_live, own_pending, own_gone, peer_gone, peer_pending, low8, low16, low32, free_at, ready_at}
+use Rattle.vchan_core.specs.Calls.{put_bytes, take_bytes, put, take, notify, signal, ask, look_read, look_write, write, write_open, write_looked, read, read_live, read_looked, drain_found, drain_last, drain_gone, drain_further, drain_live, drain_second, drain, connect, connect_right, close, retire, retire_shut, plan_of, send, send_open, send_looked, recv, recv_live, recv_looked, IsAllowed}
 use Rattle.vchan_core.specs.Core.{standing_along, sees_end}
 use Rattle.vchan_core.specs.LifeLaw.{shows_end, has_seen, LoadGives, LookGives, LooksGive, SaidGives, OrderGives, OrdersGive, SaysOrders}
 

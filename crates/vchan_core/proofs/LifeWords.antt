@@ -1,10 +1,9 @@
 -- What an event of an honest end leaves in the live bytes, the gone words and the order words.
-use Rattle.std.proofs.Common.{◌≡◌, ◌≢◌, ℕ, suc, zero, ◌+◌, ◌%◌, ◌^◌, ◌<◌, ◌≤◌, ◌==◌, ◌⊎◌, inl, inr, Bool, true, false, not, List, length, slice_index, slice_set, get_or-set_same, get_or-set_other, refl, subst, sym, ap, ◌∙◌, arith}
+use Rattle.std.proofs.Common.{◌≡◌, ◌≢◌, ℕ, suc, zero, ◌<◌, ◌≤◌, ◌==◌, inl, inr, Bool, true, false, not, cond, List, length, slice_index, slice_set, get_or-set_same, get_or-set_other, refl, subst, sym, ap, ◌∙◌, arith}
 use Rattle.std.proofs.lemmas.List.{set-get_or}
 use Rattle.std.proofs.lemmas.Bool.{false≢true}
 use Rattle.ring_words.specs.Page.{index_of}
 use Rattle.ring_words.specs.declared.order.Orders.{Orders}
-use Rattle.ring_words.specs.declared.page.Ring.{Ring}
 use Rattle.ring_words.specs.declared.page.Ring.TheVariants.{Left, Right}
 use Rattle.ring_words.specs.declared.page.Role.{Role}
 use Rattle.ring_words.specs.declared.page.Role.TheVariants.{Server, Client}
@@ -15,10 +14,11 @@ use Rattle.vchan_core.specs.declared.op.Op.TheVariants.{Load, LoadByte, Store, S
 use Rattle.vchan_core.specs.declared.call.EndState.{EndState}
 use Rattle.vchan_core.specs.declared.call.EndState.TheVariants.{Fresh, Open, Shut}
 use Rattle.vchan_core.specs.Ends.{state_after, live_stored, own_live, own_gone, peer_live, peer_gone, low8}
-use Rattle.vchan_core.specs.Apply.{word_of, leaves, words_after, value_taken}
+use Rattle.vchan_core.specs.Apply.{word_of, words_after, value_taken}
 use Rattle.vchan_core.specs.Page.{live_word}
 use Rattle.vchan_core.specs.Core.{sees_end}
-use Rattle.vchan_core.specs.LifeLaw.{TellsGone, OrderGives, SaidGives, shows_end}
+use Rattle.vchan_core.specs.LifeLaw.{TellsGone, OrderGives, SaidGives, shows_end, sets_gone, sets_gone_word}
+use Rattle.vchan_core.specs.Peer.{peer}
 use Rattle.vchan_core.proofs.LifeTrails.{OwesLife, OwesStore, IsFlag, IsRingByte}
 
 -- ---- which words an event is on
@@ -119,6 +119,28 @@ fresh_before (Store word value) role state is = go word role value is
     go _ role value is = is
 fresh_before _ role state is = is
 
+-- only a shut end sets its gone word
+gone_of_shut : (op : Op) (role : Role) (state : EndState) → OwesLife op role state → sets_gone op role ≡ true → state ≡ Shut
+gone_of_shut (Store word value) role state owes sets = go word role owes sets
+  where
+    go : (word : WordName) (role : Role) → OwesStore word role state value → sets_gone_word word role ≡ true → state ≡ Shut
+    go CliGone Client owes sets = owes.1
+    go SrvGone Server owes sets = owes.1
+    go _ role owes sets = absurd (false≢true sets)
+gone_of_shut _ role state owes sets = absurd (false≢true sets)
+
+-- an end never sets the gone word of its peer
+pub peer_unset : (op : Op) (role : Role) (state : EndState) → OwesLife op role state → sets_gone op (peer role) ≡ false
+peer_unset (Store word value) role state owes = go word role owes
+  where
+    go : (word : WordName) (role : Role) → OwesStore word role state value → sets_gone_word word (peer role) ≡ false
+    go SrvGone Client owes = absurd owes
+    go CliGone Server owes = absurd owes
+    go SrvGone Server owes = refl
+    go CliGone Client owes = refl
+    go _ role owes = refl
+peer_unset _ role state owes = refl
+
 module _ (orders : Orders) (words payload : List ℕ) (long : 14 ≤ length words) where
   stays : (n v m : ℕ) → n ≢ m → slice_index (slice_set words m v) n ≡ slice_index words n
   stays n v m apart = get_or-set_other words m n v 0 apart
@@ -165,35 +187,42 @@ module _ (orders : Orders) (words payload : List ℕ) (long : 14 ≤ length word
   gone_range Server = (omega arith, omega arith)
   gone_range Client = (omega arith, omega arith)
 
-  gone_stays : (n : ℕ) (state then_state : EndState) (was now : ℕ) → now ≡ was → (state ≡ Shut → then_state ≡ Shut) → TellsGone was state → TellsGone now then_state
-  gone_stays n state then_state was now same shut (inl none) = inl (same ∙ none)
-  gone_stays n state then_state was now same shut (inr gone) = inr (same ∙ gone.0, shut gone.1)
+  -- a gone word is 1 from the store to it on, and stays as it is in every other event of its end
+  gone_stored : (word : WordName) (role : Role) (value : ℕ) (state : EndState) → OwesStore word role state value →
+      slice_index (slice_set words (index_of orders word) value) (index_of orders (own_gone role)) ≡ cond (sets_gone_word word role) 1 (slice_index words (index_of orders (own_gone role)))
+  gone_stored CliGone Client value state owes = stored_is 13 value (omega arith) ∙ owes.0
+  gone_stored SrvGone Server value state owes = stored_is 12 value (omega arith) ∙ owes.0
+  gone_stored CliLive Client value state owes = stays 13 value 6 (λ is. omega (arith, is))
+  gone_stored SrvLive Server value state owes = stays 12 value 7 (λ is. omega (arith, is))
+  gone_stored LeftProd Client value state owes = stays 13 value 1 (λ is. omega (arith, is))
+  gone_stored RightProd Server value state owes = stays 12 value 3 (λ is. omega (arith, is))
+  gone_stored LeftCons Server value state owes = stays 12 value 0 (λ is. omega (arith, is))
+  gone_stored RightCons Client value state owes = stays 13 value 2 (λ is. omega (arith, is))
+  gone_stored CliPending Server value state owes = stays 12 value 11 (λ is. omega (arith, is))
+  gone_stored SrvPending Client value state owes = stays 13 value 10 (λ is. omega (arith, is))
+  gone_stored _ role value state owes = absurd owes
 
-  gone_stored_tells : (word : WordName) (role : Role) (value : ℕ) (state : EndState) → OwesStore word role state value → (state ≡ Shut → live_stored word role value state ≡ Shut) → TellsGone (slice_index words (index_of orders (own_gone role))) state →
-      TellsGone (slice_index (slice_set words (index_of orders word) value) (index_of orders (own_gone role))) (live_stored word role value state)
-  gone_stored_tells CliGone Client value state owes shut tells = inr (stored_is 13 value (omega arith) ∙ owes.0, owes.1)
-  gone_stored_tells SrvGone Server value state owes shut tells = inr (stored_is 12 value (omega arith) ∙ owes.0, owes.1)
-  gone_stored_tells CliLive Client value state owes shut tells = gone_stays 13 state _ _ _ (stays 13 value 6 (λ is. omega (arith, is))) shut tells
-  gone_stored_tells SrvLive Server value state owes shut tells = gone_stays 12 state _ _ _ (stays 12 value 7 (λ is. omega (arith, is))) shut tells
-  gone_stored_tells LeftProd Client value state owes shut tells = gone_stays 13 state _ _ _ (stays 13 value 1 (λ is. omega (arith, is))) shut tells
-  gone_stored_tells RightProd Server value state owes shut tells = gone_stays 12 state _ _ _ (stays 12 value 3 (λ is. omega (arith, is))) shut tells
-  gone_stored_tells LeftCons Server value state owes shut tells = gone_stays 12 state _ _ _ (stays 12 value 0 (λ is. omega (arith, is))) shut tells
-  gone_stored_tells RightCons Client value state owes shut tells = gone_stays 13 state _ _ _ (stays 13 value 2 (λ is. omega (arith, is))) shut tells
-  gone_stored_tells CliPending Server value state owes shut tells = gone_stays 12 state _ _ _ (stays 12 value 11 (λ is. omega (arith, is))) shut tells
-  gone_stored_tells SrvPending Client value state owes shut tells = gone_stays 13 state _ _ _ (stays 13 value 10 (λ is. omega (arith, is))) shut tells
-  gone_stored_tells _ role value state owes shut tells = absurd owes
+  pub gone_is : (op : Op) (role : Role) (state : EndState) → OwesLife op role state →
+      slice_index (words_after orders words payload op) (index_of orders (own_gone role)) ≡ cond (sets_gone op role) 1 (slice_index words (index_of orders (own_gone role)))
+  gone_is (Load word) role state owes = ap (λ (w : List ℕ). slice_index w (index_of orders (own_gone role))) (set-get_or words (index_of orders word) 0)
+  gone_is (LoadByte word at) role state owes = ap (λ (w : List ℕ). slice_index w (index_of orders (own_gone role))) (set-get_or words (index_of orders word) 0)
+  gone_is (Store word value) role state owes = gone_stored word role value state owes
+  gone_is (StoreByte word at) role state owes = stays _ _ _ (λ is. omega (arith, is, (gone_range role).1, byte_number orders word owes))
+  gone_is (Or word bits) role state owes = stays _ _ _ (λ is. omega (arith, is, (gone_range role).0, (flag_number orders word owes).1))
+  gone_is (And word bits) role state owes = stays _ _ _ (λ is. omega (arith, is, (gone_range role).0, (flag_number orders word owes).1))
+  gone_is (Swap word value) role state owes = stays _ _ _ (λ is. omega (arith, is, (gone_range role).0, (flag_number orders word owes).1))
+  gone_is Nothing role state owes = absurd owes
 
-  -- the gone word tells it too
+  -- so it tells of a shut end after an event too
   pub gone_tells : (op : Op) (role : Role) (state : EndState) → OwesLife op role state → TellsGone (slice_index words (index_of orders (own_gone role))) state →
       TellsGone (slice_index (words_after orders words payload op) (index_of orders (own_gone role))) (state_after op role state)
-  gone_tells (Load word) role state owes tells = gone_stays 0 state state _ _ (ap (λ (w : List ℕ). slice_index w (index_of orders (own_gone role))) (set-get_or words (index_of orders word) 0)) (λ shut. shut) tells
-  gone_tells (LoadByte word at) role state owes tells = gone_stays 0 state state _ _ (ap (λ (w : List ℕ). slice_index w (index_of orders (own_gone role))) (set-get_or words (index_of orders word) 0)) (λ shut. shut) tells
-  gone_tells (Store word value) role state owes tells = gone_stored_tells word role value state owes (shut_stays (Store word value) role state owes) tells
-  gone_tells (StoreByte word at) role state owes tells = gone_stays 0 state state _ _ (stays _ _ _ (λ is. omega (arith, is, (gone_range role).1, byte_number orders word owes))) (λ shut. shut) tells
-  gone_tells (Or word bits) role state owes tells = gone_stays 0 state state _ _ (stays _ _ _ (λ is. omega (arith, is, (gone_range role).0, (flag_number orders word owes).1))) (λ shut. shut) tells
-  gone_tells (And word bits) role state owes tells = gone_stays 0 state state _ _ (stays _ _ _ (λ is. omega (arith, is, (gone_range role).0, (flag_number orders word owes).1))) (λ shut. shut) tells
-  gone_tells (Swap word value) role state owes tells = gone_stays 0 state state _ _ (stays _ _ _ (λ is. omega (arith, is, (gone_range role).0, (flag_number orders word owes).1))) (λ shut. shut) tells
-  gone_tells Nothing role state owes tells = absurd owes
+  gone_tells op role state owes tells = go (sets_gone op role) refl tells
+    where
+      go : (sets : Bool) → sets_gone op role ≡ sets → TellsGone (slice_index words (index_of orders (own_gone role))) state →
+          TellsGone (slice_index (words_after orders words payload op) (index_of orders (own_gone role))) (state_after op role state)
+      go true sets tells = inr (gone_is op role state owes ∙ ap (λ (b : Bool). cond b 1 (slice_index words (index_of orders (own_gone role)))) sets, shut_stays op role state owes (gone_of_shut op role state owes sets))
+      go false sets (inl none) = inl (gone_is op role state owes ∙ ap (λ (b : Bool). cond b 1 (slice_index words (index_of orders (own_gone role)))) sets ∙ none)
+      go false sets (inr gone) = inr (gone_is op role state owes ∙ ap (λ (b : Bool). cond b 1 (slice_index words (index_of orders (own_gone role)))) sets ∙ gone.0, shut_stays op role state owes gone.1)
 
 -- ---- what a load takes
 

@@ -1,5 +1,5 @@
 -- What holds of a core state for which a page stands holds on after each call on the page.
-use Rattle.std.proofs.Common.{◌≡◌, ℕ, ◌<◌, ◌≤◌, false, Option, Some, None, List, length, take, slice_index, refl, subst, sym, ap, ◌∙◌}
+use Rattle.std.proofs.Common.{◌≡◌, ℕ, ◌<◌, ◌≤◌, false, Option, Some, None, List, length, take, slice_index, refl, subst, sym, ◌∙◌}
 use Rattle.std.proofs.lemmas.List.{get_or_default}
 use Rattle.std.proofs.lemmas.List.Elements.{All-take}
 use Rattle.ring_words.specs.declared.page.Role.{Role}
@@ -9,12 +9,12 @@ use Rattle.vchan_core.specs.declared.side.Side.{Side}
 use Rattle.vchan_core.specs.declared.side.Begun.{Begun}
 use Rattle.vchan_core.specs.declared.machine.Machine.{Machine}
 use Rattle.vchan_core.specs.declared.plain.Plain.{Plain}
-use Rattle.vchan_core.specs.Plan.{Plan, does, answers, GoesOn}
+use Rattle.vchan_core.specs.Plan.{GoesOn}
 use Rattle.vchan_core.specs.Ends.{Standing}
 use Rattle.vchan_core.specs.Calls.{payload_of, IsAllowed}
-use Rattle.vchan_core.specs.Core.{Core, side_of, begun, event, plan_left, settled}
+use Rattle.vchan_core.specs.Core.{Core, side_of, begun, event, plan_left}
 use Rattle.vchan_core.specs.Alone.{called}
-use Rattle.vchan_core.specs.Phases.{standing, rest, IsIdle, Allows}
+use Rattle.vchan_core.specs.Phases.{standing, IsIdle, Allows}
 use Rattle.vchan_core.specs.Past.{IsInCall, IsMachineOf, StandsFor, machine_of, turned_of}
 use Rattle.vchan_core.specs.RingLaw.{AreBytes}
 use Rattle.vchan_core.specs.Reached.{MayBegin}

@@ -1,22 +1,15 @@
 -- How the bytes of a PUT and of a TAKE go on.
-use Rattle.std.proofs.Common.{◌≡◌, ℕ, suc, zero, ◌+◌, ◌-◌, ◌%◌, ◌^◌, ◌<◌, ◌≤◌, List, [], ◌∷◌, ◌++◌, Option, Some, None, IsNone, refl, subst, sym, ap, ◌∙◌, arith}
+use Rattle.std.proofs.Common.{◌≡◌, ℕ, suc, zero, ◌+◌, ◌-◌, ◌<◌, ◌≤◌, List, [], ◌∷◌, ◌++◌, Option, Some, None, IsNone, refl, subst, sym, ap, ◌∙◌, arith}
 use Rattle.ring_words.specs.Rings.{place}
-use Rattle.ring_words.specs.Page.{order_of}
-use Rattle.ring_words.specs.declared.page.WordName.{WordName}
-use Rattle.ring_words.specs.declared.page.WordName.TheVariants.{RingByte, CliLive}
-use Rattle.vchan_core.specs.declared.op.Op.TheVariants.{StoreByte, LoadByte, Load, Store, Or, And, Swap}
+use Rattle.ring_words.specs.declared.page.WordName.TheVariants.{RingByte}
+use Rattle.vchan_core.specs.declared.op.Op.TheVariants.{StoreByte, LoadByte}
 use Rattle.vchan_core.specs.declared.machine.Machine.{Machine}
 use Rattle.vchan_core.specs.declared.call.Answer.TheVariants.{PeerClosed}
 use Rattle.vchan_core.specs.declared.phase.Phase.{Phase}
 use Rattle.vchan_core.specs.declared.phase.Phase.TheVariants.{Put, Take}
-use Rattle.ring_words.specs.declared.page.Role.{Role}
-use Rattle.ring_words.specs.declared.page.Role.TheVariants.{Server, Client}
-use Rattle.ring_words.specs.declared.order.Orders.{Orders}
-use Rattle.vchan_core.specs.declared.call.EndState.{EndState}
-use Rattle.vchan_core.specs.declared.call.EndState.TheVariants.{Open, Shut}
 use Rattle.vchan_core.specs.declared.op.Op.{Op}
 use Rattle.vchan_core.specs.Plan.{left_after, Plan, does, answers, GoesOn, Leads, past, next_op, after}
-use Rattle.vchan_core.specs.Ends.{write_order, read_order, Standing, written_ring, read_ring, prod_word, cons_word, own_live, own_gone, peer_pending}
+use Rattle.vchan_core.specs.Ends.{write_order, read_order, Standing, written_ring, read_ring}
 use Rattle.vchan_core.specs.Calls.{put_bytes, take_bytes, write, write_open, read, read_live, send, send_open, recv, recv_live, drain, drain_second, drain_live, drain_further, drain_gone, drain_last, connect, connect_right}
 use Rattle.vchan_core.specs.Phases.{rest_at, rest, standing, IsIdle}
 use Rattle.vchan_core.specs.declared.op.PastEvent.{PastEvent}

@@ -1,7 +1,6 @@
 -- The next event of an end keeps each ring of its page lawful.
-use Rattle.std.proofs.Common.{◌≡◌, ◌≢◌, ℕ, suc, zero, ◌+◌, ◌-◌, ◌%◌, ◌^◌, ◌<◌, ◌≤◌, Bool, true, false, cond, Option, Some, None, List, [], ◌∷◌, ◌++◌, length, take, slice_index, slice_set, bit_and, bit_or, refl, subst, sym, ap, ◌∙◌, arith, length-append}
-use Rattle.std.proofs.lemmas.Bool.{false≢true}
-use Rattle.std.proofs.lemmas.List.{get_or-set_other, get_or-set_same, set-get_or, length-set}
+use Rattle.std.proofs.Common.{◌≡◌, ◌≢◌, ℕ, suc, zero, ◌+◌, ◌-◌, ◌%◌, ◌^◌, ◌<◌, ◌≤◌, Bool, true, false, cond, Some, List, [], ◌∷◌, ◌++◌, length, take, slice_index, slice_set, refl, subst, sym, ap, ◌∙◌, arith, length-append}
+use Rattle.std.proofs.lemmas.List.{get_or-set_other, get_or-set_same, set-get_or}
 use Rattle.ring_words.specs.Rings.{size, place, room, ready}
 use Rattle.ring_words.specs.Page.{index_of, order_of, Has, word_count}
 use Rattle.ring_words.specs.declared.order.Order.{Order}
@@ -19,14 +18,14 @@ use Rattle.vchan_core.specs.declared.op.Op.TheVariants.{Load, LoadByte, Store, S
 use Rattle.vchan_core.specs.declared.op.PastEvent.{PastEvent}
 use Rattle.vchan_core.specs.declared.side.Side.{Side}
 use Rattle.vchan_core.specs.declared.side.Begun.{Begun}
-use Rattle.vchan_core.specs.Plan.{past, left_after}
+use Rattle.vchan_core.specs.Plan.{left_after}
 use Rattle.vchan_core.specs.Ends.{Standing, written_ring, read_ring, prod_word, cons_word, low32, prod_after, cons_after, prod_stored, cons_stored}
 use Rattle.vchan_core.specs.Calls.{plan_of}
-use Rattle.vchan_core.specs.Apply.{words_after, value_taken, word_of, leaves}
+use Rattle.vchan_core.specs.Apply.{words_after, value_taken}
 use Rattle.vchan_core.specs.Core.{begun_standing, made, count_stored, bytes_loaded, sent_stored, sent_after, got_stored, got_after}
 use Rattle.vchan_core.specs.SoFar.{SoFar, so_far, so_far_after, so_far_loaded, so_far_stored, nothing_so_far, unshown, unreleased}
 use Rattle.vchan_core.specs.RingLaw.{Channel, IsLawful, IsLawfulCall, AreBytes, word_at, channel_between, index_at}
-use Rattle.vchan_core.proofs.Sound.{OwesSound, OwesStored, IsFlag, StoresByte, StoresProd, StoresCons, LoadsByte}
+use Rattle.vchan_core.proofs.Sound.{OwesSound, OwesStored, IsFlag, StoresProd, StoresCons}
 use Rattle.vchan_core.proofs.SoFarLaws.{so_far-push, stored-is, loaded-is}
 use Rattle.vchan_core.proofs.ChannelLaws.{lawful-same, lawful-look_write, lawful-store_byte, lawful-store_prod, lawful-look_read, lawful-load_byte, lawful-store_cons}
 use Rattle.vchan_core.proofs.Counted.{counts_within}
@@ -204,9 +203,10 @@ wrote_index ring r orders words prod sent payload n index value count order size
 prod_room : (e : Standing) (order : Order) (prod was : ℕ) (n : SoFar) (value : ℕ) (owes : StoresProd e n value) → order_of e.orders (written_ring e.role) ≡ order → prod ≡ cond n.shown was e.prod →
     (n.stored ≤ room prod owes.index order) × (value ≡ (prod + n.stored) % 2 ^ 32)
 prod_room e order prod was n value owes order_is prod_is =
-    let same : prod ≡ e.prod = not_yet n.shown was e.prod prod owes.not_shown prod_is in
-    (subst (λ (p : ℕ). n.stored ≤ room p owes.index order) (sym same) (subst (λ (o : Order). n.stored ≤ room e.prod owes.index o) order_is owes.had_room),
-    owes.is ∙ ap (λ (p : ℕ). (p + n.stored) % 2 ^ 32) (sym same))
+    let same : prod ≡ e.prod = not_yet n.shown was e.prod prod owes.not_shown prod_is in (
+      subst (λ (p : ℕ). n.stored ≤ room p owes.index order) (sym same) (subst (λ (o : Order). n.stored ≤ room e.prod owes.index o) order_is owes.had_room),
+      owes.is ∙ ap (λ (p : ℕ). (p + n.stored) % 2 ^ 32) (sym same),
+    )
 
 wrote_stored : (word : WordName) (role : Role) (value : ℕ) (r : Channel) (orders : Orders) (words : List ℕ) (e : Standing) (prod was : ℕ) (sent payload : List ℕ) (trail : List PastEvent) (n : SoFar) →
     r.order ≡ order_of orders (written_ring role) → length words ≡ word_count orders → Has orders word → order_of e.orders (written_ring e.role) ≡ r.order → prod ≡ cond n.shown was e.prod → n.stored ≡ count_stored trail →

@@ -1,5 +1,5 @@
 -- A call that an end makes while the other makes no event: the loop over its events.
-use Rattle.std.proofs.Common.{◌≡◌, ℕ, suc, zero, ◌+◌, ◌-◌, ◌%◌, ◌^◌, ◌<◌, ◌≤◌, ◌↔◌, min, Option, Some, None, IsSome, is_some, true, List, [], ◌∷◌, ◌++◌, length, take, drop, slice_index, slice_set, get_or, refl, subst, sym, ap, ◌∙◌, arith, append_assoc, append-nil}
+use Rattle.std.proofs.Common.{◌≡◌, ℕ, suc, ◌%◌, ◌<◌, ◌≤◌, ◌↔◌, Option, Some, None, IsSome, is_some, true, List, [], ◌∷◌, ◌++◌, length, take, drop, slice_index, slice_set, get_or, refl, subst, sym, ap, ◌∙◌, arith, append_assoc, append-nil}
 use Rattle.std.proofs.lemmas.List.{length-take, length-append}
 use Rattle.std.proofs.lemmas.Bool.{false≢true}
 use Rattle.std.proofs.Math.Seq.{drop-cons, set-append_seam}
@@ -20,7 +20,7 @@ use Rattle.vchan_core.specs.Ends.{Standing}
 use Rattle.vchan_core.specs.Calls.{plan_of, payload_of}
 use Rattle.vchan_core.specs.Apply.{Fits, words_after, value_taken, buffer_after, filled}
 use Rattle.vchan_core.specs.Phases.{standing, rest, left, IsIdle}
-use Rattle.vchan_core.specs.Core.{Core, side_of, with_side, event, begun, standing_of, made, settled, answered, carried_out, loaded_by, bytes_loaded}
+use Rattle.vchan_core.specs.Core.{Core, side_of, with_side, event, begun, made, settled, answered, carried_out, loaded_by, bytes_loaded}
 use Rattle.vchan_core.specs.Alone.{alone, whole_call}
 use Rattle.vchan_core.specs.Past.{IsMachineOf, HasPayload, StandsFor, machine_of, orders_of, words_of, op_of}
 use Rattle.vchan_core.proofs.PlanLaws.{GoesOn-machine}

@@ -1,15 +1,12 @@
 -- No event of an honest end loses a signal.
-use Rattle.std.proofs.Common.{◌≡◌, ◌≢◌, ◌⊎◌, inl, inr, ℕ, ◌-◌, ◌<◌, ◌≤◌, ◌==◌, Bool, true, false, cond, Option, Some, None, List, [], ◌∷◌, ◌++◌, length, slice_index, slice_set, bit_and, bit_or, refl, subst, sym, ap, ◌∙◌, arith}
-use Rattle.std.proofs.lemmas.Bool.{false≢true, eqb-false, ne_eqb, cases_eq}
-use Rattle.std.proofs.lemmas.Nat.{and_or_self, and_or_apart, and_assoc}
-use Rattle.std.proofs.lemmas.List.{get_or-set_same, get_or-set_other, set-get_or, length-set}
+use Rattle.std.proofs.Common.{◌≡◌, ◌≢◌, ◌⊎◌, inl, inr, ℕ, ◌-◌, ◌≤◌, ◌==◌, Bool, true, false, cond, Option, Some, None, List, [], ◌∷◌, ◌++◌, length, slice_index, slice_set, bit_and, bit_or, refl, subst, sym, ap, ◌∙◌, arith}
+use Rattle.std.proofs.lemmas.Bool.{false≢true, eqb-false, cases_eq}
+use Rattle.std.proofs.lemmas.List.{length-set}
 use Rattle.std.proofs.lemmas.Option.{none-some, same_Some}
 use Rattle.ring_words.specs.Page.{index_of}
 use Rattle.ring_words.specs.declared.order.Orders.{Orders}
 use Rattle.ring_words.specs.declared.page.Role.{Role}
 use Rattle.ring_words.specs.declared.page.Role.TheVariants.{Server, Client}
-use Rattle.ring_words.specs.declared.page.Ring.{Ring}
-use Rattle.ring_words.specs.declared.page.Ring.TheVariants.{Left, Right}
 use Rattle.ring_words.specs.declared.page.WordName.{WordName}
 use Rattle.ring_words.specs.declared.page.WordName.TheVariants.{LeftCons, LeftProd, RightCons, RightProd, CliLive, SrvLive, RingByte}
 use Rattle.vchan_core.specs.declared.op.Op.{Op}
@@ -24,7 +21,7 @@ use Rattle.vchan_core.specs.declared.side.Side.{Side}
 use Rattle.vchan_core.specs.declared.side.Begun.{Begun}
 use Rattle.vchan_core.specs.declared.side.Notes.{Notes}
 use Rattle.vchan_core.specs.Plan.{Plan, answers, does, next_op, after, left_after, past, GoesOn}
-use Rattle.vchan_core.specs.Ends.{written_ring, read_ring, prod_word, cons_word, ask_word, notify_word, peer_live, own_live, own_pending, peer_pending, own_gone, mask, low8, low32}
+use Rattle.vchan_core.specs.Ends.{ask_word, peer_live, own_live, own_pending, own_gone, mask, low8, low32}
 use Rattle.vchan_core.specs.Calls.{plan_of}
 use Rattle.vchan_core.specs.Apply.{word_of, leaves, words_after, value_taken}
 use Rattle.vchan_core.specs.Core.{Core, opened, plan_next, side_of, with_side, plan_left, op_next, begun_standing, begins, begun, noted, noted_load, nothing_noted, made, settled, answered, carried_out, event}
@@ -33,6 +30,7 @@ use Rattle.vchan_core.specs.Peer.{peer, held}
 use Rattle.vchan_core.specs.Reached.{IsReached, opens, begins_call, makes_event}
 use Rattle.vchan_core.specs.SignalLaw.{own_index, peer_index, asked_of, test_of, signal_of, HasJust, OwesSignal, OwesTest, IsWoken, AskStands, IndexIsTold, CloseIsTold, NoLostSignal, HasEnds, IsWaiting, MissesNothing}
 use Rattle.vchan_core.proofs.StepLaws.{event_by}
+use Rattle.vchan_core.proofs.Watched.{held_other, held_written, kept_elsewhere, kept_all, ask_within, pending_within, ask-pending, ask-index, ask-live, index-ask, index-pending, index-live, index-other, live-ask, live-pending, live-index, unwatched_notify, unwatched_index, unwatched_own_live, unwatched_peer_pending, unwatched_gone, unwatched_peer_ask, unwatched_peer_own, unwatched_peer_gone, unwatched_high, byte_high, kept_connect, ask_is, pending_is, index_is, live_is, or_sets, or_keeps, and_keeps, each_bit, other_bit, WatchedKept, Unwatched}
 use Rattle.vchan_core.proofs.Notifies.{Deed, loads, loads_byte, stores_byte, asks, takes_event, tests, stores_index, closes, signals, connects, retires, Notifies, notifies_answers, notifies_call, Notifies-left, deed_of}
 
 -- ---- an end after an event
@@ -78,221 +76,6 @@ pub record Told (core : Core) (who : Role) : Type 0 where
   pub asks_stand : (bit : Bit) → AskStands core who bit
   pub indices_told : (bit : Bit) → IndexIsTold core who bit
   pub closes_told : CloseIsTold core who
-
--- ---- the words that an end watches
-
--- its ask word, its pending word, the two indices of its peer, and its peer's live byte
-pub record Kept (old new : Core) (who : Role) : Type 0 where
-  pub asks : held new (ask_word who) ≡ held old (ask_word who)
-  pub pending : held new (own_pending who) ≡ held old (own_pending who)
-  pub index : (bit : Bit) → held new (peer_index who bit) ≡ held old (peer_index who bit)
-  -- a live byte may be made other than 0
-  pub live : low8 (held new (peer_live who)) ≡ 0 → held new (peer_live who) ≡ held old (peer_live who)
-
--- the word of this number is none of these
-abbrev pub Unwatched : Orders → Role → ℕ → Type 0
-Unwatched orders who n =
-    ((index_of orders (ask_word who) == n) ≡ false) × ((index_of orders (own_pending who) == n) ≡ false) × ((index_of orders (prod_word (read_ring who)) == n) ≡ false) ×
-    ((index_of orders (cons_word (written_ring who)) == n) ≡ false) × ((index_of orders (peer_live who) == n) ≡ false)
-
-held_other : (old new : Core) (n value : ℕ) (word : WordName) → new.orders ≡ old.orders → new.words ≡ slice_set old.words n value → (index_of old.orders word == n) ≡ false → held new word ≡ held old word
-held_other old new n value word orders words other =
-    ap (λ (o : Orders). slice_index new.words (index_of o word)) orders ∙ ap (λ (w : List ℕ). slice_index w (index_of old.orders word)) words
-    ∙ get_or-set_other old.words n (index_of old.orders word) value 0 (eqb-false _ _ other)
-
-held_written : (old new : Core) (value : ℕ) (word : WordName) → new.orders ≡ old.orders → new.words ≡ slice_set old.words (index_of old.orders word) value → index_of old.orders word < length old.words → held new word ≡ value
-held_written old new value word orders words within =
-    ap (λ (o : Orders). slice_index new.words (index_of o word)) orders ∙ ap (λ (w : List ℕ). slice_index w (index_of old.orders word)) words
-    ∙ get_or-set_same old.words (index_of old.orders word) value 0 within
-
-kept_elsewhere : (old new : Core) (who : Role) (n value : ℕ) → new.orders ≡ old.orders → new.words ≡ slice_set old.words n value → Unwatched old.orders who n → Kept old new who
-kept_elsewhere old new who n value orders words un = record {
-  asks = held_other old new n value (ask_word who) orders words un.0;
-  pending = held_other old new n value (own_pending who) orders words un.1;
-  index = index;
-  live = λ _. held_other old new n value (peer_live who) orders words un.4;
-}
-  where
-    index : (bit : Bit) → held new (peer_index who bit) ≡ held old (peer_index who bit)
-    index Written = held_other old new n value (prod_word (read_ring who)) orders words un.2
-    index Consumed = held_other old new n value (cons_word (written_ring who)) orders words un.3
-
--- a load leaves all words
-kept_all : (old new : Core) (who : Role) (n : ℕ) → new.orders ≡ old.orders → new.words ≡ slice_set old.words n (slice_index old.words n) → Kept old new who
-kept_all old new who n orders words = record { asks = same (ask_word who); pending = same (own_pending who); index = λ bit. same (peer_index who bit); live = λ _. same (peer_live who) }
-  where
-    same : (word : WordName) → held new word ≡ held old word
-    same word =
-        ap (λ (o : Orders). slice_index new.words (index_of o word)) orders ∙ ap (λ (w : List ℕ). slice_index w (index_of old.orders word)) (words ∙ set-get_or old.words n 0)
-
--- ---- words of the header
-
--- the other bit
-abbrev pub other_bit : Bit → Bit
-other_bit Written = Consumed
-other_bit Consumed = Written
-
-ask_within : (orders : Orders) (who : Role) (n : ℕ) → 14 ≤ n → index_of orders (ask_word who) < n
-ask_within orders Server n h = omega (arith, h)
-ask_within orders Client n h = omega (arith, h)
-
-pending_within : (orders : Orders) (who : Role) (n : ℕ) → 14 ≤ n → index_of orders (own_pending who) < n
-pending_within orders Server n h = omega (arith, h)
-pending_within orders Client n h = omega (arith, h)
-
-live_within : (orders : Orders) (n : ℕ) → 14 ≤ n → index_of orders CliLive < n
-live_within orders n h = omega (arith, h)
-
-ask-pending : (orders : Orders) (who : Role) → (index_of orders (own_pending who) == index_of orders (ask_word who)) ≡ false
-ask-pending orders Server = refl
-ask-pending orders Client = refl
-
-ask-index : (orders : Orders) (who : Role) (bit : Bit) → (index_of orders (peer_index who bit) == index_of orders (ask_word who)) ≡ false
-ask-index orders Server Written = refl
-ask-index orders Server Consumed = refl
-ask-index orders Client Written = refl
-ask-index orders Client Consumed = refl
-
-ask-live : (orders : Orders) (who : Role) → (index_of orders (peer_live who) == index_of orders (ask_word who)) ≡ false
-ask-live orders Server = refl
-ask-live orders Client = refl
-
-index-ask : (orders : Orders) (who : Role) (bit : Bit) → (index_of orders (ask_word who) == index_of orders (peer_index who bit)) ≡ false
-index-ask orders Server Written = refl
-index-ask orders Server Consumed = refl
-index-ask orders Client Written = refl
-index-ask orders Client Consumed = refl
-
-index-pending : (orders : Orders) (who : Role) (bit : Bit) → (index_of orders (own_pending who) == index_of orders (peer_index who bit)) ≡ false
-index-pending orders Server Written = refl
-index-pending orders Server Consumed = refl
-index-pending orders Client Written = refl
-index-pending orders Client Consumed = refl
-
-index-live : (orders : Orders) (who : Role) (bit : Bit) → (index_of orders (peer_live who) == index_of orders (peer_index who bit)) ≡ false
-index-live orders Server Written = refl
-index-live orders Server Consumed = refl
-index-live orders Client Written = refl
-index-live orders Client Consumed = refl
-
-index-other : (orders : Orders) (who : Role) (bit : Bit) → (index_of orders (peer_index who (other_bit bit)) == index_of orders (peer_index who bit)) ≡ false
-index-other orders Server Written = refl
-index-other orders Server Consumed = refl
-index-other orders Client Written = refl
-index-other orders Client Consumed = refl
-
-live-ask : (orders : Orders) (who : Role) → (index_of orders (ask_word who) == index_of orders (peer_live who)) ≡ false
-live-ask orders Server = refl
-live-ask orders Client = refl
-
-live-pending : (orders : Orders) (who : Role) → (index_of orders (own_pending who) == index_of orders (peer_live who)) ≡ false
-live-pending orders Server = refl
-live-pending orders Client = refl
-
-live-index : (orders : Orders) (who : Role) (bit : Bit) → (index_of orders (peer_index who bit) == index_of orders (peer_live who)) ≡ false
-live-index orders Server Written = refl
-live-index orders Server Consumed = refl
-live-index orders Client Written = refl
-live-index orders Client Consumed = refl
-
--- ---- words that an end doesn't watch
-
-unwatched_notify : (orders : Orders) (who : Role) → Unwatched orders who (index_of orders (notify_word who))
-unwatched_notify orders Server = (refl, refl, refl, refl, refl)
-unwatched_notify orders Client = (refl, refl, refl, refl, refl)
-
-unwatched_index : (orders : Orders) (who : Role) (bit : Bit) → Unwatched orders who (index_of orders (own_index who bit))
-unwatched_index orders Server Written = (refl, refl, refl, refl, refl)
-unwatched_index orders Server Consumed = (refl, refl, refl, refl, refl)
-unwatched_index orders Client Written = (refl, refl, refl, refl, refl)
-unwatched_index orders Client Consumed = (refl, refl, refl, refl, refl)
-
-unwatched_own_live : (orders : Orders) (who : Role) → Unwatched orders who (index_of orders (own_live who))
-unwatched_own_live orders Server = (refl, refl, refl, refl, refl)
-unwatched_own_live orders Client = (refl, refl, refl, refl, refl)
-
-unwatched_peer_pending : (orders : Orders) (who : Role) → Unwatched orders who (index_of orders (peer_pending who))
-unwatched_peer_pending orders Server = (refl, refl, refl, refl, refl)
-unwatched_peer_pending orders Client = (refl, refl, refl, refl, refl)
-
-unwatched_gone : (orders : Orders) (who : Role) → Unwatched orders who (index_of orders (own_gone who))
-unwatched_gone orders Server = (refl, refl, refl, refl, refl)
-unwatched_gone orders Client = (refl, refl, refl, refl, refl)
-
--- what the peer asks with, takes its events from, and tells its end by
-unwatched_peer_ask : (orders : Orders) (who : Role) → Unwatched orders who (index_of orders (ask_word (peer who)))
-unwatched_peer_ask orders Server = (refl, refl, refl, refl, refl)
-unwatched_peer_ask orders Client = (refl, refl, refl, refl, refl)
-
-unwatched_peer_own : (orders : Orders) (who : Role) → Unwatched orders who (index_of orders (own_pending (peer who)))
-unwatched_peer_own orders Server = (refl, refl, refl, refl, refl)
-unwatched_peer_own orders Client = (refl, refl, refl, refl, refl)
-
-unwatched_peer_gone : (orders : Orders) (who : Role) → Unwatched orders who (index_of orders (own_gone (peer who)))
-unwatched_peer_gone orders Server = (refl, refl, refl, refl, refl)
-unwatched_peer_gone orders Client = (refl, refl, refl, refl, refl)
-
--- a ring byte
-unwatched_high : (orders : Orders) (who : Role) (n : ℕ) → 14 ≤ n → Unwatched orders who n
-unwatched_high orders Server n h = (ne_eqb _ _ (λ is. omega (arith, h, is)), ne_eqb _ _ (λ is. omega (arith, h, is)), ne_eqb _ _ (λ is. omega (arith, h, is)), ne_eqb _ _ (λ is. omega (arith, h, is)), ne_eqb _ _ (λ is. omega (arith, h, is)))
-unwatched_high orders Client n h = (ne_eqb _ _ (λ is. omega (arith, h, is)), ne_eqb _ _ (λ is. omega (arith, h, is)), ne_eqb _ _ (λ is. omega (arith, h, is)), ne_eqb _ _ (λ is. omega (arith, h, is)), ne_eqb _ _ (λ is. omega (arith, h, is)))
-
-byte_high : (orders : Orders) (ring : Ring) (at : ℕ) → 14 ≤ index_of orders (RingByte ring at)
-byte_high orders Left at = omega arith
-byte_high orders Right at = omega arith
-
--- a client that opens makes its live byte 1, and touches no other word that an end watches
-kept_connect : (old new : Core) (who : Role) → 14 ≤ length old.words → new.orders ≡ old.orders → new.words ≡ slice_set old.words (index_of old.orders CliLive) 1 → Kept old new who
-kept_connect old new Client header orders words = kept_elsewhere old new Client (index_of old.orders CliLive) 1 orders words (refl, refl, refl, refl, refl)
-kept_connect old new Server header orders words = record {
-  asks = held_other old new 6 1 (ask_word Server) orders words refl;
-  pending = held_other old new 6 1 (own_pending Server) orders words refl;
-  index = index;
-  live = λ none. absurd (eqb-false 1 0 refl (sym (ap low8 (held_written old new 1 CliLive orders words (live_within old.orders (length old.words) header))) ∙ none));
-}
-  where
-    index : (bit : Bit) → held new (peer_index Server bit) ≡ held old (peer_index Server bit)
-    index Written = held_other old new 6 1 LeftProd orders words refl
-    index Consumed = held_other old new 6 1 RightCons orders words refl
-
--- ---- whose words they are
-
-ask_is : (who : Role) → notify_word (peer who) ≡ ask_word who
-ask_is Server = refl
-ask_is Client = refl
-
-pending_is : (who : Role) → peer_pending (peer who) ≡ own_pending who
-pending_is Server = refl
-pending_is Client = refl
-
-index_is : (who : Role) (bit : Bit) → own_index (peer who) bit ≡ peer_index who bit
-index_is Server Written = refl
-index_is Server Consumed = refl
-index_is Client Written = refl
-index_is Client Consumed = refl
-
-live_is : (who : Role) → own_live (peer who) ≡ peer_live who
-live_is Server = refl
-live_is Client = refl
-
--- ---- bits
-
--- a bit that is set
-or_sets : (bit : Bit) (word : ℕ) → bit_and (bit_or word (mask bit)) (mask bit) ≢ 0
-or_sets Written word = λ none. eqb-false 1 0 refl (sym (and_or_self 1 word) ∙ none)
-or_sets Consumed word = λ none. eqb-false 2 0 refl (sym (and_or_self 2 word) ∙ none)
-
--- to set a bit clears none
-or_keeps : (set bit : Bit) (word : ℕ) → bit_and word (mask bit) ≢ 0 → bit_and (bit_or word (mask set)) (mask bit) ≢ 0
-or_keeps Written Written word h = or_sets Written word
-or_keeps Consumed Consumed word h = or_sets Consumed word
-or_keeps Written Consumed word h = λ none. h (sym (and_or_apart 2 word 1 refl) ∙ none)
-or_keeps Consumed Written word h = λ none. h (sym (and_or_apart 1 word 2 refl) ∙ none)
-
--- to clear a bit leaves the other
-and_keeps : (bit : Bit) (word : ℕ) → bit_and word (mask (other_bit bit)) ≢ 0 → bit_and (bit_and word (18446744073709551615 - mask bit)) (mask (other_bit bit)) ≢ 0
-and_keeps Written word h = λ none. h (sym (and_assoc 2 word 18446744073709551614) ∙ none)
-and_keeps Consumed word h = λ none. h (sym (and_assoc 1 word 18446744073709551613) ∙ none)
 
 -- ---- what stays said, where little changes
 
@@ -344,7 +127,7 @@ module _ (old new : Core) (who : Role) (peer_same : side_of new (peer who) ≡ s
       go (inr woken) = inr (woken_kept old new who pending woken)
 
 -- an event that the end notes nothing of, on a word that it doesn't watch
-own_same : (old new : Core) (who : Role) → side_of new (peer who) ≡ side_of old (peer who) → Kept old new who → (side_of new who).notes ≡ (side_of old who).notes → Told old who → Told new who
+own_same : (old new : Core) (who : Role) → side_of new (peer who) ≡ side_of old (peer who) → WatchedKept old new who → (side_of new who).notes ≡ (side_of old who).notes → Told old who → Told new who
 own_same old new who peer_same kept notes told = record {
   asks_stand = λ bit. own_ask old new who peer_same kept.pending bit (λ since. ap (λ (n : Notes). (asked_of n bit).since) (sym notes) ∙ since)
       (λ set. λ none. set (ap (λ (w : ℕ). bit_and w (mask bit)) (sym kept.asks) ∙ none)) (told.asks_stand bit);
@@ -407,7 +190,7 @@ sees_live RightProd Server taken n = inl refl
 sees_live RightProd Client taken n = inl refl
 sees_live _ _ taken n = inl refl
 
-own_load : (old new : Core) (who : Role) (word : WordName) → side_of new (peer who) ≡ side_of old (peer who) → Kept old new who →
+own_load : (old new : Core) (who : Role) (word : WordName) → side_of new (peer who) ≡ side_of old (peer who) → WatchedKept old new who →
     (side_of new who).notes ≡ noted_load word who (held old word) (side_of old who).notes → Told old who → Told new who
 own_load old new who word peer_same kept notes told = record {
   asks_stand = λ bit. own_ask old new who peer_same kept.pending bit (since bit) (λ set. λ none. set (ap (λ (w : ℕ). bit_and w (mask bit)) (sym kept.asks) ∙ none)) (told.asks_stand bit);
@@ -466,13 +249,6 @@ fresh-ask Consumed who word taken n = refl
 live-ask_noted : (set : Bit) (who : Role) (word : WordName) (taken : ℕ) (n : Notes) → (noted (Or word (mask set)) who taken n).live ≡ n.live
 live-ask_noted Written who word taken n = refl
 live-ask_noted Consumed who word taken n = refl
-
--- what holds of a bit and of the other one holds of each
-each_bit : (P : Bit → Type 0) (set : Bit) → P set → P (other_bit set) → (bit : Bit) → P bit
-each_bit P Written one two Written = one
-each_bit P Written one two Consumed = two
-each_bit P Consumed one two Written = two
-each_bit P Consumed one two Consumed = one
 
 own_asks : (old new : Core) (who : Role) (set : Bit) → 14 ≤ length old.words → side_of new (peer who) ≡ side_of old (peer who) → new.orders ≡ old.orders →
     new.words ≡ slice_set old.words (index_of old.orders (ask_word who)) (bit_or (held old (ask_word who)) (mask set)) →
@@ -583,7 +359,7 @@ module _ (old new : Core) (who : Role) (op : Op) (same : side_of new who ≡ sid
       go (inr woken) = inr (woken_kept old new who pending woken)
 
   -- an event on a word that the end doesn't watch
-  other_same : ((bit : Bit) → op ≢ test_of (peer who) bit) → Kept old new who → Told old who → Told new who
+  other_same : ((bit : Bit) → op ≢ test_of (peer who) bit) → WatchedKept old new who → Told old who → Told new who
   other_same untested kept told = record {
     asks_stand = λ bit. other_ask bit (λ set. inl (λ none. set (ap (λ (w : ℕ). bit_and w (mask bit)) (sym kept.asks) ∙ none))) (told.asks_stand bit);
     indices_told = λ bit. other_index bit (untested bit) (kept.index bit) (told.indices_told bit);
@@ -727,16 +503,16 @@ told_other old new who op next header step deed told = go deed
     words = words_at old new (peer who) who op next step
 
     -- an event that is no store and no test
-    quiet : (known : Op) → op ≡ known → is_store known ≡ false → is_test known ≡ false → Kept old new who → Told new who
+    quiet : (known : Op) → op ≡ known → is_store known ≡ false → is_test known ≡ false → WatchedKept old new who → Told new who
     quiet known is plain untested kept =
         other_same old new who op step.other_is step.did (λ signal. no_signal known (peer who) plain (sym is ∙ signal)) kept.pending (λ bit test. no_test known (peer who) bit untested (sym is ∙ test)) kept told
 
     -- a store of a word that the end doesn't watch
-    stored : (word : WordName) (value : ℕ) → op ≡ Store word value → (index_of old.orders (own_pending who) == index_of old.orders word) ≡ false → Kept old new who → Told new who
+    stored : (word : WordName) (value : ℕ) → op ≡ Store word value → (index_of old.orders (own_pending who) == index_of old.orders word) ≡ false → WatchedKept old new who → Told new who
     stored word value is unwoken kept =
         other_same old new who op step.other_is step.did (λ signal. other_store old.orders word value who unwoken (sym is ∙ signal)) kept.pending (λ bit test. no_test (Store word value) (peer who) bit refl (sym is ∙ test)) kept told
 
-    elsewhere : (n value : ℕ) → new.words ≡ slice_set old.words n value → Unwatched old.orders who n → Kept old new who
+    elsewhere : (n value : ℕ) → new.words ≡ slice_set old.words n value → Unwatched old.orders who n → WatchedKept old new who
     elsewhere n value is un = kept_elsewhere old new who n value step.orders_are is un
 
     tested : (bit : Bit) → op ≡ test_of (peer who) bit → ((value : ℕ) → bit_and value (mask bit) ≢ 0 → next_op (next value) ≡ signal_of (peer who)) → Told new who

@@ -1,5 +1,5 @@
 -- Each event of a call gives what it owes to the events before it: bytes only where a look found room or bytes, an index only once.
-use Rattle.std.proofs.Common.{◌≡◌, ℕ, suc, zero, ◌+◌, ◌-◌, ◌%◌, ◌^◌, ◌==◌, ◌&&◌, ◌<◌, ◌≤◌, min, nat_lt, Bool, true, false, cond, Option, Some, None, List, [], ◌∷◌, ◌++◌, length, refl, subst, sym, ap, ◌∙◌, arith, length-append}
+use Rattle.std.proofs.Common.{◌≡◌, ℕ, suc, zero, ◌+◌, ◌%◌, ◌^◌, ◌==◌, ◌&&◌, ◌<◌, ◌≤◌, min, nat_lt, Bool, true, false, cond, Some, List, [], ◌∷◌, ◌++◌, length, refl, subst, sym, ap, ◌∙◌, arith, length-append}
 use Rattle.std.proofs.lemmas.Bool.Decides.{nat_tests}
 use Rattle.ring_words.specs.Rings.{place}
 use Rattle.ring_words.specs.declared.page.Role.{Role}
@@ -10,7 +10,7 @@ use Rattle.vchan_core.specs.declared.op.Op.{Op}
 use Rattle.vchan_core.specs.declared.op.Op.TheVariants.{Load, LoadByte, Store, StoreByte, Or, And, Swap, Nothing}
 use Rattle.vchan_core.specs.declared.op.PastEvent.{PastEvent}
 use Rattle.vchan_core.specs.declared.call.Answer.{Answer}
-use Rattle.vchan_core.specs.declared.call.Answer.TheVariants.{Wrote, Full, NoRoom, Sent, Got, Empty, Short, PeerClosed, NotYet, AllRead, Ready, Space, Connected, BadOrders, PeerGone as IsGone}
+use Rattle.vchan_core.specs.declared.call.Answer.TheVariants.{Wrote, Full, NoRoom, Sent, Empty, Short, PeerClosed, NotYet, AllRead, Ready, Space, Connected, BadOrders, PeerGone as IsGone}
 use Rattle.vchan_core.specs.declared.call.Bit.{Bit}
 use Rattle.vchan_core.specs.declared.call.Bit.TheVariants.{Written, Consumed}
 use Rattle.vchan_core.specs.declared.call.Call.{Call}
@@ -18,11 +18,9 @@ use Rattle.vchan_core.specs.declared.call.Call.TheVariants.{Write, Send, Read, R
 use Rattle.vchan_core.specs.declared.call.EndState.{EndState}
 use Rattle.vchan_core.specs.declared.call.EndState.TheVariants.{Fresh, Open, Shut}
 use Rattle.vchan_core.specs.Plan.{Plan, does, answers, next_op, Leads, GoesOn}
-use Rattle.vchan_core.specs.Ends.{Standing, standing_after, written_ring, read_ring, prod_word, cons_word, ask_word, notify_word, peer_live, own_live, own_pending, own_gone, peer_gone, peer_pending, mask, low8, low16, low32, write_order, read_order, free_at, ready_at, state_after, prod_after, cons_after, live_stored, prod_stored, cons_stored}
-use Rattle.vchan_core.specs.Calls.{put_bytes, take_bytes, put_index, take_index, put, take, notify, signal, ask, look_read, look_write, write, write_open, write_looked, read, read_live, read_looked, drain_found, drain_last, drain_gone, drain_further, drain_live, drain_second, drain, connect, connect_right, close, retire, retire_shut, plan_of, send, send_open, send_looked, recv, recv_live, recv_looked}
-use Rattle.vchan_core.specs.Core.{standing_along, stored_by, loaded_by, count_stored, bytes_loaded}
-use Rattle.vchan_core.specs.SoFar.{SoFar, so_far, so_far_after, so_far_along, so_far_loaded, so_far_stored, nothing_so_far}
-use Rattle.vchan_core.proofs.PlanLaws.{GoesOn-put_bytes, GoesOn-take_bytes}
+use Rattle.vchan_core.specs.Ends.{Standing, written_ring, read_ring, prod_word, cons_word, ask_word, notify_word, peer_live, own_live, own_pending, own_gone, peer_gone, peer_pending, low8, low16, low32, write_order, read_order, free_at, ready_at}
+use Rattle.vchan_core.specs.Calls.{put_bytes, take_bytes, put, take, notify, signal, ask, look_read, look_write, write, write_open, write_looked, read, read_live, read_looked, drain_found, drain_last, drain_gone, drain_further, drain_live, drain_second, drain, connect, connect_right, close, retire, retire_shut, plan_of, send, send_open, send_looked, recv, recv_live, recv_looked}
+use Rattle.vchan_core.specs.SoFar.{SoFar, so_far_after, so_far_along, nothing_so_far}
 
 -- ---- what an event owes
 
@@ -234,9 +232,10 @@ module _ (e : Standing) where
       ((m : SoFar) → m.cons_seen ≡ Some index → m.stored ≡ i + k → m.shown ≡ false → Sound e m next) → Sound e n (put_bytes e i k next)
   unfolding Sound
   sound_put_bytes zero n i index next seen same hidden fits s = s n seen (omega arith) hidden
-  sound_put_bytes (suc k) n i index next seen same hidden fits s =
-      (record { index = index; seen = seen; at_is = sym same; word_is = refl; has_room = omega arith; not_shown = hidden },
-      λ value more. (tt, sound_put_bytes k (record n { stored = n.stored + 1 }) (i + 1) index next seen (ap (λ (j : ℕ). j + 1) same) hidden (omega arith) (λ m saw is out. s m saw (omega (arith, is)) out)))
+  sound_put_bytes (suc k) n i index next seen same hidden fits s = (
+    record { index = index; seen = seen; at_is = sym same; word_is = refl; has_room = omega arith; not_shown = hidden },
+    λ value more. (tt, sound_put_bytes k (record n { stored = n.stored + 1 }) (i + 1) index next seen (ap (λ (j : ℕ). j + 1) same) hidden (omega arith) (λ m saw is out. s m saw (omega (arith, is)) out)),
+  )
 
   sound_put : (k : ℕ) (n : SoFar) (index : ℕ) (answer : Answer) → n.cons_seen ≡ Some index → n.stored ≡ 0 → n.shown ≡ false → k ≤ free_at e index → Sound e n (put e k (answers answer))
   sound_put k n index answer seen none hidden fits =
@@ -247,9 +246,10 @@ module _ (e : Standing) where
       ((m : SoFar) → m.prods_seen ≡ index ∷ older → length m.loaded ≡ i + k → m.released ≡ false → Sound e m next) → Sound e n (take_bytes e i k next)
   unfolding Sound
   sound_take_bytes zero n i index older next seen same held fits s = s n seen (omega arith) held
-  sound_take_bytes (suc k) n i index older next seen same held fits s =
-      (record { index = index; older = older; seen = seen; at_is = sym same; word_is = refl; waits = omega arith; not_released = held },
-      λ value more. (tt, sound_take_bytes k (record n { loaded = n.loaded ++ value % 2 ^ 8 ∷ [] }) (i + 1) index older next seen (length-append n.loaded (value % 2 ^ 8 ∷ []) ∙ ap (λ (j : ℕ). j + 1) same) held (omega arith) (λ m saw is out. s m saw (omega (arith, is)) out)))
+  sound_take_bytes (suc k) n i index older next seen same held fits s = (
+    record { index = index; older = older; seen = seen; at_is = sym same; word_is = refl; waits = omega arith; not_released = held },
+    λ value more. (tt, sound_take_bytes k (record n { loaded = n.loaded ++ value % 2 ^ 8 ∷ [] }) (i + 1) index older next seen (length-append n.loaded (value % 2 ^ 8 ∷ []) ∙ ap (λ (j : ℕ). j + 1) same) held (omega arith) (λ m saw is out. s m saw (omega (arith, is)) out)),
+  )
 
   sound_take : (k : ℕ) (n : SoFar) (index : ℕ) (older : List ℕ) (answer : Answer) → n.prods_seen ≡ index ∷ older → length n.loaded ≡ 0 → n.released ≡ false → k ≤ ready_at e index → Sound e n (take e k (answers answer))
   sound_take k n index older answer seen none held fits =

@@ -1,5 +1,5 @@
 -- A machine's event is the event of each end that it stands for.
-use Rattle.std.proofs.Common.{◌≡◌, ℕ, suc, zero, ◌+◌, ◌-◌, ◌%◌, ◌^◌, ◌<◌, ◌≤◌, ◌↔◌, min, Bool, true, false, Option, Some, None, IsSome, List, [], ◌∷◌, ◌++◌, length, take, slice_index, slice_set, refl, subst, sym, ap, ◌∙◌, arith}
+use Rattle.std.proofs.Common.{◌≡◌, ℕ, ◌+◌, ◌-◌, ◌%◌, ◌^◌, ◌<◌, ◌≤◌, ◌↔◌, min, Option, Some, None, IsSome, List, [], ◌∷◌, ◌++◌, length, take, slice_index, slice_set, refl, subst, sym, ap, ◌∙◌, arith}
 use Rattle.std.proofs.lemmas.List.{get_or-take, length-take, length-append}
 use Rattle.std.proofs.lemmas.Bool.{false≢true}
 use Rattle.std.proofs.lemmas.Bool.Decides.{nat_tests}
@@ -9,7 +9,7 @@ use Rattle.ring_words.specs.declared.order.Orders.{Orders}
 use Rattle.ring_words.specs.declared.page.Role.{Role}
 use Rattle.ring_words.specs.declared.page.Role.TheVariants.{Server, Client}
 use Rattle.ring_words.specs.declared.page.WordName.{WordName}
-use Rattle.ring_words.specs.declared.page.WordName.TheVariants.{LeftCons, LeftProd, RightCons, RightProd, LeftOrder, RightOrder, CliLive, SrvLive, CliNotify, SrvNotify, SrvPending, CliPending, SrvGone, CliGone, RingByte}
+use Rattle.ring_words.specs.declared.page.WordName.TheVariants.{LeftCons, LeftProd, RightCons, RightProd}
 use Rattle.ring_words.specs.Page.{index_of}
 use Rattle.vchan_core.specs.declared.op.Op.{Op}
 use Rattle.vchan_core.specs.declared.op.Op.TheVariants.{Load, LoadByte, Store, StoreByte, Or, And, Swap, Nothing}
@@ -24,11 +24,11 @@ use Rattle.vchan_core.specs.declared.machine.Machine.{Machine}
 use Rattle.vchan_core.specs.declared.moved.Moved.{Moved}
 use Rattle.vchan_core.specs.declared.plain.Plain.{Plain}
 use Rattle.vchan_core.specs.Plan.{Plan, answers, does, next_op, after, left_after, past, Leads, GoesOn}
-use Rattle.vchan_core.specs.Ends.{Standing, read_size, write_size, read_order, write_order, standing_after, prod_stored, cons_stored, prod_after, cons_after}
+use Rattle.vchan_core.specs.Ends.{Standing, read_order, write_order, standing_after, prod_stored, cons_stored, prod_after, cons_after}
 use Rattle.vchan_core.specs.Calls.{plan_of, payload_of, stored_most, loaded_most}
-use Rattle.vchan_core.specs.Apply.{Fits, words_after, word_of, value_taken}
+use Rattle.vchan_core.specs.Apply.{Fits, words_after, value_taken}
 use Rattle.vchan_core.specs.Phases.{standing, rest, left, IsIdle}
-use Rattle.vchan_core.specs.Core.{Core, side_of, with_side, event, plan_next, begun_standing, standing_of, standing_along, plan_left, op_next, made, settled, answered, answer_in, count_stored, bytes_loaded, sent_stored, sent_after, got_stored, got_after}
+use Rattle.vchan_core.specs.Core.{Core, side_of, with_side, event, plan_next, begun_standing, standing_of, standing_along, plan_left, made, settled, answered, answer_in, count_stored, bytes_loaded, sent_stored, sent_after, got_stored, got_after}
 use Rattle.vchan_core.specs.Counts.{capped}
 use Rattle.vchan_core.specs.Past.{IsInCall, IsMachineOf, HasPayload, StandsFor, orders_of, words_of}
 use Rattle.vchan_core.proofs.PlanLaws.{Leads-more, GoesOn-machine, left_after-Leads}
@@ -163,7 +163,7 @@ made_stands s m m' result taken h busy leads idle stands = go result leads idle
 
 -- ---- the counts
 
-diff-same : (count : ℕ) → diff count count ≡ 0
+pub diff-same : (count : ℕ) → diff count count ≡ 0
 unfolding diff
 diff-same count = grind (arith, nat_tests)
 

@@ -1,24 +1,22 @@
 -- What holds of a page once an end was given up: giving up makes it so, and each event of either end keeps it.
-use Rattle.std.proofs.Common.{◌≡◌, ◌≢◌, ℕ, suc, zero, ◌+◌, ◌-◌, ◌%◌, ◌^◌, ◌<◌, ◌≤◌, min, Bool, true, false, cond, Option, Some, None, List, [], ◌∷◌, ◌++◌, length, take, slice_index, slice_set, refl, subst, sym, ap, ◌∙◌, arith, append-nil, length-append}
+use Rattle.std.proofs.Common.{◌≡◌, ℕ, ◌+◌, ◌%◌, ◌^◌, ◌≤◌, Bool, true, false, cond, None, List, [], ◌++◌, length, take, slice_index, refl, subst, sym, ap, ◌∙◌, arith, append-nil, length-append}
 use Rattle.std.proofs.lemmas.Bool.{false≢true}
 use Rattle.std.proofs.lemmas.List.{length-set, length-take, take_all, take-append-le}
 use Rattle.ring_words.specs.Rings.{size, place}
-use Rattle.ring_words.specs.Page.{index_of, order_of}
+use Rattle.ring_words.specs.Page.{order_of}
 use Rattle.ring_words.specs.declared.order.Orders.{Orders}
 use Rattle.ring_words.specs.declared.page.Role.{Role}
 use Rattle.ring_words.specs.declared.page.Role.TheVariants.{Server, Client}
-use Rattle.ring_words.specs.declared.page.Ring.TheVariants.{Left, Right}
 use Rattle.ring_words.specs.declared.page.WordName.{WordName}
 use Rattle.ring_words.specs.declared.page.WordName.TheVariants.{LeftCons, LeftProd, RightCons, RightProd, RingByte}
 use Rattle.vchan_core.specs.declared.op.Op.{Op}
 use Rattle.vchan_core.specs.declared.op.Op.TheVariants.{Load, LoadByte, Store, StoreByte, Or, And, Swap, Nothing}
-use Rattle.vchan_core.specs.declared.op.PastEvent.{PastEvent}
 use Rattle.vchan_core.specs.declared.call.Call.{Call}
 use Rattle.vchan_core.specs.declared.side.Side.{Side}
 use Rattle.vchan_core.specs.declared.side.Begun.{Begun}
-use Rattle.vchan_core.specs.Plan.{Plan, answers, does, GoesOn, Leads, next_op, after}
+use Rattle.vchan_core.specs.Plan.{Plan, answers, does, GoesOn, next_op, after}
 use Rattle.vchan_core.specs.Ends.{Standing, prod_after, cons_after, prod_stored, cons_stored, written_ring, read_ring}
-use Rattle.vchan_core.specs.Calls.{plan_of, payload_of, stored_most, IsAllowed}
+use Rattle.vchan_core.specs.Calls.{payload_of, IsAllowed}
 use Rattle.vchan_core.specs.Apply.{words_after, word_of, leaves, value_taken}
 use Rattle.vchan_core.specs.Core.{Core, side_of, with_side, event, begun, begins, plan_left, op_next, taken_next, plan_next, begun_standing, standing_of, made, settled, sent_after, sent_stored, got_after, got_stored, bytes_loaded, count_stored}
 use Rattle.vchan_core.specs.Turned.{turns, given_up, strays, strayed}

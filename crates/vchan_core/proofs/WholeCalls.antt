@@ -1,10 +1,9 @@
 -- What each event of an end keeps, its whole call keeps; and what honest ends reach is lawful.
-use Rattle.std.proofs.Common.{◌≡◌, ◌≢◌, ℕ, false, List, refl, subst, sym, ap, ◌∙◌}
+use Rattle.std.proofs.Common.{◌≡◌, ℕ, false, List, refl, subst, sym, ap, ◌∙◌}
 use Rattle.ring_words.specs.declared.page.Role.{Role}
 use Rattle.ring_words.specs.declared.page.Role.TheVariants.{Server, Client}
-use Rattle.vchan_core.specs.declared.op.Op.{Op}
 use Rattle.vchan_core.specs.declared.call.Call.{Call}
-use Rattle.vchan_core.specs.Plan.{Plan, does, answers, next_op, after, GoesOn}
+use Rattle.vchan_core.specs.Plan.{Plan, does, answers, GoesOn}
 use Rattle.vchan_core.specs.Apply.{value_taken}
 use Rattle.vchan_core.specs.Calls.{plan_of}
 use Rattle.vchan_core.specs.Core.{Core, side_of, with_side, standing_of, plan_left, carried_out, answered, begun, event}

@@ -1,13 +1,13 @@
 -- The worked row, by computing.
-use Rattle.std.proofs.Common.{◌≡◌, ℕ, ◌≤◌, refl, arith}
+use Rattle.std.proofs.Common.{refl, arith}
 use Rattle.ring_words.specs.Rings.{size, place, room, ready, diff}
 use Rattle.ring_words.specs.declared.order.Orders.{Orders}
 use Rattle.vchan_core.specs.Core.{event}
 use Rattle.vchan_core.specs.Calls.{write, write_open, write_looked, read, read_looked}
-use Rattle.vchan_core.specs.Worked.{writing_three, reading_five, IsHalfWritten, IsWritten, IsHalfRead, IsRead, IsWorkedRow, RowIsAsWorked}
+use Rattle.vchan_core.specs.Worked.{writing_three, reading_five, IsHalfWritten, IsWritten, IsHalfRead, IsRead, RowIsAsWorked}
 
 -- rings of 1,024 and of 2,048 bytes
-pub small : Orders
+unfoldable pub small : Orders
 small = record { left = record { number = 10; in_range = (omega arith, omega arith) }; right = record { number = 11; in_range = (omega arith, omega arith) }; distinct = λ e. absurd (omega (arith, e)) }
 
 half_written : IsHalfWritten (writing_three small 4)

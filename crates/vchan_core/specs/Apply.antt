@@ -1,5 +1,5 @@
 -- What an event does to the one word that it is on, and the value that it takes.
-use Rattle.std.specs.Prelude.{◌≡◌, ℕ, ◌%◌, ◌<◌, List, ◌++◌, length, drop, slice_index, slice_set, bit_and, bit_or}
+use Rattle.std.specs.Prelude.{ℕ, ◌%◌, ◌<◌, List, ◌++◌, length, drop, slice_index, slice_set, bit_and, bit_or}
 use Rattle.ring_words.specs.declared.order.Orders.{Orders}
 use Rattle.ring_words.specs.Page.{index_of, Has}
 use Rattle.vchan_core.specs.declared.op.Op.{Op}

@@ -1,6 +1,6 @@
 -- What holds of a page at each moment, whether its ends are honest or were given up, and what stands when it ends.
 -- The statements are this project's own.
-use Rattle.std.specs.Prelude.{◌≡◌, ◌≢◌, ℕ, ◌^◌, ◌<◌, true, false, IsSome, List}
+use Rattle.std.specs.Prelude.{◌≡◌, ◌≢◌, ℕ, ◌^◌, ◌<◌, true, false, IsSome, List, if◌then◌else◌}
 use Rattle.ring_words.specs.Rings.{size}
 use Rattle.ring_words.specs.declared.order.Orders.{Orders}
 use Rattle.ring_words.specs.declared.page.Role.{Role}
@@ -10,12 +10,14 @@ use Rattle.vchan_core.specs.declared.call.EndState.{EndState}
 use Rattle.vchan_core.specs.declared.call.EndState.TheVariants.{Shut}
 use Rattle.vchan_core.specs.declared.side.Side.{Side}
 use Rattle.vchan_core.specs.Plan.{GoesOn}
-use Rattle.vchan_core.specs.Core.{Core, opened, begun, event, side_of, plan_left}
+use Rattle.vchan_core.specs.Ends.{own_gone}
+use Rattle.vchan_core.specs.Core.{Core, opened, begun, event, side_of, plan_left, op_next}
 use Rattle.vchan_core.specs.Alone.{called}
 use Rattle.vchan_core.specs.Turned.{strayed}
 use Rattle.vchan_core.specs.RingLaw.{IsPrefixOf}
-use Rattle.vchan_core.specs.LifeLaw.{SaysOrders}
+use Rattle.vchan_core.specs.LifeLaw.{SaysOrders, sets_gone}
 use Rattle.vchan_core.specs.Lawful.{Lawful, Honest}
+use Rattle.vchan_core.specs.Peer.{held}
 use Rattle.vchan_core.specs.Reached.{MayBegin}
 use Rattle.vchan_core.specs.SignalLaw.{NoLostSignal}
 use Rattle.vchan_core.specs.TurnedLaw.{TurnedLawful, ConsumedLawful, turning}
@@ -64,6 +66,12 @@ TurnIsKept = (core : Core) (who : Role) → Kept core → Kept (turning core who
 -- a hostile user makes any event
 abbrev pub StrayIsKept : Type 0
 StrayIsKept = (core : Core) (who : Role) (op : Op) → Kept core → Kept (strayed core who op)
+
+-- between honest ends a gone word is 1 after the event that stores to it, and every other event leaves it as it is
+abbrev pub GoneIsSetOnce : Type 0
+GoneIsSetOnce =
+    (core : Core) (who whose : Role) → Kept core → Honest core → GoesOn (plan_left (side_of core who)) →
+    held (event core who) (own_gone whose) ≡ (if sets_gone (op_next (side_of core who)) whose then 1 else held core (own_gone whose))
 
 -- so it holds whatever happens
 abbrev pub EachIsKept : Type 0

@@ -1,5 +1,5 @@
 -- A lawful core state: what holds of a page and of its two ends while both are honest.
-use Rattle.std.specs.Prelude.{◌≡◌, ℕ, ◌^◌, ◌<◌, false, List, length}
+use Rattle.std.specs.Prelude.{◌≡◌, ◌^◌, ◌<◌, false, length}
 use Rattle.ring_words.specs.Page.{word_count}
 use Rattle.ring_words.specs.declared.order.Orders.{Orders}
 use Rattle.ring_words.specs.declared.page.Role.{Role}

@@ -23,3 +23,6 @@ pub mod Kept
 pub mod Reached
 pub mod SignalLaw
 pub mod Worked
+pub mod WorkedEnd
+pub mod Pieces
+pub mod Beside

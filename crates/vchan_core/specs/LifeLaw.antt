@@ -1,14 +1,14 @@
 -- What stands between two honest ends about their lives: the live bytes, the gone words, the order words, and the end of a stream.
 -- Source: libxenvchan's io.c for the live bytes and init.c for the order words. The gone words and a drain's later looks are this project's.
-use Rattle.std.specs.Prelude.{◌≡◌, ◌≢◌, ℕ, ◌⊎◌, Bool, true, false, ◌||◌, Option, IsSome, List, [], ◌∷◌, length}
+use Rattle.std.specs.Prelude.{◌≡◌, ◌≢◌, ℕ, ◌⊎◌, Bool, true, false, ◌||◌, IsSome, List, [], ◌∷◌, length}
 use Rattle.ring_words.specs.declared.order.Orders.{Orders}
 use Rattle.ring_words.specs.declared.page.Role.{Role}
 use Rattle.ring_words.specs.declared.page.Role.TheVariants.{Server, Client}
 use Rattle.ring_words.specs.declared.page.WordName.{WordName}
-use Rattle.ring_words.specs.declared.page.WordName.TheVariants.{LeftProd, RightProd, LeftOrder, RightOrder}
+use Rattle.ring_words.specs.declared.page.WordName.TheVariants.{LeftProd, RightProd, LeftOrder, RightOrder, SrvGone, CliGone}
 use Rattle.ring_words.specs.Rings.{number_of}
 use Rattle.vchan_core.specs.declared.op.Op.{Op}
-use Rattle.vchan_core.specs.declared.op.Op.TheVariants.{Load}
+use Rattle.vchan_core.specs.declared.op.Op.TheVariants.{Load, Store}
 use Rattle.vchan_core.specs.declared.op.PastEvent.{PastEvent}
 use Rattle.vchan_core.specs.declared.call.EndState.{EndState}
 use Rattle.vchan_core.specs.declared.call.EndState.TheVariants.{Fresh, Shut}
@@ -111,3 +111,15 @@ pub record LifeLawful (core : Core) : Type 0 where
   pub server_orders : OrdersGive core.said core.server.trail
   pub client_orders : OrdersGive core.said core.client.trail
   pub none_misled : SaysOrders core.said core.orders → (core.server.misled ≡ false) × (core.client.misled ≡ false)
+
+-- ---- the gone words
+
+-- the event stores to the gone word of this end
+abbrev pub sets_gone_word : WordName → Role → Bool
+sets_gone_word SrvGone Server = true
+sets_gone_word CliGone Client = true
+sets_gone_word _ role = false
+
+abbrev pub sets_gone : Op → Role → Bool
+sets_gone (Store word value) role = sets_gone_word word role
+sets_gone _ role = false

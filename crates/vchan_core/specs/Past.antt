@@ -15,7 +15,7 @@ use Rattle.vchan_core.specs.Plan.{Leads, next_op}
 use Rattle.vchan_core.specs.Calls.{plan_of, payload_of}
 use Rattle.vchan_core.specs.Phases.{standing, rest, IsIdle}
 use Rattle.vchan_core.specs.Counts.{capped}
-use Rattle.vchan_core.specs.Core.{Core, side_of, writer_of, reader_of, standing_of, begun_standing, standing_along}
+use Rattle.vchan_core.specs.Core.{Core, writer_of, reader_of, standing_of, begun_standing, standing_along}
 
 -- ---- the parts of a plain page
 

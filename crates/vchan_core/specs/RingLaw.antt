@@ -1,6 +1,6 @@
 -- What holds of one ring of a page between two honest ends, and of a call that an honest end is in.
 -- Source: libxenvchan's io.c for what an index shows and gives up; the statements are this project's own.
-use Rattle.std.specs.Prelude.{◌≡◌, ℕ, ◌+◌, ◌-◌, ◌%◌, ◌^◌, ◌<◌, ◌≤◌, Bool, true, false, Option, Some, None, IfSome, List, [], ◌∷◌, ◌++◌, length, slice_index, if◌then◌else◌}
+use Rattle.std.specs.Prelude.{◌≡◌, ℕ, ◌+◌, ◌-◌, ◌%◌, ◌^◌, ◌<◌, ◌≤◌, Option, Some, None, IfSome, List, ◌∷◌, ◌++◌, length, slice_index, if◌then◌else◌}
 use Rattle.std.specs.List.{All}
 use Rattle.ring_words.specs.Rings.{size, place}
 use Rattle.ring_words.specs.Page.{index_of, order_of}
@@ -9,7 +9,6 @@ use Rattle.ring_words.specs.declared.order.Orders.{Orders}
 use Rattle.ring_words.specs.declared.page.Ring.{Ring}
 use Rattle.ring_words.specs.declared.page.WordName.{WordName}
 use Rattle.ring_words.specs.declared.page.WordName.TheVariants.{RingByte}
-use Rattle.vchan_core.specs.declared.call.EndState.{EndState}
 use Rattle.vchan_core.specs.declared.call.EndState.TheVariants.{Shut}
 use Rattle.vchan_core.specs.declared.side.Side.{Side}
 use Rattle.vchan_core.specs.declared.side.Begun.{Begun}
@@ -17,7 +16,7 @@ use Rattle.vchan_core.specs.Plan.{Plan, Leads, GoesOn, left_after}
 use Rattle.vchan_core.specs.Ends.{prod_word, cons_word}
 use Rattle.vchan_core.specs.Calls.{plan_of, payload_of, put_bytes, put_index, take_bytes, take_index, IsAllowed}
 use Rattle.vchan_core.specs.Core.{Core, writer_of, reader_of, begun_standing, standing_of, standing_along, plan_left}
-use Rattle.vchan_core.specs.SoFar.{SoFar, so_far, unshown, unreleased}
+use Rattle.vchan_core.specs.SoFar.{so_far, unshown, unreleased}
 
 -- the first list begins the second
 abbrev pub IsPrefixOf : List ℕ → List ℕ → Type 0

@@ -1,5 +1,5 @@
 -- An end that is given up to a hostile user, and what such a user may do to the page.
-use Rattle.std.specs.Prelude.{ℕ, ◌<◌, true, List, [], ◌∷◌, ◌++◌, Option, None, length, if◌then◌else◌}
+use Rattle.std.specs.Prelude.{ℕ, ◌<◌, true, [], ◌∷◌, ◌++◌, None, length, if◌then◌else◌}
 use Rattle.ring_words.specs.Rings.{size}
 use Rattle.ring_words.specs.Page.{order_of}
 use Rattle.ring_words.specs.declared.order.Orders.{Orders}

@@ -1,19 +1,17 @@
 -- What holds of a page once an end was given up to a hostile user, who may store any number anywhere.
 -- The statements are this project's own.
-use Rattle.std.specs.Prelude.{◌≡◌, ℕ, ◌+◌, ◌≤◌, true, false, List, length, take}
+use Rattle.std.specs.Prelude.{◌≡◌, ℕ, ◌+◌, ◌≤◌, true, false, length, take}
 use Rattle.ring_words.specs.Rings.{size, place}
 use Rattle.ring_words.specs.Page.{word_count, order_of}
 use Rattle.ring_words.specs.declared.page.Role.{Role}
 use Rattle.ring_words.specs.declared.page.Role.TheVariants.{Server, Client}
-use Rattle.ring_words.specs.declared.page.Ring.{Ring}
-use Rattle.ring_words.specs.declared.page.Ring.TheVariants.{Left, Right}
 use Rattle.ring_words.specs.declared.page.WordName.{WordName}
 use Rattle.ring_words.specs.declared.page.WordName.TheVariants.{LeftCons, LeftProd, RightCons, RightProd, RingByte}
 use Rattle.vchan_core.specs.declared.op.Op.{Op}
 use Rattle.vchan_core.specs.declared.op.Op.TheVariants.{LoadByte, Store, StoreByte}
 use Rattle.vchan_core.specs.declared.side.Side.{Side}
 use Rattle.vchan_core.specs.Ends.{written_ring, read_ring, prod_stored, cons_stored}
-use Rattle.vchan_core.specs.Core.{Core, side_of, with_side, writer_of, reader_of, count_stored, bytes_loaded}
+use Rattle.vchan_core.specs.Core.{Core, side_of, with_side, reader_of, count_stored, bytes_loaded}
 use Rattle.vchan_core.specs.Turned.{given_up}
 use Rattle.vchan_core.specs.RingLaw.{IsPrefixOf, index_at, CallLawful}
 use Rattle.vchan_core.specs.Lawful.{IsEnd}

@@ -1,5 +1,5 @@
 -- A worked row, by which the laws' definitions can be checked: a client writes three bytes across the end of the indices and of the ring, and the server reads them.
-use Rattle.std.specs.Prelude.{◌≡◌, ℕ, suc, zero, false, true, Some, None, List, [], ◌∷◌}
+use Rattle.std.specs.Prelude.{◌≡◌, ℕ, suc, zero, Some, None, [], ◌∷◌}
 use Rattle.ring_words.specs.Rings.{number_of}
 use Rattle.ring_words.specs.declared.order.Orders.{Orders}
 use Rattle.ring_words.specs.declared.page.Role.{Role}
@@ -8,8 +8,8 @@ use Rattle.ring_words.specs.declared.page.Ring.TheVariants.{Left}
 use Rattle.vchan_core.specs.declared.call.Call.TheVariants.{Write, Read}
 use Rattle.vchan_core.specs.declared.call.EndState.TheVariants.{Open}
 use Rattle.vchan_core.specs.Core.{Core, opened, begun, event}
-use Rattle.vchan_core.specs.SoFar.{SoFar, so_far, nothing_so_far}
-use Rattle.vchan_core.specs.RingLaw.{Channel, channel_of, IsPutting, IsTaking}
+use Rattle.vchan_core.specs.SoFar.{so_far, nothing_so_far}
+use Rattle.vchan_core.specs.RingLaw.{channel_of, IsPutting, IsTaking}
 
 -- so many events of an end
 abbrev pub events_of : Role → ℕ → Core → Core

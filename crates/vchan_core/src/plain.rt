@@ -1,4 +1,4 @@
-ghost use Rattle.std.specs.Prelude.{◌≡◌, ◌≢◌, ℕ, ◌<◌, ◌≤◌, ◌+◌, ◌∷◌, ◌++◌, [], List, length, take, ◌↔◌, IsSome, IfOk, IsTrue, true, false, slice_set};
+ghost use Rattle.std.specs.Prelude.{◌≡◌, ◌≢◌, ℕ, ◌<◌, ◌≤◌, ◌+◌, ◌^◌, ◌∷◌, ◌++◌, [], List, length, take, ◌↔◌, IsSome, IfOk, IsTrue, true, false, slice_set};
 ghost use Rattle.ring_words.specs.declared.page.Role.TheVariants.{Server, Client};
 
 use crate::call::{Answer, Call, EndState};
@@ -42,10 +42,12 @@ impl Plain {
     ghost use Rattle.ring_words.specs.Page.{index_of};
     ghost use Rattle.vchan_core.specs.Turned.{MayPoke, poked, signalled};
     ghost use Rattle.vchan_core.specs.Alone.{called, call_answer};
-    ghost use Rattle.vchan_core.specs.Lawful.{Lawful};
-    ghost use Rattle.vchan_core.specs.ListLaw.{FollowsLists};
     ghost use Rattle.vchan_core.specs.RingLaw.{AreBytes};
     ghost use Rattle.vchan_core.specs.Kept.{Kept};
+    ghost use Rattle.vchan_core.specs.Lawful.{Lawful};
+    ghost use Rattle.vchan_core.specs.ListLaw.{FollowsLists};
+    ghost use Rattle.vchan_core.specs.Pieces.{MakesEvents};
+    ghost use Rattle.vchan_core.specs.Beside.{IsBeside};
     ghost use Rattle.vchan_core.specs.Past.{machine_of, other_of, words_of, orders_of, turned_of, other_turned_of, op_of, StandsFor, HasPayload};
     ghost use Rattle.vchan_core.specs.declared.call.Call.{Call};
     ghost use Rattle.vchan_core.specs.declared.op.PastEvent.{PastEvent};
@@ -238,6 +240,7 @@ impl Plain {
     /// bytes, the same at each step of the call; for a read, recv or drain `buf` has at least the
     /// smaller of the call's request and the ring's size. A ring byte that is loaded goes to its
     /// place in `buf`, and nothing else of `buf` changes.
+    #[inline(always)]
     pub fn step(&mut self, who: Role, payload: &[u8], buf: &mut [u8]) -> Option<Answer>
         requires busy { ¬ IsIdle (machine_of self.old who) }
         requires payload { out_of (machine_of self.old who) ≤ length payload.now }
@@ -262,6 +265,21 @@ impl Plain {
         match who {
             Role::Server => Moved::took(&mut self.server, value, &mut self.right, &mut self.left),
             Role::Client => Moved::took(&mut self.client, value, &mut self.left, &mut self.right),
+        }
+    }
+
+    /// The events of an end that come next as long as they are all on bytes of one piece of a ring.
+    /// It answers how many they were, and none gives an answer.
+    fn move_piece(&mut self, who: Role, payload: &[u8], buf: &mut [u8]) -> u32
+        requires payload { out_of (machine_of self.old who) ≤ length payload.now }
+        requires buf { into_of (machine_of self.old who) ≤ length buf.old }
+        ensures page { IsBeside who self.old self.new }
+        ensures low { ((standing (machine_of self.old who)).prod < 2 ^ 32) × ((standing (machine_of self.old who)).cons < 2 ^ 32) }
+        ensures events { MakesEvents result (orders_of self.old) payload.now (machine_of self.old who) (words_of self.old) buf.old (machine_of self.new who) (words_of self.new) buf.new }
+    {
+        match who {
+            Role::Server => self.server.move_piece(&mut self.words, payload, buf),
+            Role::Client => self.client.move_piece(&mut self.words, payload, buf),
         }
     }
 
@@ -294,6 +312,7 @@ impl Plain {
     {
         self.begin(who, call);
         'events: loop {
+            steps.add(self.move_piece(who, payload, buf));
             steps.tick();
             if let Some(answer) = self.step(who, payload, buf) {
                 return answer;

@@ -1,5 +1,6 @@
 //! Laws of a page at each moment, whether its ends are honest or were given up, and of its end.
-ghost use Rattle.vchan_core.specs.Kept.{OpeningIsKept, BeginIsKept, EventIsKept, CallIsKept, TurnIsKept, StrayIsKept, EachIsKept, KeptSettles};
+ghost use Rattle.vchan_core.specs.WorkedEnd.{EndIsAsWorked};
+ghost use Rattle.vchan_core.specs.Kept.{OpeningIsKept, BeginIsKept, EventIsKept, CallIsKept, TurnIsKept, StrayIsKept, GoneIsSetOnce, EachIsKept, KeptSettles};
 
 /// What holds of a page holds when it is opened.
 pub fn opening_is_kept()
@@ -31,7 +32,13 @@ pub fn stray_is_kept()
     ensures { StrayIsKept }
 {}
 
-/// So it holds whatever happens to a page, in whatever order the events of its ends come.
+/// Between honest ends a gone word is 1 after the event that stores to it, and every other event
+/// leaves it as it is.
+pub fn gone_is_set_once()
+    ensures { GoneIsSetOnce }
+{}
+
+/// What holds of a page holds whatever happens to a page, in whatever order the events of its ends come.
 pub fn each_is_kept()
     ensures { EachIsKept }
 {}
@@ -39,4 +46,10 @@ pub fn each_is_kept()
 /// What stands at the end of a page, and at each moment before.
 pub fn kept_settles()
     ensures { KeptSettles }
+{}
+
+/// A worked row of how a stream ends: a byte that was written before the peer closed is still read,
+/// and then all was read.
+pub fn worked_end()
+    ensures { EndIsAsWorked }
 {}

@@ -13,7 +13,7 @@ use Rattle.step_script.proofs.player.play.Goals as goal
 
 pub loop-line-init : goal.loop-line-init
 loop-line-init c =
-    let stands = subst (λ (n : ℕ). StandsFor (opened c.script.inside.orders 0 (n, c.number-2.result) Open) c.in_ok-page.page) c.number.ensures c.in_ok-page.ensures in
+    let stands = subst (λ (n : ℕ). StandsFor (opened c.script.inside.orders 0 (n, c.number-2.result) Open) c.in_ok-page.page) c.number.ensures c.in_ok-page.ensures.stands in
     rw (c.in_ok-lines.ensures.items, c.deref-line-items.ensures.value)
     (playing_first c.args.script.now c.script.inside.orders c.in_ok-page.page c.script.inside.lines.items (sym c.script.view_is)
     (subst (λ (n : ℕ). StandsFor (opened c.script.inside.orders 0 (number_of c.script.inside.orders.left, n) Open) c.in_ok-page.page) c.number-2.ensures stands))
