@@ -357,10 +357,6 @@ module _ (who : Role) (channel : ChannelLists) (theirs : Told) (payload : List �
   unfolding next_place
   next_place-is i = place-index channel.start i (end_of channel who).sent (order_of channel.orders (written_ring who))
 
-  -- places less than a ring apart are two places
-  places_apart : (n m : ℕ) (order : Order) → n < m → m < n + size order → place n order ≢ place m order
-  places_apart n m order less near = place_apart n m order less near
-
   putting_more : (i : ℕ) (words : List ℕ) (mine : Side) → length (end_of channel who).sent + i < length (end_of channel (peer who)).got + size (order_of channel.orders (written_ring who)) → Putting i words mine →
       Putting (i + 1) (words_after channel.orders words mine.payload (StoreByte (RingByte (written_ring who) (next_place i)) i)) (made mine (StoreByte (RingByte (written_ring who) (next_place i)) i) 0)
   unfolding next_place
@@ -372,27 +368,18 @@ module _ (who : Role) (channel : ChannelLists) (theirs : Told) (payload : List �
     placed = λ j less. go j less (cases_lt j i);
   }
     where
-      ring : Ring
-      ring = written_ring who
-
-      order : Order
-      order = order_of channel.orders (written_ring who)
-
-      from : ℕ
-      from = channel.start + length (end_of channel who).sent
-
       op : Op
       op = StoreByte (RingByte (written_ring who) (next_place i)) i
 
       behind : (n : ℕ) → length (end_of channel (peer who)).got ≤ n → n < length (end_of channel who).sent → place (channel.start + n) (order_of channel.orders (written_ring who)) ≢ next_place i
       behind n low high e =
-          places_apart (channel.start + n) (channel.start + length (end_of channel who).sent + i) (order_of channel.orders (written_ring who)) (omega (arith, high)) (omega (arith, low, room)) (e ∙ next_place-is i)
+          place_apart (channel.start + n) (channel.start + length (end_of channel who).sent + i) (order_of channel.orders (written_ring who)) (omega (arith, high)) (omega (arith, low, room)) (e ∙ next_place-is i)
 
       go : (j : ℕ) → j < i + 1 → (j < i) ⊎ (i ≤ j) →
           at channel.orders (set words (index_of channel.orders (RingByte (written_ring who) (next_place i))) (slice_index mine.payload i)) (RingByte (written_ring who) (place (channel.start + length (end_of channel who).sent + j) (order_of channel.orders (written_ring who)))) ≡ slice_index payload j
       go j less (inl old) =
           get_or-set_other words (index_of channel.orders (RingByte (written_ring who) (next_place i))) (index_of channel.orders (RingByte (written_ring who) (place (channel.start + length (end_of channel who).sent + j) (order_of channel.orders (written_ring who))))) (slice_index mine.payload i) 0
-          (λ e. places_apart (channel.start + length (end_of channel who).sent + j) (channel.start + length (end_of channel who).sent + i) (order_of channel.orders (written_ring who)) (omega (arith, old)) (omega (arith, room, b.written_low))
+          (λ e. place_apart (channel.start + length (end_of channel who).sent + j) (channel.start + length (end_of channel who).sent + i) (order_of channel.orders (written_ring who)) (omega (arith, old)) (omega (arith, room, b.written_low))
           (omega (arith, e, byte_index channel.orders (written_ring who) (next_place i), byte_index channel.orders (written_ring who) (place (channel.start + length (end_of channel who).sent + j) (order_of channel.orders (written_ring who)))) ∙ next_place-is i))
           ∙ p.placed j old
       go j less (inr new) =
@@ -495,7 +482,6 @@ module _ (who : Role) (channel : ChannelLists) (theirs : Told) (payload : List �
       (made mine (Store (cons_word (read_ring who)) ((index channel.start (end_of channel who).got + k) % 2 ^ 32)) 0)
   released k words mine room t =
       let it = end_of channel who in
-      let more : List ℕ = take k (waiting channel who) in
       let v : ℕ = (index channel.start it.got + k) % 2 ^ 32 in
       let long : length (take k (waiting channel who)) ≡ k = omega (arith, length-take k (waiting channel who), length-waiting, room) in
       let is : v ≡ index channel.start (it.got ++ take k (waiting channel who)) = index-more channel.start k it.got (take k (waiting channel who)) long in

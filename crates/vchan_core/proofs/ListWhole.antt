@@ -18,11 +18,12 @@ use Rattle.vchan_core.specs.declared.plain.Plain.{Plain}
 use Rattle.vchan_core.specs.Core.{Core, side_of, standing_of, begins, begun, bytes_loaded}
 use Rattle.vchan_core.specs.Alone.{alone, whole_call, called, call_answer}
 use Rattle.vchan_core.specs.RingLaw.{IsPrefixOf, AreBytes}
+use Rattle.vchan_core.specs.Reached.{MayBegin}
 use Rattle.vchan_core.specs.Lawful.{Lawful, IsEnd}
 use Rattle.vchan_core.specs.LifeLaw.{TellsGone}
 use Rattle.vchan_core.specs.Peer.{peer}
 use Rattle.vchan_core.specs.ListCall.{ListEnd, ChannelLists, WholeCall, end_of, with_end, waiting, lists_of, list_call, list_calls}
-use Rattle.vchan_core.specs.ListLaw.{IsTold, FollowsLists, MayCall, MayCallAll, AreTold, called_all, count_got}
+use Rattle.vchan_core.specs.ListLaw.{AllFollowLists, IsTold, FollowsLists, MayCall, MayCallAll, AreTold, called_all, count_got}
 use Rattle.vchan_core.proofs.ListTells.{Told, told, Tells, EndIs, EndTells, prefix_fits}
 use Rattle.vchan_core.proofs.ListPieces.{run, core_by, alone-run, standing_by, Begins, Gives}
 use Rattle.vchan_core.proofs.ListCalls.{each_row}
@@ -192,9 +193,6 @@ tells_there who channel it words mine theirs t to =
 -- ---- a whole call
 
 module _ (core : Core) (who : Role) (call : Call) (payload : List ℕ) (t : TellsLists core) (may : MayCall (lists_of core) who call payload) where
-  channel : ChannelLists
-  channel = lists_of core
-
   last : List ℕ × Side × Answer
   last = run core.orders core.words (begins (side_of core who) call payload) (plan_of (standing_by who (lists_of core)) call)
 
@@ -234,16 +232,21 @@ module _ (core : Core) (who : Role) (call : Call) (payload : List ℕ) (t : Tell
 
 -- ---- calls in a row
 
-pub all_follow_lists : (core : Core) (calls : List WholeCall) → TellsLists core → MayCallAll (lists_of core) calls →
-    (lists_of (called_all core calls).0 ≡ (list_calls (lists_of core) calls).0) × AreTold (list_calls (lists_of core) calls).1 (called_all core calls).1
-all_follow_lists core [] t may = (refl, tt)
+-- a call that an end of a core state may begin is one that it may begin by the lists
+pub may_there : (core : Core) (who : Role) (call : Call) (payload : List ℕ) → MayBegin who (side_of core who) call payload → MayCall (lists_of core) who call payload
+may_there core Server call payload may = (may.allowed, may.pays, may.bytes)
+may_there core Client call payload may = (may.allowed, may.pays, may.bytes)
+
+pub all_follow_lists : (core : Core) (calls : List WholeCall) → TellsLists core → MayCallAll (lists_of core) calls → AllFollowLists core calls
+all_follow_lists core [] t may = record { lists = refl; answers = tt }
 all_follow_lists core (one ∷ more) t may =
     let first = follows_lists core one.who one.call one.payload t may.0 in
     let there : MayCallAll (lists_of (called core one.who one.call one.payload)) more = subst (λ (c : ChannelLists). MayCallAll c more) (sym first.lists) may.1 in
-    let others = all_follow_lists (called core one.who one.call one.payload) more (tells_on core one.who one.call one.payload t may.0) there in (
-      others.0 ∙ ap (λ (c : ChannelLists). (list_calls c more).0) first.lists,
-      (first.answer, subst (λ (c : ChannelLists). AreTold (list_calls c more).1 (called_all (called core one.who one.call one.payload) more).1) first.lists others.1),
-    )
+    let others = all_follow_lists (called core one.who one.call one.payload) more (tells_on core one.who one.call one.payload t may.0) there in
+    record {
+      lists = others.lists ∙ ap (λ (c : ChannelLists). (list_calls c more).0) first.lists;
+      answers = (first.answer, subst (λ (c : ChannelLists). AreTold (list_calls c more).1 (called_all (called core one.who one.call one.payload) more).1) first.lists others.answers);
+    }
 
 -- ---- a page that stands for a core state
 

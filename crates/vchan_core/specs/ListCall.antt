@@ -100,7 +100,7 @@ sent_out channel who payload count answer = (sends channel who payload count, So
 abbrev pub got_in : ChannelLists → Role → ℕ → Outcome
 got_in channel who count = (gets channel who count, Some (Got count))
 
--- a whole call of an end: one row a call
+-- a whole call of an end: one row a call. Order words that a check refuses differ from a page's orders; whether a signal was pending the lists don't tell.
 abbrev pub list_call : ChannelLists → Role → Call → List ℕ → Outcome
 list_call channel who (Write n) payload =
     if peer_is_shut channel who then only channel PeerClosed

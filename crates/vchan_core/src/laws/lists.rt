@@ -1,5 +1,5 @@
 //! Laws of whole calls, which an end makes while its peer makes no event.
-ghost use Rattle.vchan_core.specs.ListLaw.{WholeCallsFollowLists, CallsInARowFollowLists};
+ghost use Rattle.vchan_core.specs.ListLaw.{WholeCallsFollowLists, CallsInARowFollowLists, CallsFromTheOpeningFollowLists};
 
 /// Between two honest ends each whole call is a call on lists: it answers what the lists of what
 /// was sent and got tell, moves what they say, and the bytes that it loads are the first ones that
@@ -12,4 +12,9 @@ pub fn whole_calls_follow_lists()
 /// the answers that the lists tell, and leave the lists as these say.
 pub fn calls_in_a_row_follow_lists()
     ensures { CallsInARowFollowLists }
+{}
+
+/// The same from the opening of a page on, on which nothing was sent and nothing got.
+pub fn calls_from_the_opening_follow_lists()
+    ensures { CallsFromTheOpeningFollowLists }
 {}

@@ -108,11 +108,11 @@ pub returns-in-Some-clause-buffer : goal.returns-in-Some-clause-buffer
 returns-in-Some-clause-buffer g c =
     ends_buffer c.args.self.now c.args.who c.args.call c.args.payload.now c.args.buf.now c.requires.payload c.move_piece.new.self c.step.new.self c.move_piece.new.buf c.step.new.buf _ c.in-Some.answer (moved_last g c) (last g c)
 
-pub returns-in-Some-clause-lists : goal.returns-in-Some-clause-lists
-returns-in-Some-clause-lists g c = λ core h lawful.
-    page_follows_lists core c.args.self.now c.args.who c.args.call c.args.payload.now c.requires.allowed c.requires.payload
-    (All-from_get_or (λ (byte : ℕ). byte < 256) c.args.payload.now 0 (λ k within. omega (arith, c.type_inv.payload k))) h lawful
-
 pub returns-in-Some-clause-kept : goal.returns-in-Some-clause-kept
 returns-in-Some-clause-kept g c = λ core h kept.
     kept_call core c.args.self.now c.args.who c.args.call c.args.payload.now h c.requires.honest c.requires.allowed c.requires.payload (λ k. omega (arith, c.type_inv.payload k)) kept
+
+pub returns-in-Some-clause-lists : goal.returns-in-Some-clause-lists
+returns-in-Some-clause-lists g c = λ core h lawful.
+    page_follows_lists core c.args.self.now c.args.who c.args.call c.args.payload.now c.requires.allowed c.requires.payload
+    (All-from_get_or (λ (byte : ℕ). byte < 256) c.args.payload.now 0 (λ i within. let low = c.type_inv.payload i in omega (arith, low))) h lawful
