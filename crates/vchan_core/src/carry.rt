@@ -5,6 +5,7 @@ use crate::op::Op;
 use ring_words::Words;
 
 /// Carries an event out, and answers the value that it took.
+#[inline(always)]
 pub(crate) fn carry_out(words: &mut Words, op: Op, payload: &[u8], buf: &mut [u8]) -> u64
     requires { Fits words.old.orders (length payload.now) (length buf.old) op }
     ensures orders { words.new.orders ≡ words.old.orders }

@@ -129,6 +129,7 @@ impl Machine {
     }
 
     /// The event that comes next. It is `Nothing` exactly where the end is between two calls.
+    #[inline(always)]
     pub fn next(&self) -> Op
         ensures op { result ≡ next_op (rest self.now) }
         ensures trail { (begun : Standing) → (call : Call) → (events : List PastEvent) → Stands begun call events self.now
@@ -139,6 +140,7 @@ impl Machine {
         self.next_event()
     }
 
+    #[inline(always)]
     fn next_event(&self) -> Op
         ensures op { result ≡ next_op (rest self.now) }
         ensures idle { (result ≡ Op.Nothing) ↔ IsIdle self.now }
@@ -152,6 +154,7 @@ impl Machine {
 
     /// Takes the value that the event took: the word as it was, or 0 for a plain store. The answer
     /// comes with the last event of the call, and then the end is between two calls.
+    #[inline(always)]
     pub fn took(&mut self, value: u64) -> Option<Answer>
         requires { ¬ IsIdle self.old }
         ensures rest { left result self.new ≡ after (rest self.old) value }
@@ -165,6 +168,7 @@ impl Machine {
         self.advance(value)
     }
 
+    #[inline(always)]
     fn advance(&mut self, value: u64) -> Option<Answer>
         requires { ¬ IsIdle self.old }
         ensures rest { left result self.new ≡ after (rest self.old) value }
@@ -193,6 +197,7 @@ impl Machine {
     /// Takes the event of a phase into its own counts and its state: an own index that it stores is
     /// its count, and its own live byte makes its state.
     #[tactic(auto, using(crate::proofs::PlanLaws::bytes_laws), unfolding(crate::specs::Ends::standing_after, crate::specs::Phases::rest_at, crate::specs::Calls::write, crate::specs::Calls::write_open, crate::specs::Calls::read, crate::specs::Calls::read_live, crate::specs::Calls::send, crate::specs::Calls::send_open, crate::specs::Calls::recv, crate::specs::Calls::recv_live, crate::specs::Calls::drain, crate::specs::Calls::drain_second, crate::specs::Calls::drain_live, crate::specs::Calls::drain_further, crate::specs::Calls::drain_gone, crate::specs::Calls::drain_last, crate::specs::Calls::connect, crate::specs::Calls::connect_right))]
+    #[inline(always)]
     fn count(&mut self, phase: Phase)
         ensures standing { standing self.new ≡ standing_after (standing self.old) (next_op (rest_at (standing self.old) phase)) }
         ensures role { self.new.role ≡ self.old.role }
@@ -227,6 +232,7 @@ impl Machine {
     // ---- the events
 
     #[tactic(auto, using(crate::proofs::PlanLaws::bytes_laws), unfolding(crate::specs::Phases::rest_at, crate::specs::Calls::write, crate::specs::Calls::write_open, crate::specs::Calls::read, crate::specs::Calls::read_live, crate::specs::Calls::send, crate::specs::Calls::send_open, crate::specs::Calls::recv, crate::specs::Calls::recv_live, crate::specs::Calls::drain, crate::specs::Calls::drain_second, crate::specs::Calls::drain_live, crate::specs::Calls::drain_further, crate::specs::Calls::drain_gone, crate::specs::Calls::drain_last, crate::specs::Calls::connect, crate::specs::Calls::connect_right))]
+    #[inline(always)]
     fn op_at(&self, phase: Phase) -> Op
         ensures op { result ≡ next_op (rest_at (standing self.now) phase) }
         ensures some { result ≢ Op.Nothing }

@@ -36,6 +36,7 @@ impl Moved {
 
     /// Hands the value of an event to the end that made it, and counts what the event moved: an own
     /// index that moves on shows that many bytes, or gives up the places of that many.
+    #[inline(always)]
     pub(crate) fn took(
         machine: &mut Machine,
         value: u64,

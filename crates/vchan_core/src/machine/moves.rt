@@ -16,6 +16,7 @@ use crate::words::{low8, low16, low32, mask};
 impl Machine {
     /// What comes of the next event where it takes this value.
     #[tactic(auto, using(crate::proofs::PlanLaws::bytes_laws), unfolding(crate::specs::Ends::standing_after, crate::specs::Phases::rest_at, crate::specs::Calls::write, crate::specs::Calls::write_open, crate::specs::Calls::read, crate::specs::Calls::read_live, crate::specs::Calls::send, crate::specs::Calls::send_open, crate::specs::Calls::recv, crate::specs::Calls::recv_live, crate::specs::Calls::drain, crate::specs::Calls::drain_second, crate::specs::Calls::drain_live, crate::specs::Calls::drain_further, crate::specs::Calls::drain_gone, crate::specs::Calls::drain_last, crate::specs::Calls::connect, crate::specs::Calls::connect_right))]
+    #[inline(always)]
     pub(super) fn moved(&self, phase: Phase, value: u64) -> Move
         ensures plan { let e = standing self.now in plan_at (standing_after e (next_op (rest_at e phase))) result ≡ after (rest_at e phase) value }
         ensures out { out_move result ≤ out_at phase }
