@@ -127,6 +127,11 @@ mod tests {
         assert_eq!(rt; words.load(first), u64::MAX);
         assert_eq!(rt; words.load(WordName::LeftProd), 0);
         assert_eq!(rt; words.orders(), orders);
+        assert_eq!(rt; orders.left.size(), 1024);
+        words.store_bytes(Ring::Left, 1022, b"xy");
+        let mut bytes = [0u8; 3];
+        words.load_bytes(Ring::Left, 1021, &mut bytes);
+        assert_eq!(rt; bytes, *b"\0xy");
         let list = words.list();
         assert_eq!(rt; list.len(), 3086);
         assert_eq!(rt; list[3], 4_294_967_295);
