@@ -1,4 +1,4 @@
-use Rattle.std.proofs.Common.{◌≡◌, ◌∙◌, ap, sym, take, ℕ, List, length, slice_set, slice_index, arith, ◌+◌}
+use Rattle.std.proofs.Common.{◌≡◌, ◌∙◌, ap, sym, take, ℕ, List, length, slice_set, arith, ◌+◌}
 use Rattle.std.proofs.lemmas.List.{take_all}
 use Rattle.ring_words.specs.Page.{word_count, index_of}
 use Rattle.ring_words.specs.PageWords.{PageWords}
