@@ -1,5 +1,5 @@
 -- The loop of a whole call, where it makes several events at once.
-use Rattle.std.proofs.Common.{◌≡◌, ℕ, suc, zero, ◌+◌, ◌-◌, ◌^◌, ◌<◌, ◌≤◌, Option, Some, None, IsSome, List, [], ◌∷◌, ◌++◌, length, take, slice_set, refl, subst, sym, ap, ◌∙◌, arith}
+use Rattle.std.proofs.Common.{◌≡◌, ℕ, suc, zero, ◌+◌, ◌^◌, ◌<◌, ◌≤◌, Some, None, List, [], ◌∷◌, ◌++◌, length, take, refl, subst, sym, ap, ◌∙◌, arith}
 use Rattle.std.proofs.lemmas.List.{length_push, length-set}
 use Rattle.std.proofs.lemmas.Bool.{false≢true}
 use Rattle.ring_words.specs.Rings.{diff}
@@ -14,11 +14,11 @@ use Rattle.vchan_core.specs.declared.call.Call.{Call}
 use Rattle.vchan_core.specs.declared.machine.Machine.{Machine}
 use Rattle.vchan_core.specs.declared.moved.Moved.{Moved}
 use Rattle.vchan_core.specs.declared.plain.Plain.{Plain}
-use Rattle.vchan_core.specs.Plan.{Plan, past, next_op, after, Leads}
+use Rattle.vchan_core.specs.Plan.{Plan, past, Leads}
 use Rattle.vchan_core.specs.Ends.{Standing}
 use Rattle.vchan_core.specs.Calls.{plan_of, payload_of, most_events, Trace}
 use Rattle.vchan_core.specs.Apply.{value_taken, buffer_after, filled}
-use Rattle.vchan_core.specs.Phases.{standing, rest, left, IsIdle, out_of, into_of, Stands}
+use Rattle.vchan_core.specs.Phases.{standing, rest, IsIdle, out_of, into_of, Stands}
 use Rattle.vchan_core.specs.Counts.{capped}
 use Rattle.vchan_core.specs.Core.{Core, side_of, event, bytes_loaded}
 use Rattle.vchan_core.specs.Alone.{alone, whole_call, called, call_answer}
@@ -64,12 +64,12 @@ stands_event : (who : Role) (source buffer buffer' : List ℕ) (page page' : Pla
 stands_event Server source buffer buffer' page page' low beside d core h has =
     stands_server core page page' source None h has
     (does_event (orders_of page) source buffer page.server page'.server (words_of page) (words_of page') buffer' page.right page.left page'.right page'.left (length core.server.sent) (length core.server.got)
-        low d beside.right beside.left h.right.sent h.left.got)
+    low d beside.right beside.left h.right.sent h.left.got)
     beside.orders beside.other beside.turned beside.other_turned
 stands_event Client source buffer buffer' page page' low beside d core h has =
     stands_client core page page' source None h has
     (does_event (orders_of page) source buffer page.client page'.client (words_of page) (words_of page') buffer' page.left page.right page'.left page'.right (length core.client.sent) (length core.client.got)
-        low d beside.left beside.right h.left.sent h.right.got)
+    low d beside.left beside.right h.left.sent h.right.got)
     beside.orders beside.other beside.other_turned beside.turned
 
 is_step : (who : Role) (source buffer buffer' : List ℕ) (page page' : Plain) → IsLow (machine_of page who) → IsBeside who page page' → EventOn who source page buffer page' buffer' → IsStep who source page page' None buffer buffer'
@@ -242,13 +242,13 @@ loop_same first who call source start page page' buffer buffer' count l b machin
   other = b.other ∙ l.other;
   so_far = subst (λ (m : Machine). (events : List PastEvent) × Stands (standing (machine_of first who)) call events m × (count ≡ length events)) (sym machine) l.so_far;
   running = λ core h. (let r = l.running core h in
-  record {
-    now = r.now;
-    stands = stands_same who page page' b machine words r.now r.stands;
-    pays = r.pays;
-    on = subst (λ (m : Machine). alone r.now who (rest m) ≡ whole_call core who call (take (payload_of call) source)) (sym machine) r.on;
-    fills = filled ∙ r.fills;
-  });
+      record {
+        now = r.now;
+        stands = stands_same who page page' b machine words r.now r.stands;
+        pays = r.pays;
+        on = subst (λ (m : Machine). alone r.now who (rest m) ≡ whole_call core who call (take (payload_of call) source)) (sym machine) r.on;
+        fills = filled ∙ r.fills;
+      });
 }
 
 -- so many events on ring bytes at once

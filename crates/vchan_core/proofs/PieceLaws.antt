@@ -1,10 +1,10 @@
 -- The bytes that a machine moves in one piece are the events that it makes one by one.
-use Rattle.std.proofs.Common.{◌≡◌, ℕ, suc, zero, ◌+◌, ◌-◌, ◌%◌, ◌<◌, ◌≤◌, Option, Some, None, List, [], ◌∷◌, ◌++◌, length, take, drop, get_or, slice_index, slice_set, refl, subst, sym, ap, ◌∙◌, arith}
+use Rattle.std.proofs.Common.{◌≡◌, ℕ, suc, zero, ◌+◌, ◌%◌, ◌<◌, ◌≤◌, Some, List, ◌∷◌, length, take, drop, slice_index, slice_set, refl, subst, sym, ap, ◌∙◌, arith}
 use Rattle.std.proofs.lemmas.List.{length-set, set-get_or}
 use Rattle.std.proofs.lemmas.Bool.{false≢true}
 use Rattle.std.proofs.Math.Seq.{drop-cons}
-use Rattle.ring_words.specs.Rings.{place, size}
-use Rattle.ring_words.specs.Page.{index_of, order_of}
+use Rattle.ring_words.specs.Rings.{place}
+use Rattle.ring_words.specs.Page.{index_of}
 use Rattle.ring_words.specs.Laid.{laid, low_bytes}
 use Rattle.ring_words.specs.declared.order.Orders.{Orders}
 use Rattle.ring_words.specs.declared.page.Ring.{Ring}
@@ -15,13 +15,12 @@ use Rattle.vchan_core.specs.declared.op.Op.{Op}
 use Rattle.vchan_core.specs.declared.op.Op.TheVariants.{StoreByte, LoadByte}
 use Rattle.vchan_core.specs.declared.call.Answer.{Answer}
 use Rattle.vchan_core.specs.declared.machine.Machine.{Machine}
-use Rattle.vchan_core.specs.declared.phase.Phase.{Phase}
 use Rattle.vchan_core.specs.declared.phase.Phase.TheVariants.{Put, Take}
 use Rattle.vchan_core.specs.Plan.{Plan, answers, does, next_op, after}
 use Rattle.vchan_core.specs.Ends.{Standing, standing_after, written_ring, read_ring, write_order, read_order}
-use Rattle.vchan_core.specs.Calls.{put_bytes, put_index, take_bytes, take_index}
+use Rattle.vchan_core.specs.Calls.{put_index, take_index}
 use Rattle.vchan_core.specs.Apply.{Fits, words_after, value_taken, buffer_after}
-use Rattle.vchan_core.specs.Phases.{standing, rest, rest_at, IsIdle}
+use Rattle.vchan_core.specs.Phases.{standing, rest, rest_at}
 use Rattle.vchan_core.specs.Pieces.{MakesEvent, MakesEvents}
 use Rattle.vchan_core.proofs.PlanLaws.{put_bytes-more, take_bytes-more}
 
@@ -97,13 +96,17 @@ put_piece m list source buffer i k (suc n) at answer h enough places =
     ∙ ap (λ (x : ℕ). laid (slice_set list (index_of m.orders (RingByte ring at)) (slice_index source i)) x (take n (drop (i + 1) source))) (index_on m.orders ring at)
     ∙ ap (λ (l : List ℕ). laid list (index_of m.orders (RingByte ring at)) l) (sym (drop_on source i n (omega arith))) in
     let later : MakesEvents n m.orders source (at_put m (i + 1) k answer) list' buffer (at_put m (i + 1 + n) k answer)
-        (laid list' (index_of m.orders (RingByte ring (at + 1))) (take n (drop (i + 1) source))) buffer =
+    (laid list' (index_of m.orders (RingByte ring (at + 1))) (take n (drop (i + 1) source))) buffer =
     put_piece m list' source buffer (i + 1) k n (at + 1) answer (omega arith) enough
-        (λ j less. ap (λ (x : ℕ). put_place m x) (omega arith) ∙ places (j + 1) (omega arith) ∙ omega arith) in
-    (at_put m (i + 1) k answer, list', buffer, put_one m list source buffer i k answer (omega arith) enough,
-    subst (λ (l : List ℕ). MakesEvents n m.orders source (at_put m (i + 1) k answer) list' buffer (at_put m (i + suc n) k answer) l buffer) stored
-    (subst (λ (x : ℕ). MakesEvents n m.orders source (at_put m (i + 1) k answer) list' buffer (at_put m x k answer)
-        (laid list' (index_of m.orders (RingByte ring (at + 1))) (take n (drop (i + 1) source))) buffer) on later))
+    (λ j less. ap (λ (x : ℕ). put_place m x) (omega arith) ∙ places (j + 1) (omega arith) ∙ omega arith) in (
+      at_put m (i + 1) k answer,
+      list',
+      buffer,
+      put_one m list source buffer i k answer (omega arith) enough,
+      subst (λ (l : List ℕ). MakesEvents n m.orders source (at_put m (i + 1) k answer) list' buffer (at_put m (i + suc n) k answer) l buffer) stored
+          (subst (λ (x : ℕ). MakesEvents n m.orders source (at_put m (i + 1) k answer) list' buffer (at_put m x k answer)
+          (laid list' (index_of m.orders (RingByte ring (at + 1))) (take n (drop (i + 1) source))) buffer) on later),
+    )
 
 -- ---- a take
 
@@ -152,10 +155,14 @@ take_piece m list source buffer i k (suc n) at answer h enough places =
     ap (λ (x : ℕ). laid (slice_set buffer i (value x)) (i + 1) (low_bytes list (index_of m.orders (RingByte ring (at + 1))) n)) here
     ∙ ap (λ (x : ℕ). laid (slice_set buffer i (value at)) (i + 1) (low_bytes list x n)) (index_on m.orders ring at) in
     let later : MakesEvents n m.orders source (at_take m (i + 1) k answer) list buffer' (at_take m (i + 1 + n) k answer) list
-        (laid buffer' (i + 1) (low_bytes list (index_of m.orders (RingByte ring (at + 1))) n)) =
+    (laid buffer' (i + 1) (low_bytes list (index_of m.orders (RingByte ring (at + 1))) n)) =
     take_piece m list source buffer' (i + 1) k n (at + 1) answer (omega arith) (omega (arith, length-set buffer i (value (take_place m i))))
-        (λ j less. ap (λ (x : ℕ). take_place m x) (omega arith) ∙ places (j + 1) (omega arith) ∙ omega arith) in
-    (at_take m (i + 1) k answer, list, buffer', take_one m list source buffer i k answer (omega arith) enough,
-    subst (λ (b : List ℕ). MakesEvents n m.orders source (at_take m (i + 1) k answer) list buffer' (at_take m (i + suc n) k answer) list b) filled
-    (subst (λ (x : ℕ). MakesEvents n m.orders source (at_take m (i + 1) k answer) list buffer' (at_take m x k answer) list
-        (laid buffer' (i + 1) (low_bytes list (index_of m.orders (RingByte ring (at + 1))) n))) on later))
+    (λ j less. ap (λ (x : ℕ). take_place m x) (omega arith) ∙ places (j + 1) (omega arith) ∙ omega arith) in (
+      at_take m (i + 1) k answer,
+      list,
+      buffer',
+      take_one m list source buffer i k answer (omega arith) enough,
+      subst (λ (b : List ℕ). MakesEvents n m.orders source (at_take m (i + 1) k answer) list buffer' (at_take m (i + suc n) k answer) list b) filled
+          (subst (λ (x : ℕ). MakesEvents n m.orders source (at_take m (i + 1) k answer) list buffer' (at_take m x k answer) list
+          (laid buffer' (i + 1) (low_bytes list (index_of m.orders (RingByte ring (at + 1))) n))) on later),
+    )

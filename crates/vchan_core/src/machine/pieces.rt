@@ -14,12 +14,7 @@ use ring_words::{Words, place};
 impl Machine {
     /// Moves the bytes that come next in a put or a take, up to the last one or to the ring's end,
     /// and answers how many. Elsewhere in a call it moves none.
-    pub(crate) fn move_piece(
-        &mut self,
-        words: &mut Words,
-        payload: &[u8],
-        buf: &mut [u8],
-    ) -> u32
+    pub(crate) fn move_piece(&mut self, words: &mut Words, payload: &[u8], buf: &mut [u8]) -> u32
         requires orders { words.old.orders ≡ self.old.orders }
         requires payload { out_of self.old ≤ length payload.now }
         requires buf { into_of self.old ≤ length buf.old }

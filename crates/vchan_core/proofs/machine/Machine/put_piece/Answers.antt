@@ -1,4 +1,4 @@
-use Rattle.std.proofs.Common.{◌≡◌, ◌<◌, ◌≤◌, ℕ, List, Option, Some, length, take, drop, ◌+◌, ◌-◌, ap, sym, ◌∙◌, subst, arith}
+use Rattle.std.proofs.Common.{◌≡◌, ◌<◌, ◌≤◌, ℕ, List, Option, take, drop, ◌+◌, ◌-◌, ap, sym, ◌∙◌, subst, arith}
 use Rattle.ring_words.specs.Page.{order_of, index_of}
 use Rattle.ring_words.specs.PageWords.{PageWords}
 use Rattle.ring_words.specs.Rings.{place, size}
@@ -27,9 +27,9 @@ returns-clause-events c = λ buffer.
     c.place-first.ensures.place ∙ place_wraps (m.prod + at) c.order_of-order.result ∙ ap (λ (o : Order). place (m.prod + at) o) order in
     let fits : first + len ≤ size (write_order (standing m)) = subst (λ (o : Order). first + len ≤ size o) order (omega (arith, c.size.ensures.size, c.place-first.ensures.within)) in
     let places : (j : ℕ) → j < len → put_place m (at + j) ≡ first + j = λ j less.
-        let same : m.prod + (at + j) ≡ m.prod + at + j = omega arith in
-        ap (λ (x : ℕ). place x (write_order (standing m))) same ∙ place_on (m.prod + at) j (write_order (standing m)) (omega (arith, begins, fits))
-        ∙ ap (λ (x : ℕ). x + j) (sym begins) in
+    let same : m.prod + (at + j) ≡ m.prod + at + j = omega arith in
+    ap (λ (x : ℕ). place x (write_order (standing m))) same ∙ place_on (m.prod + at) j (write_order (standing m)) (omega (arith, begins, fits))
+    ∙ ap (λ (x : ℕ). x + j) (sym begins) in
     let back : at + len - at ≡ len = omega arith in
     let list : c.store_bytes.new.self.list ≡ laid c.args.words.now.list (index_of m.orders (RingByte (written_ring m.role) first)) (take len (drop at c.args.payload.now)) =
     ap (λ (w : PageWords). w.list) c.store_bytes.ensures.words
@@ -40,4 +40,4 @@ returns-clause-events c = λ buffer.
     let whole : at_put m at c.args.count c.args.answer ≡ m = ap (λ (p : Option Phase). record m { phase = p }) (sym c.requires.phase) in
     subst (λ (l : List ℕ). MakesEvents len m.orders c.args.payload.now m c.args.words.now.list buffer (at_put m (at + len) c.args.count c.args.answer) l buffer) (sym list)
     (subst (λ (x : Machine). MakesEvents len m.orders c.args.payload.now x c.args.words.now.list buffer (at_put m (at + len) c.args.count c.args.answer)
-        (laid c.args.words.now.list (index_of m.orders (RingByte (written_ring m.role) first)) (take len (drop at c.args.payload.now))) buffer) whole moved)
+    (laid c.args.words.now.list (index_of m.orders (RingByte (written_ring m.role) first)) (take len (drop at c.args.payload.now))) buffer) whole moved)

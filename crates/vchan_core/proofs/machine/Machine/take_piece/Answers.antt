@@ -30,9 +30,9 @@ returns-clause-events c = λ payload.
     c.place-first.ensures.place ∙ place_wraps (m.cons + at) c.order_of-order.result ∙ ap (λ (o : Order). place (m.cons + at) o) order in
     let fits : first + len ≤ size (read_order (standing m)) = subst (λ (o : Order). first + len ≤ size o) order (omega (arith, c.size.ensures.size, c.place-first.ensures.within)) in
     let places : (j : ℕ) → j < len → take_place m (at + j) ≡ first + j = λ j less.
-        let same : m.cons + (at + j) ≡ m.cons + at + j = omega arith in
-        ap (λ (x : ℕ). place x (read_order (standing m))) same ∙ place_on (m.cons + at) j (read_order (standing m)) (omega (arith, begins, fits))
-        ∙ ap (λ (x : ℕ). x + j) (sym begins) in
+    let same : m.cons + (at + j) ≡ m.cons + at + j = omega arith in
+    ap (λ (x : ℕ). place x (read_order (standing m))) same ∙ place_on (m.cons + at) j (read_order (standing m)) (omega (arith, begins, fits))
+    ∙ ap (λ (x : ℕ). x + j) (sym begins) in
     let index = index_of m.orders (RingByte (read_ring m.role) first) in
     let back : at + len - at ≡ len = omega arith in
     let room : length (take (at + len - at) (drop at buffer)) ≡ len = omega (arith, length-take (at + len - at) (drop at buffer), length-drop at buffer, c.requires.buf) in

@@ -1,6 +1,5 @@
-use Rattle.std.proofs.Common.{◌≡◌, ℕ, ◌∙◌, ◌+◌, arith, sym, ap, subst, refl, [], ◌∷◌, ◌++◌, length, take, Option, None, Some}
+use Rattle.std.proofs.Common.{◌∙◌, ◌+◌, arith, sym, refl, [], take, None, Some}
 use Rattle.vchan_core.specs.Calls.{payload_of}
-use Rattle.vchan_core.specs.Past.{machine_of}
 use Rattle.vchan_core.proofs.RunLaws.{IsStep, length-payload, runs_begun}
 use Rattle.vchan_core.proofs.LoopLaws.{InLoop, loop_along, loop_step, loop_short, ends_trace, ends_stands, ends_answer, ends_buffer}
 use Rattle.vchan_core.proofs.plain.Plain.run_call.Given.{Over}
@@ -9,17 +8,20 @@ use Rattle.vchan_core.proofs.plain.Plain.run_call.Goals as goal
 pub events-init : goal.events-init
 events-init g c =
     let source = c.args.payload.now in
-    let payload = take (payload_of c.args.call) source in
-    (0, record {
-      busy = c.begin.ensures.busy;
-      out = omega (arith, c.begin.ensures.out, c.requires.payload);
-      into = omega (arith, c.begin.ensures.into, c.requires.buf);
-      long = refl;
-      other = c.begin.ensures.other;
-      so_far = ([], sym c.begin.ensures.rest, refl);
-      running = λ core h. runs_begun core c.args.who c.args.call payload c.args.buf.now c.args.self.now c.begin.new.self h
-          (c.begin.ensures.stands core payload h (length-payload c.args.call source c.requires.payload)) c.begin.ensures.rest;
-    }, omega arith)
+    let payload = take (payload_of c.args.call) source in (
+      0,
+      record {
+        busy = c.begin.ensures.busy;
+        out = omega (arith, c.begin.ensures.out, c.requires.payload);
+        into = omega (arith, c.begin.ensures.into, c.requires.buf);
+        long = refl;
+        other = c.begin.ensures.other;
+        so_far = ([], sym c.begin.ensures.rest, refl);
+        running = λ core h. runs_begun core c.args.who c.args.call payload c.args.buf.now c.args.self.now c.begin.new.self h
+            (c.begin.ensures.stands core payload h (length-payload c.args.call source c.requires.payload)) c.begin.ensures.rest;
+      },
+      omega arith,
+    )
 
 -- the loop once a piece is moved: before the step, where no answer comes, and where one does
 moved_now : (g : Over) (c : goal.After-step-arg-in-events-1 g) → InLoop c.args.self.now c.args.who c.args.call c.args.payload.now c.args.buf.now c.move_piece.new.self c.move_piece.new.buf (c.events.invariant.0 + c.move_piece.result)
@@ -60,11 +62,12 @@ events-preserved g c =
       buffers = c.step.ensures.buffer;
       leads = c.in_default.ensures.rest;
       idle = c.in_default.ensures.idle;
-    } in
-    (c.events.invariant.0 + c.move_piece.result + 1,
-    loop_step c.args.self.now c.args.who c.args.call c.args.payload.now c.args.buf.now c.requires.payload c.move_piece.new.self c.step.new.self c.move_piece.new.buf c.step.new.buf _ (moved g c) step
-    c.step.ensures.out c.step.ensures.into c.step.ensures.other,
-    omega (arith, c.events.invariant.2, c.add.ensures, c.tick.ensures))
+    } in (
+      c.events.invariant.0 + c.move_piece.result + 1,
+      loop_step c.args.self.now c.args.who c.args.call c.args.payload.now c.args.buf.now c.requires.payload c.move_piece.new.self c.step.new.self c.move_piece.new.buf c.step.new.buf _ (moved g c) step
+          c.step.ensures.out c.step.ensures.into c.step.ensures.other,
+      omega (arith, c.events.invariant.2, c.add.ensures, c.tick.ensures),
+    )
 
 -- the last step, with its answer
 last : (g : Over) (c : goal.In-Some g) → IsStep c.args.who c.args.payload.now c.move_piece.new.self c.step.new.self (Some c.in-Some.answer) c.move_piece.new.buf c.step.new.buf
