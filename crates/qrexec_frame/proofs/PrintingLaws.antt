@@ -67,3 +67,15 @@ printed-channel old new before after r answer faulted = by_fault old.fault refl
     by_fault : (o : Option FrameFault) → old.fault ≡ o → new.channel ≡ old.channel
     by_fault None none = answered-channel old new before after r (answer none)
     by_fault (Some f) some = ap (λ d. d.channel) (faulted f some).1
+
+-- where no message is whole, the decoder stays
+pub printed-stays : (old new : DecoderState) (before after : List ℕ) (r : Result Bool NextError) → (old.fault ≡ None → Printed (Answers old new) before after r)
+    → ((f : FrameFault) → old.fault ≡ Some f → (r ≡ Err (error.Fault f)) × (new ≡ old) × (after ≡ before)) → r ≡ Ok false → new ≡ old
+printed-stays old new before after r answer faulted is = by_fault old.fault refl
+  where
+    by_fault : (o : Option FrameFault) → old.fault ≡ o → new ≡ old
+    by_fault None none =
+        let P : Result Bool NextError → Type 0 = λ q. Printed (Answers old new) before after q in
+        let printed : Printed (Answers old new) before after (Ok false) = subst P is (answer none) in
+        printed.0.1
+    by_fault (Some f) some = (faulted f some).1

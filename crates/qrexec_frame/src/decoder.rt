@@ -1,4 +1,4 @@
-ghost use Rattle.std.specs.Prelude.{◌≡◌, ◌<◌, ℕ, List, [], ◌++◌, length, Option, Some, None, true, IsOk, IsSome, IfOk, IfSome, OnOk, OnErr};
+ghost use Rattle.std.specs.Prelude.{◌≡◌, ◌<◌, ℕ, List, [], ◌++◌, length, Option, Some, None, true, false, IsOk, IsSome, IfOk, IfSome, OnOk, OnErr};
 ghost use Rattle.qrexec_frame.specs.declared.fault.FrameFault.{FrameFault};
 ghost use Rattle.qrexec_frame.specs.declared.message.Message.{Message};
 ghost use Rattle.qrexec_frame.specs.Streams.{Placed};
@@ -151,6 +151,7 @@ impl Decoder {
             (result ≡ Err (NextError.Fault f)) × (self.new ≡ self.old) × (out.new.items ≡ out.old.items) }
         ensures channel { self.new.channel ≡ self.old.channel }
         ensures shorter { result ≡ Ok true → length self.new.left < length self.old.left }
+        ensures stays { result ≡ Ok false → self.new ≡ self.old }
 
         // The messages and the end of all bytes fed, however they were cut.
         ensures stream { (fed : List ℕ) (given : List (Placed Message)) → StandsFor self.old fed given →
