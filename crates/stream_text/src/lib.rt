@@ -13,3 +13,4 @@ mod piece;
 
 pub use decode::decode_text;
 pub use error::{DecodeError, DecodeKind};
+pub use qrexec_frame::Channel;
