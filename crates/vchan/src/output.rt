@@ -6,7 +6,7 @@ ghost use Rattle.vchan.specs.Top.{IsDue, output_of};
 use crate::command::Command;
 use crate::status::Bad;
 use std::alloc::Global;
-use step_script::{Script, ScriptError, parse, play, text};
+use step_script::{Script, ScriptError, parse, play};
 use stream_text::{Channel, DecodeError, decode_text};
 use vchan_io::Memory;
 
@@ -51,8 +51,7 @@ fn step(alloc: Global, input: &[u8]) -> Result<Vec<u8>, OutputError>
 fn printed(alloc: Global, script: &Script) -> Result<Vec<u8>, Memory>
     ensures { IfOk result (λ output. output.items ≡ step_text_of script.now) }
 {
-    let played = play(alloc, script)?;
-    text(alloc, &played)
+    Ok(play(alloc, script)?.into_text())
 }
 
 /// The text of a captured stream.

@@ -5,6 +5,7 @@ use step_script::ScriptKind;
 use vchan_io::{MemSink, MemSource, Memory};
 
 mod decodes;
+mod steps;
 
 /// At most so many bytes a call, and the numbers of the calls that fail.
 #[derive(Drop)]
@@ -60,35 +61,6 @@ fn run_over_memory(
     let mut err = sink(alloc, says)?;
     let status = top(alloc, words.as_slice(), &mut source, &mut out, &mut err);
     Ok(Outcome { status, out, err })
-}
-
-/// The scripts of the first path, and what they print.
-#[test]
-fn scripts_print_their_text(rt: HostRuntime) -> Result<(), Fail> {
-    let rows: [(&[u8], &[u8]); 4] = [
-        (
-            b"open 10 11\nclient write 68656c6c6f\nserver read 5\n",
-            b"client wrote 5\nserver read 68656c6c6f\nleft sent 5 got 5\nright sent 0 got 0\n",
-        ),
-        (b"open 10 11", b"left sent 0 got 0\nright sent 0 got 0\n"),
-        (
-            b"open 10 11\nclient write 6162\nserver read 1\nserver read 5\nserver read 0\nserver read 1\n",
-            b"client wrote 2\nserver read 61\nserver read 62\nserver empty 2 2\nserver empty 2 2\nleft sent 2 got 2\nright sent 0 got 0\n",
-        ),
-        (
-            b"open 12 12\nclient write FFfe\nserver read 2147483647",
-            b"client wrote 2\nserver read fffe\nleft sent 2 got 2\nright sent 0 got 0\n",
-        ),
-    ];
-    for (script, text) in rows {
-        let input = Vec::from_slice(rt.alloc(), script)?;
-        let ran = run_over_memory(rt.alloc(), &["step"], input, &WHOLE, &WHOLE, &WHOLE)?;
-        assert_eq!(rt; ran.status, Status::Done);
-        assert_eq!(rt; ran.status.code(), 0);
-        assert!(rt; ran.out.bytes() == text);
-        assert!(rt; ran.err.bytes().is_empty());
-    }
-    Ok(())
 }
 
 #[test]
