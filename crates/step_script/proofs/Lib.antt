@@ -4,3 +4,6 @@ pub mod HandLaws
 pub mod FinishLaws
 pub mod DoesLaws
 pub mod PlayerLaws
+pub mod OrdersLaws
+pub mod KeptLaws
+pub mod ScriptLaws

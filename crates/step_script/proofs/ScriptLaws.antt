@@ -1,18 +1,42 @@
 -- The lines of a script, read one after another.
-use Rattle.std.proofs.Common.{◌≡◌, ℕ, ◌+◌, ◌≤◌, List, [], ◌∷◌, ◌++◌, Result, Ok, Err, refl, ap, sym, ◌∙◌, arith, append_assoc, append-nil, subst, cond, ltb, Bool, true, false}
-use Rattle.std.specs.List.{sum_by}
+use Rattle.std.proofs.Common.{◌≡◌, ℕ, ◌+◌, ◌-◌, List, [], ◌∷◌, ◌++◌, Result, Ok, Err, refl, ap, sym, ◌∙◌, arith, append_assoc, append-nil, subst, rules}
+use Rattle.std.specs.List.{sum_by, All}
 use Rattle.std.proofs.lemmas.List.{map-append}
+use Rattle.std.proofs.lemmas.List.Elements.{All-append}
 use Rattle.std.proofs.lemmas.List.Sums.{sum_by-append}
-use Rattle.std.proofs.lemmas.Bool.Decides.{nat_tests}
+use Rattle.ring_words.specs.declared.order.Orders.{Orders}
 use Rattle.step_script.specs.declared.error.ScriptKind.{ScriptKind}
+use Rattle.step_script.specs.declared.error.ScriptKind.TheVariants.{TooManyLines}
 use Rattle.step_script.specs.declared.error.ScriptError.{ScriptError}
 use Rattle.step_script.specs.declared.error.ScriptError.TheVariants as script
+use Rattle.step_script.specs.declared.lines.NextLine.{NextLine}
+use Rattle.step_script.specs.declared.lines.NextLine.TheVariants as nexts
+use denote.Ref.{Bor}
+use Rattle.script_words.specs.Words.{words_of}
 use Rattle.step_script.specs.declared.script.Line.{Line}
+use Rattle.step_script.specs.Grammar.{at_number, line_of, lines_from}
+use Rattle.step_script.specs.Kept.{Lines, stops, refused, line}
+use Rattle.step_script.specs.LinesLeft.{IsNext}
+use Rattle.step_script.specs.Operands.{◌>>=◌}
 use Rattle.step_script.specs.Readings.{IsScriptRefusal}
-use Rattle.step_script.specs.ScriptLines.{line_seen, lines_seen}
-use Rattle.step_script.specs.Script.{StepLine, ◌>>=◌, at_number, line_at, lines_from, line_of_words, payload_len}
-use Rattle.step_script.specs.Words.{words_of}
-use Rattle.step_script.specs.declared.error.ScriptKind.TheVariants.{BadLine}
+use Rattle.step_script.specs.Script.{StepLine, LineFits}
+use Rattle.step_script.specs.ScriptLines.{line_seen, lines_seen, payload_len}
+
+-- a line that is next is the first of those left
+pub next_line : (found : NextLine) (number : ℕ) (text : Bor (List ℕ)) (left after : Lines) → IsNext (Ok found) left after → found ≡ nexts.Line number text → left ≡ line number (words_of text.now) after
+next_line found number text left after is same =
+    let family : NextLine → Type 0 = λ n. IsNext (Ok n) left after in subst family same is
+
+-- where the end is next, no line is left
+pub next_end : (found : NextLine) (number : ℕ) (left after : Lines) → IsNext (Ok found) left after → found ≡ nexts.End number → left ≡ stops number
+next_end found number left after is same =
+    let family : NextLine → Type 0 = λ n. IsNext (Ok n) left after in subst family same is
+
+-- how many lines are left
+abbrev pub count_left : Lines → ℕ
+count_left (stops number) = 0
+count_left (refused number) = 0
+count_left (line number words more) = 1 + count_left more
 
 -- the lines read so far in front of those that follow
 abbrev pub behind : List StepLine → Result (List StepLine) (ℕ × ScriptKind) → Result (List StepLine) (ℕ × ScriptKind)
@@ -23,82 +47,75 @@ behind-first front next (Ok lines) = ap (λ (l : List StepLine). Ok l) (sym (app
 behind-first front next (Err bad) = refl
 
 -- what follows once it is known how a line is read
-goes_on : List (List ℕ) → ℕ → ℕ → Result StepLine (ℕ × ScriptKind) → Result (List StepLine) (ℕ × ScriptKind)
-goes_on more number before found = found >>= (λ next. lines_from more (number + 1) (before + payload_len next) >>= (λ rest. Ok (next ∷ rest)))
+goes_on : Orders → ℕ → Lines → Result StepLine (ℕ × ScriptKind) → Result (List StepLine) (ℕ × ScriptKind)
+goes_on orders room more found = found >>= (λ next. lines_from orders (room - payload_len next) more >>= (λ rest. Ok (next ∷ rest)))
 
-lines_from-cons : (line : List ℕ) (more : List (List ℕ)) (number before : ℕ) → lines_from (line ∷ more) number before ≡ goes_on more number before (at_number number (line_at number before line))
+lines_from-line : (orders : Orders) (room number : ℕ) (words : List (List ℕ)) (more : Lines) → lines_from orders room (line number words more) ≡ goes_on orders room more (at_number number (line_of orders room words))
 unfolding lines_from goes_on
-lines_from-cons line more number before = refl
+lines_from-line orders room number words more = refl
 
-goes_on-Ok : (front : List StepLine) (more : List (List ℕ)) (number before : ℕ) (next : StepLine) → behind front (goes_on more number before (Ok next)) ≡ behind (front ++ next ∷ []) (lines_from more (number + 1) (before + payload_len next))
-unfolding goes_on
-goes_on-Ok front more number before next = behind-first front next (lines_from more (number + 1) (before + payload_len next))
-
-goes_on-Err : (more : List (List ℕ)) (number before : ℕ) (bad : ℕ × ScriptKind) → goes_on more number before (Err bad) ≡ Err bad
-unfolding goes_on
-goes_on-Err more number before bad = refl
-
--- a good line goes behind those read so far
-pub lines_from-good : (front : List StepLine) (line : List ℕ) (more : List (List ℕ)) (number before : ℕ) (next : StepLine) → at_number number (line_at number before line) ≡ Ok next
-    → behind front (lines_from (line ∷ more) number before) ≡ behind (front ++ next ∷ []) (lines_from more (number + 1) (before + payload_len next))
-lines_from-good front line more number before next good =
-    ap (behind front) (lines_from-cons line more number before ∙ ap (goes_on more number before) good) ∙ goes_on-Ok front more number before next
-
--- a bad line ends the reading, with what is wrong with it
-pub lines_from-bad : (e : ScriptError) (front : List StepLine) (line : List ℕ) (more : List (List ℕ)) (number before : ℕ) → IsScriptRefusal e (at_number number (line_at number before line))
-    → IsScriptRefusal e (behind front (lines_from (line ∷ more) number before))
-lines_from-bad (script.Bad bad kind) front line more number before is =
-    ap (behind front) (lines_from-cons line more number before ∙ ap (goes_on more number before) is ∙ goes_on-Err more number before (bad, kind))
-lines_from-bad script.Memory front line more number before is = tt
-
--- with no line left, the script is what was read
-pub lines_from-end : (front : List StepLine) (number before : ℕ) → behind front (lines_from [] number before) ≡ Ok front
+lines_from-stops : (orders : Orders) (room number : ℕ) → lines_from orders room (stops number) ≡ Ok []
 unfolding lines_from
-lines_from-end front number before = ap (λ (l : List StepLine). Ok l) (append-nil front)
+lines_from-stops orders room number = refl
+
+lines_from-refused : (orders : Orders) (room number : ℕ) → lines_from orders room (refused number) ≡ Err (number, TooManyLines)
+unfolding lines_from
+lines_from-refused orders room number = refl
+
+goes_on-Ok : (front : List StepLine) (orders : Orders) (room : ℕ) (more : Lines) (next : StepLine) → behind front (goes_on orders room more (Ok next)) ≡ behind (front ++ next ∷ []) (lines_from orders (room - payload_len next) more)
+unfolding goes_on
+goes_on-Ok front orders room more next = behind-first front next (lines_from orders (room - payload_len next) more)
+
+goes_on-Err : (orders : Orders) (room : ℕ) (more : Lines) (bad : ℕ × ScriptKind) → goes_on orders room more (Err bad) ≡ Err bad
+unfolding goes_on
+goes_on-Err orders room more bad = refl
 
 -- a read line joins those read so far
-pub read_on : (lines : List Line) (line : Line) (pieces : List (List ℕ)) (first : List ℕ) (more : List (List ℕ)) (number before : ℕ) (due : Result (List StepLine) (ℕ × ScriptKind))
-    → behind (lines_seen lines) (lines_from pieces number before) ≡ due → pieces ≡ first ∷ more → at_number number (line_at number before first) ≡ Ok (line_seen line)
-    → behind (lines_seen (lines ++ line ∷ [])) (lines_from more (number + 1) (before + payload_len (line_seen line))) ≡ due
-read_on lines line pieces first more number before due so_far cut good =
-    let joined : lines_seen (lines ++ line ∷ []) ≡ lines_seen lines ++ line_seen line ∷ [] = map-append line_seen lines (line ∷ []) in
-    ap (λ (front : List StepLine). behind front (lines_from more (number + 1) (before + payload_len (line_seen line)))) joined
-    ∙ sym (lines_from-good (lines_seen lines) first more number before (line_seen line) good)
-    ∙ ap (λ (ps : List (List ℕ)). behind (lines_seen lines) (lines_from ps number before)) (sym cut) ∙ so_far
+pub read_on : (orders : Orders) (lines : List Line) (next : Line) (left more : Lines) (room number : ℕ) (words : List (List ℕ)) (due : Result (List StepLine) (ℕ × ScriptKind))
+    → behind (lines_seen lines) (lines_from orders room left) ≡ due → left ≡ line number words more → at_number number (line_of orders room words) ≡ Ok (line_seen next)
+    → behind (lines_seen (lines ++ next ∷ [])) (lines_from orders (room - payload_len (line_seen next)) more) ≡ due
+read_on orders lines next left more room number words due so_far cut good =
+    let joined : lines_seen (lines ++ next ∷ []) ≡ lines_seen lines ++ line_seen next ∷ [] = map-append line_seen lines (next ∷ []) in
+    ap (λ (front : List StepLine). behind front (lines_from orders (room - payload_len (line_seen next)) more)) joined
+    ∙ sym (goes_on-Ok (lines_seen lines) orders room more (line_seen next))
+    ∙ ap (λ (r : Result StepLine (ℕ × ScriptKind)). behind (lines_seen lines) (goes_on orders room more r)) (sym good)
+    ∙ ap (behind (lines_seen lines)) (sym (lines_from-line orders room number words more))
+    ∙ ap (λ (l : Lines). behind (lines_seen lines) (lines_from orders room l)) (sym cut) ∙ so_far
+
+bad_line : (e : ScriptError) (front : List StepLine) (orders : Orders) (room number : ℕ) (words : List (List ℕ)) (more : Lines) → IsScriptRefusal e (at_number number (line_of orders room words))
+    → IsScriptRefusal e (behind front (lines_from orders room (line number words more)))
+bad_line (script.Bad bad kind) front orders room number words more is =
+    ap (behind front) (lines_from-line orders room number words more ∙ ap (goes_on orders room more) is ∙ goes_on-Err orders room more (bad, kind))
+bad_line script.Memory front orders room number words more is = tt
 
 -- a refused line is what the whole reading is refused for
-pub refused_line : (e : ScriptError) (front : List StepLine) (pieces : List (List ℕ)) (first : List ℕ) (more : List (List ℕ)) (number before : ℕ) (due : Result (List StepLine) (ℕ × ScriptKind))
-    → behind front (lines_from pieces number before) ≡ due → pieces ≡ first ∷ more → IsScriptRefusal e (at_number number (line_at number before first)) → IsScriptRefusal e due
-refused_line e front pieces first more number before due so_far cut bad =
+pub refused_line : (e : ScriptError) (front : List StepLine) (orders : Orders) (left more : Lines) (room number : ℕ) (words : List (List ℕ)) (due : Result (List StepLine) (ℕ × ScriptKind))
+    → behind front (lines_from orders room left) ≡ due → left ≡ line number words more → IsScriptRefusal e (at_number number (line_of orders room words)) → IsScriptRefusal e due
+refused_line e front orders left more room number words due so_far cut bad =
     let family : Result (List StepLine) (ℕ × ScriptKind) → Type 0 = λ r. IsScriptRefusal e r in
-    subst family (ap (λ (ps : List (List ℕ)). behind front (lines_from ps number before)) (sym cut) ∙ so_far) (lines_from-bad e front first more number before bad)
+    subst family (ap (λ (l : Lines). behind front (lines_from orders room l)) (sym cut) ∙ so_far) (bad_line e front orders room number words more bad)
+
+-- so is a line too many
+pub refused_next : (e : ScriptError) (front : List StepLine) (orders : Orders) (left after : Lines) (room : ℕ) (due : Result (List StepLine) (ℕ × ScriptKind))
+    → behind front (lines_from orders room left) ≡ due → IsNext (Err e) left after → IsScriptRefusal e due
+refused_next (script.Bad number kind) front orders left after room due so_far is =
+    sym so_far ∙ ap (λ (l : Lines). behind front (lines_from orders room l)) is.0 ∙ ap (behind front) (lines_from-refused orders room number) ∙ ap (λ (k : ScriptKind). Err (number, k)) (sym is.1)
+refused_next script.Memory front orders left after room due so_far is = tt
 
 -- where no line is left, all is read
-pub all_read : (front : List StepLine) (pieces : List (List ℕ)) (number before : ℕ) (due : Result (List StepLine) (ℕ × ScriptKind))
-    → behind front (lines_from pieces number before) ≡ due → pieces ≡ [] → due ≡ Ok front
-all_read front pieces number before due so_far none =
-    sym so_far ∙ ap (λ (ps : List (List ℕ)). behind front (lines_from ps number before)) none ∙ lines_from-end front number before
+pub all_read : (front : List StepLine) (orders : Orders) (left : Lines) (room number : ℕ) (due : Result (List StepLine) (ℕ × ScriptKind))
+    → behind front (lines_from orders room left) ≡ due → left ≡ stops number → due ≡ Ok front
+all_read front orders left room number due so_far none =
+    sym so_far ∙ ap (λ (l : Lines). behind front (lines_from orders room l)) none ∙ ap (behind front) (lines_from-stops orders room number) ∙ ap (λ (l : List StepLine). Ok l) (append-nil front)
 
--- the bytes written by one more line
-pub written-more : (lines : List Line) (line : Line) → sum_by payload_len (lines_seen (lines ++ line ∷ [])) ≡ sum_by payload_len (lines_seen lines) + payload_len (line_seen line)
-written-more lines line = grind (arith, map-append, sum_by-append)
+-- the bytes of one more line
+pub sum-more : (lines : List Line) (next : Line) → sum_by payload_len (lines_seen (lines ++ next ∷ [])) ≡ sum_by payload_len (lines_seen lines) + payload_len (line_seen next)
+sum-more lines next = grind (arith, map-append, sum_by-append)
 
-passed : {A : Type 0} (b : Bool) (x y : A) (number : ℕ) → at_number number (cond b (Err BadLine) (Ok x)) ≡ Ok y → (b ≡ false) × (x ≡ y)
-passed true x y number is = absurd (cc)
-passed false x y number is = (refl, cc)
+alone_fits : (orders : Orders) (next : StepLine) → LineFits orders next → All (LineFits orders) (next ∷ [])
+alone_fits orders next one = search rules
 
-kept : (a : Bool) (found : Result StepLine ScriptKind) (number before : ℕ) (next : StepLine)
-    → at_number number (cond a (Err BadLine) (found >>= (λ l. cond (ltb 8388608 (before + payload_len l)) (Err BadLine) (Ok l)))) ≡ Ok next
-    → (a ≡ false) × (ltb 8388608 (before + payload_len next) ≡ false)
-kept true found number before next is = absurd (cc)
-kept false (Err kind) number before next is = absurd (cc)
-kept false (Ok l) number before next is =
-    let p = passed (ltb 8388608 (before + payload_len l)) l next number is in
-    let family : StepLine → Type 0 = λ n. ltb 8388608 (before + payload_len n) ≡ false in (refl, subst family p.1 p.0)
-
--- a good line keeps within the limits
-pub within_limits : (line : List ℕ) (number before : ℕ) (next : StepLine) → at_number number (line_at number before line) ≡ Ok next → (number ≤ 65536) × (before + payload_len next ≤ 8388608)
-within_limits line number before next good =
-    let p = kept (ltb 65536 number) (line_of_words (words_of line)) number before next good in
-    let few : ltb 65536 number ≡ false = p.0 in
-    let short : ltb 8388608 (before + payload_len next) ≡ false = p.1 in (grind (arith, nat_tests), grind (arith, nat_tests))
+-- all lines fit with one more that does
+pub fit-more : (orders : Orders) (lines : List Line) (next : Line) → All (LineFits orders) (lines_seen lines) → LineFits orders (line_seen next) → All (LineFits orders) (lines_seen (lines ++ next ∷ []))
+fit-more orders lines next fit one =
+    subst (All (LineFits orders)) (sym (map-append line_seen lines (next ∷ []))) (All-append (LineFits orders) (lines_seen lines) (line_seen next ∷ []) fit (alone_fits orders (line_seen next) one))

@@ -1,126 +1,212 @@
 -- Which bytes are a step script.
 -- Source: this project's own; the check of the two orders is that of libxenvchan's init.c.
-use Rattle.std.specs.Prelude.{ℕ, ◌+◌, ◌==◌, nat_lt, List, [], ◌∷◌, length, if◌then◌else◌, ok_or, Result, Ok, Err, codes, bytes_eq}
-use Rattle.std.specs.Result.{result_ok}
-use Rattle.hex.specs.Hex.{decode_of}
+use Rattle.std.specs.Prelude.{ℕ, ◌-◌, List, [], ◌∷◌, length, if◌then◌else◌, ok_or, Option, None, Some, Result, Ok, Err, codes, bytes_eq}
 use Rattle.ring_words.specs.declared.order.Orders.{Orders}
 use Rattle.ring_words.specs.declared.page.Role.{Role}
-use Rattle.ring_words.specs.declared.page.Role.TheVariants.{Server, Client}
+use Rattle.vchan_core.specs.declared.call.Call.TheVariants as call
+use Rattle.vchan_core.specs.declared.call.EndState.{EndState}
+use Rattle.vchan_core.specs.declared.call.EndState.TheVariants.{Fresh, Open}
 use Rattle.step_script.specs.declared.error.ScriptKind.{ScriptKind}
-use Rattle.step_script.specs.declared.error.ScriptKind.TheVariants.{BadLine}
-use Rattle.step_script.specs.Words.{lines_of, words_of, only}
-use Rattle.step_script.specs.Numbers.{number_of}
+use Rattle.step_script.specs.declared.error.ScriptKind.TheVariants.{BadHeader, BadLine, BadOrders, TooManyLines}
+use Rattle.step_script.specs.declared.forms.CallForm.{CallForm}
+use Rattle.step_script.specs.declared.forms.CallForm.TheVariants.{Write, Send, Read, Recv, Drain, Bare}
+use Rattle.step_script.specs.declared.forms.Act.{Act}
+use Rattle.step_script.specs.declared.forms.Act.TheVariants.{Begin, Step, Finish, Poke, Signal}
+use Rattle.step_script.specs.declared.script.Opening.{Opening}
+use Rattle.script_words.specs.Words.{lines_of}
 use Rattle.step_script.specs.Opening.{orders_of}
+use Rattle.step_script.specs.Forms.{without_payload}
+use Rattle.step_script.specs.Operands.{◌>>=◌, given, operand_of, alone, number_between, count_of, payload_of}
+use Rattle.step_script.specs.Kept.{Lines, stops, refused, line, kept_lines}
+use Rattle.step_script.specs.Pokes.{poked_word}
+use Rattle.step_script.specs.Script.{StepCall, StepLine, opens, calls, begins, steps, finishes, pokes, signals, head, image}
+use Rattle.step_script.specs.ScriptLines.{payload_len}
+use Rattle.step_script.specs.Tables.{meaning_in, ends, calls_of, acts}
 
--- a call, with the bytes that it writes or the most that it reads
-pub data StepCall : Type 0 where
-  write : List ℕ → StepCall
-  read : ℕ → StepCall
+-- a call of a form with the words behind it; there is room for so many bytes
+abbrev pub call_of_form : ℕ → CallForm → List (List ℕ) → Result StepCall ScriptKind
+call_of_form room Write words = do
+  bytes ← payload_of room words
+  Ok (record { call = call.Write (length bytes); payload = bytes })
+call_of_form room Send words = do
+  bytes ← payload_of room words
+  Ok (record { call = call.Send (length bytes); payload = bytes })
+call_of_form room Read words = do
+  most ← count_of 0 2147483647 words
+  Ok (without_payload (call.Read most))
+call_of_form room Recv words = do
+  count ← count_of 0 2147483647 words
+  Ok (without_payload (call.Recv count))
+call_of_form room Drain words = do
+  most ← count_of 1 2147483647 words
+  Ok (without_payload (call.Drain most))
+call_of_form room (Bare c) words = alone (without_payload c) words
 
--- a line: the opening of the page, or a whole call of one end
-pub data StepLine : Type 0 where
-  opens : Orders → StepLine
-  calls : Role → StepCall → StepLine
+-- a call of an end: its word, and the words behind it
+abbrev pub call_of : ℕ → Role → List ℕ → List (List ℕ) → Result StepCall ScriptKind
+call_of room who verb words = do
+  form ← ok_or (meaning_in (calls_of who) verb) BadLine
+  call_of_form room form words
 
--- the second step, where the first gave a value
-infixl 10 ◌>>=◌
-abbrev pub ◌>>=◌ : {A B E : Type 0} → Result A E → (A → Result B E) → Result B E
-Ok x >>= f = f x
-Err e >>= f = Err e
+-- a call as the words behind `begin`
+abbrev pub begun_of : ℕ → Role → List (List ℕ) → Result StepCall ScriptKind
+begun_of room who [] = Err BadLine
+begun_of room who (verb ∷ words) = call_of room who verb words
 
--- the end that a word names
-abbrev pub role_of : List ℕ → Result Role ScriptKind
-role_of word =
-    if bytes_eq word (codes "server") then Ok Server
-    else if bytes_eq word (codes "client") then Ok Client
+-- a hostile store: a word of the page, and a number of 64 bits
+abbrev pub poke_of : Orders → Role → List (List ℕ) → Result StepLine ScriptKind
+poke_of orders who [] = Err BadLine
+poke_of orders who (name ∷ words) = do
+  value ← operand_of words
+  word ← poked_word orders name
+  number ← number_between 0 18446744073709551615 value
+  Ok (pokes who word number)
+
+-- what an end does that is no whole call, with the words behind it
+abbrev pub line_of_act : Orders → ℕ → Role → Act → List (List ℕ) → Result StepLine ScriptKind
+line_of_act orders room who Begin words = do
+  c ← begun_of room who words
+  Ok (begins who c)
+line_of_act orders room who Step words = do
+  most ← count_of 1 2147483647 words
+  Ok (steps who most)
+line_of_act orders room who Finish words = alone (finishes who) words
+line_of_act orders room who Poke words = poke_of orders who words
+line_of_act orders room who Signal words = alone (signals who) words
+
+-- a line of an end: such an act, or a whole call
+abbrev pub line_of_verb : Orders → ℕ → Role → Option Act → List ℕ → List (List ℕ) → Result StepLine ScriptKind
+line_of_verb orders room who (Some act) verb words = line_of_act orders room who act words
+line_of_verb orders room who None verb words = do
+  c ← call_of room who verb words
+  Ok (calls who c)
+
+-- a line of an end, as the words behind the end's
+abbrev pub line_of_end : Orders → ℕ → Role → List (List ℕ) → Result StepLine ScriptKind
+line_of_end orders room who [] = Err BadLine
+line_of_end orders room who (verb ∷ words) = line_of_verb orders room who (meaning_in acts verb) verb words
+
+-- `head` and `image`
+abbrev pub line_of_page : List ℕ → List (List ℕ) → Result StepLine ScriptKind
+line_of_page verb words =
+    if bytes_eq verb (codes "head") then alone head words
+    else if bytes_eq verb (codes "image") then alone image words
     else Err BadLine
 
--- a byte string: an even number of hexadecimal digits of either case, at least two
-abbrev pub bytes_of : List ℕ → Result (List ℕ) ScriptKind
-bytes_of word = if length word == 0 then Err BadLine else ok_or (result_ok (decode_of word)) BadLine
+-- a line of an end, where there is one of that name, or one of the page
+abbrev pub line_of_first : Orders → ℕ → Option Role → List ℕ → List (List ℕ) → Result StepLine ScriptKind
+line_of_first orders room (Some who) first words = line_of_end orders room who words
+line_of_first orders room None first words = line_of_page first words
 
--- the call of a verb and its operands
-abbrev pub call_of : List ℕ → List (List ℕ) → Result StepCall ScriptKind
-call_of verb operands =
-    if bytes_eq verb (codes "write") then (do
-      word ← ok_or (only operands) BadLine
-      payload ← bytes_of word
-      Ok (write payload))
-    else if bytes_eq verb (codes "read") then (do
-      word ← ok_or (only operands) BadLine
-      most ← ok_or (number_of 2147483647 word) BadLine
-      Ok (read most))
-    else Err BadLine
-
--- the calls that each end may make so far
-abbrev pub line_allowed : Role → StepCall → Result StepLine ScriptKind
-line_allowed Client (write payload) = Ok (calls Client (write payload))
-line_allowed Client (read most) = Err BadLine
-line_allowed Server (write payload) = Err BadLine
-line_allowed Server (read most) = Ok (calls Server (read most))
-
--- `E write BYTES` or `E read N`, E being the end
-abbrev pub line_of_words : List (List ℕ) → Result StepLine ScriptKind
-line_of_words [] = Err BadLine
-line_of_words (end ∷ []) = Err BadLine
-line_of_words (end ∷ verb ∷ operands) = do
-  who ← role_of end
-  call ← call_of verb operands
-  line_allowed who call
+-- a line behind the opening, as its words
+abbrev pub line_of : Orders → ℕ → List (List ℕ) → Result StepLine ScriptKind
+line_of orders room [] = Err BadLine
+line_of orders room (first ∷ words) = line_of_first orders room (meaning_in ends first) first words
 
 -- two numbers that are orders of a page
-abbrev pub orders_of_words : List ℕ → List ℕ → Result Orders ScriptKind
+abbrev pub orders_of_words : List ℕ → List ℕ → Result (ℕ × ℕ) ScriptKind
 orders_of_words left right = do
-  left_number ← ok_or (number_of 65535 left) BadLine
-  right_number ← ok_or (number_of 65535 right) BadLine
-  ok_or (orders_of left_number right_number) BadLine
+  l ← number_between 0 65535 left
+  r ← number_between 0 65535 right
+  Ok (l, r)
 
--- `open L R`
-abbrev pub opening_of_words : List (List ℕ) → Result Orders ScriptKind
-opening_of_words (verb ∷ left ∷ right ∷ []) =
-    if bytes_eq verb (codes "open") then orders_of_words left right else Err BadLine
-opening_of_words _ = Err BadLine
+-- a page with these orders, whose order words and client are so; all indices are 0
+abbrev pub laid : ℕ × ℕ → ℕ × ℕ → EndState → Result Opening ScriptKind
+laid numbers said state = do
+  orders ← ok_or (orders_of numbers.0 numbers.1) BadOrders
+  Ok (record { orders = orders; said = said; state = state; start = 0 })
 
--- the bytes that a call writes
-abbrev pub bytes_written : StepCall → List ℕ
-bytes_written (write payload) = payload
-bytes_written (read most) = []
+-- `open L R`: the order words hold the orders, and the client is open
+abbrev pub open_of : List ℕ → List ℕ → Result Opening ScriptKind
+open_of left right = do
+  l ← given left
+  r ← given right
+  numbers ← orders_of_words l r
+  laid numbers numbers Open
 
--- how many bytes a line writes
-abbrev pub payload_len : StepLine → ℕ
-payload_len (opens orders) = 0
-payload_len (calls who call) = length (bytes_written call)
+-- `fresh L R A B`: the order words hold A and B, and the client is fresh
+abbrev pub fresh_of : List ℕ → List ℕ → List ℕ → List ℕ → Result Opening ScriptKind
+fresh_of left right said_left said_right = do
+  l ← given left
+  r ← given right
+  a ← given said_left
+  b ← given said_right
+  numbers ← orders_of_words l r
+  said ← orders_of_words a b
+  laid numbers said Fresh
 
--- the line of this number, after lines that write so many bytes: a script has at most 65,536 lines,
--- which write at most 8,388,608 bytes in all
-abbrev pub line_at : ℕ → ℕ → List ℕ → Result StepLine ScriptKind
-line_at number before line =
-    if nat_lt 65536 number then Err BadLine
-    else (do
-      next ← line_of_words (words_of line)
-      if nat_lt 8388608 (before + payload_len next) then Err BadLine else Ok next)
+-- the words behind `open`
+abbrev pub open_operands : List (List ℕ) → Result Opening ScriptKind
+open_operands (left ∷ right ∷ []) = open_of left right
+open_operands _ = Err BadHeader
+
+-- the words behind `fresh`
+abbrev pub fresh_operands : List (List ℕ) → Result Opening ScriptKind
+fresh_operands (left ∷ right ∷ said_left ∷ said_right ∷ []) = fresh_of left right said_left said_right
+fresh_operands _ = Err BadHeader
+
+-- the first line, as its words
+abbrev pub opening_of : List (List ℕ) → Result Opening ScriptKind
+opening_of [] = Err BadHeader
+opening_of (verb ∷ operands) =
+    if bytes_eq verb (codes "open") then open_operands operands
+    else if bytes_eq verb (codes "fresh") then fresh_operands operands
+    else Err BadHeader
 
 -- what is wrong with a line, under its number
 abbrev pub at_number : {A : Type 0} → ℕ → Result A ScriptKind → Result A (ℕ × ScriptKind)
 at_number number (Ok x) = Ok x
 at_number number (Err kind) = Err (number, kind)
 
--- the lines from this number on, after lines that write so many bytes; or the first bad one
-unfoldable pub lines_from : List (List ℕ) → ℕ → ℕ → Result (List StepLine) (ℕ × ScriptKind)
-lines_from [] number before = Ok []
-lines_from (line ∷ more) number before = do
-  next ← at_number number (line_at number before line)
-  rest ← lines_from more (number + 1) (before + payload_len next)
+-- the opening, and the lines behind it
+abbrev pub opening_from : Lines → Result (Opening × Lines) (ℕ × ScriptKind)
+opening_from (stops number) = Err (number, BadHeader)
+opening_from (refused number) = Err (number, TooManyLines)
+opening_from (line number words more) = do
+  opening ← at_number number (opening_of words)
+  Ok (opening, more)
+
+-- N of `start N`
+abbrev pub start_word : List (List ℕ) → Option (List ℕ)
+start_word (verb ∷ number ∷ []) = if bytes_eq verb (codes "start") then Some number else None
+start_word _ = None
+
+-- the number that such a word is
+abbrev pub start_of : List ℕ → Result ℕ ScriptKind
+start_of word = do
+  given_word ← given word
+  number_between 0 4294967295 given_word
+
+-- N of a `start` line and the lines behind it; for another line 0, and all lines from it on
+abbrev pub started : ℕ → Option (List ℕ) → Lines → Lines → Result (ℕ × Lines) (ℕ × ScriptKind)
+started number (Some word) lines more = do
+  start ← at_number number (start_of word)
+  Ok (start, more)
+started number None lines more = Ok (0, lines)
+
+-- where all indices begin, by a `start` line where one stands in front; and the lines behind it
+abbrev pub start_from : Lines → Result (ℕ × Lines) (ℕ × ScriptKind)
+start_from (stops number) = Ok (0, stops number)
+start_from (refused number) = Err (number, TooManyLines)
+start_from (line number words more) = started number (start_word words) (line number words more) more
+
+-- the lines of a page with these orders, with room for so many bytes; or the first bad one
+unfoldable pub lines_from : Orders → ℕ → Lines → Result (List StepLine) (ℕ × ScriptKind)
+lines_from orders room (stops number) = Ok []
+lines_from orders room (refused number) = Err (number, TooManyLines)
+lines_from orders room (line number words more) = do
+  next ← at_number number (line_of orders room words)
+  rest ← lines_from orders (room - payload_len next) more
   Ok (next ∷ rest)
 
--- the lines of a script whose bytes are these lines
-abbrev pub script_of_lines : List (List ℕ) → Result (List StepLine) (ℕ × ScriptKind)
-script_of_lines [] = Err (1, BadLine)
-script_of_lines (first ∷ more) = do
-  orders ← at_number 1 (opening_of_words (words_of first))
-  rest ← lines_from more 2 0
-  Ok (opens orders ∷ rest)
+-- a script as its lines: all byte strings together have at most 8,388,608 bytes
+abbrev pub script_of_lines : Lines → Result (List StepLine) (ℕ × ScriptKind)
+script_of_lines lines = do
+  first ← opening_from lines
+  second ← start_from first.1
+  rest ← lines_from first.0.orders 8388608 second.1
+  Ok (opens (record first.0 { start = second.0 }) ∷ rest)
 
 -- the lines of a script; or the number of its first bad line, from 1, and what is wrong with it
 abbrev pub script_of : List ℕ → Result (List StepLine) (ℕ × ScriptKind)
-script_of bytes = script_of_lines (lines_of bytes)
+script_of bytes = script_of_lines (kept_lines 1 (lines_of bytes))

@@ -5,3 +5,11 @@ pub mod Output
 pub mod Spaced
 pub mod Played
 pub mod Players
+pub mod Tables
+pub mod Operands
+pub mod Kept
+pub mod LinesLeft
+pub mod Pokes
+pub mod Opening
+pub mod Forms
+pub mod Grammar

@@ -1,6 +1,9 @@
 -- What a reader answers, against what the bytes are.
 use Rattle.std.specs.Prelude.{◌≡◌, ℕ, Result, Ok, Err}
+use Rattle.script_words.specs.declared.byte_string.ByteError.{ByteError}
+use Rattle.script_words.specs.declared.byte_string.ByteError.TheVariants as byte
 use Rattle.step_script.specs.declared.error.ScriptKind.{ScriptKind}
+use Rattle.step_script.specs.declared.error.ScriptKind.TheVariants.{BadHex}
 use Rattle.step_script.specs.declared.error.ScriptError.{ScriptError}
 use Rattle.step_script.specs.declared.error.ScriptError.TheVariants as script
 use Rattle.step_script.specs.declared.error.LineError.{LineError}
@@ -31,3 +34,8 @@ Reads seen (Err e) due = IsScriptRefusal e due
 abbrev pub error_at : LineError → ℕ → ScriptError
 error_at (line.Bad kind) number = script.Bad number kind
 error_at line.Memory number = script.Memory
+
+-- why a line with such a word wasn't read
+abbrev pub line_error_of : ByteError → LineError
+line_error_of byte.BadHex = line.Bad BadHex
+line_error_of byte.Memory = line.Memory

@@ -1,7 +1,6 @@
 -- A script of the program as the lines that contracts see.
-use Rattle.std.specs.Prelude.{◌≡◌, ◌≢◌, ◌≤◌, ℕ, List, sum_by, map, length}
+use Rattle.std.specs.Prelude.{◌≢◌, ◌≤◌, ℕ, List, sum_by, map, length}
 use Rattle.std.specs.List.{All}
-use Rattle.ring_words.specs.declared.order.Orders.{Orders}
 use Rattle.vchan_core.specs.declared.call.EndState.TheVariants.{Shut}
 use Rattle.step_script.specs.declared.script.Opening.{Opening}
 use Rattle.step_script.specs.declared.script.Line.{Line}

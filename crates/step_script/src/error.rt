@@ -1,31 +1,41 @@
 //! Why bytes aren't a script.
 ghost use Rattle.std.specs.Prelude.{◌≡◌};
 
+use script_words::ByteError;
 use std::alloc::{AllocError, AllocFailed};
+use thiserror::Error;
 
 /// What is wrong with a line of a script.
-#[derive(Clone, Copy, Debug, PartialEq, Eq)]
+#[derive(Clone, Copy, Debug, PartialEq, Eq, Error)]
 pub enum ScriptKind {
     /// The first line that isn't passed over is no `open` or `fresh` line, or there is none.
+    #[error("bad header")]
     BadHeader,
     /// The line is none that may stand there.
+    #[error("bad line")]
     BadLine,
     /// A word isn't a number, or is one out of range.
+    #[error("bad number")]
     BadNumber,
     /// A word is no byte string.
+    #[error("bad hex")]
     BadHex,
     /// A page can't have these two orders.
+    #[error("bad orders")]
     BadOrders,
     /// The line is the 65,537th.
+    #[error("too many lines")]
     TooManyLines,
     /// With this line the byte strings have more than 8,388,608 bytes.
+    #[error("too many bytes")]
     TooManyBytes,
 }
 
 /// Why bytes weren't read as a script.
-#[derive(Clone, Copy, Debug, PartialEq, Eq)]
+#[derive(Clone, Copy, Debug, PartialEq, Eq, Error)]
 pub enum ScriptError {
     /// The first line that doesn't fit, counted from 1, and what is wrong with it.
+    #[error("line {line}: {kind}")]
     Bad {
         /// The number of the line, from 1 on.
         line: u32,
@@ -33,6 +43,7 @@ pub enum ScriptError {
         kind: ScriptKind,
     },
     /// There was no memory for the script.
+    #[error("out of memory")]
     Memory,
 }
 
@@ -68,8 +79,20 @@ pub(crate) enum LineError {
 impl LineError {
     ghost use Rattle.step_script.specs.Readings.{error_at};
 
+    /// The first line is none that opens a page.
+    pub(crate) const BAD_HEADER: LineError = LineError::Bad(ScriptKind::BadHeader);
+
     /// The line is none that may stand there.
     pub(crate) const BAD_LINE: LineError = LineError::Bad(ScriptKind::BadLine);
+
+    /// A word isn't a number, or is one out of range.
+    pub(crate) const BAD_NUMBER: LineError = LineError::Bad(ScriptKind::BadNumber);
+
+    /// A page can't have these two orders.
+    pub(crate) const BAD_ORDERS: LineError = LineError::Bad(ScriptKind::BadOrders);
+
+    /// With this line the byte strings have too many bytes.
+    pub(crate) const TOO_MANY_BYTES: LineError = LineError::Bad(ScriptKind::TooManyBytes);
 
     /// The error of the script whose line of this number it is.
     pub(crate) fn at(self, line: u32) -> ScriptError
@@ -78,6 +101,19 @@ impl LineError {
         match self {
             LineError::Bad(kind) => ScriptError::Bad { line, kind },
             LineError::Memory => ScriptError::Memory,
+        }
+    }
+}
+
+impl From<ByteError> for LineError {
+    ghost use Rattle.step_script.specs.Readings.{line_error_of};
+
+    ghost from_gives = { λ byte_error e. e ≡ line_error_of byte_error };
+
+    fn from(error: ByteError) -> LineError {
+        match error {
+            ByteError::BadHex => LineError::Bad(ScriptKind::BadHex),
+            ByteError::Memory => LineError::Memory,
         }
     }
 }

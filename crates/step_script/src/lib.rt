@@ -8,22 +8,26 @@
 #![tactic(auto)]
 
 mod error;
+mod forms;
 mod hand;
-// mod line;
-// mod number;
+mod line;
+mod lines;
+mod opening;
+mod operand;
 mod played;
 mod player;
+mod poke;
 mod printer;
-// mod reader;
+mod reader;
 mod refusal;
 mod script;
-// mod words;
 
 pub use error::{ScriptError, ScriptKind};
 pub use played::{Played, text};
 pub use player::play;
-// pub use reader::parse;
+pub use reader::parse;
 pub use script::Script;
+pub use script_words::{ByteError, bytes_of};
 
-// #[cfg(test)]
-// mod tests;
+#[cfg(test)]
+mod tests;

@@ -1,141 +1,232 @@
-//! Reading one line of a script.
-ghost use Rattle.std.specs.Prelude.{ok_or};
-ghost use Rattle.step_script.specs.Numbers.{number_of};
-ghost use Rattle.step_script.specs.Opening.{orders_of};
-ghost use Rattle.step_script.specs.declared.error.ScriptKind.TheVariants.{BadLine};
+//! Reading one line of a script behind its opening.
+ghost use Rattle.std.specs.Prelude.{◌≡◌, ◌≤◌, ℕ, IfOk};
+ghost use Rattle.script_words.specs.Words.{words_of};
+ghost use Rattle.script_words.specs.WordsLeft.{words_left};
 ghost use Rattle.step_script.specs.Readings.{Gives};
-ghost use Rattle.step_script.specs.Script.{role_of, orders_of_words, bytes_of, call_of, line_allowed, line_of_words, opening_of_words};
+ghost use Rattle.step_script.specs.Grammar.{begun_of, call_of, call_of_form, line_of, line_of_act, line_of_end, line_of_page, poke_of};
+ghost use Rattle.step_script.specs.Forms.{FormFits, CallKeeps, LineKeeps, without_payload};
+ghost use Rattle.step_script.specs.ScriptLines.{payload_len};
+ghost use Rattle.ring_words.specs.declared.order.Orders.{Orders};
+ghost use Rattle.ring_words.specs.declared.page.Role.{Role};
 ghost use Rattle.step_script.specs.ScriptLines.{call_seen, line_seen};
-ghost use Rattle.step_script.specs.Words.{words_of};
-ghost use Rattle.step_script.specs.WordsLeft.{words_left};
 
 use crate::error::LineError;
-use crate::number::parse_number;
+use crate::forms::{Act, CallForm, act_named, call_named, end_named};
+use crate::operand::{read_count, read_nothing, read_number, read_operand, read_payload};
+use crate::poke::read_word_name;
 use crate::script::{Line, ScriptCall};
-use crate::words::Words;
-use hex::FromHexError;
-use ring_words::{Orders, Role, check_orders};
+use ring_words::{Orders, Role};
+use script_words::Words;
 use std::alloc::Global;
+use vchan_core::Call;
 
-/// The most that an order's word may say.
-const MOST_ORDER: u32 = 65_535;
-
-/// The most bytes that one read may ask for.
-const MOST_READ: u32 = 2_147_483_647;
-
-/// Reads the first line, `open L R`: the orders of the two rings.
+/// Reads a line of a script whose page has these orders, with `room` bytes left for its byte
+/// strings.
 ///
 /// # Errors
 ///
-/// A bad line where the line isn't of this form, or `check_orders` refuses the two numbers.
-pub(crate) fn read_opening(line: &[u8]) -> Result<Orders, LineError>
-    ensures { Gives (λ orders. orders) result (opening_of_words (words_of line.now)) }
+/// A bad line where the line is none of the language; then, from the left, a bad number or bad hex
+/// where a word is none; too many bytes; `Memory`.
+pub(crate) fn read_line(
+    alloc: Global,
+    orders: Orders,
+    room: usize,
+    line: &[u8],
+) -> Result<Line, LineError>
+    requires { room ≤ 8388608 }
+    ensures line { Gives line_seen result (line_of orders room (words_of line.now)) }
+    ensures fits { IfOk result (λ line. LineKeeps orders room (line_seen line)) }
 {
     let mut words = Words::of(line);
-    if words.next().ok_or(LineError::BAD_LINE)? != b"open".as_slice() {
-        return Err(LineError::BAD_LINE);
-    }
-    let left = words.next().ok_or(LineError::BAD_LINE)?;
-    let right = words.only().ok_or(LineError::BAD_LINE)?;
-    read_orders(left, right)
-}
-
-/// The orders of two words, the left ring's first.
-fn read_orders(left: &[u8], right: &[u8]) -> Result<Orders, LineError>
-    ensures { Gives (λ orders. orders) result (orders_of_words left.now right.now) }
-{
-    page_orders(read_order(left)?, read_order(right)?)
-}
-
-/// The number of a word that may be an order.
-fn read_order(word: &[u8]) -> Result<u16, LineError>
-    ensures { Gives (λ number. number) result (ok_or (number_of 65535 word.now) BadLine) }
-{
-    let number = parse_number(word, MOST_ORDER).ok_or(LineError::BAD_LINE)?;
-    Ok(number as u16)
-}
-
-/// The orders of a page that two numbers are.
-#[tactic(auto, using(crate::proofs::OrdersLaws::orders_of_bad))]
-fn page_orders(left: u16, right: u16) -> Result<Orders, LineError>
-    ensures { Gives (λ orders. orders) result (ok_or (orders_of left right) BadLine) }
-{
-    match check_orders(left, right) {
-        Ok(orders) => Ok(orders),
-        Err(_) => Err(LineError::BAD_LINE),
+    let first = words.next().ok_or(LineError::BAD_LINE)?;
+    match end_named(first) {
+        Some(who) => read_end_line(alloc, orders, room, who, words),
+        None => read_page_line(first, words),
     }
 }
 
-/// Reads a line after the first: `client write BYTES` or `server read N`.
-///
-/// # Errors
-///
-/// A bad line where the line isn't of this form; `Memory`.
-pub(crate) fn read_line(alloc: Global, line: &[u8]) -> Result<Line, LineError>
-    ensures { Gives line_seen result (line_of_words (words_of line.now)) }
+/// Reads `head` or `image`.
+fn read_page_line(verb: &[u8], words: Words) -> Result<Line, LineError>
+    ensures line { Gives line_seen result (line_of_page verb.now (words_left words.entry)) }
+    ensures fits { (orders : Orders) (room : ℕ) → IfOk result (λ line. LineKeeps orders room (line_seen line)) }
 {
-    let mut words = Words::of(line);
-    let end = words.next().ok_or(LineError::BAD_LINE)?;
+    if verb == b"head".as_slice() {
+        read_nothing(words)?;
+        Ok(Line::Head)
+    } else if verb == b"image".as_slice() {
+        read_nothing(words)?;
+        Ok(Line::Image)
+    } else {
+        Err(LineError::BAD_LINE)
+    }
+}
+
+/// Reads what an end does.
+fn read_end_line(
+    alloc: Global,
+    orders: Orders,
+    room: usize,
+    who: Role,
+    mut words: Words,
+) -> Result<Line, LineError>
+    requires { room ≤ 8388608 }
+    ensures line { Gives line_seen result (line_of_end orders room who (words_left words.entry)) }
+    ensures fits { IfOk result (λ line. LineKeeps orders room (line_seen line)) }
+{
     let verb = words.next().ok_or(LineError::BAD_LINE)?;
-    let who = read_role(end)?;
-    let call = read_call(alloc, verb, words)?;
-    allow(who, call)
-}
-
-/// The end that a word names.
-fn read_role(word: &[u8]) -> Result<Role, LineError>
-    ensures { Gives (λ role. role) result (role_of word.now) }
-{
-    if word == b"server".as_slice() {
-        Ok(Role::Server)
-    } else if word == b"client".as_slice() {
-        Ok(Role::Client)
-    } else {
-        Err(LineError::BAD_LINE)
-    }
-}
-
-/// The call of a verb and the words behind it.
-fn read_call(alloc: Global, verb: &[u8], operands: Words) -> Result<ScriptCall, LineError>
-    ensures { Gives call_seen result (call_of verb.now (words_left operands.entry)) }
-{
-    if verb == b"write".as_slice() {
-        let word = operands.only().ok_or(LineError::BAD_LINE)?;
-        let payload = read_bytes(alloc, word)?;
-        Ok(ScriptCall::Write { payload })
-    } else if verb == b"read".as_slice() {
-        let word = operands.only().ok_or(LineError::BAD_LINE)?;
-        let most = parse_number(word, MOST_READ).ok_or(LineError::BAD_LINE)?;
-        Ok(ScriptCall::Read { most })
-    } else {
-        Err(LineError::BAD_LINE)
-    }
-}
-
-/// The line of an end and its call, where the end may make it.
-fn allow(who: Role, call: ScriptCall) -> Result<Line, LineError>
-    ensures { Gives line_seen result (line_allowed who (call_seen call)) }
-{
-    match (who, &call) {
-        (Role::Client, ScriptCall::Write { .. }) | (Role::Server, ScriptCall::Read { .. }) => {
+    match act_named(verb) {
+        Some(act) => read_act(alloc, orders, room, who, act, words),
+        None => {
+            let call = read_call(alloc, room, who, verb, words)?;
             Ok(Line::Call { who, call })
         }
-        (Role::Client, ScriptCall::Read { .. }) | (Role::Server, ScriptCall::Write { .. }) => {
-            Err(LineError::BAD_LINE)
+    }
+}
+
+/// Reads the words behind an act's word.
+fn read_act(
+    alloc: Global,
+    orders: Orders,
+    room: usize,
+    who: Role,
+    act: Act,
+    words: Words,
+) -> Result<Line, LineError>
+    requires { room ≤ 8388608 }
+    ensures line { Gives line_seen result (line_of_act orders room who act (words_left words.entry)) }
+    ensures fits { IfOk result (λ line. LineKeeps orders room (line_seen line)) }
+{
+    match act {
+        Act::Begin => {
+            let call = read_begun(alloc, room, who, words)?;
+            Ok(Line::Begin { who, call })
+        }
+        Act::Step => {
+            let most = read_count(words, 1)?;
+            Ok(Line::Step { who, most })
+        }
+        Act::Finish => {
+            read_nothing(words)?;
+            Ok(Line::Finish { who })
+        }
+        Act::Poke => read_poke(orders, who, words),
+        Act::Signal => {
+            read_nothing(words)?;
+            Ok(Line::Signal { who })
         }
     }
 }
 
-/// The bytes that pairs of hexadecimal digits spell, at least one pair.
-fn read_bytes(alloc: Global, word: &[u8]) -> Result<Vec<u8>, LineError>
-    ensures { Gives (λ bytes. bytes.items) result (bytes_of word.now) }
+/// Reads the words `WORD VALUE` of a poke.
+fn read_poke(orders: Orders, who: Role, mut words: Words) -> Result<Line, LineError>
+    ensures line { Gives line_seen result (poke_of orders who (words_left words.entry)) }
+    ensures fits { (room : ℕ) → IfOk result (λ line. LineKeeps orders room (line_seen line)) }
 {
-    if word.is_empty() {
-        return Err(LineError::BAD_LINE);
+    let name = words.next().ok_or(LineError::BAD_LINE)?;
+    let value = read_operand(words)?;
+    let word = read_word_name(orders, name)?;
+    let value = read_number(value, 0, u64::MAX)?;
+    Ok(Line::Poke { who, word, value })
+}
+
+/// Reads the call behind `begin`.
+fn read_begun(
+    alloc: Global,
+    room: usize,
+    who: Role,
+    mut words: Words,
+) -> Result<ScriptCall, LineError>
+    requires { room ≤ 8388608 }
+    ensures call { Gives call_seen result (begun_of room who (words_left words.entry)) }
+    ensures fits { IfOk result (λ call. CallKeeps room who (call_seen call)) }
+{
+    let verb = words.next().ok_or(LineError::BAD_LINE)?;
+    read_call(alloc, room, who, verb, words)
+}
+
+/// Reads a call of an end: its word, and the words behind it.
+fn read_call(
+    alloc: Global,
+    room: usize,
+    who: Role,
+    verb: &[u8],
+    words: Words,
+) -> Result<ScriptCall, LineError>
+    requires { room ≤ 8388608 }
+    ensures call { Gives call_seen result (call_of room who verb.now (words_left words.entry)) }
+    ensures fits { IfOk result (λ call. CallKeeps room who (call_seen call)) }
+{
+    match call_named(who, verb) {
+        Some(form) => read_call_of_form(alloc, room, form, words),
+        None => Err(LineError::BAD_LINE),
     }
-    match hex::decode(alloc, word) {
-        Ok(bytes) => Ok(bytes),
-        Err(FromHexError::OutOfMemory) => Err(LineError::Memory),
-        Err(_) => Err(LineError::BAD_LINE),
+}
+
+/// Reads the words behind a call's word.
+fn read_call_of_form(
+    alloc: Global,
+    room: usize,
+    form: CallForm,
+    words: Words,
+) -> Result<ScriptCall, LineError>
+    requires { room ≤ 8388608 }
+    ensures call { Gives call_seen result (call_of_form room form (words_left words.entry)) }
+    ensures fits { (who : Role) → FormFits who form → IfOk result (λ call. CallKeeps room who (call_seen call)) }
+{
+    match form {
+        CallForm::Write => {
+            let payload = read_payload(alloc, words, room)?;
+            let len = payload.len() as u32;
+            Ok(ScriptCall {
+                call: Call::Write { len },
+                payload,
+            })
+        }
+        CallForm::Send => {
+            let payload = read_payload(alloc, words, room)?;
+            let len = payload.len() as u32;
+            Ok(ScriptCall {
+                call: Call::Send { len },
+                payload,
+            })
+        }
+        CallForm::Read => {
+            let most = read_count(words, 0)?;
+            Ok(bare(alloc, Call::Read { most }))
+        }
+        CallForm::Recv => {
+            let len = read_count(words, 0)?;
+            Ok(bare(alloc, Call::Recv { len }))
+        }
+        CallForm::Drain => {
+            let most = read_count(words, 1)?;
+            Ok(bare(alloc, Call::Drain { most }))
+        }
+        CallForm::Bare(call) => {
+            read_nothing(words)?;
+            Ok(bare(alloc, call))
+        }
+    }
+}
+
+/// A call without a payload.
+fn bare(alloc: Global, call: Call) -> ScriptCall
+    ensures { call_seen result ≡ without_payload call }
+{
+    ScriptCall {
+        call,
+        payload: Vec::new(alloc),
+    }
+}
+
+impl Line {
+    /// The number of bytes of the line's byte string, 0 where it has none.
+    pub(crate) fn payload_len(&self) -> usize
+        ensures { result ≡ payload_len (line_seen self.now) }
+    {
+        match self {
+            Line::Call { call, .. } | Line::Begin { call, .. } => call.payload.len(),
+            _ => 0,
+        }
     }
 }

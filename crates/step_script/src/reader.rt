@@ -1,93 +1,108 @@
 //! Reading a script.
-ghost use Rattle.std.specs.Prelude.{◌≡◌, ◌≤◌, IfErr, IfOk};
+ghost use Rattle.std.specs.Prelude.{◌≡◌, ◌≢◌, ◌≤◌, IfErr, IfOk, sum_by};
+ghost use Rattle.std.specs.List.{All};
+ghost use Rattle.vchan_core.specs.declared.call.EndState.TheVariants.{Shut};
+ghost use Rattle.step_script.specs.Grammar.{at_number, opening_of, opening_from, start_from, line_of, lines_from, script_of};
+ghost use Rattle.step_script.specs.Forms.{LineKeeps};
+ghost use Rattle.step_script.specs.LinesLeft.{lines_left};
 ghost use Rattle.step_script.specs.Readings.{Gives, IsScriptRefusal, Reads};
-ghost use Rattle.step_script.specs.Script.{at_number, line_at, lines_from, opening_of_words, script_of};
-ghost use Rattle.step_script.specs.ScriptLines.{AreShort, line_seen, lines_seen};
-ghost use Rattle.step_script.specs.Words.{lines_of, words_of};
+ghost use Rattle.step_script.specs.Script.{LineFits};
+ghost use Rattle.step_script.specs.ScriptLines.{line_seen, lines_seen, payload_len};
+ghost use Rattle.script_words.specs.Words.{words_of};
 
 use crate::error::{LineError, ScriptError};
-use crate::line::{read_line, read_opening};
-use crate::script::{Line, Script};
-use crate::words::first_line;
+use crate::line::read_line;
+use crate::lines::{LineReader, NextLine};
+use crate::opening::{read_opening, read_start, start_word};
+use crate::script::{Line, Opening, Script};
 use ring_words::Orders;
 use std::alloc::Global;
 
-/// The most lines that a script may have.
-const MOST_LINES: u32 = 65_536;
-
-/// The most bytes that the lines of a script may write in all.
+/// The most bytes that the byte strings of a script may have in all.
 const MOST_BYTES: usize = 8_388_608;
 
-/// Reads a script: `open L R` with the orders of the two rings, and behind it lines of the forms
-/// `client write BYTES` and `server read N`, each ended by a line feed, which the last line may
-/// lack. The words of a line have one space between each two.
+/// Reads a script: its opening, then one line after another, each ended by a line feed, which the
+/// last line may lack. An empty line and one that begins with `#` are passed over, but counted.
 ///
 /// # Errors
 ///
-/// [`ScriptError::Bad`] exactly where the bytes are no such script, with the first line that
-/// doesn't fit; `ScriptError::Memory`.
+/// [`ScriptError::Bad`] exactly where the bytes are no script, with the first line that doesn't
+/// fit and what is wrong with it; `ScriptError::Memory`.
 pub fn parse(alloc: Global, bytes: &[u8]) -> Result<Script, ScriptError>
     ensures script { IfOk result (λ script. script_of bytes.now ≡ Ok script) }
     ensures bad { IfErr result (λ e. IsScriptRefusal e (script_of bytes.now)) }
 {
-    let (first, rest) = first_line(bytes).ok_or(LineError::BAD_LINE.at(1))?;
-    let orders = read_opening_at(1, first)?;
-    let lines = read_lines(alloc, rest)?;
-    Ok(Script { orders, lines })
+    let mut reader = LineReader::of(bytes);
+    let opening = read_first(&mut reader)?;
+    let start = start_at(&mut reader)?;
+    let lines = read_lines(alloc, opening.orders, reader)?;
+    Ok(Script {
+        opening: Opening { start, ..opening },
+        lines,
+    })
 }
 
-/// Reads the first line, under this number.
-fn read_opening_at(number: u32, line: &[u8]) -> Result<Orders, ScriptError>
-    ensures { let due = opening_of_words (words_of line.now) in
-        Reads (λ orders. orders) result (at_number number due) }
+/// Reads the first line.
+fn read_first(reader: &mut LineReader) -> Result<Opening, ScriptError>
+    ensures opening { let due = opening_from (lines_left reader.old) in
+        Reads (λ opening. (opening, lines_left reader.new)) result due }
+    ensures state { IfOk result (λ opening. opening.state ≢ Shut) }
 {
-    read_opening(line).map_err(|error| error.at(number))
+    match reader.next()? {
+        NextLine::Line { number, text } => read_opening(text).map_err(|error| error.at(number)),
+        NextLine::End { number } => Err(LineError::BAD_HEADER.at(number)),
+    }
 }
 
-/// Reads the lines after the first.
-fn read_lines(alloc: Global, bytes: &[u8]) -> Result<Vec<Line>, ScriptError>
-    ensures lines { let due = lines_from (lines_of bytes.now) 2 0 in
+/// Where all indices begin, by a `start` line where one comes next. Any other line stays.
+fn start_at(reader: &mut LineReader) -> Result<u32, ScriptError>
+    ensures { let due = start_from (lines_left reader.old) in
+        Reads (λ start. (start, lines_left reader.new)) result due }
+{
+    let mut ahead = *reader;
+    let NextLine::Line { number, text } = ahead.next()? else {
+        return Ok(0);
+    };
+    let Some(word) = start_word(text) else {
+        return Ok(0);
+    };
+    *reader = ahead;
+    read_start(word).map_err(|error| error.at(number))
+}
+
+/// Reads the lines behind the opening of a page with these orders.
+fn read_lines(
+    alloc: Global,
+    orders: Orders,
+    mut reader: LineReader,
+) -> Result<Vec<Line>, ScriptError>
+    ensures lines { let due = lines_from orders 8388608 (lines_left reader.entry) in
         Reads (λ lines. lines_seen lines.items) result due }
-    ensures short { IfOk result (λ lines. AreShort lines.items) }
+    ensures fit { IfOk result (λ lines. All (LineFits orders) (lines_seen lines.items)) }
+    ensures short { IfOk result (λ lines. sum_by payload_len (lines_seen lines.items) ≤ 8388608) }
 {
     let mut lines = Vec::new(alloc);
-    let mut number = 2u32;
-    let mut total = 0usize;
-    let mut rest = bytes;
-    while let Some((line, after)) = first_line(rest) {
-        let line = read_line_at(alloc, number, total, line)?;
-        number += 1;
-        total += line.payload_len();
+    let mut room = MOST_BYTES;
+    while let NextLine::Line { number, text } = reader.next()? {
+        let line = read_line_at(alloc, orders, room, number, text)?;
+        room -= line.payload_len();
         lines.push(line)?;
-        rest = after;
     }
     Ok(lines)
 }
 
-/// Reads the line of this number, after lines that write so many bytes.
-fn read_line_at(alloc: Global, number: u32, before: usize, line: &[u8]) -> Result<Line, ScriptError>
-    requires { before ≤ 8388608 }
-    ensures { Reads line_seen result (at_number number (line_at number before line.now)) }
-{
-    read_short_line(alloc, number, before, line).map_err(|error| error.at(number))
-}
-
-/// Reads a line that keeps within the limits of a script.
-fn read_short_line(
+/// Reads the line of this number, with `room` bytes left for its byte strings.
+fn read_line_at(
     alloc: Global,
+    orders: Orders,
+    room: usize,
     number: u32,
-    before: usize,
-    line: &[u8],
-) -> Result<Line, LineError>
-    requires { before ≤ 8388608 }
-    ensures { Gives line_seen result (line_at number before line.now) }
+    text: &[u8],
+) -> Result<Line, ScriptError>
+    requires { room ≤ 8388608 }
+    ensures line { let due = line_of orders room (words_of text.now) in
+        Reads line_seen result (at_number number due) }
+    ensures fits { IfOk result (λ line. LineKeeps orders room (line_seen line)) }
 {
-    if number > MOST_LINES {
-        return Err(LineError::BAD_LINE);
-    }
-    let line = read_line(alloc, line)?;
-    if line.payload_len() > MOST_BYTES - before {
-        return Err(LineError::BAD_LINE);
-    }
-    Ok(line)
+    read_line(alloc, orders, room, text).map_err(|error| error.at(number))
 }

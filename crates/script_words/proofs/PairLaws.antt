@@ -1,0 +1,134 @@
+-- Pairs of digits, read one after another.
+use Rattle.std.proofs.Common.{◌≡◌, ℕ, ◌+◌, ◌*◌, ◌%◌, ◌<◌, ◌≤◌, List, [], ◌∷◌, ◌++◌, length, take, drop, get_or, set, Option, Some, None, unwrap_or, inl, inr, refl, sym, ap, ◌∙◌, arith, max}
+use Rattle.std.proofs.lemmas.List.{append_assoc, append-nil, drop_all, drop_more, take_all, take_more_set}
+use Rattle.std.specs.Option.{option_and_then}
+use Rattle.std.proofs.lemmas.Bool.{cases_lt}
+use Rattle.std.proofs.lemmas.Bool.Decides.{nat_tests}
+use Rattle.hex.specs.Hex.{hex_digit_value}
+use Rattle.script_words.specs.ByteStrings.{byte_of, bytes_of_pairs, ◌>>=◌}
+
+-- the bytes before those of the pairs that are left
+abbrev pub behind : List ℕ → Option (List ℕ) → Option (List ℕ)
+behind front None = None
+behind front (Some rest) = Some (front ++ rest)
+
+-- what the pairs are known to be after some of them: as long as no byte was found that is no digit, the bytes so far stand before those of the pairs that are left
+pub record Reads (digits out : List ℕ) (i greatest : ℕ) : Type 0 where
+  pub good : greatest < 16 → bytes_of_pairs digits ≡ behind (take i out) (bytes_of_pairs (drop (2 * i) digits))
+  pub bad : 16 ≤ greatest → bytes_of_pairs digits ≡ None
+
+behind-nil : (o : Option (List ℕ)) → o ≡ behind [] o
+behind-nil None = refl
+behind-nil (Some rest) = refl
+
+behind-cons : (front : List ℕ) (byte : ℕ) (o : Option (List ℕ)) → behind front (o >>= (λ bytes. Some (byte ∷ bytes))) ≡ behind (front ++ byte ∷ []) o
+behind-cons front byte None = refl
+behind-cons front byte (Some rest) = ap Some (sym (append_assoc front (byte ∷ []) rest))
+
+behind-none : (front : List ℕ) → behind front None ≡ None
+behind-none front = refl
+
+-- what is left of the digits, at a whole pair
+drop-pair : (digits : List ℕ) (i : ℕ) → 2 * i + 1 < length digits → drop (2 * i) digits ≡ get_or digits (2 * i) 0 ∷ get_or digits (2 * i + 1) 0 ∷ drop (2 * (i + 1)) digits
+drop-pair digits i within =
+    let a = drop_more digits (2 * i) 0 (omega arith) in
+    let b = drop_more digits (2 * i + 1) 0 (omega arith) in
+    let two : 2 * i + 1 + 1 ≡ 2 * (i + 1) = omega arith in
+    rw (a, b, two) refl
+
+-- a pair that is a byte
+pairs-byte : (high low byte : ℕ) (rest : List ℕ) → byte_of high low ≡ Some byte → bytes_of_pairs (high ∷ low ∷ rest) ≡ (bytes_of_pairs rest >>= (λ bytes. Some (byte ∷ bytes)))
+unfolding bytes_of_pairs
+pairs-byte high low byte rest is = rw is refl
+
+-- a pair that is none
+pairs-none : (high low : ℕ) (rest : List ℕ) → byte_of high low ≡ None → bytes_of_pairs (high ∷ low ∷ rest) ≡ None
+unfolding bytes_of_pairs
+pairs-none high low rest is = rw is refl
+
+-- a value below 16 is that of a digit
+some_value : (o : Option ℕ) (v : ℕ) → v ≡ unwrap_or o 16 → v < 16 → o ≡ Some v
+some_value None v is below = absurd (omega arith)
+some_value (Some w) v is below = ap Some (sym is)
+
+-- and a byte whose value is not below 16 is none
+no_value : (c : ℕ) → 16 ≤ unwrap_or (hex_digit_value c) 16 → hex_digit_value c ≡ None
+no_value c above = grind (arith, nat_tests)
+
+-- two values below 16 are those of a byte
+byte_is : (high low h l : ℕ) → h ≡ unwrap_or (hex_digit_value high) 16 → l ≡ unwrap_or (hex_digit_value low) 16 → h < 16 → l < 16 → byte_of high low ≡ Some (h * 16 + l)
+byte_is high low h l high_is low_is high_below low_below =
+    let a = some_value (hex_digit_value high) h high_is high_below in
+    let b = some_value (hex_digit_value low) l low_is low_below in
+    rw (a, b) refl
+
+no_byte_high : (high low : ℕ) → 16 ≤ unwrap_or (hex_digit_value high) 16 → byte_of high low ≡ None
+no_byte_high high low above = rw (no_value high above) refl
+
+none_behind : (o : Option ℕ) → option_and_then {T = ℕ} {U = ℕ} (λ h. option_and_then {T = ℕ} {U = ℕ} (λ l. Some (h * 16 + l)) None) o ≡ None
+none_behind None = refl
+none_behind (Some h) = refl
+
+no_byte_low : (high low : ℕ) → 16 ≤ unwrap_or (hex_digit_value low) 16 → byte_of high low ≡ None
+no_byte_low high low above = rw (no_value low above) (none_behind (hex_digit_value high))
+
+-- at a pair that is no byte there is none of all pairs
+reads_none : (digits out : List ℕ) (i : ℕ) → 2 * i + 1 < length digits → byte_of (get_or digits (2 * i) 0) (get_or digits (2 * i + 1) 0) ≡ None → bytes_of_pairs digits ≡ behind (take i out) (bytes_of_pairs (drop (2 * i) digits)) → bytes_of_pairs digits ≡ None
+reads_none digits out i within none so_far =
+    so_far ∙ ap (behind (take i out)) (ap bytes_of_pairs (drop-pair digits i within) ∙ pairs-none (get_or digits (2 * i) 0) (get_or digits (2 * i + 1) 0) (drop (2 * (i + 1)) digits) none)
+
+-- one byte more
+reads_byte : (digits out : List ℕ) (i byte : ℕ) → 2 * i + 1 < length digits → i < length out → byte_of (get_or digits (2 * i) 0) (get_or digits (2 * i + 1) 0) ≡ Some byte → bytes_of_pairs digits ≡ behind (take i out) (bytes_of_pairs (drop (2 * i) digits))
+    → bytes_of_pairs digits ≡ behind (take (i + 1) (set out i byte)) (bytes_of_pairs (drop (2 * (i + 1)) digits))
+reads_byte digits out i byte within room is so_far =
+    let rest : List ℕ = drop (2 * (i + 1)) digits in
+    so_far ∙ ap (behind (take i out)) (ap bytes_of_pairs (drop-pair digits i within) ∙ pairs-byte (get_or digits (2 * i) 0) (get_or digits (2 * i + 1) 0) byte rest is)
+    ∙ behind-cons (take i out) byte (bytes_of_pairs rest)
+    ∙ ap (λ (front : List ℕ). behind front (bytes_of_pairs rest)) (sym (take_more_set out i byte room))
+
+-- one pair more
+pub reads_step : (digits out : List ℕ) (i greatest high low byte : ℕ) → 2 * i + 1 < length digits → i < length out → high ≡ unwrap_or (hex_digit_value (get_or digits (2 * i) 0)) 16 → low ≡ unwrap_or (hex_digit_value (get_or digits (2 * i + 1) 0)) 16 → (high < 16 → low < 16 → byte ≡ high * 16 + low) → Reads digits out i greatest
+    → Reads digits (set out i byte) (i + 1) (max (max greatest high) low)
+reads_step digits out i greatest high low byte within room high_is low_is byte_of_values reads = record {
+  good = λ below.
+      let h : high < 16 = omega arith in
+      let l : low < 16 = omega arith in
+      let is = byte_is (get_or digits (2 * i) 0) (get_or digits (2 * i + 1) 0) high low high_is low_is h l in
+      reads_byte digits out i byte within room (is ∙ ap Some (sym (byte_of_values h l))) (reads.good (omega arith));
+  bad = λ above. bad_pair digits out i greatest high low within high_is low_is reads above;
+}
+  where
+    bad_pair : (digits out : List ℕ) (i greatest high low : ℕ) → 2 * i + 1 < length digits → high ≡ unwrap_or (hex_digit_value (get_or digits (2 * i) 0)) 16 → low ≡ unwrap_or (hex_digit_value (get_or digits (2 * i + 1) 0)) 16 → Reads digits out i greatest → 16 ≤ max (max greatest high) low → bytes_of_pairs digits ≡ None
+    bad_pair digits out i greatest high low within high_is low_is reads above =
+        elim (cases_lt greatest 16) [
+          | inr was ↦ reads.bad was
+          | inl still ↦
+              elim (cases_lt high 16) [
+                | inr above_high ↦ reads_none digits out i within (no_byte_high (get_or digits (2 * i) 0) (get_or digits (2 * i + 1) 0) (omega arith)) (reads.good still)
+                | inl below_high ↦ reads_none digits out i within (no_byte_low (get_or digits (2 * i) 0) (get_or digits (2 * i + 1) 0) (omega arith)) (reads.good still)
+              ]
+        ]
+
+after_none : (byte : Option ℕ) (bytes : Option (List ℕ)) → bytes ≡ None → (byte >>= (λ b. bytes >>= (λ rest. Some (b ∷ rest)))) ≡ None
+after_none None bytes none = refl
+after_none (Some b) bytes none = rw none refl
+
+-- an odd number of digits is none
+pub bytes_of_pairs-odd : (digits : List ℕ) → 0 < length digits % 2 → bytes_of_pairs digits ≡ None
+unfolding bytes_of_pairs
+bytes_of_pairs-odd [] odd = absurd (omega arith)
+bytes_of_pairs-odd (digit ∷ []) odd = refl
+bytes_of_pairs-odd (high ∷ low ∷ rest) odd = after_none (byte_of high low) (bytes_of_pairs rest) (bytes_of_pairs-odd rest (omega arith))
+
+-- nothing is read yet
+pub reads_start : (digits out : List ℕ) → Reads digits out 0 0
+reads_start digits out = record {
+  good = λ below. behind-nil (bytes_of_pairs digits);
+  bad = λ above. absurd (omega arith);
+}
+
+-- all pairs are read
+pub reads_all : (digits out : List ℕ) (i greatest : ℕ) → length out ≤ i → length digits ≤ 2 * i → greatest < 16 → Reads digits out i greatest → bytes_of_pairs digits ≡ Some out
+unfolding bytes_of_pairs
+reads_all digits out i greatest whole none_left below reads =
+    reads.good below ∙ ap (behind (take i out)) (ap bytes_of_pairs (drop_all (2 * i) digits none_left)) ∙ ap Some (append-nil (take i out) ∙ take_all i out whole)

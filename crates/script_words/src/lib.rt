@@ -1,0 +1,17 @@
+//! The lines and words of the scripts of this project: cutting bytes into lines and lines into
+//! words, decimal numbers, and byte strings.
+//!
+//! It serves every reader of a text of lines: step scripts, the pieces of a stream that is decoded,
+//! and lists of clients. All forms are this project's own.
+#![tactic(auto)]
+
+mod byte_string;
+mod number;
+mod words;
+
+pub use byte_string::{ByteError, bytes_of, push_bytes};
+pub use number::parse_number;
+pub use words::{Words, cut_at, first_line};
+
+#[cfg(test)]
+mod tests;

@@ -1,0 +1,34 @@
+//! The decimal numbers of scripts.
+ghost use Rattle.std.specs.Prelude.{◌≡◌, ◌+◌, ◌*◌, ◌≤◌, ◌^◌, MatchOption};
+ghost use Rattle.script_words.specs.Numbers.{number_of};
+
+/// The number of a word of decimal digits without a leading zero, or of `0`, where it is at most
+/// `most`. It is `None` exactly where the word is no such number.
+pub fn parse_number(word: &[u8], most: u64) -> Option<u64>
+    ensures { result ≡ number_of most word.now }
+{
+    if word.is_empty() || (word[0] == b'0' && word.len() != 1) {
+        return None;
+    }
+    let mut value: u64 = 0;
+    for digit in word {
+        if !digit.is_ascii_digit() {
+            return None;
+        }
+        let Some(longer) = longer_by(value, *digit - b'0') else {
+            return None;
+        };
+        if longer > most {
+            return None;
+        }
+        value = longer;
+    }
+    Some(value)
+}
+
+/// The number with one digit more behind it, where it has 64 bits.
+fn longer_by(value: u64, digit: u8) -> Option<u64>
+    ensures { MatchOption result (2 ^ 64 ≤ value * 10 + digit) (λ longer. longer ≡ value * 10 + digit) }
+{
+    value.checked_mul(10)?.checked_add(u64::from(digit))
+}

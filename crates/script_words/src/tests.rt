@@ -1,0 +1,70 @@
+use super::*;
+use std::test::Fail;
+
+/// Words and the bytes that they spell.
+const SPELLED: [(&[u8], &[u8]); 6] = [
+    (b"-", b""),
+    (b"00", b"\x00"),
+    (b"68656C6c6f", b"hello"),
+    (b"fFaA09", b"\xff\xaa\x09"),
+    (b"7a*1", b"z"),
+    (b"FF*3", b"\xff\xff\xff"),
+];
+
+/// Words that are no byte strings.
+const REFUSED: [&[u8]; 12] = [
+    b"",
+    b"--",
+    b"6",
+    b"616",
+    b"0g",
+    b"g0",
+    b"@0`0/0:0",
+    b"61*0",
+    b"61*01",
+    b"61*",
+    b"6*1",
+    b"61*2097153",
+];
+
+#[test]
+fn byte_strings_spell_their_bytes(rt: HostRuntime) -> Result<(), Fail> {
+    for (word, bytes) in SPELLED {
+        assert!(rt; bytes_of(rt.alloc(), word)?.as_slice() == bytes);
+    }
+    for word in REFUSED {
+        assert_eq!(rt; bytes_of(rt.alloc(), word).err(), Some(ByteError::BadHex));
+    }
+    assert_eq!(rt; bytes_of(rt.alloc(), b"5a*2097152")?.len(), 2_097_152);
+    Ok(())
+}
+
+#[test]
+fn bytes_stand_behind_those_before(rt: HostRuntime) -> Result<(), Fail> {
+    let mut bytes = Vec::from_slice(rt.alloc(), b"a")?;
+    push_bytes(&mut bytes, b"6263")?;
+    assert_eq!(rt; push_bytes(&mut bytes, b"646x"), Err(ByteError::BadHex));
+    push_bytes(&mut bytes, b"64*2")?;
+    assert!(rt; bytes.as_slice() == b"abcdd".as_slice());
+    Ok(())
+}
+
+#[test]
+fn lines_words_and_numbers_are_read(rt: HostRuntime) {
+    let (line, rest) = first_line(b"step 7\nlast").expect(&rt, "a line");
+    assert!(rt; line == b"step 7".as_slice());
+    assert!(rt; first_line(rest).is_some_and(|found| found.0 == b"last".as_slice()));
+    let mut words = Words::of(line);
+    assert!(rt; words.next().is_some_and(|word| word == b"step".as_slice()));
+    assert!(rt; words.only().is_some_and(|word| word == b"7".as_slice()));
+    let numbers: [(&[u8], u64, Option<u64>); 5] = [
+        (b"0", 0, Some(0)),
+        (b"18446744073709551615", u64::MAX, Some(u64::MAX)),
+        (b"18446744073709551616", u64::MAX, None),
+        (b"65536", 65_535, None),
+        (b"00", 9, None),
+    ];
+    for (word, most, number) in numbers {
+        assert_eq!(rt; parse_number(word, most), number);
+    }
+}

@@ -1,0 +1,80 @@
+//! Cutting a script into lines, and a line into words.
+ghost use Rattle.std.specs.Prelude.{◌≡◌, ◌==◌, ◌<◌, ◌∷◌, [], length, position, MatchOption, IfNone, IfSome, option_copied};
+ghost use Rattle.script_words.specs.Words.{lines_of, pieces};
+
+/// The bytes before the first separator, and those behind it where there is one.
+#[tactic(auto, using(crate::proofs::WordLaws::cut_found, crate::proofs::WordLaws::cut_missing))]
+pub fn cut_at(bytes: &[u8], separator: u8) -> (&[u8], Option<&[u8]>)
+    ensures pieces { MatchOption result.1 (pieces separator bytes.now ≡ result.0.now ∷ [])
+        (λ rest. pieces separator bytes.now ≡ result.0.now ∷ pieces separator rest.now) }
+    ensures whole { IfNone result.1 (result.0.now ≡ bytes.now) }
+    ensures shorter { IfSome result.1 (λ rest. length rest.now < length bytes.now) }
+{
+    match find_byte(bytes, separator) {
+        Some(end) => (&bytes[..end], Some(&bytes[end + 1..])),
+        None => (bytes, None),
+    }
+}
+
+/// The first line and the bytes behind it. It is `None` exactly where there are no bytes.
+#[tactic(auto, using(crate::proofs::WordLaws::lines_of_cut, crate::proofs::WordLaws::lines_of_uncut))]
+pub fn first_line(bytes: &[u8]) -> Option<(&[u8], &[u8])>
+    ensures lines { MatchOption result (lines_of bytes.now ≡ [])
+        (λ found. lines_of bytes.now ≡ found.0.now ∷ lines_of found.1.now) }
+    ensures shorter { IfSome result (λ found. length found.1.now < length bytes.now) }
+{
+    if bytes.is_empty() {
+        return None;
+    }
+    let (line, rest) = cut_at(bytes, b'\n');
+    match rest {
+        Some(rest) => Some((line, rest)),
+        None => Some((line, &[])),
+    }
+}
+
+/// The place of the first byte that is `wanted`.
+fn find_byte(bytes: &[u8], wanted: u8) -> Option<usize>
+    ensures { result ≡ position (λ byte. byte == wanted) bytes.now }
+{
+    bytes.iter().position(|byte| *byte == wanted)
+}
+
+/// The words of a line that aren't read yet, with one space between each two.
+#[derive(Drop)]
+pub struct Words<'a> {
+    rest: Option<&'a [u8]>,
+}
+
+impl<'a> Words<'a> {
+    ghost use Rattle.script_words.specs.Words.{words_of, only};
+    ghost use Rattle.script_words.specs.WordsLeft.{words_left};
+
+    /// All words of a line.
+    pub fn of(line: &'a [u8]) -> Words<'a>
+        ensures { words_left result ≡ words_of line.now }
+    {
+        Words { rest: Some(line) }
+    }
+
+    /// The next word. It is `None` exactly where there is none, and then from then on.
+    pub fn next(&mut self) -> Option<&'a [u8]>
+        ensures { MatchOption result ((words_left self.old ≡ []) × (words_left self.new ≡ []))
+            (λ word. words_left self.old ≡ word.now ∷ words_left self.new) }
+    {
+        let (word, rest) = cut_at(self.rest?, b' ');
+        self.rest = rest;
+        Some(word)
+    }
+
+    /// The word that is left, where it is the only one.
+    pub fn only(mut self) -> Option<&'a [u8]>
+        ensures { option_copied result ≡ only (words_left self.entry) }
+    {
+        let word = self.next()?;
+        match self.next() {
+            None => Some(word),
+            Some(_) => None,
+        }
+    }
+}

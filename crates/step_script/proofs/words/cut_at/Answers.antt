@@ -1,5 +1,0 @@
-use Rattle.step_script.proofs.WordLaws.{cut_found}
-use Rattle.step_script.proofs.words.cut_at.Goals as goal
-
-pub returns-in-Some-clause-pieces : goal.returns-in-Some-clause-pieces
-returns-in-Some-clause-pieces c = cut_found _ _ _ c.in-Some.ensures

@@ -1,0 +1,26 @@
+-- The calls that the words of a script stand for.
+use Rattle.std.specs.Prelude.{ℕ, ◌≤◌, [], length}
+use Rattle.ring_words.specs.declared.order.Orders.{Orders}
+use Rattle.ring_words.specs.declared.page.Role.{Role}
+use Rattle.vchan_core.specs.declared.call.Call.{Call}
+use Rattle.step_script.specs.declared.forms.CallForm.{CallForm}
+use Rattle.step_script.specs.declared.forms.CallForm.TheVariants.{Bare}
+use Rattle.step_script.specs.Script.{StepCall, StepLine, CallFits, LineFits}
+use Rattle.step_script.specs.ScriptLines.{payload_len}
+
+-- a call with no payload
+abbrev pub without_payload : Call → StepCall
+without_payload c = record { call = c; payload = [] }
+
+-- an end can say a call that has no word behind it
+abbrev pub FormFits : Role → CallForm → Type 0
+FormFits who (Bare c) = CallFits who (without_payload c)
+FormFits who form = Unit {0}
+
+-- a call that its end can say, within so many bytes
+abbrev pub CallKeeps : ℕ → Role → StepCall → Type 0
+CallKeeps room who c = CallFits who c × (length c.payload ≤ room)
+
+-- a line that fits the page, within so many bytes
+abbrev pub LineKeeps : Orders → ℕ → StepLine → Type 0
+LineKeeps orders room line = LineFits orders line × (payload_len line ≤ room)

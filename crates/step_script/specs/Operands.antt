@@ -1,0 +1,48 @@
+-- The words behind a verb.
+-- Source: this project's own.
+use Rattle.std.specs.Prelude.{ℕ, ◌==◌, nat_lt, List, [], ◌∷◌, length, if◌then◌else◌, ok_or, Result, Ok, Err}
+use Rattle.step_script.specs.declared.error.ScriptKind.{ScriptKind}
+use Rattle.step_script.specs.declared.error.ScriptKind.TheVariants.{BadLine, BadNumber, BadHex, TooManyBytes}
+use Rattle.script_words.specs.Words.{only}
+use Rattle.script_words.specs.Numbers.{number_of}
+use Rattle.script_words.specs.ByteStrings.{byte_string}
+
+-- the second step, where the first gave a value
+infixl 10 ◌>>=◌
+abbrev pub ◌>>=◌ : {A B E : Type 0} → Result A E → (A → Result B E) → Result B E
+Ok x >>= f = f x
+Err e >>= f = Err e
+
+-- a word with at least one byte
+abbrev pub given : List ℕ → Result (List ℕ) ScriptKind
+given word = if length word == 0 then Err BadLine else Ok word
+
+-- the only word that is left
+abbrev pub operand_of : List (List ℕ) → Result (List ℕ) ScriptKind
+operand_of words = do
+  word ← ok_or (only words) BadLine
+  given word
+
+-- this, where no word is left
+abbrev pub alone : {A : Type 0} → A → List (List ℕ) → Result A ScriptKind
+alone x [] = Ok x
+alone x (word ∷ more) = Err BadLine
+
+-- a number from the least to the most
+abbrev pub number_between : ℕ → ℕ → List ℕ → Result ℕ ScriptKind
+number_between least most word = do
+  number ← ok_or (number_of most word) BadNumber
+  if nat_lt number least then Err BadNumber else Ok number
+
+-- a number as the only word that is left
+abbrev pub count_of : ℕ → ℕ → List (List ℕ) → Result ℕ ScriptKind
+count_of least most words = do
+  word ← operand_of words
+  number_between least most word
+
+-- a byte string as the only word that is left, with room for so many bytes
+abbrev pub payload_of : ℕ → List (List ℕ) → Result (List ℕ) ScriptKind
+payload_of room words = do
+  word ← operand_of words
+  payload ← ok_or (byte_string word) BadHex
+  if nat_lt room (length payload) then Err TooManyBytes else Ok payload

@@ -1,0 +1,102 @@
+//! The words behind a verb.
+ghost use Rattle.std.specs.Prelude.{◌≡◌, ◌≤◌, length, IfOk};
+ghost use Rattle.script_words.specs.WordsLeft.{words_left};
+ghost use Rattle.step_script.specs.Operands.{given, operand_of, alone, number_between, count_of, payload_of};
+ghost use Rattle.step_script.specs.Readings.{Gives};
+
+use crate::error::LineError;
+use script_words::{Words, bytes_of, parse_number};
+use std::alloc::Global;
+
+/// The most that a count of bytes or of events may say.
+const MOST_COUNT: u32 = 2_147_483_647;
+
+/// A word that has a byte.
+///
+/// # Errors
+///
+/// A bad line where it is empty.
+pub(crate) fn read_given(word: &[u8]) -> Result<&[u8], LineError>
+    ensures { Gives (λ word. word.now) result (given word.now) }
+{
+    if word.is_empty() {
+        Err(LineError::BAD_LINE)
+    } else {
+        Ok(word)
+    }
+}
+
+/// The only word that is left.
+///
+/// # Errors
+///
+/// A bad line where it isn't the only one, or is empty.
+pub(crate) fn read_operand<'a>(words: Words<'a>) -> Result<&'a [u8], LineError>
+    ensures { Gives (λ word. word.now) result (operand_of (words_left words.entry)) }
+{
+    read_given(words.only().ok_or(LineError::BAD_LINE)?)
+}
+
+/// Whether no word is left.
+///
+/// # Errors
+///
+/// A bad line where one is.
+pub(crate) fn read_nothing(mut words: Words) -> Result<(), LineError>
+    ensures { Gives (λ x. x) result (alone tt (words_left words.entry)) }
+{
+    match words.next() {
+        None => Ok(()),
+        Some(_) => Err(LineError::BAD_LINE),
+    }
+}
+
+/// The number of a word, from `least` to `most`.
+///
+/// # Errors
+///
+/// A bad number where the word is no such number.
+pub(crate) fn read_number(word: &[u8], least: u64, most: u64) -> Result<u64, LineError>
+    ensures number { Gives (λ number. number) result (number_between least most word.now) }
+    ensures within { IfOk result (λ number. (least ≤ number) × (number ≤ most)) }
+{
+    let number = parse_number(word, most).ok_or(LineError::BAD_NUMBER)?;
+    if number < least {
+        Err(LineError::BAD_NUMBER)
+    } else {
+        Ok(number)
+    }
+}
+
+/// A count of bytes or of events, from `least` on, as the only word that is left.
+///
+/// # Errors
+///
+/// A bad line where it isn't the only word or is empty; a bad number where it is no such number.
+pub(crate) fn read_count(words: Words, least: u32) -> Result<u32, LineError>
+    ensures count { Gives (λ count. count) result (count_of least 2147483647 (words_left words.entry)) }
+    ensures within { IfOk result (λ count. least ≤ count) }
+{
+    let word = read_operand(words)?;
+    let count = read_number(word, u64::from(least), u64::from(MOST_COUNT))?;
+    Ok(count as u32)
+}
+
+/// The bytes of a byte string that is the only word that is left, at most `room` of them.
+///
+/// # Errors
+///
+/// A bad line where it isn't the only word or is empty; bad hex where it is no byte string; too
+/// many bytes; `Memory`.
+pub(crate) fn read_payload(alloc: Global, words: Words, room: usize) -> Result<Vec<u8>, LineError>
+    ensures payload { Gives (λ bytes. bytes.items) result (payload_of room (words_left words.entry)) }
+    ensures within { IfOk result (λ bytes. length bytes.items ≤ room) }
+{
+    let word = read_operand(words)?;
+    let bytes = bytes_of(alloc, word)?;
+    if bytes.len() > room {
+        Err(LineError::TOO_MANY_BYTES)
+    } else {
+        Ok(bytes)
+    }
+}
