@@ -1,15 +1,12 @@
 -- What is done at one end, and what it leaves alone.
-use Rattle.std.proofs.Common.{◌≡◌, ℕ, suc, zero, ◌≤◌, Bool, true, false, Option, Some, None, IsNone, Result, Ok, Err, List, [], ◌∷◌, ◌++◌, length, take, drop, refl, subst, sym, ap, ◌∙◌, arith, append-nil, append_assoc}
+use Rattle.std.proofs.Common.{◌≡◌, ℕ, ◌≤◌, Option, Some, None, IsNone, Result, Ok, Err, List, [], ◌∷◌, ◌++◌, length, take, refl, subst, sym, ap, ◌∙◌, arith, append-nil, append_assoc}
 use Rattle.std.specs.Option.{option_map}
 use Rattle.std.specs.Result.{OnOk}
 use Rattle.std.proofs.Math.Seq.{take-length}
 use Rattle.std.proofs.lemmas.Bool.{false≢true}
 use Rattle.std.proofs.lemmas.Grind.{flat_map-append}
 use Rattle.ring_words.specs.declared.page.Role.{Role}
-use Rattle.ring_words.specs.declared.page.Role.TheVariants.{Server, Client}
-use Rattle.vchan_core.specs.declared.op.PastEvent.{PastEvent}
 use Rattle.vchan_core.specs.declared.call.Answer.{Answer}
-use Rattle.vchan_core.specs.declared.call.Answer.TheVariants.{Got}
 use Rattle.vchan_core.specs.declared.call.Call.{Call}
 use Rattle.vchan_core.specs.declared.phase.Phase.{Phase}
 use Rattle.vchan_core.specs.declared.side.Begun.{Begun}
@@ -19,17 +16,16 @@ use Rattle.vchan_core.specs.declared.plain.Plain.{Plain}
 use Rattle.vchan_core.specs.Alone.{alone, called, call_answer, whole_call}
 use Rattle.vchan_core.specs.Apply.{filled}
 use Rattle.vchan_core.specs.Calls.{payload_of}
-use Rattle.vchan_core.specs.Core.{Core, side_of, with_side, event, bytes_loaded, begun, plan_left, answered}
-use Rattle.vchan_core.specs.Past.{IsInCall, IsMachineOf, StandsFor, machine_of, other_of, turned_of}
+use Rattle.vchan_core.specs.Core.{Core, side_of, bytes_loaded, begun, plan_left}
+use Rattle.vchan_core.specs.Past.{IsInCall, StandsFor, machine_of, other_of}
 use Rattle.vchan_core.specs.Phases.{IsIdle, out_of, into_of, out_at, into_at, standing}
 use Rattle.vchan_core.specs.Ends.{read_size}
-use Rattle.vchan_core.specs.Plan.{Plan, answers, does}
 use Rattle.vchan_core.proofs.RunLaws.{machine_stands, side_of-with_side}
 use Rattle.step_script.specs.declared.hand.Hand.{Hand}
 use Rattle.step_script.specs.declared.refusal.Refusal.{Refusal}
 use Rattle.step_script.specs.Output.{TextLine, answered as line_answered, refused, line_text, text_of}
-use Rattle.step_script.specs.Played.{Outcome, bytes_got, ends_with, finished, finishes_call, followed_by, makes_call, begins_call, prints, quiet, steps_call, steps_on, stepped, stops_with, unless_answered, unless_refused}
-use Rattle.step_script.specs.Players.{Does, HasLoaded, IsAt, IsHeld, IsKnown, IsTaken, call_of, got_front, got_len}
+use Rattle.step_script.specs.Played.{Outcome, bytes_got, ends_with, finished, finishes_call, followed_by, makes_call, begins_call, prints, quiet, steps_call, steps_on, stepped, stops_with, unless_refused}
+use Rattle.step_script.specs.Players.{Does, HasLoaded, IsAt, IsHeld, IsKnown, IsTaken, got_front}
 use Rattle.step_script.specs.Script.{StepCall}
 use Rattle.step_script.proofs.GotLaws.{got_by_call}
 use Rattle.step_script.proofs.HandLaws.{has_filled, is_taken}

@@ -1,5 +1,5 @@
 -- The events of a call up to its answer are the rest of its plan.
-use Rattle.std.proofs.Common.{◌≡◌, ℕ, suc, zero, ◌+◌, ◌≤◌, min, Option, Some, None, List, [], ◌∷◌, ◌++◌, refl, subst, sym, ap, ◌∙◌, arith}
+use Rattle.std.proofs.Common.{◌≡◌, ℕ, suc, zero, ◌≤◌, Option, Some, None, List, [], ◌∷◌, ◌++◌, refl, subst, sym, ap, ◌∙◌, arith}
 use Rattle.ring_words.specs.declared.page.Role.{Role}
 use Rattle.ring_words.proofs.RingLaws.{size-within}
 use Rattle.vchan_core.specs.declared.op.PastEvent.{PastEvent}
@@ -16,7 +16,7 @@ use Rattle.vchan_core.specs.Calls.{most_events, plan_of}
 use Rattle.vchan_core.specs.Core.{Core, side_of, with_side, event, begun_standing, carried_out, answered, plan_left, plan_next, answer_in, made}
 use Rattle.vchan_core.specs.Ends.{Standing, read_order, write_order}
 use Rattle.vchan_core.specs.Past.{IsMachineOf}
-use Rattle.vchan_core.specs.Phases.{rest, IsIdle}
+use Rattle.vchan_core.specs.Phases.{IsIdle}
 use Rattle.vchan_core.specs.Plan.{EndsWithin, GoesOn, Plan, answers, does, next_op, after, left_after, past}
 use Rattle.vchan_core.proofs.Bounds.{ends_call, more_time}
 use Rattle.vchan_core.proofs.PlanLaws.{GoesOn-machine}

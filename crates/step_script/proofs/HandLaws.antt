@@ -1,8 +1,7 @@
 -- One end as a script plays it: what is kept of its call, and the events of the call.
-use Rattle.std.proofs.Common.{◌≡◌, ℕ, suc, zero, ◌-◌, ◌<◌, ◌≤◌, ◌↔◌, Option, Some, None, IfSome, List, [], ◌∷◌, ◌++◌, length, take, drop, refl, subst, sym, ap, ◌∙◌, arith, append-nil, length-append}
+use Rattle.std.proofs.Common.{◌≡◌, ℕ, suc, zero, ◌-◌, ◌<◌, ◌≤◌, Option, Some, None, IfSome, List, [], ◌∷◌, ◌++◌, length, take, drop, refl, subst, sym, ap, ◌∙◌, arith, length-append}
 use Rattle.std.proofs.Math.Seq.{take-length, drop-append_seam}
 use Rattle.std.proofs.lemmas.List.{take-append-le}
-use Rattle.std.proofs.lemmas.Bool.{false≢true}
 use Rattle.ring_words.specs.declared.order.Orders.{Orders}
 use Rattle.ring_words.specs.declared.page.Role.{Role}
 use Rattle.vchan_core.specs.declared.op.Op.{Op}
@@ -25,7 +24,7 @@ use Rattle.vchan_core.proofs.RunLaws.{FillsNext, fills_next, fills_on, machine_s
 use Rattle.vchan_core.proofs.StepLaws.{InCall, in_call}
 use Rattle.step_script.specs.declared.hand.Hand.{Hand}
 use Rattle.step_script.specs.Played.{bytes_got, stepped, unless_answered}
-use Rattle.step_script.specs.Players.{HasLoaded, IsAt, IsHeld, IsTaken, call_of, got_front, got_len}
+use Rattle.step_script.specs.Players.{HasLoaded, IsAt, IsTaken, call_of, got_front, got_len}
 use Rattle.step_script.proofs.GotLaws.{got_by_trail}
 
 pub if_some : {A : Type 0} (r : Option A) (P : A → Type 0) → ((a : A) → r ≡ Some a → P a) → IfSome r P

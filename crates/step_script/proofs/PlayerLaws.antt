@@ -1,5 +1,5 @@
 -- A player with its two ends: what is done at one end leaves the other alone.
-use Rattle.std.proofs.Common.{◌≡◌, ℕ, suc, zero, ◌<◌, ◌≤◌, Bool, true, false, Option, Some, None, Result, Ok, Err, List, [], ◌∷◌, ◌++◌, length, refl, subst, sym, ap, ◌∙◌, arith, append-nil, append_assoc, if◌then◌else◌, slice_index_or}
+use Rattle.std.proofs.Common.{◌≡◌, ℕ, suc, zero, Bool, true, false, Option, Some, None, List, [], ◌∷◌, ◌++◌, length, refl, subst, sym, ap, ◌∙◌, arith, append-nil, append_assoc, if◌then◌else◌}
 use Rattle.std.proofs.lemmas.Grind.{flat_map-append}
 use Rattle.std.proofs.lemmas.List.Elements.{All-tail}
 use Rattle.ring_words.specs.declared.order.Orders.{Orders}
@@ -17,26 +17,23 @@ use Rattle.vchan_core.specs.declared.side.Begun.{Begun}
 use Rattle.vchan_core.specs.declared.side.Side.{Side}
 use Rattle.vchan_core.specs.declared.machine.Machine.{Machine}
 use Rattle.vchan_core.specs.declared.plain.Plain.{Plain}
-use Rattle.vchan_core.specs.Alone.{alone, whole_call}
+use Rattle.vchan_core.specs.Alone.{alone}
 use Rattle.vchan_core.specs.Apply.{filled, value_taken}
 use Rattle.vchan_core.specs.Calls.{plan_of}
 use Rattle.vchan_core.specs.Core.{Core, side_of, with_side, event, begun, bytes_loaded, loaded_by, plan_left, plan_next, answer_in, carried_out, standing_of, reader_of, opened}
 use Rattle.vchan_core.specs.Past.{IsMachineOf, StandsFor, machine_of, other_of, orders_of}
-use Rattle.vchan_core.specs.Phases.{IsIdle}
 use Rattle.vchan_core.specs.Plan.{Plan, answers, does, past}
 use Rattle.vchan_core.specs.Ends.{peer_pending, written_ring}
 use Rattle.vchan_core.specs.Turned.{given_up, strays, turns, strayed}
 use Rattle.vchan_core.proofs.RunLaws.{machine_stands, side_of-with_side}
 use Rattle.step_script.specs.declared.hand.Hand.{Hand}
 use Rattle.step_script.specs.declared.player.Player.{Player}
-use Rattle.step_script.specs.declared.script.Line.{Line}
 use Rattle.step_script.specs.declared.script.Opening.{Opening}
 use Rattle.step_script.specs.declared.refusal.Refusal.{Refusal}
 use Rattle.step_script.specs.Output.{TextLine, line_text, text_of}
-use Rattle.step_script.specs.Played.{Outcome, ends_with, finished, finishes_call, makes_call, begins_call, line_done, steps_call, steps_on, stepped, stops_with, unless_answered, unless_refused, call_refusal, step_refusal, plays, prints, quiet, ring_line, step_text}
-use Rattle.step_script.specs.Players.{Does, HasLoaded, IsAt, IsHeld, IsKnown, IsPlayedTo, Plays}
+use Rattle.step_script.specs.Played.{Outcome, finished, finishes_call, makes_call, begins_call, line_done, steps_call, steps_on, stepped, stops_with, unless_answered, unless_refused, call_refusal, step_refusal, plays, prints, quiet, ring_line, step_text}
+use Rattle.step_script.specs.Players.{Does, HasLoaded, IsHeld, IsKnown, IsPlayedTo, Plays}
 use Rattle.step_script.specs.Script.{StepCall, StepLine, opens, calls, begins, steps, finishes, pokes, signals, head, image, LineFits}
-use Rattle.step_script.specs.ScriptLines.{line_seen, lines_seen}
 use Rattle.step_script.proofs.DoesLaws.{held_idle, text_of_one}
 
 -- ---- what no line of an end changes

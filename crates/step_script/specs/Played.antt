@@ -1,6 +1,6 @@
 -- What a script prints: its lines carried out from the opening of the page on.
 -- Source: libxenvchan's io.c for the calls, as vchan_core has them; what is printed is this project's own.
-use Rattle.std.specs.Prelude.{ℕ, suc, zero, ◌==◌, Bool, true, false, not, Option, Some, None, List, [], ◌∷◌, ◌++◌, length, take, slice_index, if◌then◌else◌}
+use Rattle.std.specs.Prelude.{ℕ, suc, zero, ◌==◌, Bool, false, not, Option, Some, None, List, [], ◌∷◌, ◌++◌, length, take, slice_index, if◌then◌else◌}
 use Rattle.ring_words.specs.Image.{image_of}
 use Rattle.ring_words.specs.Page.{index_of}
 use Rattle.ring_words.specs.declared.page.Ring.{Ring}

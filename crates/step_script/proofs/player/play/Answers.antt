@@ -1,10 +1,8 @@
-use Rattle.std.proofs.Common.{◌≡◌, ℕ, ◌+◌, ◌<◌, ◌++◌, suc, List, [], ◌∷◌, drop, length, sym, ◌∙◌, ap, subst, add-one, drop-cons, slice_index_or}
+use Rattle.std.proofs.Common.{◌≡◌, ℕ, ◌+◌, ◌<◌, suc, List, [], ◌∷◌, drop, length, sym, ◌∙◌, ap, subst, add-one, drop-cons, slice_index_or}
 use Rattle.std.proofs.Math.ListN.{drop_of_length-le}
-use Rattle.vchan_core.specs.Core.{Core}
 use Rattle.vchan_core.specs.Past.{StandsFor}
 use Rattle.vchan_core.specs.declared.plain.Plain.{Plain}
 use Rattle.step_script.specs.declared.script.Line.{Line}
-use Rattle.step_script.specs.Script.{StepLine}
 use Rattle.step_script.specs.ScriptLines.{line_seen, lines_seen}
 use Rattle.step_script.proofs.PlayerLaws.{IsPlaying, playing_first, playing_fits, playing_last, playing_on}
 use Rattle.step_script.proofs.player.play.Goals as goal

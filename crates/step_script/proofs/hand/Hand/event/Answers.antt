@@ -1,4 +1,4 @@
-use Rattle.std.proofs.Common.{◌≡◌, ℕ, List, Option, Some, length, refl, sym, ◌∙◌, ap, subst, arith}
+use Rattle.std.proofs.Common.{◌≡◌, ℕ, List, length, refl, ◌∙◌, ap, subst}
 use Rattle.std.specs.Vec.{with_items}
 use Rattle.vchan_core.specs.Apply.{Fits, buffer_after}
 use Rattle.vchan_core.specs.Past.{op_of, orders_of, words_of}

@@ -1,15 +1,13 @@
-use Rattle.std.proofs.Common.{◌≡◌, ℕ, ◌≤◌, ◌++◌, List, true, false, length, ap, subst, sym, ◌∙◌}
+use Rattle.std.proofs.Common.{ℕ, ◌≤◌, ◌++◌, List, length, ap, subst, sym, ◌∙◌}
 use Rattle.std.proofs.lemmas.Bool.{false≢true}
-use Rattle.ring_words.specs.declared.page.Role.{Role}
 use Rattle.vchan_core.specs.declared.machine.Machine.{Machine}
 use Rattle.vchan_core.specs.declared.side.Begun.{Begun}
-use Rattle.vchan_core.specs.Core.{Core, side_of}
 use Rattle.vchan_core.specs.Past.{machine_of}
 use Rattle.vchan_core.specs.Phases.{IsIdle}
 use Rattle.std.proofs.Common.{Option}
 use Rattle.step_script.specs.Output.{answered, line_text}
 use Rattle.step_script.specs.Played.{finished, finishes_call}
-use Rattle.step_script.specs.Players.{Does, IsAt, got_front, got_len}
+use Rattle.step_script.specs.Players.{got_front, got_len}
 use Rattle.step_script.proofs.DoesLaws.{does_finish, does_quiet, idle_side, on_ok_from, on_ok_map}
 use Rattle.step_script.proofs.hand.Hand.finish_call.Goals as goal
 

@@ -1,8 +1,7 @@
-use Rattle.std.proofs.Common.{◌≡◌, ℕ, ◌++◌, ◌≤◌, List, Option, None, Some, length, ap, subst, sym, ◌∙◌}
-use Rattle.vchan_core.specs.declared.call.Answer.{Answer}
+use Rattle.std.proofs.Common.{ℕ, ◌++◌, ◌≤◌, List, length, ap, subst, sym, ◌∙◌}
 use Rattle.vchan_core.specs.Core.{Core, side_of}
 use Rattle.step_script.specs.Output.{answered, line_text}
-use Rattle.step_script.specs.Played.{step_refusal, stepped, steps_on}
+use Rattle.step_script.specs.Played.{step_refusal, steps_on}
 use Rattle.step_script.specs.Players.{got_front, got_len}
 use Rattle.step_script.proofs.DoesLaws.{does_allowed, does_refused, does_steps, does_stop, on_ok_map}
 use Rattle.step_script.proofs.hand.Hand.step.Goals as goal

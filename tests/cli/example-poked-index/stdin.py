@@ -1,0 +1,1 @@
+print(open("../../../examples/poked-index.step").read(), end="")

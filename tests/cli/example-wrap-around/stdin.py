@@ -1,0 +1,1 @@
+print(open("../../../examples/wrap-around.step").read(), end="")

@@ -1,0 +1,1 @@
+print(open("../../../examples/write-and-close-race.step").read(), end="")
