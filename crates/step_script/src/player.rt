@@ -1,6 +1,7 @@
 //! Playing a script on one page.
 ghost use Rattle.std.specs.Prelude.{◌≡◌, ◌++◌, IfOk, OnOk};
 ghost use Rattle.step_script.specs.Played.{step_text};
+ghost use Rattle.step_script.specs.ListScript.{ToldByLists};
 
 use crate::hand::Hand;
 use crate::played::Played;
@@ -18,11 +19,16 @@ const HEAD: usize = 24;
 /// answer is printed when it comes. A line that an end can't carry out prints why, and makes no
 /// event.
 ///
+/// Where each line behind the opening is a whole call, `head` or `image`, what is printed of calls
+/// that an end can make, but for `event`, follows from the lists of what each end sent and got
+/// alone.
+///
 /// # Errors
 ///
 /// [`Memory`], and no other.
 pub fn play(alloc: Global, script: &Script) -> Result<Played, Memory>
-    ensures { IfOk result (λ played. played ≡ step_text script.now) }
+    ensures text { IfOk result (λ played. played ≡ step_text script.now) }
+    ensures lists { IfOk result (λ played. ToldByLists script.now played) }
 {
     let mut player = Player::open(alloc, script.opening)?;
     for line in &script.lines {
