@@ -6,3 +6,4 @@ pub mod GrammarLaws
 pub mod WrittenLaws
 pub mod BegunLaws
 pub mod DecodingLaws
+pub mod PrintingLaws

@@ -7,4 +7,5 @@ pub mod Fronts
 pub mod Bodies
 pub mod Decoding
 pub mod Lines
+pub mod Printing
 pub mod Names

@@ -1,14 +1,16 @@
-ghost use Rattle.std.specs.Prelude.{◌≡◌, ℕ, List, [], ◌++◌, length, Option, Some, None, IsOk, IsSome, IfOk, IfSome, OnOk, OnErr};
+ghost use Rattle.std.specs.Prelude.{◌≡◌, ◌<◌, ℕ, List, [], ◌++◌, length, Option, Some, None, true, false, IsOk, IsSome, IfOk, IfSome, OnOk, OnErr};
 ghost use Rattle.qrexec_frame.specs.declared.fault.FrameFault.{FrameFault};
 ghost use Rattle.qrexec_frame.specs.declared.message.Message.{Message};
 ghost use Rattle.qrexec_frame.specs.Streams.{Placed};
 ghost use Rattle.qrexec_frame.specs.Messages.{IsSpellable, GoesOn};
+ghost use Rattle.qrexec_frame.specs.Printing.{Printed};
 ghost use Rattle.qrexec_frame.specs.Decoding.{after_feed, Answers, FollowsGrammar, StandsFor, Reads};
 
 use crate::channel::Channel;
 use crate::encoding::HEADER;
 use crate::fault::{FrameFault, NextError};
 use crate::front::{Body, message_of};
+use crate::line::put_body;
 use crate::message::Message;
 use std::alloc::Global;
 use std::marker::Model;
@@ -135,6 +137,50 @@ impl Decoder {
             Err(fault) => {
                 self.fault = Some(fault);
                 Err(NextError::Fault(fault))
+            }
+        }
+    }
+
+    /// Takes the next message of the stream as `next` does, and appends its line, as `message_line` has it,
+    /// to `out` in place of giving it. The message isn't copied. It is false where `next` gives `None`.
+    ///
+    /// After want of memory the decoder is as it was, and nothing is said of what `out` holds.
+    pub fn next_line(&mut self, out: &mut Vec<u8>) -> Result<bool, NextError>
+        ensures answer { self.old.fault ≡ None → Printed (Answers self.old self.new) out.old.items out.new.items result }
+        ensures faulted { (f : FrameFault) → self.old.fault ≡ Some f →
+            (result ≡ Err (NextError.Fault f)) × (self.new ≡ self.old) × (out.new.items ≡ out.old.items) }
+        ensures channel { self.new.channel ≡ self.old.channel }
+        ensures shorter { result ≡ Ok true → length self.new.left < length self.old.left }
+        ensures stays { result ≡ Ok false → self.new ≡ self.old }
+
+        // The messages and the end of all bytes fed, however they were cut.
+        ensures stream { (fed : List ℕ) (given : List (Placed Message)) → StandsFor self.old fed given →
+            Printed (Reads self.old self.new fed given) out.old.items out.new.items result }
+    {
+        self.print(out)
+    }
+
+    // `next_line` by what stands at the front.
+    fn print(&mut self, out: &mut Vec<u8>) -> Result<bool, NextError>
+        ensures answer { self.old.fault ≡ None → Printed (Answers self.old self.new) out.old.items out.new.items result }
+        ensures faulted { (f : FrameFault) → self.old.fault ≡ Some f →
+            (result ≡ Err (NextError.Fault f)) × (self.new ≡ self.old) × (out.new.items ≡ out.old.items) }
+    {
+        if let Some(known) = self.fault {
+            return Err(NextError::Fault(known));
+        }
+        match Body::at_front(self.channel, self.at, &self.bytes[self.given..]) {
+            Ok(None) => Ok(false),
+            Ok(Some(body)) => {
+                let len = HEADER + body.bytes.len();
+                put_body(out, body.kind, body.bytes)?;
+                self.given += len;
+                self.at = self.at.wrapping_add(len as u64);
+                Ok(true)
+            }
+            Err(found) => {
+                self.fault = Some(found);
+                Err(NextError::Fault(found))
             }
         }
     }

@@ -12,7 +12,7 @@ use crate::encoding::HEADER;
 use crate::fault::FrameFault;
 use crate::kind::{Kind, MOST_BODY};
 use crate::message::Message;
-use crate::text::Text;
+use crate::text::{Text, before_nul};
 use std::alloc::{AllocError, Global};
 
 /// The type and the body of a whole message.
@@ -136,6 +136,15 @@ fn field(alloc: Global, body: &[u8], start: usize, len: usize) -> Result<Text, A
     Text::to_nul(alloc, &body[start..start + len - 1])
 }
 
+// The text of a fixed field, whose last byte counts as NUL.
+pub(crate) fn field_bytes(body: &[u8], start: usize, len: usize) -> &[u8]
+    requires some { 1 ≤ len }
+    requires within { start + len ≤ length body.now }
+    ensures { result.now ≡ field_text start len body.now }
+{
+    before_nul(&body[start..start + len - 1])
+}
+
 // A line or a service, which goes to the end of the body.
 fn line(alloc: Global, body: &[u8], start: usize) -> Result<Text, AllocError>
     requires { start ≤ length body.now }
@@ -144,8 +153,16 @@ fn line(alloc: Global, body: &[u8], start: usize) -> Result<Text, AllocError>
     Text::to_nul(alloc, &body[start..])
 }
 
+// The text of a line or a service, which goes to the end of the body.
+pub(crate) fn line_bytes(body: &[u8], start: usize) -> &[u8]
+    requires { start ≤ length body.now }
+    ensures { result.now ≡ line_text start body.now }
+{
+    before_nul(&body[start..])
+}
+
 // A number of four bytes, the lowest first.
-fn u32_at(bytes: &[u8], start: usize) -> u32
+pub(crate) fn u32_at(bytes: &[u8], start: usize) -> u32
     requires { start + 4 ≤ length bytes.now }
     ensures { result ≡ number_at start bytes.now }
 {

@@ -27,6 +27,6 @@ pub use clean::{clean_name, clean_service, clean_target};
 pub use decoder::Decoder;
 pub use encoding::encode;
 pub use fault::{FrameFault, NextError};
-pub use line::message_line;
+pub use line::{message_line, push_message_line};
 pub use message::{Message, fits};
 pub use text::{Text, TextError};

@@ -78,6 +78,29 @@ fn read_in_pieces(
     lines_of(alloc, &mut decoder)
 }
 
+/// The same, where the decoder prints the lines itself after each piece.
+fn printed_in_pieces(
+    alloc: Global,
+    channel: Channel,
+    bytes: &[u8],
+    most: usize,
+) -> Result<Vec<u8>, Fail> {
+    let mut decoder = Decoder::new(alloc, channel);
+    let mut lines = Vec::new(alloc);
+    for piece in bytes.chunks(most.max(1)) {
+        decoder.feed(piece)?;
+        for _ in 0..100 {
+            if !decoder.next_line(&mut lines).unwrap_or(false) {
+                break;
+            }
+            lines.push(b';')?;
+        }
+    }
+    let end = lines_of(alloc, &mut decoder)?;
+    lines.extend_from_slice(end.as_bytes())?;
+    Ok(lines)
+}
+
 #[test]
 fn reads_streams(rt: HostRuntime) -> Result<(), Fail> {
     let alloc = rt.alloc();
@@ -179,6 +202,11 @@ fn reads_streams(rt: HostRuntime) -> Result<(), Fail> {
         for most in [1, 7, bytes.len()] {
             let got = read_in_pieces(alloc, channel, &bytes, most)?;
             assert_eq!(rt; got.as_str(), want, "in pieces of {most}");
+            let printed = printed_in_pieces(alloc, channel, &bytes, most)?;
+            assert!(rt;
+                printed.as_slice() == want.as_bytes(),
+                "printed in pieces of {most}"
+            );
         }
     }
     Ok(())

@@ -70,7 +70,7 @@ impl Text {
     pub(crate) fn to_nul(alloc: Global, bytes: &[u8]) -> Result<Text, AllocError>
         ensures { IfOk result (λ text. text ≡ before_first is_nul bytes.now) }
     {
-        let bytes = Vec::from_slice(alloc, &bytes[..len_to_nul(bytes)])?;
+        let bytes = Vec::from_slice(alloc, before_nul(bytes))?;
         Ok(Text { bytes })
     }
 
@@ -87,6 +87,13 @@ fn clean_bytes(alloc: Global, bytes: &[u8], letters: Letters) -> Result<Vec<u8>,
     ensures { IfOk result (λ clean. clean.items ≡ cleaned letters bytes.now) }
 {
     bytes.iter().map(|b| letters.kept(*b)).collect(alloc)
+}
+
+// The bytes before the first NUL.
+pub(crate) fn before_nul(bytes: &[u8]) -> &[u8]
+    ensures { result.now ≡ before_first is_nul bytes.now }
+{
+    &bytes[..len_to_nul(bytes)]
 }
 
 // How many bytes stand before the first NUL.

@@ -1,10 +1,13 @@
 -- The statuses of the program: their numbers, and the lines that it prints with them.
 use Rattle.std.specs.Prelude.{ℕ, List, [], ◌++◌, codes, decimal}
 use Rattle.step_script.specs.declared.error.ScriptKind.{ScriptKind}
-use Rattle.step_script.specs.declared.error.ScriptKind.TheVariants.{BadLine}
+use Rattle.step_script.specs.declared.error.ScriptKind.TheVariants as script
+use Rattle.stream_text.specs.declared.error.DecodeKind.{DecodeKind}
+use Rattle.stream_text.specs.declared.error.DecodeKind.TheVariants as decode
 use Rattle.vchan.specs.declared.status.Status.{Status}
 use Rattle.vchan.specs.declared.status.Status.TheVariants.{Done, BadWords, ReadFault, TooLong, BadInput, WriteFault, OutOfMemory}
-use Rattle.vchan.specs.declared.status.Bad.TheVariants.{Script}
+use Rattle.vchan.specs.declared.status.Bad.{Bad}
+use Rattle.vchan.specs.declared.status.Bad.TheVariants.{Script, Decode}
 
 abbrev pub code_of : Status → ℕ
 code_of Done = 0
@@ -15,11 +18,30 @@ code_of (BadInput bad) = 5
 code_of WriteFault = 6
 code_of OutOfMemory = 7
 
-abbrev pub kind_word : ScriptKind → List ℕ
-kind_word BadLine = codes "bad-line"
+-- what is wrong with a line of a script, in the program's words
+abbrev pub script_word : ScriptKind → List ℕ
+script_word script.BadHeader = codes "bad-header"
+script_word script.BadLine = codes "bad-line"
+script_word script.BadNumber = codes "bad-number"
+script_word script.BadHex = codes "bad-hex"
+script_word script.BadOrders = codes "bad-orders"
+script_word script.TooManyLines = codes "too-many-lines"
+script_word script.TooManyBytes = codes "too-many-bytes"
 
-abbrev pub bad_line : ℕ → ScriptKind → List ℕ
-bad_line line kind = codes "vchan: line " ++ decimal line ++ codes ": " ++ kind_word kind ++ codes "\n"
+-- what is wrong with a line of byte strings
+abbrev pub decode_word : DecodeKind → List ℕ
+decode_word decode.BadHex = codes "bad-hex"
+decode_word decode.TooManyLines = codes "too-many-lines"
+decode_word decode.TooManyBytes = codes "too-many-bytes"
+
+-- the line that the program prints of a bad line
+abbrev pub bad_line : ℕ → List ℕ → List ℕ
+bad_line line word = codes "vchan: line " ++ decimal line ++ codes ": " ++ word ++ codes "\n"
+
+-- the line that the program prints of a bad input
+abbrev pub bad_input : Bad → List ℕ
+bad_input (Script line kind) = bad_line line (script_word kind)
+bad_input (Decode line kind) = bad_line line (decode_word kind)
 
 -- the line that the program prints with a status, with its line feed; none where all went well
 abbrev pub status_line : Status → List ℕ
@@ -27,6 +49,6 @@ status_line Done = []
 status_line BadWords = codes "vchan: bad words\n"
 status_line ReadFault = codes "vchan: read fault\n"
 status_line TooLong = codes "vchan: input too long\n"
-status_line (BadInput (Script line kind)) = bad_line line kind
+status_line (BadInput bad) = bad_input bad
 status_line WriteFault = codes "vchan: write fault\n"
 status_line OutOfMemory = codes "vchan: out of memory\n"

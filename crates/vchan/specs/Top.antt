@@ -3,17 +3,21 @@ use Rattle.std.specs.Prelude.{◌≡◌, ℕ, ◌<◌, ◌↔◌, List, [], leng
 use Rattle.std.specs.Io.KnownBytes.{IsAtEnd}
 use Rattle.vchan_io.specs.Counts.{Rose}
 use Rattle.vchan_io.specs.Streams.{Takes, Appends, AppendsProperPrefix}
-use Rattle.step_script.specs.Script.{StepLine, script_of}
+use Rattle.step_script.specs.Script.{StepLine}
+use Rattle.step_script.specs.Grammar.{script_of}
 use Rattle.step_script.specs.Played.{step_text}
-use Rattle.step_script.specs.declared.error.ScriptError.{ScriptError}
-use Rattle.step_script.specs.declared.error.ScriptError.TheVariants as error
 use Rattle.step_script.specs.declared.error.ScriptKind.{ScriptKind}
+use Rattle.stream_text.specs.Texts.{decoded}
+use Rattle.stream_text.specs.declared.error.DecodeKind.{DecodeKind}
 use Rattle.vchan.specs.declared.command.Command.{Command}
-use Rattle.vchan.specs.declared.command.Command.TheVariants.{Step}
+use Rattle.vchan.specs.declared.command.Command.TheVariants.{Step, Decode}
+use Rattle.vchan.specs.declared.output.OutputError.{OutputError}
+use Rattle.vchan.specs.declared.output.OutputError.TheVariants as error
 use Rattle.vchan.specs.declared.status.Status.{Status}
 use Rattle.vchan.specs.declared.status.Status.TheVariants.{Done, BadWords, ReadFault, TooLong, BadInput, WriteFault, OutOfMemory}
 use Rattle.vchan.specs.declared.status.Bad.{Bad}
 use Rattle.vchan.specs.declared.status.Bad.TheVariants.{Script}
+use Rattle.vchan.specs.declared.status.Bad.TheVariants as bad
 use Rattle.vchan.specs.Command.{command_of}
 
 -- the longest input that the program reads
@@ -21,22 +25,28 @@ abbrev pub greatest_input : ℕ
 greatest_input = 4194304
 
 -- the text that these bytes print as a script; where they are none, the first bad line and what is wrong with it
-abbrev pub text_or_bad : Result (List StepLine) (ℕ × ScriptKind) → Result (List ℕ) Bad
-text_or_bad (Ok lines) = Ok (step_text lines)
-text_or_bad (Err (line, kind)) = Err (Script line kind)
+abbrev pub step_output : Result (List StepLine) (ℕ × ScriptKind) → Result (List ℕ) Bad
+step_output (Ok lines) = Ok (step_text lines)
+step_output (Err (line, kind)) = Err (Script line kind)
+
+-- the text of the stream that these bytes spell; where they spell none, the first bad line and what is wrong with it
+abbrev pub decode_output : Result (List ℕ) (ℕ × DecodeKind) → Result (List ℕ) Bad
+decode_output (Ok text) = Ok text
+decode_output (Err (line, kind)) = Err (bad.Decode line kind)
 
 -- what the command prints for this input, or what is wrong with the input
 abbrev pub output_of : Command → List ℕ → Result (List ℕ) Bad
-output_of Step input = text_or_bad (script_of input)
+output_of Step input = step_output (script_of input)
+output_of (Decode channel) input = decode_output (decoded channel input)
 
 -- these words are a command's, and this is what it has for these bytes
 abbrev pub Outputs : List (List ℕ) → List ℕ → Result (List ℕ) Bad → Type 0
 Outputs words input output = (command : Command) × (command_of words ≡ Some command) × (output_of command input ≡ output)
 
--- A refusal of the input is the one that is due; want of memory is free.
-abbrev pub IsDue : ScriptError → List ℕ → Type 0
-IsDue (error.Bad line kind) input = output_of Step input ≡ Err (Script line kind)
-IsDue error.Memory input = Unit {0}
+-- the refusal of the input is the one that is due; want of memory is free
+abbrev pub IsDue : OutputError → Result (List ℕ) Bad → Type 0
+IsDue (error.Refused bad) due = due ≡ Err bad
+IsDue error.Memory due = Unit {0}
 
 -- what a status says of the bytes taken, of the source afterwards, and of the sink for the output before and after
 abbrev pub Ends : Status → List (List ℕ) → List ℕ → Option (List ℕ) → ℕ → ℕ → Option (List ℕ) → Option (List ℕ) → ℕ → ℕ → Type 0

@@ -6,6 +6,7 @@
 #![tactic(auto)]
 
 mod command;
+mod output;
 mod status;
 mod top;
 
@@ -14,6 +15,7 @@ use std::alloc::Global;
 use std::env;
 use std::process::ExitCode;
 use std::rt::Env;
+pub use stream_text::{Channel, DecodeError, DecodeKind, decode_text};
 pub use top::{GREATEST_INPUT, top};
 use vchan_io::{StdSink, StdSource};
 

@@ -2,6 +2,7 @@ ghost use Rattle.std.specs.Prelude.{◌≡◌};
 ghost use Rattle.vchan.specs.Status.{code_of};
 
 use step_script::ScriptKind;
+use stream_text::DecodeKind;
 
 /// How a run of the program ended.
 #[derive(Clone, Copy, Debug, PartialEq, Eq)]
@@ -34,6 +35,13 @@ pub enum Bad {
         line: u32,
         /// What is wrong with that line.
         kind: ScriptKind,
+    },
+    /// It is no list of byte strings.
+    Decode {
+        /// The first bad line, from 1.
+        line: u32,
+        /// What is wrong with that line.
+        kind: DecodeKind,
     },
 }
 

@@ -4,6 +4,9 @@ use std::test::Fail;
 use step_script::ScriptKind;
 use vchan_io::{MemSink, MemSource, Memory};
 
+mod decodes;
+mod steps;
+
 /// At most so many bytes a call, and the numbers of the calls that fail.
 #[derive(Drop)]
 struct Stream {
@@ -60,45 +63,19 @@ fn run_over_memory(
     Ok(Outcome { status, out, err })
 }
 
-/// The scripts of the first path, and what they print.
-#[test]
-fn scripts_print_their_text(rt: HostRuntime) -> Result<(), Fail> {
-    let rows: [(&[u8], &[u8]); 4] = [
-        (
-            b"open 10 11\nclient write 68656c6c6f\nserver read 5\n",
-            b"client wrote 5\nserver read 68656c6c6f\nleft sent 5 got 5\nright sent 0 got 0\n",
-        ),
-        (b"open 10 11", b"left sent 0 got 0\nright sent 0 got 0\n"),
-        (
-            b"open 10 11\nclient write 6162\nserver read 1\nserver read 5\nserver read 0\nserver read 1\n",
-            b"client wrote 2\nserver read 61\nserver read 62\nserver empty 2 2\nserver empty 2 2\nleft sent 2 got 2\nright sent 0 got 0\n",
-        ),
-        (
-            b"open 12 12\nclient write FFfe\nserver read 2147483647",
-            b"client wrote 2\nserver read fffe\nleft sent 2 got 2\nright sent 0 got 0\n",
-        ),
-    ];
-    for (script, text) in rows {
-        let input = Vec::from_slice(rt.alloc(), script)?;
-        let ran = run_over_memory(rt.alloc(), &["step"], input, &WHOLE, &WHOLE, &WHOLE)?;
-        assert_eq!(rt; ran.status, Status::Done);
-        assert_eq!(rt; ran.status.code(), 0);
-        assert!(rt; ran.out.bytes() == text);
-        assert!(rt; ran.err.bytes().is_empty());
-    }
-    Ok(())
-}
-
 #[test]
 fn words_of_no_command_are_bad(rt: HostRuntime) -> Result<(), Fail> {
-    let rows: [&[&str]; 7] = [
+    let rows: [&[&str]; 10] = [
         &[],
         &["step", "x"],
         &["run", "0"],
         &["run", "17"],
         &["run", "01"],
         &["Step"],
-        &["decode", "data"],
+        &["decode"],
+        &["decode", "Data"],
+        &["decode", "data", "x"],
+        &["data"],
     ];
     for words in rows {
         let input = Vec::from_slice(rt.alloc(), OPENING)?;
@@ -113,36 +90,51 @@ fn words_of_no_command_are_bad(rt: HostRuntime) -> Result<(), Fail> {
 
 #[test]
 fn inputs_that_are_no_script_are_bad(rt: HostRuntime) -> Result<(), Fail> {
-    let rows: [(&[u8], u32, &[u8]); 6] = [
-        (b"", 1, b"vchan: line 1: bad-line\n"),
-        (b"open 10 10\n", 1, b"vchan: line 1: bad-line\n"),
+    let rows: [(&[u8], u32, ScriptKind, &[u8]); 6] = [
+        (
+            b"",
+            1,
+            ScriptKind::BadHeader,
+            b"vchan: line 1: bad-header\n",
+        ),
+        (
+            b"open 10 10\n",
+            1,
+            ScriptKind::BadOrders,
+            b"vchan: line 1: bad-orders\n",
+        ),
         (
             b"open 10 11\nclient write 616\n",
             2,
-            b"vchan: line 2: bad-line\n",
+            ScriptKind::BadHex,
+            b"vchan: line 2: bad-hex\n",
         ),
-        (b"open 10 11\n\n", 2, b"vchan: line 2: bad-line\n"),
         (
-            b"open 10 11\nclient write 61\nserver read 01\n",
+            b"open 10 11\n\nserver red 1\n",
             3,
+            ScriptKind::BadLine,
             b"vchan: line 3: bad-line\n",
         ),
         (
-            b"open 10 11\nserver write 61\n",
+            b"open 10 11\nclient write 61\nserver read 01\n",
+            3,
+            ScriptKind::BadNumber,
+            b"vchan: line 3: bad-number\n",
+        ),
+        (
+            b"open 10 11\nserver connect\n",
             2,
+            ScriptKind::BadLine,
             b"vchan: line 2: bad-line\n",
         ),
     ];
-    for (input, line, said) in rows {
+    for (input, line, kind, said) in rows {
         let input = Vec::from_slice(rt.alloc(), input)?;
         let ran = run_over_memory(rt.alloc(), &["step"], input, &WHOLE, &WHOLE, &WHOLE)?;
         assert_eq!(rt;
             ran.status,
             Status::BadInput {
-                bad: Bad::Script {
-                    line,
-                    kind: ScriptKind::BadLine
-                }
+                bad: Bad::Script { line, kind }
             }
         );
         assert_eq!(rt; ran.status.code(), 5);

@@ -1,16 +1,17 @@
-ghost use Rattle.std.specs.Prelude.{◌≡◌, IfOk, IfErr, OnOk, OnErr, map, string_bytes};
+ghost use Rattle.std.specs.Prelude.{◌≡◌, OnOk, OnErr, map, string_bytes};
 ghost use Rattle.vchan_io.specs.Counts.{Rose};
 ghost use Rattle.vchan_io.specs.Streams.{Appends};
-ghost use Rattle.step_script.specs.Played.{step_text as step_text_of};
-ghost use Rattle.vchan.specs.Status.{status_line, bad_line, kind_word};
-ghost use Rattle.vchan.specs.Top.{IsRun, IsDue, output_of};
+ghost use Rattle.vchan.specs.Status.{status_line, bad_input, bad_line, script_word, decode_word};
+ghost use Rattle.vchan.specs.Top.{IsRun};
 
-use crate::command::{Command, command_in};
+use crate::command::command_in;
+use crate::output::{OutputError, output};
 use crate::status::{Bad, Status};
 use itoa::Buffer;
 use std::alloc::Global;
-use step_script::{Script, ScriptError, ScriptKind, parse, play, text};
-use vchan_io::{Memory, ReadAllError, Sink, Source, WriteFault, read_all, write_all};
+use step_script::ScriptKind;
+use stream_text::DecodeKind;
+use vchan_io::{ReadAllError, Sink, Source, WriteFault, read_all, write_all};
 
 /// The longest input that the program reads, in bytes.
 pub const GREATEST_INPUT: usize = 4_194_304;
@@ -56,41 +57,15 @@ fn run<S: Source, K: Sink>(alloc: Global, words: &[String], source: &mut S, out:
         Err(ReadAllError::TooLong) => return Status::TooLong,
         Err(ReadAllError::Memory) => return Status::OutOfMemory,
     };
-    let printed = match command {
-        Command::Step => step_text(alloc, input.as_slice()),
-    };
-    let output = match printed {
+    let output = match output(alloc, command, input.as_slice()) {
         Ok(output) => output,
-        Err(ScriptError::Bad { line, kind }) => {
-            return Status::BadInput {
-                bad: Bad::Script { line, kind },
-            };
-        }
-        Err(ScriptError::Memory) => return Status::OutOfMemory,
+        Err(OutputError::Refused(bad)) => return Status::BadInput { bad },
+        Err(OutputError::Memory) => return Status::OutOfMemory,
     };
     match write_all(out, output.as_slice()) {
         Ok(()) => Status::Done,
         Err(WriteFault) => Status::WriteFault,
     }
-}
-
-/// The text that a step script prints.
-fn step_text(alloc: Global, input: &[u8]) -> Result<Vec<u8>, ScriptError>
-    ensures text { IfOk result (λ output. output_of Command.Step input.now ≡ Ok output.items) }
-    ensures bad { IfErr result (λ e. IsDue e input.now) }
-{
-    let script = parse(alloc, input)?;
-    match printed(alloc, &script) {
-        Ok(output) => Ok(output),
-        Err(Memory) => Err(ScriptError::Memory),
-    }
-}
-
-fn printed(alloc: Global, script: &Script) -> Result<Vec<u8>, Memory>
-    ensures { IfOk result (λ output. output.items ≡ step_text_of script.now) }
-{
-    let played = play(alloc, script)?;
-    text(alloc, &played)
 }
 
 /// Says on `err` how the run ended, where it didn't end well.
@@ -103,32 +78,58 @@ fn report<E: Sink>(status: Status, err: &mut E) -> Result<(), WriteFault>
         Status::BadWords => write_all(err, b"vchan: bad words\n"),
         Status::ReadFault => write_all(err, b"vchan: read fault\n"),
         Status::TooLong => write_all(err, b"vchan: input too long\n"),
-        Status::BadInput {
-            bad: Bad::Script { line, kind },
-        } => report_line(err, line, kind),
+        Status::BadInput { bad } => report_bad(err, bad),
         Status::WriteFault => write_all(err, b"vchan: write fault\n"),
         Status::OutOfMemory => write_all(err, b"vchan: out of memory\n"),
     }
 }
 
+/// Says on `err` what is wrong with the input.
+fn report_bad<E: Sink>(err: &mut E, bad: Bad) -> Result<(), WriteFault>
+    ensures line { OnOk result (Appends (E.held err.old) (E.held err.new) (bad_input bad)) }
+    ensures fault { OnErr result (Rose (E.faults err.old) (E.faults err.new)) }
+{
+    match bad {
+        Bad::Script { line, kind } => report_line(err, line, script_kind(kind)),
+        Bad::Decode { line, kind } => report_line(err, line, decode_kind(kind)),
+    }
+}
+
 /// Says on `err` which line is bad. It takes no memory, so that want of memory can't hide the line.
-fn report_line<E: Sink>(err: &mut E, line: u32, kind: ScriptKind) -> Result<(), WriteFault>
-    ensures line { OnOk result (Appends (E.held err.old) (E.held err.new) (bad_line line kind)) }
+fn report_line<E: Sink>(err: &mut E, line: u32, kind: &[u8]) -> Result<(), WriteFault>
+    ensures line { OnOk result (Appends (E.held err.old) (E.held err.new) (bad_line line kind.now)) }
     ensures fault { OnErr result (Rose (E.faults err.old) (E.faults err.new)) }
 {
     let mut digits = Buffer::new();
     write_all(err, b"vchan: line ")?;
     write_all(err, digits.format(line).as_bytes())?;
     write_all(err, b": ")?;
-    write_all(err, kind_name(kind))?;
+    write_all(err, kind)?;
     write_all(err, b"\n")
 }
 
-/// A kind in the program's words.
-fn kind_name(kind: ScriptKind) -> &'static [u8]
-    ensures { result.now ≡ kind_word kind }
+/// What is wrong with a line of a script, in the program's words.
+fn script_kind(kind: ScriptKind) -> &'static [u8]
+    ensures { result.now ≡ script_word kind }
 {
     match kind {
+        ScriptKind::BadHeader => b"bad-header",
         ScriptKind::BadLine => b"bad-line",
+        ScriptKind::BadNumber => b"bad-number",
+        ScriptKind::BadHex => b"bad-hex",
+        ScriptKind::BadOrders => b"bad-orders",
+        ScriptKind::TooManyLines => b"too-many-lines",
+        ScriptKind::TooManyBytes => b"too-many-bytes",
+    }
+}
+
+/// What is wrong with a line of byte strings, in the program's words.
+fn decode_kind(kind: DecodeKind) -> &'static [u8]
+    ensures { result.now ≡ decode_word kind }
+{
+    match kind {
+        DecodeKind::BadHex => b"bad-hex",
+        DecodeKind::TooManyLines => b"too-many-lines",
+        DecodeKind::TooManyBytes => b"too-many-bytes",
     }
 }

@@ -240,6 +240,8 @@ impl Plain {
     /// bytes, the same at each step of the call; for a read, recv or drain `buf` has at least the
     /// smaller of the call's request and the ring's size. A ring byte that is loaded goes to its
     /// place in `buf`, and nothing else of `buf` changes.
+    // This and the parts of an event are inlined always, so that each phase is followed straight
+    // through, with no `Op` or `Move` in memory.
     #[inline(always)]
     pub fn step(&mut self, who: Role, payload: &[u8], buf: &mut [u8]) -> Option<Answer>
         requires busy { ¬ IsIdle (machine_of self.old who) }

@@ -1,0 +1,41 @@
+//! Decoding a whole input.
+ghost use Rattle.std.specs.Prelude.{◌≡◌, IfErr, IfOk};
+ghost use Rattle.stream_text.specs.Input.{IsRefusal};
+ghost use Rattle.stream_text.specs.Texts.{decoded};
+
+use crate::error::DecodeError;
+use crate::listing::Listing;
+use crate::piece::read_piece;
+use qrexec_frame::Channel;
+use script_words::first_line;
+use std::alloc::Global;
+
+/// The text of a captured stream. Each line of the input is a byte string, and the next piece of the
+/// stream; an empty line, and one that begins with `#`, are passed over. The text has a line for each
+/// message of the stream, as `message_line` has it, and then `rest K`, K being the number of bytes that
+/// are no whole message, or the fault with which the stream ends. It does not depend on where the
+/// stream was cut.
+///
+/// # Errors
+///
+/// `Bad` exactly where a line is bad, with the first such line: the 65,537th is `TooManyLines`, else one
+/// that is no byte string `BadHex`, else one with which all byte strings have more than 8,388,608 bytes
+/// `TooManyBytes`. `Memory`.
+pub fn decode_text(alloc: Global, channel: Channel, bytes: &[u8]) -> Result<Vec<u8>, DecodeError>
+    ensures text { IfOk result (λ text. decoded channel bytes.now ≡ Ok text.items) }
+    ensures bad { IfErr result (λ e. IsRefusal e (decoded channel bytes.now)) }
+{
+    let mut listing = Listing::new(alloc, channel);
+    let mut piece = Vec::new(alloc);
+    let mut number = 1u32;
+    let mut total = 0usize;
+    let mut rest = bytes;
+    'lines: while let Some((line, after)) = first_line(rest) {
+        read_piece(&mut piece, number, total, line)?;
+        listing.take(piece.as_slice())?;
+        number += 1;
+        total += piece.len();
+        rest = after;
+    }
+    Ok(listing.into_text()?)
+}

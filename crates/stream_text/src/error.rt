@@ -1,0 +1,53 @@
+//! Why an input was not decoded.
+ghost use Rattle.std.specs.Prelude.{◌≡◌};
+
+use std::alloc::AllocError;
+use thiserror::Error;
+use vchan_io::Memory;
+
+/// What is wrong with a line of the input.
+#[derive(Clone, Copy, Debug, PartialEq, Eq)]
+pub enum DecodeKind {
+    /// The line is no byte string.
+    BadHex,
+    /// The line is the 65,537th.
+    TooManyLines,
+    /// With this line the byte strings have more than 8,388,608 bytes.
+    TooManyBytes,
+}
+
+/// Why an input was not decoded.
+#[derive(Clone, Copy, Debug, PartialEq, Eq, Error)]
+pub enum DecodeError {
+    /// The first line that doesn't fit, and what is wrong with it.
+    #[error("line {line} is bad")]
+    Bad {
+        /// The number of the line, from 1 on.
+        line: u32,
+        /// What is wrong with it.
+        kind: DecodeKind,
+    },
+    /// There was no memory for the stream or its text.
+    #[error("out of memory")]
+    Memory,
+}
+
+impl From<AllocError> for DecodeError {
+    ghost use Rattle.stream_text.specs.declared.error.DecodeError.TheVariants as error;
+
+    ghost from_gives = { λ _ e. e ≡ error.Memory };
+
+    fn from(_refused: AllocError) -> DecodeError {
+        DecodeError::Memory
+    }
+}
+
+impl From<Memory> for DecodeError {
+    ghost use Rattle.stream_text.specs.declared.error.DecodeError.TheVariants as error;
+
+    ghost from_gives = { λ _ e. e ≡ error.Memory };
+
+    fn from(_refused: Memory) -> DecodeError {
+        DecodeError::Memory
+    }
+}

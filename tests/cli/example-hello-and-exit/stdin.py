@@ -1,0 +1,1 @@
+print(open("../../../examples/hello-and-exit.stream").read(), end="")
