@@ -55,6 +55,7 @@ impl<'a> Player<'a> {
     ghost use Rattle.vchan_core.specs.declared.call.EndState.TheVariants.{Shut};
     ghost use Rattle.step_script.specs.Output.{line_text, text_of};
     ghost use Rattle.step_script.specs.Played.{line_done, ring_line};
+    ghost use Rattle.step_script.specs.ListScript.{CanOpen};
     ghost use Rattle.step_script.specs.Players.{IsPlayedTo, Plays};
     ghost use Rattle.step_script.specs.Script.{CallFits, LineFits, begins, calls, finishes, head, image as image_line, steps};
     ghost use Rattle.step_script.specs.ScriptLines.{call_seen, line_seen};
@@ -62,6 +63,7 @@ impl<'a> Player<'a> {
     /// A page on which nothing has happened yet.
     fn open(alloc: Global, opening: Opening) -> Result<Player<'a>, Memory>
         requires { opening.state ≢ Shut }
+        ensures opens { CanOpen opening }
         ensures at { IfOk result (λ player. IsPlayedTo (opened opening.orders opening.start opening.said opening.state) player) }
         ensures text { IfOk result (λ player. player.text.items ≡ []) }
     {
