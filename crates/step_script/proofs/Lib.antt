@@ -7,3 +7,4 @@ pub mod HandLaws
 pub mod FinishLaws
 pub mod DoesLaws
 pub mod PlayerLaws
+pub mod ListScriptLaws

@@ -13,3 +13,4 @@ pub mod Output
 pub mod Spaced
 pub mod Played
 pub mod Players
+pub mod ListScript

@@ -8,6 +8,7 @@ use Rattle.ring_words.specs.declared.page.WordName.{WordName}
 use Rattle.vchan_core.specs.declared.call.Call.{Call}
 use Rattle.vchan_core.specs.declared.call.Call.TheVariants.{Drain, Connect}
 use Rattle.vchan_core.specs.Calls.{payload_of}
+use Rattle.vchan_core.specs.RingLaw.{AreBytes}
 use Rattle.vchan_core.specs.Turned.{MayPoke}
 use Rattle.step_script.specs.declared.script.Opening.{Opening}
 
@@ -44,6 +45,7 @@ CanSay who call = Unit {0}
 -- a call that a script can say of an end
 pub record CallFits (who : Role) (c : StepCall) : Type 0 where
   pub payload : length c.payload ≡ payload_of c.call
+  pub bytes : AreBytes c.payload
   pub said : CanSay who c.call
 
 -- a line that can stand in a script whose page has these orders

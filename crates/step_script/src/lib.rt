@@ -10,6 +10,7 @@
 mod error;
 mod forms;
 mod hand;
+pub mod laws;
 mod line;
 mod lines;
 mod opening;

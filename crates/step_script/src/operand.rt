@@ -1,6 +1,7 @@
 //! The words behind a verb.
-ghost use Rattle.std.specs.Prelude.{◌≡◌, ◌≤◌, length, IfOk};
+ghost use Rattle.std.specs.Prelude.{◌≡◌, ◌≤◌, nat_lt, length, IfOk};
 ghost use Rattle.script_words.specs.WordsLeft.{words_left};
+ghost use Rattle.vchan_core.specs.RingLaw.{AreBytes};
 ghost use Rattle.step_script.specs.Operands.{given, operand_of, alone, number_between, count_of, payload_of};
 ghost use Rattle.step_script.specs.Readings.{Gives};
 
@@ -91,12 +92,21 @@ pub(crate) fn read_count(words: Words, least: u32) -> Result<u32, LineError>
 pub(crate) fn read_payload(alloc: Global, words: Words, room: usize) -> Result<Vec<u8>, LineError>
     ensures payload { Gives (λ bytes. bytes.items) result (payload_of room (words_left words.entry)) }
     ensures within { IfOk result (λ bytes. length bytes.items ≤ room) }
+    ensures bytes { IfOk result (λ bytes. AreBytes bytes.items) }
 {
     let word = read_operand(words)?;
     let bytes = bytes_of(alloc, word)?;
-    if bytes.len() > room {
+    if is_too_long(bytes.as_slice(), room) {
         Err(LineError::TOO_MANY_BYTES)
     } else {
         Ok(bytes)
     }
+}
+
+/// Whether there are more bytes than there is room for.
+fn is_too_long(bytes: &[u8], room: usize) -> bool
+    ensures long { result ≡ nat_lt room (length bytes.now) }
+    ensures bytes { AreBytes bytes.now }
+{
+    bytes.len() > room
 }

@@ -1,6 +1,7 @@
 //! Playing a script on one page.
 ghost use Rattle.std.specs.Prelude.{◌≡◌, ◌++◌, IfOk, OnOk};
 ghost use Rattle.step_script.specs.Played.{step_text};
+ghost use Rattle.step_script.specs.ListScript.{ToldByLists};
 
 use crate::hand::Hand;
 use crate::played::Played;
@@ -18,11 +19,16 @@ const HEAD: usize = 24;
 /// answer is printed when it comes. A line that an end can't carry out prints why, and makes no
 /// event.
 ///
+/// Where each line behind the opening is a whole call, `head` or `image`, what is printed of calls
+/// that an end can make, but for `event`, follows from the lists of what each end sent and got
+/// alone.
+///
 /// # Errors
 ///
 /// [`Memory`], and no other.
 pub fn play(alloc: Global, script: &Script) -> Result<Played, Memory>
-    ensures { IfOk result (λ played. played ≡ step_text script.now) }
+    ensures text { IfOk result (λ played. played ≡ step_text script.now) }
+    ensures lists { IfOk result (λ played. ToldByLists script.now played) }
 {
     let mut player = Player::open(alloc, script.opening)?;
     for line in &script.lines {
@@ -49,6 +55,7 @@ impl<'a> Player<'a> {
     ghost use Rattle.vchan_core.specs.declared.call.EndState.TheVariants.{Shut};
     ghost use Rattle.step_script.specs.Output.{line_text, text_of};
     ghost use Rattle.step_script.specs.Played.{line_done, ring_line};
+    ghost use Rattle.step_script.specs.ListScript.{CanOpen};
     ghost use Rattle.step_script.specs.Players.{IsPlayedTo, Plays};
     ghost use Rattle.step_script.specs.Script.{CallFits, LineFits, begins, calls, finishes, head, image as image_line, steps};
     ghost use Rattle.step_script.specs.ScriptLines.{call_seen, line_seen};
@@ -56,6 +63,7 @@ impl<'a> Player<'a> {
     /// A page on which nothing has happened yet.
     fn open(alloc: Global, opening: Opening) -> Result<Player<'a>, Memory>
         requires { opening.state ≢ Shut }
+        ensures opens { CanOpen opening }
         ensures at { IfOk result (λ player. IsPlayedTo (opened opening.orders opening.start opening.said opening.state) player) }
         ensures text { IfOk result (λ player. player.text.items ≡ []) }
     {

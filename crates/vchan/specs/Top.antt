@@ -5,6 +5,7 @@ use Rattle.vchan_io.specs.Counts.{Rose}
 use Rattle.vchan_io.specs.Streams.{Takes, Appends, AppendsProperPrefix}
 use Rattle.step_script.specs.Script.{StepLine}
 use Rattle.step_script.specs.Grammar.{script_of}
+use Rattle.step_script.specs.ListScript.{ToldByLists}
 use Rattle.step_script.specs.Played.{step_text}
 use Rattle.step_script.specs.declared.error.ScriptKind.{ScriptKind}
 use Rattle.stream_text.specs.Texts.{decoded}
@@ -43,6 +44,16 @@ output_of (Decode channel) input = decode_output (decoded channel input)
 abbrev pub Outputs : List (List ℕ) → List ℕ → Result (List ℕ) Bad → Type 0
 Outputs words input output = (command : Command) × (command_of words ≡ Some command) × (output_of command input ≡ output)
 
+-- where the command is `step` and the script's lines are whole, the lists of what was sent and got tell their part of the text
+abbrev pub ToldIn : Command → List ℕ → List ℕ → Type 0
+ToldIn Step input text = (script : List StepLine) → script_of input ≡ Ok script → ToldByLists script text
+ToldIn (Decode channel) input text = Unit {0}
+
+-- these words are a command's, and this is the text that it has for these bytes
+abbrev pub Prints : List (List ℕ) → List ℕ → List ℕ → Type 0
+Prints words input text =
+    (command : Command) × (command_of words ≡ Some command) × (output_of command input ≡ Ok text) × ToldIn command input text
+
 -- the refusal of the input is the one that is due; want of memory is free
 abbrev pub IsDue : OutputError → Result (List ℕ) Bad → Type 0
 IsDue (error.Refused bad) due = due ≡ Err bad
@@ -51,13 +62,13 @@ IsDue error.Memory due = Unit {0}
 -- what a status says of the bytes taken, of the source afterwards, and of the sink for the output before and after
 abbrev pub Ends : Status → List (List ℕ) → List ℕ → Option (List ℕ) → ℕ → ℕ → Option (List ℕ) → Option (List ℕ) → ℕ → ℕ → Type 0
 Ends Done words taken left' reads reads' held held' writes writes' =
-    IsAtEnd left' × ((text : List ℕ) × Outputs words taken (Ok text) × Appends held held' text)
+    IsAtEnd left' × ((text : List ℕ) × Prints words taken text × Appends held held' text)
 Ends BadWords words taken left' reads reads' held held' writes writes' = (taken ≡ []) × (held' ≡ held)
 Ends ReadFault words taken left' reads reads' held held' writes writes' = Rose reads reads' × (held' ≡ held)
 Ends TooLong words taken left' reads reads' held held' writes writes' = held' ≡ held
 Ends (BadInput bad) words taken left' reads reads' held held' writes writes' = IsAtEnd left' × Outputs words taken (Err bad) × (held' ≡ held)
 Ends WriteFault words taken left' reads reads' held held' writes writes' =
-    IsAtEnd left' × Rose writes writes' × ((text : List ℕ) × Outputs words taken (Ok text) × AppendsProperPrefix held held' text)
+    IsAtEnd left' × Rose writes writes' × ((text : List ℕ) × Prints words taken text × AppendsProperPrefix held held' text)
 Ends OutOfMemory words taken left' reads reads' held held' writes writes' = held' ≡ held
 
 -- A run with these words: from a source that had so many bytes left, and has so many, with these counts of faults;

@@ -1,7 +1,8 @@
 //! The text of a command.
 ghost use Rattle.std.specs.Prelude.{◌≡◌, IfErr, IfOk};
+ghost use Rattle.step_script.specs.ListScript.{ToldByLists};
 ghost use Rattle.step_script.specs.Played.{step_text as step_text_of};
-ghost use Rattle.vchan.specs.Top.{IsDue, output_of};
+ghost use Rattle.vchan.specs.Top.{IsDue, ToldIn, output_of};
 
 use crate::command::Command;
 use crate::status::Bad;
@@ -22,6 +23,7 @@ pub(crate) enum OutputError {
 /// The text that a command makes of the whole input.
 pub(crate) fn output(alloc: Global, command: Command, input: &[u8]) -> Result<Vec<u8>, OutputError>
     ensures text { IfOk result (λ output. output_of command input.now ≡ Ok output.items) }
+    ensures lists { IfOk result (λ output. ToldIn command input.now output.items) }
     ensures bad { IfErr result (λ e. IsDue e (output_of command input.now)) }
 {
     match command {
@@ -33,6 +35,7 @@ pub(crate) fn output(alloc: Global, command: Command, input: &[u8]) -> Result<Ve
 /// The text that a step script prints.
 fn step(alloc: Global, input: &[u8]) -> Result<Vec<u8>, OutputError>
     ensures text { IfOk result (λ output. output_of Command.Step input.now ≡ Ok output.items) }
+    ensures lists { IfOk result (λ output. ToldIn Command.Step input.now output.items) }
     ensures bad { IfErr result (λ e. IsDue e (output_of Command.Step input.now)) }
 {
     let script = match parse(alloc, input) {
@@ -49,7 +52,8 @@ fn step(alloc: Global, input: &[u8]) -> Result<Vec<u8>, OutputError>
 }
 
 fn printed(alloc: Global, script: &Script) -> Result<Vec<u8>, Memory>
-    ensures { IfOk result (λ output. output.items ≡ step_text_of script.now) }
+    ensures text { IfOk result (λ output. output.items ≡ step_text_of script.now) }
+    ensures lists { IfOk result (λ output. ToldByLists script.now output.items) }
 {
     Ok(play(alloc, script)?.into_text())
 }

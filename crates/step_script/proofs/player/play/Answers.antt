@@ -5,6 +5,7 @@ use Rattle.vchan_core.specs.declared.plain.Plain.{Plain}
 use Rattle.step_script.specs.declared.script.Line.{Line}
 use Rattle.step_script.specs.ScriptLines.{line_seen, lines_seen}
 use Rattle.step_script.proofs.PlayerLaws.{IsPlaying, playing_first, playing_fits, playing_last, playing_on}
+use Rattle.step_script.proofs.ListScriptLaws.{script_text}
 use Rattle.step_script.proofs.player.play.Goals as goal
 
 pub loop-line-init : goal.loop-line-init
@@ -30,10 +31,15 @@ loop-line-preserved c =
     playing_on c.args.script.now c.loop-line.player c.play_line.new.self (line_seen c.line-item.result) (lines_seen (drop c.loop-line.line-index c.deref-line-items.result.now)) (lines_seen (drop (c.loop-line.line-index + 1) c.deref-line-items.result.now)) c.loop-line.invariant
     (next_line c.deref-line-items.result.now c.loop-line.line-index c.line-item.result c.loop-line-test.true c.line-item.is) c.in_ok-play_line.ensures.plays
 
-pub returns : goal.returns
-returns c =
+pub returns-clause-text : goal.returns-clause-text
+returns-clause-text c =
     let none : drop c.loop-line.line-index c.deref-line-items.result.now ≡ [] = drop_of_length-le c.deref-line-items.result.now c.loop-line-test.false in
     let done : IsPlaying c.args.script.now c.loop-line.player [] = subst (λ (l : List Line). IsPlaying c.args.script.now c.loop-line.player (lines_seen l)) none c.loop-line.invariant in
     c.of.ensures
     ∙ playing_last c.args.script.now c.loop-line.player c.push_ring.new.self.text.items c.push_ring-2.new.self.text.items done c.in_ok-push_ring.ensures.text
     (λ core stands. c.in_ok-push_ring-2.ensures.text core (subst (λ (p : Plain). StandsFor core p) (sym c.push_ring.ensures.page) stands))
+
+pub returns-clause-lists : goal.returns-clause-lists
+returns-clause-lists c =
+    script_text c.args.script.now c.script.inside.opening (lines_seen c.script.inside.lines.items) c.of.result c.script.view_is
+    c.«open».ensures.opens c.script.invariant.fit (returns-clause-text c)

@@ -1,0 +1,5 @@
+use Rattle.step_script.proofs.ListScriptLaws.{whole_scripts}
+use Rattle.step_script.proofs.laws.whole_scripts_follow_lists.Goals as goal
+
+pub returns : goal.returns
+returns c = whole_scripts
