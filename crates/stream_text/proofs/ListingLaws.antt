@@ -2,7 +2,6 @@
 use Rattle.std.proofs.Common.{◌≡◌, ℕ, Bool, true, false, List, [], ◌∷◌, ◌++◌, length, Option, Some, None, Result, Ok, Err, codes, refl, sym, ap, subst, ◌∙◌}
 use Rattle.std.proofs.lemmas.List.{append_assoc, append-nil}
 use Rattle.std.proofs.lemmas.Grind.{flat_map-append}
-use Rattle.std.specs.List.{flat_map}
 use Rattle.qrexec_frame.specs.declared.channel.Channel.{Channel}
 use Rattle.qrexec_frame.specs.declared.fault.FrameFault.{FrameFault}
 use Rattle.qrexec_frame.specs.declared.fault.NextError.{NextError}
@@ -12,7 +11,7 @@ use Rattle.qrexec_frame.specs.Decoding.{DecoderState, StandsFor, Reads, after_fe
 use Rattle.qrexec_frame.specs.Fronts.{reading}
 use Rattle.qrexec_frame.specs.Lines.{line_of}
 use Rattle.qrexec_frame.specs.Printing.{Printed}
-use Rattle.qrexec_frame.specs.Streams.{Placed, Reading, Rest}
+use Rattle.qrexec_frame.specs.Streams.{Placed, Rest}
 use Rattle.stream_text.specs.Texts.{printed, all_printed}
 use Rattle.stream_text.specs.Listings.{Lists, ListsAll}
 

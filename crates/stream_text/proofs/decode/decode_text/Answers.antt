@@ -1,7 +1,7 @@
-use Rattle.std.proofs.Common.{◌≡◌, ◌+◌, ◌++◌, List, length, ℕ, arith, subst}
+use Rattle.std.proofs.Common.{◌≡◌, ◌++◌, List, length, ℕ, arith, subst}
 use Rattle.std.proofs.lemmas.Result.{err_from_is_err_and}
 use Rattle.stream_text.specs.Listings.{Lists}
-use Rattle.stream_text.proofs.InputLaws.{IsReadTo, read-line, read-bad, read-all, refusal-decoded, text-decoded}
+use Rattle.stream_text.proofs.InputLaws.{read-line, read-bad, read-all, refusal-decoded, text-decoded}
 use Rattle.stream_text.proofs.decode.decode_text.Goals as goal
 
 pub returns-in_err-read_piece-clause-bad : goal.returns-in_err-read_piece-clause-bad

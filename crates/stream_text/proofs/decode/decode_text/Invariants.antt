@@ -1,4 +1,4 @@
-use Rattle.std.proofs.Common.{◌≡◌, ◌≤◌, ℕ, List, length}
+use Rattle.std.proofs.Common.{◌≤◌, ℕ, List, length}
 use Rattle.stream_text.specs.Listings.{Lists}
 use Rattle.stream_text.proofs.InputLaws.{IsReadTo}
 use Rattle.stream_text.proofs.decode.decode_text.Given as goal
