@@ -157,28 +157,43 @@ fn inputs_are_bounded(rt: HostRuntime) -> Result<(), Fail> {
     Ok(())
 }
 
-/// A script of more than 100 bytes whose output has more than 24.
-const LONGER: &[u8] =
-    b"open 10 11\nclient write 6162636465666768696a6b6c6d6e6f70\nserver read 7\nserver read 20\nclient write 00\nserver read 1\n";
+/// A run that reads more than six pieces of 16 bytes, and writes more than six of 4.
+#[derive(Clone, Copy)]
+struct Long {
+    words: &'static [&'static str],
+    input: &'static [u8],
+    text: &'static [u8],
+}
+
+const LONG_RUNS: [Long; 2] = [
+    Long {
+        words: &["step"],
+        input: b"open 10 11\nclient write 6162636465666768696a6b6c6d6e6f70\nserver read 7\nserver read 20\nclient write 00\nserver read 1\n# and a comment that makes this script long enough for thirteen calls of a source\n",
+        text: b"client wrote 16\nserver read 61626364656667\nserver read 68696a6b6c6d6e6f70\nclient wrote 1\nserver read 00\nleft sent 17 got 17\nright sent 0 got 0\n",
+    },
+    Long {
+        words: &["decode", "data"],
+        input: b"00\n03\n00\n00\n04\n00\n00\n00\n03\n00\n00\n00\n91\n01\n00\n00\n00\n00\n00\n00\n93\n01\n00\n00\n04\n00\n00\n00\n07\n00\n00\n00\n",
+        text: b"hello 3\nstdout 0 -\nexit 7\nrest 0\n",
+    },
+];
+
+/// The calls that fail, one in each run.
+const FAILS: [&[u64]; 6] = [&[1], &[2], &[3], &[4], &[5], &[6]];
 
 /// Each of the first six reads fails, at most 16 bytes a read.
 #[test]
 fn a_read_that_fails_is_a_read_fault(rt: HostRuntime) -> Result<(), Fail> {
-    let rows: [&'static [u64]; 6] = [&[1], &[2], &[3], &[4], &[5], &[6]];
-    for fails in rows {
-        let input = Vec::from_slice(rt.alloc(), LONGER)?;
-        let ran = run_over_memory(
-            rt.alloc(),
-            &["step"],
-            input,
-            &Stream { most: 16, fails },
-            &WHOLE,
-            &WHOLE,
-        )?;
-        assert_eq!(rt; ran.status, Status::ReadFault);
-        assert_eq!(rt; ran.status.code(), 3);
-        assert!(rt; ran.out.bytes().is_empty());
-        assert!(rt; ran.err.bytes() == b"vchan: read fault\n".as_slice());
+    for long in LONG_RUNS {
+        for fails in FAILS {
+            let input = Vec::from_slice(rt.alloc(), long.input)?;
+            let reads = Stream { most: 16, fails };
+            let ran = run_over_memory(rt.alloc(), long.words, input, &reads, &WHOLE, &WHOLE)?;
+            assert_eq!(rt; ran.status, Status::ReadFault);
+            assert_eq!(rt; ran.status.code(), 3);
+            assert!(rt; ran.out.bytes().is_empty());
+            assert!(rt; ran.err.bytes() == b"vchan: read fault\n".as_slice());
+        }
     }
     Ok(())
 }
@@ -186,28 +201,19 @@ fn a_read_that_fails_is_a_read_fault(rt: HostRuntime) -> Result<(), Fail> {
 /// Each of the first six writes fails, at most 4 bytes a write: what went before is there.
 #[test]
 fn a_write_that_fails_is_a_write_fault(rt: HostRuntime) -> Result<(), Fail> {
-    let rows: [(&'static [u64], &[u8]); 6] = [
-        (&[1], b""),
-        (&[2], b"clie"),
-        (&[3], b"client w"),
-        (&[4], b"client wrote"),
-        (&[5], b"client wrote 16\n"),
-        (&[6], b"client wrote 16\nserv"),
-    ];
-    for (fails, written) in rows {
-        let input = Vec::from_slice(rt.alloc(), LONGER)?;
-        let ran = run_over_memory(
-            rt.alloc(),
-            &["step"],
-            input,
-            &WHOLE,
-            &Stream { most: 4, fails },
-            &WHOLE,
-        )?;
-        assert_eq!(rt; ran.status, Status::WriteFault);
-        assert_eq!(rt; ran.status.code(), 6);
-        assert!(rt; ran.out.bytes() == written);
-        assert!(rt; ran.err.bytes() == b"vchan: write fault\n".as_slice());
+    for long in LONG_RUNS {
+        let mut written = 0;
+        for fails in FAILS {
+            let input = Vec::from_slice(rt.alloc(), long.input)?;
+            let writes = Stream { most: 4, fails };
+            let ran = run_over_memory(rt.alloc(), long.words, input, &WHOLE, &writes, &WHOLE)?;
+            assert_eq!(rt; ran.status, Status::WriteFault);
+            assert_eq!(rt; ran.status.code(), 6);
+            assert!(rt; ran.out.bytes().len() == written);
+            assert!(rt; long.text.starts_with(ran.out.bytes()));
+            assert!(rt; ran.err.bytes() == b"vchan: write fault\n".as_slice());
+            written += 4;
+        }
     }
     Ok(())
 }
