@@ -1,5 +1,5 @@
 -- Of what a script of whole calls prints, the lists tell their part.
-use Rattle.std.proofs.Common.{◌≡◌, ℕ, ◌<◌, ◌==◌, ◌&&◌, nat_lt, inl, inr, Bool, true, false, not, cond, Option, Some, None, List, [], ◌∷◌, ◌++◌, take, refl, subst, sym, ap, ◌∙◌, arith}
+use Rattle.std.proofs.Common.{◌≡◌, ℕ, ◌==◌, ◌&&◌, nat_lt, inl, inr, Bool, true, false, not, cond, Option, Some, None, List, [], ◌∷◌, ◌++◌, take, refl, subst, sym, ap, ◌∙◌, arith}
 use Rattle.std.specs.List.{filter, All}
 use Rattle.std.proofs.lemmas.List.Elements.{filter-append, All-tail}
 use Rattle.ring_words.specs.declared.order.Orders.{Orders}
@@ -18,12 +18,11 @@ use Rattle.vchan_core.specs.Alone.{alone, called, call_answer}
 use Rattle.vchan_core.specs.Apply.{value_taken}
 use Rattle.vchan_core.specs.Calls.{plan_of, IsAllowed}
 use Rattle.vchan_core.specs.Core.{Core, opened, side_of, standing_of, begun, bytes_loaded, carried_out}
-use Rattle.vchan_core.specs.Ends.{own_gone}
 use Rattle.vchan_core.specs.Lawful.{Lawful}
 use Rattle.vchan_core.specs.LifeLaw.{TellsGone}
-use Rattle.vchan_core.specs.ListCall.{ListEnd, ChannelLists, Outcome as ListOutcome, end_of, waiting, lists_of, list_call, free, avail, peer_is_shut}
+use Rattle.vchan_core.specs.ListCall.{ChannelLists, Outcome as ListOutcome, end_of, waiting, lists_of, list_call, free, avail, peer_is_shut}
 use Rattle.vchan_core.specs.ListLaw.{IsTold, FollowsLists, count_got}
-use Rattle.vchan_core.specs.Peer.{peer, held}
+use Rattle.vchan_core.specs.Peer.{peer}
 use Rattle.vchan_core.specs.Plan.{Plan, answers, does}
 use Rattle.vchan_core.specs.Reached.{MayBegin}
 use Rattle.vchan_core.proofs.LawfulSteps.{lawful_opened}
@@ -33,9 +32,9 @@ use Rattle.step_script.specs.declared.refusal.Refusal.{Refusal}
 use Rattle.step_script.specs.declared.refusal.Refusal.TheVariants.{Turned}
 use Rattle.step_script.specs.declared.script.Opening.{Opening}
 use Rattle.step_script.specs.Output.{TextLine, answered, text_of}
-use Rattle.step_script.specs.Played.{Outcome, bytes_got, call_refusal, finishes_call, followed_by, has_retired, line_done, makes_call, plays, quiet, state_refusal, step_lines, unless_refused}
+use Rattle.step_script.specs.Played.{Outcome, bytes_got, call_refusal, finishes_call, followed_by, has_retired, line_done, makes_call, plays, state_refusal, step_lines, unless_refused}
 use Rattle.step_script.specs.Script.{StepCall, StepLine, opens, calls, begins, steps, finishes, pokes, signals, head, image, CanSay, CallFits, LineFits}
-use Rattle.step_script.specs.ListScript.{IsWhole, AreWhole, CanBe, CanOpen, Told, ToldByLists, WholeScriptsFollowLists, bytes_told, is_told, is_told_call, list_lines, list_refusal, new_end, opened_lists, told_call, told_from, told_line, told_lines, unless_untold}
+use Rattle.step_script.specs.ListScript.{IsWhole, CanBe, CanOpen, Told, ToldByLists, WholeScriptsFollowLists, bytes_told, is_told, is_told_call, list_refusal, opened_lists, told_call, told_from, told_line, told_lines, unless_untold}
 
 -- ---- two honest ends between calls
 

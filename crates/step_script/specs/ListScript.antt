@@ -12,12 +12,12 @@ use Rattle.vchan_core.specs.declared.call.Call.TheVariants.{TakeEvent}
 use Rattle.vchan_core.specs.declared.call.EndState.{EndState}
 use Rattle.vchan_core.specs.declared.call.EndState.TheVariants.{Open, Shut}
 use Rattle.vchan_core.specs.Counts.{capped}
-use Rattle.vchan_core.specs.ListCall.{ListEnd, ChannelLists, Outcome, end_of, waiting, list_call}
+use Rattle.vchan_core.specs.ListCall.{ListEnd, ChannelLists, end_of, waiting, list_call}
 use Rattle.step_script.specs.declared.refusal.Refusal.{Refusal}
 use Rattle.step_script.specs.declared.script.Opening.{Opening}
-use Rattle.step_script.specs.Output.{TextLine, answered, refused, heads, images, lengths, text_of}
+use Rattle.step_script.specs.Output.{TextLine, answered, lengths, text_of}
 use Rattle.step_script.specs.Played.{state_refusal, step_lines}
-use Rattle.step_script.specs.Script.{StepCall, StepLine, opens, calls, begins, steps, finishes, pokes, signals, head, image, LineFits}
+use Rattle.step_script.specs.Script.{StepCall, StepLine, opens, calls, head, image, LineFits}
 
 -- ---- which scripts, and which output lines
 
