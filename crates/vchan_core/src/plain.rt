@@ -285,6 +285,40 @@ impl Plain {
         }
     }
 
+    /// One event of an end that is inside a call, as [`Plain::step`] makes it. Each frequent phase
+    /// has code of its own.
+    #[inline(always)]
+    fn event(&mut self, who: Role, payload: &[u8], buf: &mut [u8]) -> Option<Answer>
+        requires busy { ¬ IsIdle (machine_of self.old who) }
+        requires payload { out_of (machine_of self.old who) ≤ length payload.now }
+        requires buf { into_of (machine_of self.old who) ≤ length buf.old }
+        ensures stands { (core : Core) → StandsFor core self.old → HasPayload (side_of core who) payload.now → StandsFor (event core who) self.new }
+        ensures footprint { Fits (orders_of self.old) (length payload.now) (length buf.old) (op_of self.old who) }
+        ensures buffer { buf.new ≡ buffer_after (orders_of self.old) (words_of self.old) buf.old (op_of self.old who) }
+        ensures rest { left_of result (machine_of self.new who) ≡ after (rest (machine_of self.old who)) (value_taken (orders_of self.old) (words_of self.old) (op_of self.old who)) }
+        ensures idle { IsSome result ↔ IsIdle (machine_of self.new who) }
+        ensures out { out_of (machine_of self.new who) ≤ out_of (machine_of self.old who) }
+        ensures into { into_of (machine_of self.new who) ≤ into_of (machine_of self.old who) }
+        ensures other { other_of self.new who ≡ other_of self.old who }
+    {
+        match who {
+            Role::Server => self.server.event(
+                &mut self.words,
+                payload,
+                buf,
+                &mut self.right,
+                &mut self.left,
+            ),
+            Role::Client => self.client.event(
+                &mut self.words,
+                payload,
+                buf,
+                &mut self.left,
+                &mut self.right,
+            ),
+        }
+    }
+
     /// A whole call of an end; `steps` counts its events. The conditions are those of `begin` and
     /// `step`. It makes at most `7 + min(n, size)` events for a request of n bytes, and a drain at
     /// most `10 + min(n, size)`, whatever the page holds. Between two honest ends it is a call on
@@ -316,7 +350,7 @@ impl Plain {
         'events: loop {
             steps.add(self.move_piece(who, payload, buf));
             steps.tick();
-            if let Some(answer) = self.step(who, payload, buf) {
+            if let Some(answer) = self.event(who, payload, buf) {
                 return answer;
             }
         }
