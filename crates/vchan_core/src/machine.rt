@@ -5,6 +5,7 @@ use crate::words::{cons_word, low8, low16, low32, mask, peer_pending, prod_word}
 use ring_words::{Orders, Ring, Role, WordName, place, ready, room};
 
 mod events;
+mod looks;
 mod moves;
 mod pieces;
 

@@ -270,6 +270,21 @@ impl Plain {
         }
     }
 
+    /// The looks of an end that come next in a write or a read, and that give no answer. It answers
+    /// how many they were.
+    #[inline(always)]
+    fn look_ahead(&mut self, who: Role) -> u32
+        ensures page { IsBeside who self.old self.new }
+        ensures low { ((standing (machine_of self.old who)).prod < 2 ^ 32) × ((standing (machine_of self.old who)).cons < 2 ^ 32) }
+        ensures events { (payload : List ℕ) → (buffer : List ℕ)
+            → MakesEvents result (orders_of self.old) payload (machine_of self.old who) (words_of self.old) buffer (machine_of self.new who) (words_of self.new) buffer }
+    {
+        match who {
+            Role::Server => self.server.look_ahead(&self.words),
+            Role::Client => self.client.look_ahead(&self.words),
+        }
+    }
+
     /// The events of an end that come next as long as they are all on bytes of one piece of a ring.
     /// It answers how many they were, and none gives an answer.
     fn move_piece(&mut self, who: Role, payload: &[u8], buf: &mut [u8]) -> u32
@@ -348,6 +363,7 @@ impl Plain {
     {
         self.begin(who, call);
         'events: loop {
+            steps.add(self.look_ahead(who));
             steps.add(self.move_piece(who, payload, buf));
             steps.tick();
             if let Some(answer) = self.event(who, payload, buf) {

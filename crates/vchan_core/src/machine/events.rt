@@ -49,30 +49,6 @@ impl Machine {
             unreachable!()
         };
         match phase {
-            Phase::WriteLive { len } => self.event_at(
-                Phase::WriteLive { len },
-                words,
-                payload,
-                buf,
-                writes,
-                reads,
-            ),
-            Phase::WriteLook { len } => self.event_at(
-                Phase::WriteLook { len },
-                words,
-                payload,
-                buf,
-                writes,
-                reads,
-            ),
-            Phase::ReadLook { most } => self.event_at(
-                Phase::ReadLook { most },
-                words,
-                payload,
-                buf,
-                writes,
-                reads,
-            ),
             Phase::Put { at, count, answer } => self.event_at(
                 Phase::Put { at, count, answer },
                 words,
@@ -97,8 +73,38 @@ impl Machine {
                 writes,
                 reads,
             ),
-            _ => self.event_at(phase, words, payload, buf, writes, reads),
+            _ => self.seldom(phase, words, payload, buf, writes, reads),
         }
+    }
+
+    /// [`Machine::event_at`] for the phases that are seldom, as one function that is called.
+    #[inline(never)]
+    fn seldom(
+        &mut self,
+        phase: Phase,
+        words: &mut Words,
+        payload: &[u8],
+        buf: &mut [u8],
+        writes: &mut Moved,
+        reads: &mut Moved,
+    ) -> Option<Answer>
+        requires orders { words.old.orders ≡ self.old.orders }
+        requires payload { out_at phase ≤ length payload.now }
+        requires buf { into_at (read_size (standing self.old)) phase ≤ length buf.old }
+        ensures orders { words.new.orders ≡ words.old.orders }
+        ensures footprint { Fits words.old.orders (length payload.now) (length buf.old) (next_op (rest_at (standing self.old) phase)) }
+        ensures words { words.new.list ≡ words_after words.old.orders words.old.list payload.now (next_op (rest_at (standing self.old) phase)) }
+        ensures buffer { buf.new ≡ buffer_after words.old.orders words.old.list buf.old (next_op (rest_at (standing self.old) phase)) }
+        ensures rest { left_of result self.new ≡ after (rest_at (standing self.old) phase) (value_taken words.old.orders words.old.list (next_op (rest_at (standing self.old) phase))) }
+        ensures idle { IsSome result ↔ IsIdle self.new }
+        ensures standing { standing self.new ≡ standing_after (standing self.old) (next_op (rest_at (standing self.old) phase)) }
+        ensures out { out_of self.new ≤ out_at phase }
+        ensures into { into_of self.new ≤ into_at (read_size (standing self.old)) phase }
+        ensures sent { writes.new ≡ record writes.old { sent = capped (writes.old.sent + diff (standing self.new).prod (standing self.old).prod) } }
+        ensures got { reads.new ≡ record reads.old { got = capped (reads.old.got + diff (standing self.new).cons (standing self.old).cons) } }
+        ensures low { ((standing self.old).prod < 2 ^ 32) × ((standing self.old).cons < 2 ^ 32) }
+    {
+        self.event_at(phase, words, payload, buf, writes, reads)
     }
 
     #[inline(always)]

@@ -1,4 +1,4 @@
-use Rattle.std.proofs.Common.{◌≡◌, ◌∙◌, sym, subst, refl}
+use Rattle.std.proofs.Common.{◌∙◌, sym, subst, refl}
 use Rattle.ring_words.specs.declared.page.Role.{Role}
 use Rattle.vchan_core.specs.Plan.{next_op}
 use Rattle.vchan_core.specs.Past.{machine_of, orders_of, words_of}
