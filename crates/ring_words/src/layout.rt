@@ -43,6 +43,7 @@ impl Layout {
     }
 
     /// The number of a word, which is below [`Layout::count`].
+    #[inline(always)]
     pub fn word(&self, name: WordName) -> usize
         requires { Has self.now.orders name }
         ensures number { result ≡ index_of self.now.orders name }

@@ -58,6 +58,7 @@ impl Words {
     }
 
     /// What a word holds. The page has to have the word, which [`Layout::has`] tests.
+    #[inline(always)]
     pub fn load(&self, name: WordName) -> u64
         requires { Has self.now.orders name }
         ensures value { result ≡ slice_index self.now.list (index_of self.now.orders name) }
@@ -68,6 +69,7 @@ impl Words {
     }
 
     /// Makes a word hold a value. The page has to have the word, which [`Layout::has`] tests.
+    #[inline(always)]
     pub fn store(&mut self, name: WordName, value: u64)
         requires { Has self.old.orders name }
         ensures words { self.new ≡ record self.old { list = slice_set self.old.list (index_of self.old.orders name) value } }

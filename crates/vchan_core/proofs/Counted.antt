@@ -76,7 +76,7 @@ has_notify : (orders : Orders) (role : Role) → Has orders (notify_word role)
 has_notify orders Server = tt
 has_notify orders Client = tt
 
-has_peer_live : (orders : Orders) (role : Role) → Has orders (peer_live role)
+pub has_peer_live : (orders : Orders) (role : Role) → Has orders (peer_live role)
 has_peer_live orders Server = tt
 has_peer_live orders Client = tt
 
@@ -88,11 +88,11 @@ has_own_pending : (orders : Orders) (role : Role) → Has orders (own_pending ro
 has_own_pending orders Server = tt
 has_own_pending orders Client = tt
 
-has_look_read : (orders : Orders) (role : Role) → Has orders (prod_word (read_ring role))
+pub has_look_read : (orders : Orders) (role : Role) → Has orders (prod_word (read_ring role))
 has_look_read orders Server = tt
 has_look_read orders Client = tt
 
-has_look_write : (orders : Orders) (role : Role) → Has orders (cons_word (written_ring role))
+pub has_look_write : (orders : Orders) (role : Role) → Has orders (cons_word (written_ring role))
 has_look_write orders Server = tt
 has_look_write orders Client = tt
 

@@ -29,3 +29,4 @@ pub mod ListCalls
 pub mod ListWhole
 pub mod PieceLaws
 pub mod LoopLaws
+pub mod LookLaws

@@ -1,5 +1,5 @@
 -- What an event of an honest end leaves in the live bytes, the gone words and the order words.
-use Rattle.std.proofs.Common.{◌≡◌, ◌≢◌, ℕ, suc, zero, ◌<◌, ◌≤◌, ◌==◌, inl, inr, Bool, true, false, not, cond, List, length, slice_index, slice_set, get_or-set_same, get_or-set_other, refl, subst, sym, ap, ◌∙◌, arith}
+use Rattle.std.proofs.Common.{◌≡◌, ◌≢◌, ℕ, suc, zero, ◌<◌, ◌≤◌, ◌==◌, inl, inr, Bool, true, false, not, cond, List, length, slice_index, slice_set, get_or-set_same, get_or-set_other, refl, subst, ap, ◌∙◌, arith}
 use Rattle.std.proofs.lemmas.List.{set-get_or}
 use Rattle.std.proofs.lemmas.Bool.{false≢true}
 use Rattle.ring_words.specs.Page.{index_of}
@@ -14,7 +14,7 @@ use Rattle.vchan_core.specs.declared.op.Op.TheVariants.{Load, LoadByte, Store, S
 use Rattle.vchan_core.specs.declared.call.EndState.{EndState}
 use Rattle.vchan_core.specs.declared.call.EndState.TheVariants.{Fresh, Open, Shut}
 use Rattle.vchan_core.specs.Ends.{state_after, live_stored, own_live, own_gone, peer_live, peer_gone, low8}
-use Rattle.vchan_core.specs.Apply.{word_of, words_after, value_taken}
+use Rattle.vchan_core.specs.Apply.{words_after, value_taken}
 use Rattle.vchan_core.specs.Page.{live_word}
 use Rattle.vchan_core.specs.Core.{sees_end}
 use Rattle.vchan_core.specs.LifeLaw.{TellsGone, OrderGives, SaidGives, shows_end, sets_gone, sets_gone_word}

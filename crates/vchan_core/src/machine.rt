@@ -4,6 +4,8 @@ use crate::phase::{Move, Phase};
 use crate::words::{cons_word, low8, low16, low32, mask, peer_pending, prod_word};
 use ring_words::{Orders, Ring, Role, WordName, place, ready, room};
 
+mod events;
+mod looks;
 mod moves;
 mod pieces;
 
@@ -180,6 +182,17 @@ impl Machine {
         let Some(phase) = self.phase else {
             unreachable!()
         };
+        self.advance_at(phase, value)
+    }
+
+    #[inline(always)]
+    fn advance_at(&mut self, phase: Phase, value: u64) -> Option<Answer>
+        ensures rest { left result self.new ≡ after (rest_at (standing self.old) phase) value }
+        ensures idle { IsSome result ↔ IsIdle self.new }
+        ensures standing { standing self.new ≡ standing_after (standing self.old) (next_op (rest_at (standing self.old) phase)) }
+        ensures out { out_of self.new ≤ out_at phase }
+        ensures into { into_of self.new ≤ into_at (read_size (standing self.old)) phase }
+    {
         let moved = self.moved(phase, value);
         self.count(phase);
         match moved {

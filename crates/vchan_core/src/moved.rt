@@ -55,15 +55,32 @@ impl Moved {
         ensures past { (begun : Standing) → (call : Call) → (events : List PastEvent) → Stands begun call events machine.old
             → StandsOrAnswered begun call (events ++ past (next_op (rest machine.old)) value ∷ []) result machine.new }
     {
-        let (prod, cons) = machine.counts();
+        let before = machine.counts();
         let answer = machine.took(value);
-        let (shown, given_up) = machine.counts();
+        Moved::count(before, machine.counts(), writes, reads);
+        answer
+    }
+
+    /// Counts what an end's own counts, of the ring that it writes and of the one that it reads,
+    /// have moved on.
+    #[inline(always)]
+    pub(crate) fn count(
+        before: (u32, u32),
+        now: (u32, u32),
+        writes: &mut Moved,
+        reads: &mut Moved,
+    )
+        ensures sent { writes.new ≡ record writes.old { sent = capped (writes.old.sent + diff now.0 before.0) } }
+        ensures got { reads.new ≡ record reads.old { got = capped (reads.old.got + diff now.1 before.1) } }
+        ensures low { (before.0 < 2 ^ 32) × (before.1 < 2 ^ 32) }
+    {
+        let (prod, cons) = before;
+        let (shown, given_up) = now;
         writes.sent = writes
             .sent
             .saturating_add(u64::from(shown.wrapping_sub(prod)));
         reads.got = reads
             .got
             .saturating_add(u64::from(given_up.wrapping_sub(cons)));
-        answer
     }
 }

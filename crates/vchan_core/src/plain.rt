@@ -270,6 +270,21 @@ impl Plain {
         }
     }
 
+    /// The looks of an end that come next in a write or a read, and that give no answer. It answers
+    /// how many they were.
+    #[inline(always)]
+    fn look_ahead(&mut self, who: Role) -> u32
+        ensures page { IsBeside who self.old self.new }
+        ensures low { ((standing (machine_of self.old who)).prod < 2 ^ 32) × ((standing (machine_of self.old who)).cons < 2 ^ 32) }
+        ensures events { (payload : List ℕ) → (buffer : List ℕ)
+            → MakesEvents result (orders_of self.old) payload (machine_of self.old who) (words_of self.old) buffer (machine_of self.new who) (words_of self.new) buffer }
+    {
+        match who {
+            Role::Server => self.server.look_ahead(&self.words),
+            Role::Client => self.client.look_ahead(&self.words),
+        }
+    }
+
     /// The events of an end that come next as long as they are all on bytes of one piece of a ring.
     /// It answers how many they were, and none gives an answer.
     fn move_piece(&mut self, who: Role, payload: &[u8], buf: &mut [u8]) -> u32
@@ -282,6 +297,40 @@ impl Plain {
         match who {
             Role::Server => self.server.move_piece(&mut self.words, payload, buf),
             Role::Client => self.client.move_piece(&mut self.words, payload, buf),
+        }
+    }
+
+    /// One event of an end that is inside a call, as [`Plain::step`] makes it. Each frequent phase
+    /// has code of its own.
+    #[inline(always)]
+    fn event(&mut self, who: Role, payload: &[u8], buf: &mut [u8]) -> Option<Answer>
+        requires busy { ¬ IsIdle (machine_of self.old who) }
+        requires payload { out_of (machine_of self.old who) ≤ length payload.now }
+        requires buf { into_of (machine_of self.old who) ≤ length buf.old }
+        ensures stands { (core : Core) → StandsFor core self.old → HasPayload (side_of core who) payload.now → StandsFor (event core who) self.new }
+        ensures footprint { Fits (orders_of self.old) (length payload.now) (length buf.old) (op_of self.old who) }
+        ensures buffer { buf.new ≡ buffer_after (orders_of self.old) (words_of self.old) buf.old (op_of self.old who) }
+        ensures rest { left_of result (machine_of self.new who) ≡ after (rest (machine_of self.old who)) (value_taken (orders_of self.old) (words_of self.old) (op_of self.old who)) }
+        ensures idle { IsSome result ↔ IsIdle (machine_of self.new who) }
+        ensures out { out_of (machine_of self.new who) ≤ out_of (machine_of self.old who) }
+        ensures into { into_of (machine_of self.new who) ≤ into_of (machine_of self.old who) }
+        ensures other { other_of self.new who ≡ other_of self.old who }
+    {
+        match who {
+            Role::Server => self.server.event(
+                &mut self.words,
+                payload,
+                buf,
+                &mut self.right,
+                &mut self.left,
+            ),
+            Role::Client => self.client.event(
+                &mut self.words,
+                payload,
+                buf,
+                &mut self.left,
+                &mut self.right,
+            ),
         }
     }
 
@@ -314,9 +363,10 @@ impl Plain {
     {
         self.begin(who, call);
         'events: loop {
+            steps.add(self.look_ahead(who));
             steps.add(self.move_piece(who, payload, buf));
             steps.tick();
-            if let Some(answer) = self.step(who, payload, buf) {
+            if let Some(answer) = self.event(who, payload, buf) {
                 return answer;
             }
         }

@@ -81,7 +81,8 @@ impl Machine {
 
     /// A write that has looked once: where there is too little room it asks, and looks again.
     #[tactic(auto, unfolding(crate::specs::Phases::rest_at))]
-    fn write_found(&self, len: u32, cons: u32) -> Move
+    #[inline(always)]
+    pub(super) fn write_found(&self, len: u32, cons: u32) -> Move
         ensures plan { let e = standing self.now in plan_at e result ≡ (if nat_lt (free_at e cons) len then ask e Bit.Consumed (look_write e (write_looked_plan e len)) else write_looked_plan e len cons) }
         ensures out { out_move result ≤ len }
         ensures into { into_move (read_size (standing self.now)) result ≡ 0 }
@@ -107,7 +108,8 @@ impl Machine {
 
     /// A read that has looked once: where too few bytes wait it asks, and looks again.
     #[tactic(auto, unfolding(crate::specs::Phases::rest_at))]
-    fn read_found(&self, most: u32, prod: u32) -> Move
+    #[inline(always)]
+    pub(super) fn read_found(&self, most: u32, prod: u32) -> Move
         ensures plan { let e = standing self.now in plan_at e result ≡ (if nat_lt (ready_at e prod) most then ask e Bit.Written (look_read e (read_looked_plan e most)) else read_looked_plan e most prod) }
         ensures out { out_move result ≡ 0 }
         ensures into { into_move (read_size (standing self.now)) result ≤ min most (read_size (standing self.now)) }
@@ -294,7 +296,7 @@ impl Machine {
 }
 
 /// A load of the peer's live byte: closed, or what comes of a live one.
-fn if_alive(value: u64, alive: Move) -> Move
+pub(super) fn if_alive(value: u64, alive: Move) -> Move
     ensures plan { (e : Standing) → plan_at e result ≡ (if low8_of value == 0 then answers Answer.PeerClosed else plan_at e alive) }
     ensures out { out_move result ≤ out_move alive }
     ensures into { (size : ℕ) → into_move size result ≤ into_move size alive }

@@ -1,0 +1,18 @@
+use Rattle.std.proofs.Common.{◌≡◌, ◌≤◌, refl, subst, slice_index}
+use Rattle.ring_words.specs.Page.{index_of}
+use Rattle.vchan_core.specs.declared.phase.Move.{Move}
+use Rattle.vchan_core.specs.Ends.{read_size}
+use Rattle.vchan_core.specs.Phases.{standing, plan_at, out_at, into_at, out_move, into_move}
+use Rattle.vchan_core.proofs.LookLaws.{look_one}
+use Rattle.vchan_core.proofs.machine.Machine.seen.Goals as goal
+
+pub returns-in-To-clause-events : goal.returns-in-To-clause-events
+returns-in-To-clause-events c = λ at word then list payload buffer is plan has goes out into.
+    let m = c.args.self.now in
+    look_one m at c.in-To.phase word then list payload buffer is plan has
+    (subst (λ (x : Move). plan_at (standing m) x ≡ then (slice_index list (index_of m.orders word))) c.in-To.is goes)
+    (subst (λ (x : Move). out_move x ≤ out_at at) c.in-To.is out)
+    (subst (λ (x : Move). into_move (read_size (standing m)) x ≤ into_at (read_size (standing m)) at) c.in-To.is into)
+
+pub returns-in-Done-clause-events : goal.returns-in-Done-clause-events
+returns-in-Done-clause-events c = λ at word then list payload buffer is plan has goes out into. (refl, refl, refl)
