@@ -2,6 +2,8 @@
 ghost use Rattle.std.specs.Prelude.{◌≡◌, ◌==◌, ◌<◌, ◌∷◌, [], length, position, MatchOption, IfNone, IfSome, option_copied};
 ghost use Rattle.script_words.specs.Words.{lines_of, pieces};
 
+use memchr::memchr;
+
 /// The bytes before the first separator, and those behind it where there is one.
 #[tactic(auto, using(crate::proofs::WordLaws::cut_found, crate::proofs::WordLaws::cut_missing))]
 pub fn cut_at(bytes: &[u8], separator: u8) -> (&[u8], Option<&[u8]>)
@@ -34,10 +36,11 @@ pub fn first_line(bytes: &[u8]) -> Option<(&[u8], &[u8])>
 }
 
 /// The place of the first byte that is `wanted`.
+#[tactic(auto, using(crate::proofs::WordLaws::first_place))]
 fn find_byte(bytes: &[u8], wanted: u8) -> Option<usize>
     ensures { result ≡ position (λ byte. byte == wanted) bytes.now }
 {
-    bytes.iter().position(|byte| *byte == wanted)
+    memchr(wanted, bytes)
 }
 
 /// The words of a line that aren't read yet, with one space between each two.

@@ -5,6 +5,8 @@ ghost use Rattle.step_script.specs.Operands.{given, operand_of, alone, number_be
 ghost use Rattle.step_script.specs.Readings.{Gives};
 
 use crate::error::LineError;
+use crate::script::Payload;
+use smallvec::SmallVec;
 use script_words::{Words, bytes_of, parse_number};
 use std::alloc::Global;
 
@@ -88,7 +90,7 @@ pub(crate) fn read_count(words: Words, least: u32) -> Result<u32, LineError>
 ///
 /// A bad line where it isn't the only word or is empty; bad hex where it is no byte string; too
 /// many bytes; `Memory`.
-pub(crate) fn read_payload(alloc: Global, words: Words, room: usize) -> Result<Vec<u8>, LineError>
+pub(crate) fn read_payload(alloc: Global, words: Words, room: usize) -> Result<Payload, LineError>
     ensures payload { Gives (λ bytes. bytes.items) result (payload_of room (words_left words.entry)) }
     ensures within { IfOk result (λ bytes. length bytes.items ≤ room) }
 {
@@ -97,6 +99,6 @@ pub(crate) fn read_payload(alloc: Global, words: Words, room: usize) -> Result<V
     if bytes.len() > room {
         Err(LineError::TOO_MANY_BYTES)
     } else {
-        Ok(bytes)
+        Ok(SmallVec::from_vec(bytes))
     }
 }
