@@ -1,4 +1,5 @@
 pub mod OrdersLaws
+pub mod NameLaws
 pub mod KeptLaws
 pub mod ScriptLaws
 pub mod SpacedLaws

@@ -179,9 +179,13 @@ fn push_word(out: &mut Vec<u8>, word: &[u8]) -> Result<(), AllocError>
 }
 
 /// A number in decimal behind a space.
+#[tactic(auto, using(std::proofs::lemmas::Fmt::decimal_digit))]
 fn push_number(out: &mut Vec<u8>, number: u64) -> Result<(), AllocError>
     ensures { OnOk result (out.new.items ≡ with_words out.old.items (decimal number ∷ [])) }
 {
+    if number < 10 {
+        return out.extend_from_slice(&[b' ', b'0' + number as u8]);
+    }
     push_word(out, Buffer::new().format(number).as_bytes())
 }
 
