@@ -11,6 +11,12 @@ use ring_words::{Ring, Role};
 use std::alloc::AllocError;
 use vchan_core::{Answer, Call};
 
+/// Up to so many bytes are printed one after another.
+const FEW: usize = 8;
+
+/// The hexadecimal digits.
+const DIGITS: &[u8; 16] = b"0123456789abcdef";
+
 /// The line of an answer. The bytes that it tells of stand at the front of `buffer`.
 #[tactic(auto, using(crate::proofs::SpacedLaws::join_spaced), unfolding(crate::specs::Output::line_text))]
 pub(crate) fn push_answer(
@@ -161,6 +167,29 @@ fn push_bytes(out: &mut Vec<u8>, bytes: &[u8]) -> Result<(), AllocError>
 
 /// Two digits for each byte, in lower case.
 fn push_hex(out: &mut Vec<u8>, bytes: &[u8]) -> Result<(), AllocError>
+    ensures { OnOk result (out.new.items ≡ out.old.items ++ encode_lower bytes.now) }
+{
+    if bytes.len() <= FEW {
+        push_few_hex(out, bytes)
+    } else {
+        push_much_hex(out, bytes)
+    }
+}
+
+/// The digits of a few bytes, which are put one pair after another.
+fn push_few_hex(out: &mut Vec<u8>, bytes: &[u8]) -> Result<(), AllocError>
+    ensures { OnOk result (out.new.items ≡ out.old.items ++ encode_lower bytes.now) }
+{
+    for byte in bytes {
+        let high = DIGITS[(*byte / 16) as usize];
+        let low = DIGITS[(*byte % 16) as usize];
+        out.extend_from_slice(&[high, low])?;
+    }
+    Ok(())
+}
+
+/// The digits of more bytes: their places are made first, and then all are written.
+fn push_much_hex(out: &mut Vec<u8>, bytes: &[u8]) -> Result<(), AllocError>
     ensures { OnOk result (out.new.items ≡ out.old.items ++ encode_lower bytes.now) }
 {
     let start = out.len();
