@@ -2,6 +2,11 @@
 ghost use Rattle.std.specs.Prelude.{◌≡◌, ◌==◌, ◌<◌, ◌∷◌, [], length, position, MatchOption, IfNone, IfSome, option_copied};
 ghost use Rattle.script_words.specs.Words.{lines_of, pieces};
 
+use memchr::memchr;
+
+/// From so many bytes on, a byte is searched for among many at once.
+const MANY: usize = 32;
+
 /// The bytes before the first separator, and those behind it where there is one.
 #[tactic(auto, using(crate::proofs::WordLaws::cut_found, crate::proofs::WordLaws::cut_missing))]
 pub fn cut_at(bytes: &[u8], separator: u8) -> (&[u8], Option<&[u8]>)
@@ -34,10 +39,26 @@ pub fn first_line(bytes: &[u8]) -> Option<(&[u8], &[u8])>
 }
 
 /// The place of the first byte that is `wanted`.
+///
+/// A few bytes are looked at one by one, where this is called; to search for many bytes at once
+/// pays only where there are more.
 fn find_byte(bytes: &[u8], wanted: u8) -> Option<usize>
     ensures { result ≡ position (λ byte. byte == wanted) bytes.now }
 {
-    bytes.iter().position(|byte| *byte == wanted)
+    if bytes.len() < MANY {
+        bytes.iter().position(|byte| *byte == wanted)
+    } else {
+        find_among_many(bytes, wanted)
+    }
+}
+
+/// The place of the first byte that is `wanted`, by a search of many bytes at once.
+#[inline(never)]
+#[tactic(auto, using(crate::proofs::WordLaws::first_place))]
+fn find_among_many(bytes: &[u8], wanted: u8) -> Option<usize>
+    ensures { result ≡ position (λ byte. byte == wanted) bytes.now }
+{
+    memchr(wanted, bytes)
 }
 
 /// The words of a line that aren't read yet, with one space between each two.

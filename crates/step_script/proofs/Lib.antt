@@ -1,4 +1,6 @@
 pub mod OrdersLaws
+pub mod NameLaws
+pub mod HexLaws
 pub mod KeptLaws
 pub mod ScriptLaws
 pub mod SpacedLaws

@@ -1,5 +1,5 @@
 //! What the words of a script stand for.
-ghost use Rattle.std.specs.Prelude.{◌≡◌, IfSome};
+ghost use Rattle.std.specs.Prelude.{◌≡◌, IfSome, bytes_eq};
 ghost use Rattle.ring_words.specs.declared.page.Role.{Role};
 ghost use Rattle.step_script.specs.Forms.{FormFits};
 ghost use Rattle.step_script.specs.Tables.{meaning_in, ends, calls_of, common_calls, acts, fields};
@@ -39,13 +39,23 @@ pub(crate) enum Act {
     Signal,
 }
 
+/// Whether a word is this name. It is taken in where it is called, so that a name of a few bytes
+/// costs a few comparisons and no call.
+#[inline(always)]
+#[tactic(auto, using(crate::proofs::NameLaws::same_length, crate::proofs::NameLaws::other_length))]
+fn is_named(word: &[u8], name: &[u8]) -> bool
+    ensures { result ≡ bytes_eq word.now name.now }
+{
+    word.len() == name.len() && name.starts_with(word)
+}
+
 /// The end that a word names.
 pub(crate) fn end_named(word: &[u8]) -> Option<Role>
     ensures { result ≡ meaning_in ends word.now }
 {
-    if word == b"server".as_slice() {
+    if is_named(word, b"server") {
         Some(Role::Server)
-    } else if word == b"client".as_slice() {
+    } else if is_named(word, b"client") {
         Some(Role::Client)
     } else {
         None
@@ -59,7 +69,7 @@ pub(crate) fn call_named(who: Role, word: &[u8]) -> Option<CallForm>
 {
     match who {
         Role::Server => common_call_named(word),
-        Role::Client if word == b"connect".as_slice() => Some(CallForm::Bare(Call::Connect)),
+        Role::Client if is_named(word, b"connect") => Some(CallForm::Bare(Call::Connect)),
         Role::Client => common_call_named(word),
     }
 }
@@ -69,27 +79,27 @@ fn common_call_named(word: &[u8]) -> Option<CallForm>
     ensures form { result ≡ meaning_in common_calls word.now }
     ensures fits { (who : Role) → IfSome result (λ form. FormFits who form) }
 {
-    if word == b"write".as_slice() {
+    if is_named(word, b"write") {
         Some(CallForm::Write)
-    } else if word == b"send".as_slice() {
+    } else if is_named(word, b"send") {
         Some(CallForm::Send)
-    } else if word == b"read".as_slice() {
+    } else if is_named(word, b"read") {
         Some(CallForm::Read)
-    } else if word == b"recv".as_slice() {
+    } else if is_named(word, b"recv") {
         Some(CallForm::Recv)
-    } else if word == b"drain".as_slice() {
+    } else if is_named(word, b"drain") {
         Some(CallForm::Drain)
-    } else if word == b"ready".as_slice() {
+    } else if is_named(word, b"ready") {
         Some(CallForm::Bare(Call::DataReady))
-    } else if word == b"space".as_slice() {
+    } else if is_named(word, b"space") {
         Some(CallForm::Bare(Call::BufferSpace))
-    } else if word == b"close".as_slice() {
+    } else if is_named(word, b"close") {
         Some(CallForm::Bare(Call::Close))
-    } else if word == b"event".as_slice() {
+    } else if is_named(word, b"event") {
         Some(CallForm::Bare(Call::TakeEvent))
-    } else if word == b"gone".as_slice() {
+    } else if is_named(word, b"gone") {
         Some(CallForm::Bare(Call::PeerGone))
-    } else if word == b"retire".as_slice() {
+    } else if is_named(word, b"retire") {
         Some(CallForm::Bare(Call::Retire))
     } else {
         None
@@ -100,15 +110,15 @@ fn common_call_named(word: &[u8]) -> Option<CallForm>
 pub(crate) fn act_named(word: &[u8]) -> Option<Act>
     ensures { result ≡ meaning_in acts word.now }
 {
-    if word == b"begin".as_slice() {
+    if is_named(word, b"begin") {
         Some(Act::Begin)
-    } else if word == b"step".as_slice() {
+    } else if is_named(word, b"step") {
         Some(Act::Step)
-    } else if word == b"finish".as_slice() {
+    } else if is_named(word, b"finish") {
         Some(Act::Finish)
-    } else if word == b"poke".as_slice() {
+    } else if is_named(word, b"poke") {
         Some(Act::Poke)
-    } else if word == b"signal".as_slice() {
+    } else if is_named(word, b"signal") {
         Some(Act::Signal)
     } else {
         None
@@ -119,25 +129,25 @@ pub(crate) fn act_named(word: &[u8]) -> Option<Act>
 pub(crate) fn field_named(word: &[u8]) -> Option<WordName>
     ensures { result ≡ meaning_in fields word.now }
 {
-    if word == b"left_cons".as_slice() {
+    if is_named(word, b"left_cons") {
         Some(WordName::LeftCons)
-    } else if word == b"left_prod".as_slice() {
+    } else if is_named(word, b"left_prod") {
         Some(WordName::LeftProd)
-    } else if word == b"right_cons".as_slice() {
+    } else if is_named(word, b"right_cons") {
         Some(WordName::RightCons)
-    } else if word == b"right_prod".as_slice() {
+    } else if is_named(word, b"right_prod") {
         Some(WordName::RightProd)
-    } else if word == b"left_order".as_slice() {
+    } else if is_named(word, b"left_order") {
         Some(WordName::LeftOrder)
-    } else if word == b"right_order".as_slice() {
+    } else if is_named(word, b"right_order") {
         Some(WordName::RightOrder)
-    } else if word == b"cli_live".as_slice() {
+    } else if is_named(word, b"cli_live") {
         Some(WordName::CliLive)
-    } else if word == b"srv_live".as_slice() {
+    } else if is_named(word, b"srv_live") {
         Some(WordName::SrvLive)
-    } else if word == b"cli_notify".as_slice() {
+    } else if is_named(word, b"cli_notify") {
         Some(WordName::CliNotify)
-    } else if word == b"srv_notify".as_slice() {
+    } else if is_named(word, b"srv_notify") {
         Some(WordName::SrvNotify)
     } else {
         None

@@ -17,6 +17,7 @@ use crate::poke::read_word_name;
 use crate::script::{Line, ScriptCall};
 use ring_words::{Orders, Role};
 use script_words::Words;
+use smallvec::SmallVec;
 use std::alloc::Global;
 use vchan_core::Call;
 
@@ -215,7 +216,7 @@ fn bare(alloc: Global, call: Call) -> ScriptCall
 {
     ScriptCall {
         call,
-        payload: Vec::new(alloc),
+        payload: SmallVec::new(alloc),
     }
 }
 

@@ -6,6 +6,8 @@ ghost use Rattle.step_script.specs.Operands.{given, operand_of, alone, number_be
 ghost use Rattle.step_script.specs.Readings.{Gives};
 
 use crate::error::LineError;
+use crate::script::Payload;
+use smallvec::SmallVec;
 use script_words::{Words, bytes_of, parse_number};
 use std::alloc::Global;
 
@@ -89,7 +91,7 @@ pub(crate) fn read_count(words: Words, least: u32) -> Result<u32, LineError>
 ///
 /// A bad line where it isn't the only word or is empty; bad hex where it is no byte string; too
 /// many bytes; `Memory`.
-pub(crate) fn read_payload(alloc: Global, words: Words, room: usize) -> Result<Vec<u8>, LineError>
+pub(crate) fn read_payload(alloc: Global, words: Words, room: usize) -> Result<Payload, LineError>
     ensures payload { Gives (λ bytes. bytes.items) result (payload_of room (words_left words.entry)) }
     ensures within { IfOk result (λ bytes. length bytes.items ≤ room) }
     ensures bytes { IfOk result (λ bytes. AreBytes bytes.items) }
@@ -99,7 +101,7 @@ pub(crate) fn read_payload(alloc: Global, words: Words, room: usize) -> Result<V
     if is_too_long(bytes.as_slice(), room) {
         Err(LineError::TOO_MANY_BYTES)
     } else {
-        Ok(bytes)
+        Ok(SmallVec::from_vec(bytes))
     }
 }
 

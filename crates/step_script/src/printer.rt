@@ -11,6 +11,12 @@ use ring_words::{Ring, Role};
 use std::alloc::AllocError;
 use vchan_core::{Answer, Call};
 
+/// Up to so many bytes are printed one after another.
+const FEW: usize = 8;
+
+/// The hexadecimal digits.
+const DIGITS: &[u8; 16] = b"0123456789abcdef";
+
 /// The line of an answer. The bytes that it tells of stand at the front of `buffer`.
 #[tactic(auto, using(crate::proofs::SpacedLaws::join_spaced), unfolding(crate::specs::Output::line_text))]
 pub(crate) fn push_answer(
@@ -163,6 +169,29 @@ fn push_bytes(out: &mut Vec<u8>, bytes: &[u8]) -> Result<(), AllocError>
 fn push_hex(out: &mut Vec<u8>, bytes: &[u8]) -> Result<(), AllocError>
     ensures { OnOk result (out.new.items ≡ out.old.items ++ encode_lower bytes.now) }
 {
+    if bytes.len() <= FEW {
+        push_few_hex(out, bytes)
+    } else {
+        push_much_hex(out, bytes)
+    }
+}
+
+/// The digits of a few bytes, which are put one pair after another.
+fn push_few_hex(out: &mut Vec<u8>, bytes: &[u8]) -> Result<(), AllocError>
+    ensures { OnOk result (out.new.items ≡ out.old.items ++ encode_lower bytes.now) }
+{
+    for byte in bytes {
+        let high = DIGITS[(*byte / 16) as usize];
+        let low = DIGITS[(*byte % 16) as usize];
+        out.extend_from_slice(&[high, low])?;
+    }
+    Ok(())
+}
+
+/// The digits of more bytes: their places are made first, and then all are written.
+fn push_much_hex(out: &mut Vec<u8>, bytes: &[u8]) -> Result<(), AllocError>
+    ensures { OnOk result (out.new.items ≡ out.old.items ++ encode_lower bytes.now) }
+{
     let start = out.len();
     let end = start.saturating_add(bytes.len().saturating_mul(2));
     out.resize(end, 0)?;
@@ -179,9 +208,13 @@ fn push_word(out: &mut Vec<u8>, word: &[u8]) -> Result<(), AllocError>
 }
 
 /// A number in decimal behind a space.
+#[tactic(auto, using(std::proofs::lemmas::Fmt::decimal_digit))]
 fn push_number(out: &mut Vec<u8>, number: u64) -> Result<(), AllocError>
     ensures { OnOk result (out.new.items ≡ with_words out.old.items (decimal number ∷ [])) }
 {
+    if number < 10 {
+        return out.extend_from_slice(&[b' ', b'0' + number as u8]);
+    }
     push_word(out, Buffer::new().format(number).as_bytes())
 }
 

@@ -1,5 +1,6 @@
 //! A script as it is played.
 use ring_words::{Orders, Role, WordName};
+use smallvec::SmallVec;
 use std::marker::Model;
 use vchan_core::{Call, EndState};
 
@@ -93,5 +94,9 @@ pub(crate) struct ScriptCall {
     /// The call.
     pub(crate) call: Call,
     /// The bytes that it writes or sends.
-    pub(crate) payload: Vec<u8>,
+    pub(crate) payload: Payload,
 }
+
+/// The bytes that a call writes or sends. Up to 16 lie in the line itself, since a script may have
+/// many calls with a few bytes each.
+pub(crate) type Payload = SmallVec<u8, 16>;

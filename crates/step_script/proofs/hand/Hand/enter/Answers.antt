@@ -15,7 +15,7 @@ returns-in-Some c =
 pub returns : goal.returns
 returns c =
     let seen = call_seen c.args.call.now in
-    let value : c.as_slice-self.result.now ≡ c.args.call.now.payload.items = c.as_slice-self.ensures.value in
+    let value : c.as_slice-self.result.now ≡ c.args.call.now.payload.items = c.as_slice-self.ensures in
     let kept : Hand = record { call = c.args.call.now.call; payload = c.as_slice-self.result; buffer = c.make_room.new.self.buffer } in
     does_allowed c.args.who (λ (core : Core). call_refusal core c.args.who c.args.call.now.call) (begins_call c.args.who seen) c.args.page.now c.begin.new.self c.args.self.now kept c.args.text.now.items c.args.text.now.items
     (λ core stands. sym c.in_default.is ∙ c.call_refusal.ensures.refusal core stands)

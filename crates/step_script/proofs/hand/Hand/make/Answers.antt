@@ -33,7 +33,7 @@ pub returns : goal.returns
 returns c =
     let call = c.run_call-answer in
     let seen = call_seen c.args.call.now in
-    let value : c.as_slice-payload.result.now ≡ c.args.call.now.payload.items = c.as_slice-payload.ensures.value in
+    let value : c.as_slice-payload.result.now ≡ c.args.call.now.payload.items = c.as_slice-payload.ensures in
     let written = written_through call.new.buffer c.make_room.new.self.buffer.items c.make_room.new.self.buffer.len (call.auto.buffer ∙ c.as_mut_slice.ensures.len) in
     let kept : Hand = record { call = c.make_room.new.self.call; payload = c.make_room.new.self.payload; buffer = with_items c.make_room.new.self.buffer call.new.buffer } in
     on_ok_map c.push_answer.result c.push_answer.ensures (λ printed.
