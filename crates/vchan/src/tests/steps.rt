@@ -171,11 +171,10 @@ fn play_rows(rt: &(impl Abort + AllocGlobal), rows: &[Row]) -> Result<(), Fail> 
 fn printed(alloc: Global, script: &[u8]) -> Result<Vec<u8>, Fail> {
     let input = Vec::from_slice(alloc, script)?;
     let ran = run_over_memory(alloc, &["step"], input, &WHOLE, &WHOLE, &WHOLE)?;
-    let text = match ran.status {
-        Status::Done if ran.err.bytes().is_empty() => ran.out.bytes(),
-        _ => &[],
-    };
-    Ok(Vec::from_slice(alloc, text)?)
+    if !matches!(ran.status, Status::Done) || !ran.err.bytes().is_empty() {
+        return Ok(Vec::new(alloc));
+    }
+    Ok(Vec::from_slice(alloc, ran.out.bytes())?)
 }
 
 #[test]
