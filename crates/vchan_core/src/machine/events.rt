@@ -50,12 +50,7 @@ impl Machine {
         };
         match phase {
             Phase::Put { .. } | Phase::Take { .. } | Phase::Notify { .. } => self.event_at(
-                phase,
-                words,
-                payload,
-                buf,
-                writes,
-                reads,
+                phase, words, payload, buf, writes, reads,
             ),
             _ => self.seldom(phase, words, payload, buf, writes, reads),
         }
