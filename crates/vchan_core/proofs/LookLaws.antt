@@ -52,10 +52,13 @@ pub look_one : (m : Machine) (at to : Phase) (word : WordName) (next : ℕ → P
     out_at to ≤ out_at at → into_at (read_size (standing m)) to ≤ into_at (read_size (standing m)) at →
     MakesEvents 1 m.orders source m list buffer (at_phase m to) list buffer
 look_one m at to word next list source buffer is plan has goes out into =
-    let whole : at_phase m at ≡ m = ap (λ (p : Option Phase). record m { phase = p }) (sym is) in
-    (at_phase m to, list, buffer,
+    let whole : at_phase m at ≡ m = ap (λ (p : Option Phase). record m { phase = p }) (sym is) in (
+      at_phase m to,
+      list,
+      buffer,
       subst (λ (x : Machine). MakesEvent m.orders source x list buffer (at_phase m to) list buffer) whole (look_at m at to word next list source buffer plan has goes out into),
-      (refl, refl, refl))
+      (refl, refl, refl),
+    )
 
 -- events, and then more of them
 pub makes_all : (a b : ℕ) (orders : Orders) (source : List ℕ) (m : Machine) (list buffer : List ℕ) (m' : Machine) (list' buffer' : List ℕ) (m'' : Machine) (list'' buffer'' : List ℕ) →

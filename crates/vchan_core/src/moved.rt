@@ -64,12 +64,7 @@ impl Moved {
     /// Counts what an end's own counts, of the ring that it writes and of the one that it reads,
     /// have moved on.
     #[inline(always)]
-    pub(crate) fn count(
-        before: (u32, u32),
-        now: (u32, u32),
-        writes: &mut Moved,
-        reads: &mut Moved,
-    )
+    pub(crate) fn count(before: (u32, u32), now: (u32, u32), writes: &mut Moved, reads: &mut Moved)
         ensures sent { writes.new ≡ record writes.old { sent = capped (writes.old.sent + diff now.0 before.0) } }
         ensures got { reads.new ≡ record reads.old { got = capped (reads.old.got + diff now.1 before.1) } }
         ensures low { (before.0 < 2 ^ 32) × (before.1 < 2 ^ 32) }

@@ -300,8 +300,8 @@ impl Plain {
         }
     }
 
-    /// One event of an end that is inside a call, as [`Plain::step`] makes it. Each frequent phase
-    /// has code of its own.
+    /// One event of an end that is inside a call, as [`Plain::step`] makes it. The frequent phases
+    /// are inlined.
     #[inline(always)]
     fn event(&mut self, who: Role, payload: &[u8], buf: &mut [u8]) -> Option<Answer>
         requires busy { ¬ IsIdle (machine_of self.old who) }

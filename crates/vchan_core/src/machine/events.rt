@@ -1,7 +1,7 @@
 //! An event of a machine on words in memory, from its choice to what comes of it.
 //!
-//! A whole call makes its events here. Each frequent phase has code of its own, in which the
-//! machine's choices by phase are made when the program is compiled.
+//! A whole call makes its events here. The frequent phases stand apart from the others, so that
+//! their code is small enough to be inlined.
 ghost use Rattle.std.specs.Prelude.{◌≡◌, ◌≤◌, ◌<◌, ◌+◌, ◌^◌, ◌↔◌, IsSome, length};
 ghost use Rattle.ring_words.specs.Rings.{diff};
 ghost use Rattle.vchan_core.specs.Apply.{Fits, words_after, value_taken, buffer_after};
@@ -49,29 +49,8 @@ impl Machine {
             unreachable!()
         };
         match phase {
-            Phase::Put { at, count, answer } => self.event_at(
-                Phase::Put { at, count, answer },
-                words,
-                payload,
-                buf,
-                writes,
-                reads,
-            ),
-            Phase::Take { at, count, answer } => self.event_at(
-                Phase::Take { at, count, answer },
-                words,
-                payload,
-                buf,
-                writes,
-                reads,
-            ),
-            Phase::Notify { bit, answer } => self.event_at(
-                Phase::Notify { bit, answer },
-                words,
-                payload,
-                buf,
-                writes,
-                reads,
+            Phase::Put { .. } | Phase::Take { .. } | Phase::Notify { .. } => self.event_at(
+                phase, words, payload, buf, writes, reads,
             ),
             _ => self.seldom(phase, words, payload, buf, writes, reads),
         }

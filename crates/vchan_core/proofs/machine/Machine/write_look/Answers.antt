@@ -24,4 +24,3 @@ returns-clause-events c = λ payload buffer.
     (write_is e n) (has_look_write m.orders m.role)
     (c.write_found.ensures.plan ∙ ap (λ (v : ℕ). write_next e n v) (c.low32.ensures ∙ ap (λ (v : ℕ). low32 v) value))
     c.write_found.ensures.out (omega (arith, c.write_found.ensures.into))
-
