@@ -6,8 +6,8 @@ ghost use Rattle.step_script.specs.Readings.{Gives};
 
 use crate::error::LineError;
 use crate::script::Payload;
-use smallvec::SmallVec;
 use script_words::{Words, bytes_of, parse_number};
+use smallvec::SmallVec;
 use std::alloc::Global;
 
 /// The most that a count of bytes or of events may say.
