@@ -1,11 +1,10 @@
 -- A list cut at its first separator.
-use Rattle.std.proofs.Common.{◌≡◌, ℕ, ◌+◌, ◌<◌, ◌≤◌, Bool, true, false, not, cond, eqb, ltb, List, [], ◌∷◌, length, take, drop, Some, None, ◌-◌, refl, ap, sym, subst, ◌∙◌, arith, length-drop}
+use Rattle.std.proofs.Common.{◌≡◌, ℕ, ◌+◌, ◌<◌, ◌≤◌, Bool, true, false, not, cond, eqb, ltb, List, [], ◌∷◌, length, take, drop, get_or, Option, Some, None, ◌-◌, refl, ap, sym, subst, ◌∙◌, arith, length-drop}
 use Rattle.std.proofs.Math.Seq.{take-length}
 use Rattle.std.specs.List.{slice_split, onto_first, position_or_len, position}
 use Rattle.std.proofs.lemmas.List.Splits.{slice_split_first, length-slice_split}
 use Rattle.std.proofs.lemmas.Bool.Decides.{nat_tests}
 use Rattle.std.proofs.lemmas.List.Sums.{position_or_len_is}
-use Rattle.std.proofs.Common.{Option, get_or}
 use Rattle.memchr.specs.Find.{IsFirstByte, is_byte}
 use Rattle.script_words.specs.Words.{lines_of, without_empty_end}
 
@@ -17,11 +16,11 @@ not_true false not = refl
 pub first_place : (wanted : ℕ) (bytes : List ℕ) (found : Option ℕ) → IsFirstByte (is_byte wanted) bytes found → found ≡ position (λ b. eqb b wanted) bytes
 first_place wanted bytes None nowhere =
     let at : position_or_len (λ b. eqb b wanted) bytes ≡ length bytes =
-      position_or_len_is (λ b. eqb b wanted) bytes (length bytes) 0 (omega arith) (λ k below. not_true (eqb (get_or bytes k 0) wanted) (nowhere k (omega arith) below)) (λ below. absurd (omega (arith, below))) in
+    position_or_len_is (λ b. eqb b wanted) bytes (length bytes) 0 (omega arith) (λ k below. not_true (eqb (get_or bytes k 0) wanted) (nowhere k (omega arith) below)) (λ below. absurd (omega (arith, below))) in
     rw at (grind (arith, nat_tests))
 first_place wanted bytes (Some i) first =
     let at : position_or_len (λ b. eqb b wanted) bytes ≡ i =
-      position_or_len_is (λ b. eqb b wanted) bytes i 0 (omega (arith, first.0.high)) (λ k below. not_true (eqb (get_or bytes k 0) wanted) (first.0.before k (omega arith) below)) (λ below. first.1) in
+    position_or_len_is (λ b. eqb b wanted) bytes i 0 (omega (arith, first.0.high)) (λ k below. not_true (eqb (get_or bytes k 0) wanted) (first.0.before k (omega arith) below)) (λ below. first.1) in
     rw at (grind (arith, nat_tests, first.0.high))
 
 -- a list with no separator is one piece

@@ -117,3 +117,13 @@ impl From<ByteError> for LineError {
         }
     }
 }
+
+impl From<AllocError> for LineError {
+    ghost use Rattle.step_script.specs.declared.error.LineError.TheVariants.{Memory};
+
+    ghost from_gives = { λ _ e. e ≡ Memory };
+
+    fn from(_refused: AllocError) -> LineError {
+        LineError::Memory
+    }
+}

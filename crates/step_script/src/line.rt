@@ -12,7 +12,7 @@ ghost use Rattle.step_script.specs.ScriptLines.{call_seen, line_seen};
 
 use crate::error::LineError;
 use crate::forms::{Act, CallForm, act_named, call_named, end_named};
-use crate::operand::{read_count, read_nothing, read_number, read_operand, read_payload};
+use crate::operand::{Strings, read_count, read_nothing, read_number, read_operand, read_payload};
 use crate::poke::read_word_name;
 use crate::script::{Line, ScriptCall};
 use ring_words::{Orders, Role};
@@ -29,7 +29,7 @@ use vchan_core::Call;
 /// A bad line where the line is none of the language; then, from the left, a bad number or bad hex
 /// where a word is none; too many bytes; `Memory`.
 pub(crate) fn read_line(
-    alloc: Global,
+    strings: &mut Strings,
     orders: Orders,
     room: usize,
     line: &[u8],
@@ -41,7 +41,7 @@ pub(crate) fn read_line(
     let mut words = Words::of(line);
     let first = words.next().ok_or(LineError::BAD_LINE)?;
     match end_named(first) {
-        Some(who) => read_end_line(alloc, orders, room, who, words),
+        Some(who) => read_end_line(strings, orders, room, who, words),
         None => read_page_line(first, words),
     }
 }
@@ -64,7 +64,7 @@ fn read_page_line(verb: &[u8], words: Words) -> Result<Line, LineError>
 
 /// Reads what an end does.
 fn read_end_line(
-    alloc: Global,
+    strings: &mut Strings,
     orders: Orders,
     room: usize,
     who: Role,
@@ -76,9 +76,9 @@ fn read_end_line(
 {
     let verb = words.next().ok_or(LineError::BAD_LINE)?;
     match act_named(verb) {
-        Some(act) => read_act(alloc, orders, room, who, act, words),
+        Some(act) => read_act(strings, orders, room, who, act, words),
         None => {
-            let call = read_call(alloc, room, who, verb, words)?;
+            let call = read_call(strings, room, who, verb, words)?;
             Ok(Line::Call { who, call })
         }
     }
@@ -86,7 +86,7 @@ fn read_end_line(
 
 /// Reads the words behind an act's word.
 fn read_act(
-    alloc: Global,
+    strings: &mut Strings,
     orders: Orders,
     room: usize,
     who: Role,
@@ -99,7 +99,7 @@ fn read_act(
 {
     match act {
         Act::Begin => {
-            let call = read_begun(alloc, room, who, words)?;
+            let call = read_begun(strings, room, who, words)?;
             Ok(Line::Begin { who, call })
         }
         Act::Step => {
@@ -132,7 +132,7 @@ fn read_poke(orders: Orders, who: Role, mut words: Words) -> Result<Line, LineEr
 
 /// Reads the call behind `begin`.
 fn read_begun(
-    alloc: Global,
+    strings: &mut Strings,
     room: usize,
     who: Role,
     mut words: Words,
@@ -142,12 +142,12 @@ fn read_begun(
     ensures fits { IfOk result (λ call. CallKeeps room who (call_seen call)) }
 {
     let verb = words.next().ok_or(LineError::BAD_LINE)?;
-    read_call(alloc, room, who, verb, words)
+    read_call(strings, room, who, verb, words)
 }
 
 /// Reads a call of an end: its word, and the words behind it.
 fn read_call(
-    alloc: Global,
+    strings: &mut Strings,
     room: usize,
     who: Role,
     verb: &[u8],
@@ -158,14 +158,14 @@ fn read_call(
     ensures fits { IfOk result (λ call. CallKeeps room who (call_seen call)) }
 {
     match call_named(who, verb) {
-        Some(form) => read_call_of_form(alloc, room, form, words),
+        Some(form) => read_call_of_form(strings, room, form, words),
         None => Err(LineError::BAD_LINE),
     }
 }
 
 /// Reads the words behind a call's word.
 fn read_call_of_form(
-    alloc: Global,
+    strings: &mut Strings,
     room: usize,
     form: CallForm,
     words: Words,
@@ -176,7 +176,7 @@ fn read_call_of_form(
 {
     match form {
         CallForm::Write => {
-            let payload = read_payload(alloc, words, room)?;
+            let payload = read_payload(strings, words, room)?;
             let len = payload.len() as u32;
             Ok(ScriptCall {
                 call: Call::Write { len },
@@ -184,7 +184,7 @@ fn read_call_of_form(
             })
         }
         CallForm::Send => {
-            let payload = read_payload(alloc, words, room)?;
+            let payload = read_payload(strings, words, room)?;
             let len = payload.len() as u32;
             Ok(ScriptCall {
                 call: Call::Send { len },
@@ -193,19 +193,19 @@ fn read_call_of_form(
         }
         CallForm::Read => {
             let most = read_count(words, 0)?;
-            Ok(bare(alloc, Call::Read { most }))
+            Ok(bare(strings.alloc, Call::Read { most }))
         }
         CallForm::Recv => {
             let len = read_count(words, 0)?;
-            Ok(bare(alloc, Call::Recv { len }))
+            Ok(bare(strings.alloc, Call::Recv { len }))
         }
         CallForm::Drain => {
             let most = read_count(words, 1)?;
-            Ok(bare(alloc, Call::Drain { most }))
+            Ok(bare(strings.alloc, Call::Drain { most }))
         }
         CallForm::Bare(call) => {
             read_nothing(words)?;
-            Ok(bare(alloc, call))
+            Ok(bare(strings.alloc, call))
         }
     }
 }

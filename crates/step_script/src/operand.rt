@@ -7,8 +7,8 @@ ghost use Rattle.step_script.specs.Readings.{Gives};
 
 use crate::error::LineError;
 use crate::script::Payload;
+use script_words::{Words, parse_number, push_bytes};
 use smallvec::SmallVec;
-use script_words::{Words, bytes_of, parse_number};
 use std::alloc::Global;
 
 /// The most that a count of bytes or of events may say.
@@ -85,24 +85,47 @@ pub(crate) fn read_count(words: Words, least: u32) -> Result<u32, LineError>
     Ok(count as u32)
 }
 
+/// What byte strings are read with: one buffer for all of them, so that each takes no more memory
+/// than its bytes need.
+#[derive(Drop)]
+pub(crate) struct Strings {
+    pub(crate) alloc: Global,
+    buffer: Vec<u8>,
+}
+
+impl Strings {
+    /// An empty buffer.
+    pub(crate) fn new(alloc: Global) -> Strings {
+        Strings {
+            alloc,
+            buffer: Vec::new(alloc),
+        }
+    }
+}
+
 /// The bytes of a byte string that is the only word that is left, at most `room` of them.
 ///
 /// # Errors
 ///
 /// A bad line where it isn't the only word or is empty; bad hex where it is no byte string; too
 /// many bytes; `Memory`.
-pub(crate) fn read_payload(alloc: Global, words: Words, room: usize) -> Result<Payload, LineError>
+pub(crate) fn read_payload(
+    strings: &mut Strings,
+    words: Words,
+    room: usize,
+) -> Result<Payload, LineError>
     ensures payload { Gives (λ bytes. bytes.items) result (payload_of room (words_left words.entry)) }
     ensures within { IfOk result (λ bytes. length bytes.items ≤ room) }
     ensures bytes { IfOk result (λ bytes. AreBytes bytes.items) }
 {
     let word = read_operand(words)?;
-    let bytes = bytes_of(alloc, word)?;
-    if is_too_long(bytes.as_slice(), room) {
-        Err(LineError::TOO_MANY_BYTES)
-    } else {
-        Ok(SmallVec::from_vec(bytes))
+    strings.buffer.clear();
+    push_bytes(&mut strings.buffer, word)?;
+    if is_too_long(strings.buffer.as_slice(), room) {
+        return Err(LineError::TOO_MANY_BYTES);
     }
+    let payload = SmallVec::from_slice(strings.alloc, strings.buffer.as_slice())?;
+    Ok(payload)
 }
 
 /// Whether there are more bytes than there is room for.

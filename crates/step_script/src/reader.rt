@@ -14,6 +14,7 @@ use crate::error::{LineError, ScriptError};
 use crate::line::read_line;
 use crate::lines::{LineReader, NextLine};
 use crate::opening::{read_opening, read_start, start_word};
+use crate::operand::Strings;
 use crate::script::{Line, Opening, Script};
 use ring_words::Orders;
 use std::alloc::Global;
@@ -82,9 +83,10 @@ fn read_lines(
     ensures short { IfOk result (λ lines. sum_by payload_len (lines_seen lines.items) ≤ 8388608) }
 {
     let mut lines = Vec::new(alloc);
+    let mut strings = Strings::new(alloc);
     let mut room = MOST_BYTES;
     while let NextLine::Line { number, text } = reader.next()? {
-        let line = read_line_at(alloc, orders, room, number, text)?;
+        let line = read_line_at(&mut strings, orders, room, number, text)?;
         room -= line.payload_len();
         lines.push(line)?;
     }
@@ -93,7 +95,7 @@ fn read_lines(
 
 /// Reads the line of this number, with `room` bytes left for its byte strings.
 fn read_line_at(
-    alloc: Global,
+    strings: &mut Strings,
     orders: Orders,
     room: usize,
     number: u32,
@@ -104,5 +106,5 @@ fn read_line_at(
         Reads line_seen result (at_number number due) }
     ensures fits { IfOk result (λ line. LineKeeps orders room (line_seen line)) }
 {
-    read_line(alloc, orders, room, text).map_err(|error| error.at(number))
+    read_line(strings, orders, room, text).map_err(|error| error.at(number))
 }
