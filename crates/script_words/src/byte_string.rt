@@ -1,5 +1,5 @@
 //! Byte strings: words that spell bytes.
-ghost use Rattle.std.specs.Prelude.{◌≡◌, ◌*◌, length, true, false, Some, None, unwrap_or, IfOk, OnOk, OnErr};
+ghost use Rattle.std.specs.Prelude.{◌≡◌, ◌*◌, ◌∷◌, [], length, true, false, Some, None, unwrap_or, IfOk, OnOk, OnErr};
 ghost use Rattle.hex.specs.Hex.{hex_digit_value};
 ghost use Rattle.script_words.specs.ByteStrings.{byte_string, bytes_of_pairs, repeated, Gains};
 
@@ -101,6 +101,9 @@ fn push_pairs(out: &mut Vec<u8>, digits: &[u8]) -> Result<(), ByteError>
     if digits.len() % 2 != 0 {
         return Err(ByteError::BadHex);
     }
+    if let [high, low] = digits {
+        return push_pair(out, *high, *low);
+    }
     let start = out.len();
     out.resize(start + digits.len() / 2, 0)?;
     if put_pairs(digits, &mut out[start..]) {
@@ -109,6 +112,22 @@ fn push_pairs(out: &mut Vec<u8>, digits: &[u8]) -> Result<(), ByteError>
         out.truncate(start);
         Err(ByteError::BadHex)
     }
+}
+
+/// Appends the byte of a single pair of digits, which needs no place made for it before.
+#[tactic(auto, unfolding(crate::specs::ByteStrings::bytes_of_pairs))]
+fn push_pair(out: &mut Vec<u8>, high: u8, low: u8) -> Result<(), ByteError>
+    ensures ok { OnOk result (Gains (bytes_of_pairs (high ∷ low ∷ [])) out.old.items out.new.items) }
+    ensures bad { result ≡ Err ByteError.BadHex → bytes_of_pairs (high ∷ low ∷ []) ≡ None }
+    ensures err { OnErr result (out.new.items ≡ out.old.items) }
+{
+    let high = digit_value(high);
+    let low = digit_value(low);
+    if high == NO_DIGIT || low == NO_DIGIT {
+        return Err(ByteError::BadHex);
+    }
+    out.extend_from_slice(&[high * 16 + low])?;
+    Ok(())
 }
 
 /// Writes the bytes of pairs of digits. It is false exactly where one of them is no digit, and then

@@ -29,7 +29,7 @@ pub(crate) fn push_answer(
     requires { got_len answer ≤ length buffer.now }
     ensures { OnOk result (out.new.items ≡ out.old.items ++ line_text (answered who call answer (got_front answer buffer.now))) }
 {
-    out.extend_from_slice(name_of_role(who))?;
+    push_role(out, who)?;
     push_answer_words(out, call, answer, buffer)?;
     out.push(b'\n')?;
     Ok(())
@@ -40,7 +40,7 @@ pub(crate) fn push_answer(
 pub(crate) fn push_refusal(out: &mut Vec<u8>, who: Role, why: Refusal) -> Result<(), AllocError>
     ensures { OnOk result (out.new.items ≡ out.old.items ++ line_text (refused who why)) }
 {
-    out.extend_from_slice(name_of_role(who))?;
+    push_role(out, who)?;
     push_word(out, name_of_refusal(why))?;
     out.push(b'\n')?;
     Ok(())
@@ -121,6 +121,7 @@ fn push_answer_words(
 }
 
 /// A word and a number.
+#[inline(always)]
 fn push_count(out: &mut Vec<u8>, word: &[u8], count: u64) -> Result<(), AllocError>
     ensures { OnOk result (out.new.items ≡ with_words out.old.items (word.now ∷ decimal count ∷ [])) }
 {
@@ -150,7 +151,11 @@ fn push_taken(out: &mut Vec<u8>, call: Call, bytes: &[u8]) -> Result<(), AllocEr
     ensures { let words = taken_word call ∷ bytes_word bytes.now ∷ [] in
         OnOk result (out.new.items ≡ with_words out.old.items words) }
 {
-    push_word(out, name_of_taking(call))?;
+    match call {
+        Call::Recv { .. } => push_word(out, b"recv")?,
+        Call::Drain { .. } => push_word(out, b"more")?,
+        _ => push_word(out, b"read")?,
+    }
     push_bytes(out, bytes)
 }
 
@@ -200,6 +205,7 @@ fn push_much_hex(out: &mut Vec<u8>, bytes: &[u8]) -> Result<(), AllocError>
 }
 
 /// A word behind a space.
+#[inline(always)]
 fn push_word(out: &mut Vec<u8>, word: &[u8]) -> Result<(), AllocError>
     ensures { OnOk result (out.new.items ≡ with_words out.old.items (word.now ∷ [])) }
 {
@@ -218,12 +224,15 @@ fn push_number(out: &mut Vec<u8>, number: u64) -> Result<(), AllocError>
     push_word(out, Buffer::new().format(number).as_bytes())
 }
 
-fn name_of_role(who: Role) -> &'static [u8]
-    ensures { result.now ≡ role_word who }
+/// The name of an end, which begins a line. Each name is a piece of its own length, so that it is
+/// put by a few moves.
+#[inline(always)]
+fn push_role(out: &mut Vec<u8>, who: Role) -> Result<(), AllocError>
+    ensures { OnOk result (out.new.items ≡ out.old.items ++ role_word who) }
 {
     match who {
-        Role::Server => b"server",
-        Role::Client => b"client",
+        Role::Server => out.extend_from_slice(b"server"),
+        Role::Client => out.extend_from_slice(b"client"),
     }
 }
 
@@ -244,16 +253,5 @@ fn name_of_refusal(why: Refusal) -> &'static [u8]
         Refusal::Idle => b"idle",
         Refusal::Shut => b"shut",
         Refusal::Unconnected => b"unconnected",
-    }
-}
-
-/// The word for bytes that a call took.
-fn name_of_taking(call: Call) -> &'static [u8]
-    ensures { result.now ≡ taken_word call }
-{
-    match call {
-        Call::Recv { .. } => b"recv",
-        Call::Drain { .. } => b"more",
-        _ => b"read",
     }
 }
