@@ -116,6 +116,7 @@ fn push_pairs(out: &mut Vec<u8>, digits: &[u8]) -> Result<(), ByteError>
 
 /// Appends the byte of a single pair of digits, which needs no place made for it before.
 #[tactic(auto, unfolding(crate::specs::ByteStrings::bytes_of_pairs))]
+#[inline(always)]
 fn push_pair(out: &mut Vec<u8>, high: u8, low: u8) -> Result<(), ByteError>
     ensures ok { OnOk result (Gains (bytes_of_pairs (high ∷ low ∷ [])) out.old.items out.new.items) }
     ensures bad { result ≡ Err ByteError.BadHex → bytes_of_pairs (high ∷ low ∷ []) ≡ None }

@@ -50,6 +50,7 @@ fn is_named(word: &[u8], name: &[u8]) -> bool
 }
 
 /// The end that a word names.
+#[inline(always)]
 pub(crate) fn end_named(word: &[u8]) -> Option<Role>
     ensures { result ≡ meaning_in ends word.now }
 {
@@ -63,6 +64,7 @@ pub(crate) fn end_named(word: &[u8]) -> Option<Role>
 }
 
 /// The call that a word names, of this end.
+#[inline(always)]
 pub(crate) fn call_named(who: Role, word: &[u8]) -> Option<CallForm>
     ensures form { result ≡ meaning_in (calls_of who) word.now }
     ensures fits { IfSome result (λ form. FormFits who form) }
@@ -75,6 +77,7 @@ pub(crate) fn call_named(who: Role, word: &[u8]) -> Option<CallForm>
 }
 
 /// The call that a word names, of either end.
+#[inline(always)]
 fn common_call_named(word: &[u8]) -> Option<CallForm>
     ensures form { result ≡ meaning_in common_calls word.now }
     ensures fits { (who : Role) → IfSome result (λ form. FormFits who form) }
@@ -107,6 +110,7 @@ fn common_call_named(word: &[u8]) -> Option<CallForm>
 }
 
 /// The act that a word names.
+#[inline(always)]
 pub(crate) fn act_named(word: &[u8]) -> Option<Act>
     ensures { result ≡ meaning_in acts word.now }
 {

@@ -63,6 +63,7 @@ fn read_page_line(verb: &[u8], words: Words) -> Result<Line, LineError>
 }
 
 /// Reads what an end does.
+#[inline(always)]
 fn read_end_line(
     strings: &mut Strings,
     orders: Orders,
@@ -146,6 +147,7 @@ fn read_begun(
 }
 
 /// Reads a call of an end: its word, and the words behind it.
+#[inline(always)]
 fn read_call(
     strings: &mut Strings,
     room: usize,
@@ -164,6 +166,7 @@ fn read_call(
 }
 
 /// Reads the words behind a call's word.
+#[inline(always)]
 fn read_call_of_form(
     strings: &mut Strings,
     room: usize,

@@ -76,6 +76,7 @@ pub(crate) fn read_number(word: &[u8], least: u64, most: u64) -> Result<u64, Lin
 /// # Errors
 ///
 /// A bad line where it isn't the only word or is empty; a bad number where it is no such number.
+#[inline(always)]
 pub(crate) fn read_count(words: Words, least: u32) -> Result<u32, LineError>
     ensures count { Gives (λ count. count) result (count_of least 2147483647 (words_left words.entry)) }
     ensures within { IfOk result (λ count. least ≤ count) }
@@ -109,6 +110,7 @@ impl Strings {
 ///
 /// A bad line where it isn't the only word or is empty; bad hex where it is no byte string; too
 /// many bytes; `Memory`.
+#[inline(always)]
 pub(crate) fn read_payload(
     strings: &mut Strings,
     words: Words,

@@ -160,6 +160,7 @@ fn push_taken(out: &mut Vec<u8>, call: Call, bytes: &[u8]) -> Result<(), AllocEr
 }
 
 /// Bytes in hexadecimal behind a space, or `-` for none.
+#[inline(always)]
 fn push_bytes(out: &mut Vec<u8>, bytes: &[u8]) -> Result<(), AllocError>
     ensures { OnOk result (out.new.items ≡ with_words out.old.items (bytes_word bytes.now ∷ [])) }
 {
@@ -171,6 +172,7 @@ fn push_bytes(out: &mut Vec<u8>, bytes: &[u8]) -> Result<(), AllocError>
 }
 
 /// Two digits for each byte, in lower case.
+#[inline(always)]
 fn push_hex(out: &mut Vec<u8>, bytes: &[u8]) -> Result<(), AllocError>
     ensures { OnOk result (out.new.items ≡ out.old.items ++ encode_lower bytes.now) }
 {
