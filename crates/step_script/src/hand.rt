@@ -307,7 +307,10 @@ fn call_refusal(page: &Plain, who: Role, call: Call) -> Option<Refusal>
     if page.turned(who) {
         return Some(Refusal::Turned);
     }
-    state_refusal(page.machine(who).state(), has_retired(page, who), call)
+    match page.machine(who).state() {
+        EndState::Open if !matches!(call, Call::Connect) => None,
+        state => state_refusal(state, has_retired(page, who), call),
+    }
 }
 
 /// Why an end in this state can't make a call, where it has retired or not.
@@ -354,15 +357,15 @@ fn step_refusal(page: &Plain, who: Role) -> Option<Refusal>
 fn most_taken(page: &Plain, who: Role, call: Call) -> usize
     ensures { result ≡ loaded_most (standing (machine_of page.now who)) call }
 {
+    let most = match call {
+        Call::Read { most } => most,
+        Call::Recv { len } => len,
+        Call::Drain { most } => most,
+        _ => return 0,
+    };
     let ring = match who {
         Role::Server => Ring::Left,
         Role::Client => Ring::Right,
     };
-    let size = page.words().orders().order_of(ring).size();
-    match call {
-        Call::Read { most } => most.min(size) as usize,
-        Call::Recv { len } => len.min(size) as usize,
-        Call::Drain { most } => most.min(size) as usize,
-        _ => 0,
-    }
+    most.min(page.words().orders().order_of(ring).size()) as usize
 }

@@ -97,7 +97,10 @@ fn push_answer_words(
         OnOk result (out.new.items ≡ with_words out.old.items words) }
 {
     match answer {
-        Answer::Wrote { count } => push_count(out, b"wrote", u64::from(count)),
+        Answer::Wrote { count } => {
+            out.extend_from_slice(b" wrote")?;
+            push_number(out, u64::from(count))
+        }
         Answer::Full { prod, cons } => push_pair(out, b"full", prod, cons),
         Answer::Sent { count } => push_count(out, b"sent", u64::from(count)),
         Answer::NoRoom { prod, cons } => push_pair(out, b"noroom", prod, cons),
@@ -154,7 +157,7 @@ fn push_taken(out: &mut Vec<u8>, call: Call, bytes: &[u8]) -> Result<(), AllocEr
     match call {
         Call::Recv { .. } => push_word(out, b"recv")?,
         Call::Drain { .. } => push_word(out, b"more")?,
-        _ => push_word(out, b"read")?,
+        _ => out.extend_from_slice(b" read")?,
     }
     push_bytes(out, bytes)
 }
