@@ -1,3 +1,4 @@
 pub mod WordLaws
 pub mod NumberLaws
 pub mod PairLaws
+pub mod FirstWord

@@ -57,6 +57,10 @@ fn lines_words_and_numbers_are_read(rt: HostRuntime) {
     let mut words = Words::of(line);
     assert!(rt; words.next().is_some_and(|word| word == b"step".as_slice()));
     assert!(rt; words.only().is_some_and(|word| word == b"7".as_slice()));
+    let words = Words::of(b"read 7");
+    assert!(rt; words.behind(b"rea").is_none());
+    let rest = words.behind(b"read").expect(&rt, "a word behind");
+    assert!(rt; rest.only().is_some_and(|word| word == b"7".as_slice()));
     let numbers: [(&[u8], u64, Option<u64>); 5] = [
         (b"0", 0, Some(0)),
         (b"18446744073709551615", u64::MAX, Some(u64::MAX)),

@@ -1,5 +1,6 @@
 //! Cutting a script into lines, and a line into words.
-ghost use Rattle.std.specs.Prelude.{◌≡◌, ◌==◌, ◌<◌, ◌∷◌, [], length, position, MatchOption, IfNone, IfSome, option_copied};
+ghost use Rattle.std.specs.Prelude.{◌≡◌, ◌==◌, ◌<◌, ◌∷◌, [], length, false, position, MatchOption, IfNone, IfSome, option_copied};
+ghost use Rattle.std.specs.List.{list_any};
 ghost use Rattle.script_words.specs.Words.{lines_of, pieces};
 
 use memchr::memchr;
@@ -69,7 +70,7 @@ pub struct Words<'a> {
 
 impl<'a> Words<'a> {
     ghost use Rattle.script_words.specs.Words.{words_of, only};
-    ghost use Rattle.script_words.specs.WordsLeft.{words_left};
+    ghost use Rattle.script_words.specs.WordsLeft.{IsNotFirst, words_left};
 
     /// All words of a line.
     pub fn of(line: &'a [u8]) -> Words<'a>
@@ -86,6 +87,28 @@ impl<'a> Words<'a> {
         let (word, rest) = cut_at(self.rest?, b' ');
         self.rest = rest;
         Some(word)
+    }
+
+    /// The words behind the first, where the first is `word`, which has no space. It is `None`
+    /// exactly where another word is the first, or there is none.
+    ///
+    /// A word that is expected is found by one comparison, where `next` looks at each byte for the
+    /// space.
+    #[inline(always)]
+    #[tactic(auto, using(crate::proofs::FirstWord::other_front, crate::proofs::FirstWord::goes_on, crate::proofs::FirstWord::only_word, crate::proofs::FirstWord::first_word))]
+    pub fn behind(&self, word: &[u8]) -> Option<Words<'a>>
+        requires spaceless { list_any (λ byte. byte == 32) word.now ≡ false }
+        ensures { MatchOption result (IsNotFirst word.now (words_left self.now)) (λ rest. words_left self.now ≡ word.now ∷ words_left rest) }
+    {
+        let behind = self.rest?.strip_prefix(word)?;
+        let Some((first, rest)) = behind.split_first() else {
+            return Some(Words { rest: None });
+        };
+        if *first == b' ' {
+            Some(Words { rest: Some(rest) })
+        } else {
+            None
+        }
     }
 
     /// The word that is left, where it is the only one.
