@@ -1,5 +1,5 @@
 -- The looks that a machine makes one after another are the events that it makes one by one.
-use Rattle.std.proofs.Common.{◌≡◌, ℕ, suc, zero, ◌+◌, ◌≤◌, ◌==◌, nat_lt, if◌then◌else◌, Some, List, Option, length, slice_index, refl, subst, sym, ap, ◌∙◌, arith}
+use Rattle.std.proofs.Common.{◌≡◌, ℕ, suc, zero, ◌+◌, ◌≤◌, ◌==◌, nat_lt, if◌then◌else◌, List, length, slice_index, refl, subst, sym, ap, ◌∙◌, arith}
 use Rattle.std.proofs.lemmas.List.{set-get_or}
 use Rattle.std.proofs.lemmas.Bool.{false≢true}
 use Rattle.ring_words.specs.Page.{Has, index_of}
@@ -16,16 +16,13 @@ use Rattle.vchan_core.specs.Calls.{write, write_open, write_looked, read, read_l
 use Rattle.vchan_core.specs.Plan.{Plan, answers, does, next_op, after}
 use Rattle.vchan_core.specs.Ends.{Standing, standing_after, read_size, peer_live, cons_word, prod_word, written_ring, read_ring, free_at, ready_at, low8, low32}
 use Rattle.vchan_core.specs.Apply.{Fits, words_after, value_taken, buffer_after}
-use Rattle.vchan_core.specs.Phases.{standing, rest, rest_at, out_at, into_at}
+use Rattle.vchan_core.specs.Phases.{standing, at_phase, rest, rest_at, out_at, into_at}
 use Rattle.vchan_core.specs.Pieces.{MakesEvent, MakesEvents}
 
 -- a load leaves the end's standing
 stands_look : (e : Standing) (op : Op) (word : WordName) → op ≡ Load word → e ≡ standing_after e op
 unfolding standing_after
 stands_look e op word is = rw is refl
-
-abbrev pub at_phase : Machine → Phase → Machine
-at_phase m at = record m { phase = Some at }
 
 look_at : (m : Machine) (at to : Phase) (word : WordName) (next : ℕ → Plan) (list source buffer : List ℕ) →
     rest_at (standing m) at ≡ does (Load word) next → Has m.orders word → rest_at (standing m) to ≡ next (slice_index list (index_of m.orders word)) →
@@ -47,18 +44,12 @@ look_at m at to word next list source buffer plan has goes out into =
     }
 
 -- a load that moves on to a phase
-pub look_one : (m : Machine) (at to : Phase) (word : WordName) (next : ℕ → Plan) (list source buffer : List ℕ) → m.phase ≡ Some at →
+pub look_one : (m : Machine) (at to : Phase) (word : WordName) (next : ℕ → Plan) (list source buffer : List ℕ) →
     rest_at (standing m) at ≡ does (Load word) next → Has m.orders word → rest_at (standing m) to ≡ next (slice_index list (index_of m.orders word)) →
     out_at to ≤ out_at at → into_at (read_size (standing m)) to ≤ into_at (read_size (standing m)) at →
-    MakesEvents 1 m.orders source m list buffer (at_phase m to) list buffer
-look_one m at to word next list source buffer is plan has goes out into =
-    let whole : at_phase m at ≡ m = ap (λ (p : Option Phase). record m { phase = p }) (sym is) in (
-      at_phase m to,
-      list,
-      buffer,
-      subst (λ (x : Machine). MakesEvent m.orders source x list buffer (at_phase m to) list buffer) whole (look_at m at to word next list source buffer plan has goes out into),
-      (refl, refl, refl),
-    )
+    MakesEvents 1 m.orders source (at_phase m at) list buffer (at_phase m to) list buffer
+look_one m at to word next list source buffer plan has goes out into =
+    (at_phase m to, list, buffer, look_at m at to word next list source buffer plan has goes out into, (refl, refl, refl))
 
 -- events, and then more of them
 pub makes_all : (a b : ℕ) (orders : Orders) (source : List ℕ) (m : Machine) (list buffer : List ℕ) (m' : Machine) (list' buffer' : List ℕ) (m'' : Machine) (list'' buffer'' : List ℕ) →

@@ -14,20 +14,24 @@ use Rattle.vchan_core.specs.declared.call.Call.{Call}
 use Rattle.vchan_core.specs.declared.machine.Machine.{Machine}
 use Rattle.vchan_core.specs.declared.moved.Moved.{Moved}
 use Rattle.vchan_core.specs.declared.plain.Plain.{Plain}
-use Rattle.vchan_core.specs.Plan.{Plan, past, Leads}
-use Rattle.vchan_core.specs.Ends.{Standing}
-use Rattle.vchan_core.specs.Calls.{plan_of, payload_of, most_events, Trace}
-use Rattle.vchan_core.specs.Apply.{value_taken, buffer_after, filled}
-use Rattle.vchan_core.specs.Phases.{standing, rest, IsIdle, out_of, into_of, Stands}
+use Rattle.vchan_core.specs.declared.phase.Phase.{Phase}
+use Rattle.vchan_core.specs.declared.phase.Move.{Move}
+use Rattle.vchan_core.specs.declared.phase.Move.TheVariants.{To, Done}
+use Rattle.vchan_core.specs.Plan.{Plan, past, Leads, next_op, after}
+use Rattle.vchan_core.specs.Ends.{Standing, read_size}
+use Rattle.vchan_core.specs.Calls.{plan_of, payload_of, loaded_most, most_events, Trace}
+use Rattle.vchan_core.specs.Apply.{Fits, value_taken, buffer_after, filled}
+use Rattle.vchan_core.specs.Phases.{standing, at_phase, rest, rest_at, plan_at, IsIdle, out_of, into_of, out_at, into_at, out_move, into_move, Stands}
 use Rattle.vchan_core.specs.Counts.{capped}
-use Rattle.vchan_core.specs.Core.{Core, side_of, event, bytes_loaded}
+use Rattle.vchan_core.specs.Core.{Core, side_of, begun, event, bytes_loaded}
 use Rattle.vchan_core.specs.Alone.{alone, whole_call, called, call_answer}
 use Rattle.vchan_core.specs.Past.{IsMachineOf, HasPayload, StandsFor, machine_of, other_of, words_of, orders_of, op_of}
 use Rattle.vchan_core.specs.Pieces.{MakesEvent, MakesEvents}
 use Rattle.vchan_core.specs.Beside.{IsBeside}
+use Rattle.vchan_core.specs.Midway.{page_at, page_to}
 use Rattle.vchan_core.proofs.PlanLaws.{GoesOn-machine, Leads-more}
 use Rattle.vchan_core.proofs.StepLaws.{DoesEvent, stands_server, stands_client, diff-same}
-use Rattle.vchan_core.proofs.RunLaws.{IsRunning, IsStep, runs_on, runs_out, then_stands, then_fills}
+use Rattle.vchan_core.proofs.RunLaws.{IsRunning, IsStep, length-payload, runs_begun, runs_on, runs_out, then_stands, then_fills}
 use Rattle.vchan_core.proofs.Bounds.{length-Stands}
 
 -- ---- an event on a ring byte as a step
@@ -275,3 +279,160 @@ loop_along first who call source start enough (suc n) page page' buffer buffer' 
     let low' : IsLow (machine_of mid who) = subst (λ (e : Standing). (e.prod < 2 ^ 32) × (e.cons < 2 ^ 32)) (sym has.beside.same) low in
     subst (λ (k : ℕ). InLoop first who call source start page' buffer' k) (omega arith)
     (loop_along first who call source start enough n mid page' filled buffer' (count + 1) (loop_on first who call source start enough page mid buffer filled count l low has.beside on) low' (beside_both who page mid page' has.beside beside) later)
+
+-- ---- the phase of a call that the page doesn't know of
+
+-- the end has its next event at a phase
+busy_at : (who : Role) (page : Plain) (phase : Phase) → ¬ IsIdle (machine_of (page_at page who phase) who)
+busy_at Server page phase = λ idle. false≢true (sym idle)
+busy_at Client page phase = λ idle. false≢true (sym idle)
+
+out_of_at : (who : Role) (page : Plain) (phase : Phase) → out_of (machine_of (page_at page who phase) who) ≡ out_at phase
+out_of_at Server page phase = refl
+out_of_at Client page phase = refl
+
+into_of_at : (who : Role) (page : Plain) (phase : Phase) → into_of (machine_of (page_at page who phase) who) ≡ into_at (read_size (standing (machine_of page who))) phase
+into_of_at Server page phase = refl
+into_of_at Client page phase = refl
+
+other_of_at : (who : Role) (page : Plain) (phase : Phase) → other_of (page_at page who phase) who ≡ other_of page who
+other_of_at Server page phase = refl
+other_of_at Client page phase = refl
+
+pub loop_out : (first : Plain) (who : Role) (call : Call) (source start : List ℕ) (page : Plain) (phase : Phase) (buffer : List ℕ) (count : ℕ) → InLoop first who call source start (page_at page who phase) buffer count → out_at phase ≤ length source
+loop_out first who call source start page phase buffer count l = subst (λ (n : ℕ). n ≤ length source) (out_of_at who page phase) l.out
+
+pub loop_into : (first : Plain) (who : Role) (call : Call) (source start : List ℕ) (page : Plain) (phase : Phase) (buffer : List ℕ) (count : ℕ) → InLoop first who call source start (page_at page who phase) buffer count → into_at (read_size (standing (machine_of page who))) phase ≤ length buffer
+loop_into first who call source start page phase buffer count l = subst (λ (n : ℕ). n ≤ length buffer) (into_of_at who page phase) l.into
+
+-- a call has begun at its first phase
+pub loop_first : (first : Plain) (who : Role) (call : Call) (source start : List ℕ) (phase : Phase) → payload_of call ≤ length source → loaded_most (standing (machine_of first who)) call ≤ length start →
+    ((core : Core) (payload : List ℕ) → StandsFor core first → length payload ≡ payload_of call → StandsFor (begun core who call payload) (page_at first who phase)) →
+    rest_at (standing (machine_of first who)) phase ≡ plan_of (standing (machine_of first who)) call →
+    out_at phase ≤ payload_of call → into_at (read_size (standing (machine_of first who))) phase ≤ loaded_most (standing (machine_of first who)) call →
+    InLoop first who call source start (page_at first who phase) start 0
+loop_first first Server call source start phase enough room stands plan out into = record {
+  busy = busy_at Server first phase;
+  out = omega (arith, out, enough);
+  into = omega (arith, into, room);
+  long = refl;
+  other = refl;
+  so_far = ([], sym plan, refl);
+  running = λ core h. runs_begun core Server call (take (payload_of call) source) start first (page_at first Server phase) h (stands core (take (payload_of call) source) h (length-payload call source enough)) plan;
+}
+loop_first first Client call source start phase enough room stands plan out into = record {
+  busy = busy_at Client first phase;
+  out = omega (arith, out, enough);
+  into = omega (arith, into, room);
+  long = refl;
+  other = refl;
+  so_far = ([], sym plan, refl);
+  running = λ core h. runs_begun core Client call (take (payload_of call) source) start first (page_at first Client phase) h (stands core (take (payload_of call) source) h (length-payload call source enough)) plan;
+}
+
+-- so many events at once, from one phase to another
+pub loop_moved : (first : Plain) (who : Role) (call : Call) (source start : List ℕ) → payload_of call ≤ length source → (n : ℕ) (page page' : Plain) (phase phase' : Phase) (buffer buffer' : List ℕ) (count : ℕ) →
+    InLoop first who call source start (page_at page who phase) buffer count → IsLow (machine_of page who) → IsBeside who page page' → machine_of page' who ≡ machine_of page who →
+    MakesEvents n (orders_of page) source (at_phase (machine_of page who) phase) (words_of page) buffer (at_phase (machine_of page who) phase') (words_of page') buffer' →
+    InLoop first who call source start (page_at page' who phase') buffer' (count + n)
+loop_moved first Server call source start enough n page page' phase phase' buffer buffer' count l low b same d =
+    loop_along first Server call source start enough n (page_at page Server phase) (page_at page' Server phase') buffer buffer' count l low
+    (record { same = b.same; orders = b.orders; other = b.other; turned = b.turned; other_turned = b.other_turned; left = b.left; right = b.right })
+    (subst (λ (m : Machine). MakesEvents n (orders_of page) source (at_phase page.server phase) (words_of page) buffer (at_phase m phase') (words_of page') buffer') (sym same) d)
+loop_moved first Client call source start enough n page page' phase phase' buffer buffer' count l low b same d =
+    loop_along first Client call source start enough n (page_at page Client phase) (page_at page' Client phase') buffer buffer' count l low
+    (record { same = b.same; orders = b.orders; other = b.other; turned = b.turned; other_turned = b.other_turned; left = b.left; right = b.right })
+    (subst (λ (m : Machine). MakesEvents n (orders_of page) source (at_phase page.client phase) (words_of page) buffer (at_phase m phase') (words_of page') buffer') (sym same) d)
+
+-- so many looks at once
+pub loop_seen : (first : Plain) (who : Role) (call : Call) (source start : List ℕ) → payload_of call ≤ length source → (n : ℕ) (page : Plain) (phase phase' : Phase) (buffer : List ℕ) (count : ℕ) →
+    InLoop first who call source start (page_at page who phase) buffer count → IsLow (machine_of page who) →
+    MakesEvents n (orders_of page) source (at_phase (machine_of page who) phase) (words_of page) buffer (at_phase (machine_of page who) phase') (words_of page) buffer →
+    InLoop first who call source start (page_at page who phase') buffer (count + n)
+loop_seen first who call source start enough n page phase phase' buffer count l low d =
+    loop_moved first who call source start enough n page page phase phase' buffer buffer count l low
+    (record { same = refl; orders = refl; other = refl; turned = refl; other_turned = refl; left = refl; right = refl }) refl d
+
+-- what the loop knows of the event at a phase
+pub record MovesAt (who : Role) (source : List ℕ) (page page' : Plain) (phase : Phase) (move : Move) (buffer buffer' : List ℕ) : Type 0 where
+  pub stands : (core : Core) → StandsFor core (page_at page who phase) → HasPayload (side_of core who) source → StandsFor (event core who) (page_to page' who move)
+  pub footprint : Fits (orders_of page) (length source) (length buffer) (next_op (rest_at (standing (machine_of page who)) phase))
+  pub buffers : buffer' ≡ buffer_after (orders_of page) (words_of page) buffer (next_op (rest_at (standing (machine_of page who)) phase))
+  pub leads : plan_at (standing (machine_of page' who)) move ≡ after (rest_at (standing (machine_of page who)) phase) (value_taken (orders_of page) (words_of page) (next_op (rest_at (standing (machine_of page who)) phase)))
+  pub idle : IsIdle (machine_of page' who)
+  pub out : out_move move ≤ out_at phase
+  pub into : into_move (read_size (standing (machine_of page' who))) move ≤ into_at (read_size (standing (machine_of page who))) phase
+  pub other : other_of page' who ≡ other_of page who
+
+step_to : (who : Role) (source : List ℕ) (page page' : Plain) (phase next : Phase) (buffer buffer' : List ℕ) → MovesAt who source page page' phase (To next) buffer buffer' →
+    IsStep who source (page_at page who phase) (page_at page' who next) None buffer buffer'
+step_to Server source page page' phase next buffer buffer' d = record {
+  busy = busy_at Server page phase;
+  stands = d.stands;
+  footprint = d.footprint;
+  buffers = d.buffers;
+  leads = d.leads;
+  idle = (λ some. absurd (false≢true some), λ quiet. absurd (false≢true (sym quiet)));
+}
+step_to Client source page page' phase next buffer buffer' d = record {
+  busy = busy_at Client page phase;
+  stands = d.stands;
+  footprint = d.footprint;
+  buffers = d.buffers;
+  leads = d.leads;
+  idle = (λ some. absurd (false≢true some), λ quiet. absurd (false≢true (sym quiet)));
+}
+
+step_done : (who : Role) (source : List ℕ) (page page' : Plain) (phase : Phase) (answer : Answer) (buffer buffer' : List ℕ) → MovesAt who source page page' phase (Done answer) buffer buffer' →
+    IsStep who source (page_at page who phase) page' (Some answer) buffer buffer'
+step_done Server source page page' phase answer buffer buffer' d = record {
+  busy = busy_at Server page phase;
+  stands = d.stands;
+  footprint = d.footprint;
+  buffers = d.buffers;
+  leads = d.leads;
+  idle = (λ some. d.idle, λ quiet. refl);
+}
+step_done Client source page page' phase answer buffer buffer' d = record {
+  busy = busy_at Client page phase;
+  stands = d.stands;
+  footprint = d.footprint;
+  buffers = d.buffers;
+  leads = d.leads;
+  idle = (λ some. d.idle, λ quiet. refl);
+}
+
+-- an event that moves on to a phase
+pub loop_to : (first : Plain) (who : Role) (call : Call) (source start : List ℕ) → payload_of call ≤ length source → (page page' : Plain) (phase next : Phase) (buffer buffer' : List ℕ) (count : ℕ) →
+    InLoop first who call source start (page_at page who phase) buffer count → MovesAt who source page page' phase (To next) buffer buffer' →
+    InLoop first who call source start (page_at page' who next) buffer' (count + 1)
+loop_to first Server call source start enough page page' phase next buffer buffer' count l d =
+    loop_step first Server call source start enough (page_at page Server phase) (page_at page' Server next) buffer buffer' count l (step_to Server source page page' phase next buffer buffer' d) d.out d.into d.other
+loop_to first Client call source start enough page page' phase next buffer buffer' count l d =
+    loop_step first Client call source start enough (page_at page Client phase) (page_at page' Client next) buffer buffer' count l (step_to Client source page page' phase next buffer buffer' d) d.out d.into d.other
+
+-- a call that has made so many events, the last of which gave this answer
+pub record IsEnded (first : Plain) (who : Role) (call : Call) (source start : List ℕ) (page : Plain) (buffer : List ℕ) (count : ℕ) (answer : Answer) : Type 0 where
+  pub trace : (events : List PastEvent) × Trace (standing (machine_of first who)) call events answer × (count ≡ length events)
+  pub short : count ≤ most_events (standing (machine_of first who)) call
+  pub stands : (core : Core) → StandsFor core first → StandsFor (called core who call (take (payload_of call) source)) page
+  pub answers : (core : Core) → StandsFor core first → answer ≡ call_answer core who call (take (payload_of call) source)
+  pub fills : (core : Core) → StandsFor core first → buffer ≡ filled start (bytes_loaded (side_of (called core who call (take (payload_of call) source)) who).trail)
+  pub other : other_of page who ≡ other_of first who
+
+-- an event that gives the answer
+pub loop_done : (first : Plain) (who : Role) (call : Call) (source start : List ℕ) → payload_of call ≤ length source → (page page' : Plain) (phase : Phase) (answer : Answer) (buffer buffer' : List ℕ) (count : ℕ) →
+    InLoop first who call source start (page_at page who phase) buffer count → MovesAt who source page page' phase (Done answer) buffer buffer' →
+    IsEnded first who call source start page' buffer' (count + 1) answer
+loop_done first who call source start enough page page' phase answer buffer buffer' count l d =
+    let here = page_at page who phase in
+    let last = step_done who source page page' phase answer buffer buffer' d in
+    let short = loop_short first who call source start enough here buffer count l in
+    record {
+      trace = ends_trace first who call source start enough here page' buffer buffer' count answer l last;
+      short = omega (arith, short);
+      stands = ends_stands first who call source start enough here page' buffer buffer' count answer l last;
+      answers = ends_answer first who call source start enough here page' buffer buffer' count answer l last;
+      fills = ends_buffer first who call source start enough here page' buffer buffer' count answer l last;
+      other = d.other ∙ sym (other_of_at who page phase) ∙ l.other;
+    }

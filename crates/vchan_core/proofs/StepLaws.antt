@@ -22,14 +22,18 @@ use Rattle.vchan_core.specs.declared.side.Side.{Side}
 use Rattle.vchan_core.specs.declared.side.Begun.{Begun}
 use Rattle.vchan_core.specs.declared.machine.Machine.{Machine}
 use Rattle.vchan_core.specs.declared.moved.Moved.{Moved}
+use Rattle.vchan_core.specs.declared.phase.Phase.{Phase}
+use Rattle.vchan_core.specs.declared.phase.Move.{Move}
+use Rattle.vchan_core.specs.declared.phase.Move.TheVariants.{To, Done as Ended}
 use Rattle.vchan_core.specs.declared.plain.Plain.{Plain}
 use Rattle.vchan_core.specs.Plan.{Plan, answers, does, next_op, after, left_after, past, Leads, GoesOn}
 use Rattle.vchan_core.specs.Ends.{Standing, read_order, write_order, standing_after, prod_stored, cons_stored, prod_after, cons_after}
 use Rattle.vchan_core.specs.Calls.{plan_of, payload_of, stored_most, loaded_most}
 use Rattle.vchan_core.specs.Apply.{Fits, words_after, value_taken}
-use Rattle.vchan_core.specs.Phases.{standing, rest, left, IsIdle}
+use Rattle.vchan_core.specs.Phases.{standing, at_phase, rest, rest_at, plan_at, left, IsIdle}
 use Rattle.vchan_core.specs.Core.{Core, side_of, with_side, event, plan_next, begun_standing, standing_of, standing_along, plan_left, made, settled, answered, answer_in, count_stored, bytes_loaded, sent_stored, sent_after, got_stored, got_after}
 use Rattle.vchan_core.specs.Counts.{capped}
+use Rattle.vchan_core.specs.Midway.{page_at, page_to}
 use Rattle.vchan_core.specs.Past.{IsInCall, IsMachineOf, HasPayload, StandsFor, orders_of, words_of}
 use Rattle.vchan_core.proofs.PlanLaws.{Leads-more, GoesOn-machine, left_after-Leads}
 use Rattle.vchan_core.proofs.Counted.{Counted, Owes, OwesIndex, counted_call, counts_within, Counted-Leads}
@@ -414,6 +418,64 @@ pub counts_on : (result was from x y before then_after : ℕ) → x ≡ then_aft
     result ≡ capped (was + diff then_after before)
 counts_on result was from x y before then_after xs ys low_x low_y from_is is =
     is ∙ ap (λ (n : ℕ). min (was + n) 18446744073709551615) (from_is ∙ diff-wraps x y low_x low_y ∙ ap (λ (n : ℕ). diff n y) xs ∙ ap (λ (n : ℕ). diff then_after n) ys)
+
+-- what a machine does at a phase that its page doesn't know of
+pub record DoesAt (orders : Orders) (words source : List ℕ) (m m' : Machine) (phase : Phase) (move : Move) (words' : List ℕ) (writes reads writes' reads' : Moved) : Type 0 where
+  pub leads : plan_at (standing m') move ≡ after (rest_at (standing m) phase) (value_taken orders words (next_op (rest_at (standing m) phase)))
+  pub idle : IsIdle m'
+  pub stands : standing m' ≡ standing_after (standing m) (next_op (rest_at (standing m) phase))
+  pub words_are : words' ≡ words_after orders words source (next_op (rest_at (standing m) phase))
+  pub writes_are : writes' ≡ record writes { sent = capped (writes.sent + diff (standing m').prod (standing m).prod) }
+  pub reads_are : reads' ≡ record reads { got = capped (reads.got + diff (standing m').cons (standing m).cons) }
+  pub low : ((standing m).prod < 2 ^ 32) × ((standing m).cons < 2 ^ 32)
+
+does_to : (orders : Orders) (words source : List ℕ) (m m' : Machine) (phase next : Phase) (words' : List ℕ) (writes reads writes' reads' : Moved) →
+    DoesAt orders words source m m' phase (To next) words' writes reads writes' reads' → DoesEvent orders words source (at_phase m phase) (at_phase m' next) None words' writes reads writes' reads'
+does_to orders words source m m' phase next words' writes reads writes' reads' d = record {
+  busy = λ idle. false≢true (sym idle);
+  leads = d.leads;
+  idle = (λ some. absurd (false≢true some), λ quiet. absurd (false≢true (sym quiet)));
+  stands = d.stands;
+  words_are = d.words_are;
+  writes_are = d.writes_are;
+  reads_are = d.reads_are;
+  low = d.low;
+}
+
+does_last : (orders : Orders) (words source : List ℕ) (m m' : Machine) (phase : Phase) (answer : Answer) (words' : List ℕ) (writes reads writes' reads' : Moved) →
+    DoesAt orders words source m m' phase (Ended answer) words' writes reads writes' reads' → DoesEvent orders words source (at_phase m phase) m' (Some answer) words' writes reads writes' reads'
+does_last orders words source m m' phase answer words' writes reads writes' reads' d = record {
+  busy = λ idle. false≢true (sym idle);
+  leads = d.leads;
+  idle = (λ some. d.idle, λ quiet. refl);
+  stands = d.stands;
+  words_are = d.words_are;
+  writes_are = d.writes_are;
+  reads_are = d.reads_are;
+  low = d.low;
+}
+
+pub stands_server_at : (core : Core) (page page' : Plain) (source : List ℕ) (phase : Phase) (move : Move) → StandsFor core (page_at page Server phase) → HasPayload core.server source →
+    DoesAt (orders_of page) (words_of page) source page.server page'.server phase move (words_of page') page.right page.left page'.right page'.left →
+    orders_of page' ≡ orders_of page → page'.client ≡ page.client → page'.server_turned ≡ page.server_turned → page'.client_turned ≡ page.client_turned →
+    StandsFor (event core Server) (page_to page' Server move)
+stands_server_at core page page' source phase (To next) h has d orders other server_turned client_turned =
+    stands_server core (page_at page Server phase) (page_at page' Server next) source None h has
+    (does_to (orders_of page) (words_of page) source page.server page'.server phase next (words_of page') page.right page.left page'.right page'.left d) orders other server_turned client_turned
+stands_server_at core page page' source phase (Ended answer) h has d orders other server_turned client_turned =
+    stands_server core (page_at page Server phase) page' source (Some answer) h has
+    (does_last (orders_of page) (words_of page) source page.server page'.server phase answer (words_of page') page.right page.left page'.right page'.left d) orders other server_turned client_turned
+
+pub stands_client_at : (core : Core) (page page' : Plain) (source : List ℕ) (phase : Phase) (move : Move) → StandsFor core (page_at page Client phase) → HasPayload core.client source →
+    DoesAt (orders_of page) (words_of page) source page.client page'.client phase move (words_of page') page.left page.right page'.left page'.right →
+    orders_of page' ≡ orders_of page → page'.server ≡ page.server → page'.server_turned ≡ page.server_turned → page'.client_turned ≡ page.client_turned →
+    StandsFor (event core Client) (page_to page' Client move)
+stands_client_at core page page' source phase (To next) h has d orders other server_turned client_turned =
+    stands_client core (page_at page Client phase) (page_at page' Client next) source None h has
+    (does_to (orders_of page) (words_of page) source page.client page'.client phase next (words_of page') page.left page.right page'.left page'.right d) orders other server_turned client_turned
+stands_client_at core page page' source phase (Ended answer) h has d orders other server_turned client_turned =
+    stands_client core (page_at page Client phase) page' source (Some answer) h has
+    (does_last (orders_of page) (words_of page) source page.client page'.client phase answer (words_of page') page.left page.right page'.left page'.right d) orders other server_turned client_turned
 
 pub keeps_orders : (m m' : Machine) (op : Op) → standing m' ≡ standing_after (standing m) op → m'.orders ≡ m.orders
 unfolding standing_after

@@ -26,3 +26,4 @@ pub mod Worked
 pub mod WorkedEnd
 pub mod Pieces
 pub mod Beside
+pub mod Midway

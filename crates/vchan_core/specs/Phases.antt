@@ -76,6 +76,15 @@ abbrev pub left : Option Answer → Machine → Plan
 left None m = rest m
 left (Some answer) m = answers answer
 
+-- the machine, at this phase of a call
+abbrev pub at_phase : Machine → Phase → Machine
+at_phase m phase = record m { phase = Some phase }
+
+-- the answer that a move gives, if any
+abbrev pub answer_of : Move → Option Answer
+answer_of (To phase) = None
+answer_of (Done answer) = Some answer
+
 -- the machine is between calls
 abbrev pub IsIdle : Machine → Type 0
 IsIdle m = IsNone m.phase

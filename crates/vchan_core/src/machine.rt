@@ -32,7 +32,7 @@ impl Machine {
     ghost use Rattle.vchan_core.specs.Plan.{next_op, after, left_after, past};
     ghost use Rattle.vchan_core.specs.Ends.{Standing, written_ring, read_ring, ask_word, notify_word, peer_live, peer_pending as peer_pending_of, prod_word as prod_word_of, cons_word as cons_word_of, mask as mask_of, own_live, own_gone, own_pending, peer_gone, free_at, ready_at, read_size, standing_after};
     ghost use Rattle.vchan_core.specs.Calls.{plan_of, payload_of, loaded_most, IsAllowed};
-    ghost use Rattle.vchan_core.specs.Phases.{standing, rest, rest_at, left, IsIdle, Allows, out_at, into_at, out_of, into_of, Stands, StandsOrAnswered};
+    ghost use Rattle.vchan_core.specs.Phases.{standing, rest, rest_at, plan_at, left, IsIdle, Allows, out_at, into_at, out_of, into_of, out_move, into_move, Stands, StandsOrAnswered};
     ghost use Rattle.vchan_core.specs.declared.call.Call.{Call};
     ghost use Rattle.vchan_core.specs.declared.call.Answer.{Answer};
     ghost use Rattle.vchan_core.specs.declared.op.PastEvent.{PastEvent};
@@ -101,7 +101,6 @@ impl Machine {
     }
 
     /// Begins a call, and makes no event.
-    #[tactic(auto, unfolding(crate::specs::Phases::rest_at))]
     pub fn begin(&mut self, call: Call)
         requires { Allows self.old call }
         ensures standing { standing self.new ≡ standing self.old }
@@ -110,7 +109,18 @@ impl Machine {
         ensures out { out_of self.new ≤ payload_of call }
         ensures into { into_of self.new ≤ loaded_most (standing self.old) call }
     {
-        let phase = match call {
+        self.phase = Some(self.first(call));
+    }
+
+    /// The phase with which a call begins.
+    #[tactic(auto, unfolding(crate::specs::Phases::rest_at))]
+    #[inline(always)]
+    pub(crate) fn first(&self, call: Call) -> Phase
+        ensures plan { rest_at (standing self.now) result ≡ plan_of (standing self.now) call }
+        ensures out { out_at result ≤ payload_of call }
+        ensures into { into_at (read_size (standing self.now)) result ≤ loaded_most (standing self.now) call }
+    {
+        match call {
             Call::Write { len } => Phase::WriteLive { len },
             Call::Send { len } => Phase::SendLive { len },
             Call::Read { most } => Phase::ReadLook { most },
@@ -126,8 +136,7 @@ impl Machine {
                 EndState::Shut => Phase::GoneStore,
                 _ => Phase::RetireStore,
             },
-        };
-        self.phase = Some(phase);
+        }
     }
 
     /// The event that comes next. It is `Nothing` exactly where the end is between two calls.
@@ -193,9 +202,7 @@ impl Machine {
         ensures out { out_of self.new ≤ out_at phase }
         ensures into { into_of self.new ≤ into_at (read_size (standing self.old)) phase }
     {
-        let moved = self.moved(phase, value);
-        self.count(phase);
-        match moved {
+        match self.advanced(phase, value) {
             Move::To(phase) => {
                 self.phase = Some(phase);
                 None
@@ -205,6 +212,20 @@ impl Machine {
                 Some(answer)
             }
         }
+    }
+
+    /// What comes of the event of a phase, which is taken into its own counts and its state.
+    #[inline(always)]
+    fn advanced(&mut self, phase: Phase, value: u64) -> Move
+        ensures rest { plan_at (standing self.new) result ≡ after (rest_at (standing self.old) phase) value }
+        ensures phase { self.new.phase ≡ self.old.phase }
+        ensures standing { standing self.new ≡ standing_after (standing self.old) (next_op (rest_at (standing self.old) phase)) }
+        ensures out { out_move result ≤ out_at phase }
+        ensures into { into_move (read_size (standing self.new)) result ≤ into_at (read_size (standing self.old)) phase }
+    {
+        let moved = self.moved(phase, value);
+        self.count(phase);
+        moved
     }
 
     /// Takes the event of a phase into its own counts and its state: an own index that it stores is
@@ -495,16 +516,34 @@ impl Machine {
     fn written(&self) -> Ring
         ensures { result ≡ written_ring self.now.role }
     {
-        match self.role {
-            Role::Server => Ring::Right,
-            Role::Client => Ring::Left,
-        }
+        self.written_as(self.role)
     }
 
     fn read(&self) -> Ring
         ensures { result ≡ read_ring self.now.role }
     {
-        match self.role {
+        self.read_as(self.role)
+    }
+
+    /// The ring that it writes, for a caller that knows its role.
+    #[inline(always)]
+    fn written_as(&self, role: Role) -> Ring
+        requires { self.now.role ≡ role }
+        ensures { result ≡ written_ring self.now.role }
+    {
+        match role {
+            Role::Server => Ring::Right,
+            Role::Client => Ring::Left,
+        }
+    }
+
+    /// The ring that it reads, for a caller that knows its role.
+    #[inline(always)]
+    fn read_as(&self, role: Role) -> Ring
+        requires { self.now.role ≡ role }
+        ensures { result ≡ read_ring self.now.role }
+    {
+        match role {
             Role::Server => Ring::Left,
             Role::Client => Ring::Right,
         }

@@ -61,6 +61,35 @@ impl Moved {
         answer
     }
 
+    /// Counts what an end's own count of the ring that it writes has moved on.
+    #[inline(always)]
+    pub(crate) fn show(&mut self, before: u32, now: u32)
+        ensures { self.new ≡ record self.old { sent = capped (self.old.sent + diff now before) } }
+    {
+        let shown = now.wrapping_sub(before);
+        self.sent = self.sent.saturating_add(u64::from(shown));
+    }
+
+    /// Counts what an end's own count of the ring that it reads has moved on.
+    #[inline(always)]
+    pub(crate) fn give_up(&mut self, before: u32, now: u32)
+        ensures { self.new ≡ record self.old { got = capped (self.old.got + diff now before) } }
+    {
+        let given_up = now.wrapping_sub(before);
+        self.got = self.got.saturating_add(u64::from(given_up));
+    }
+
+    /// Where an own count doesn't move, what was moved stays. It only says so, for a caller whose
+    /// event moves none.
+    #[inline(always)]
+    pub(crate) fn stays(&self)
+        ensures sent { (prod : ℕ) → self.now ≡ record self.now { sent = capped (self.now.sent + diff prod prod) } }
+        ensures got { (cons : ℕ) → self.now ≡ record self.now { got = capped (self.now.got + diff cons cons) } }
+    {
+        let _sent = self.sent();
+        let _got = self.got();
+    }
+
     /// Counts what an end's own counts, of the ring that it writes and of the one that it reads,
     /// have moved on.
     #[inline(always)]
@@ -69,13 +98,7 @@ impl Moved {
         ensures got { reads.new ≡ record reads.old { got = capped (reads.old.got + diff now.1 before.1) } }
         ensures low { (before.0 < 2 ^ 32) × (before.1 < 2 ^ 32) }
     {
-        let (prod, cons) = before;
-        let (shown, given_up) = now;
-        writes.sent = writes
-            .sent
-            .saturating_add(u64::from(shown.wrapping_sub(prod)));
-        reads.got = reads
-            .got
-            .saturating_add(u64::from(given_up.wrapping_sub(cons)));
+        writes.show(before.0, now.0);
+        reads.give_up(before.1, now.1);
     }
 }

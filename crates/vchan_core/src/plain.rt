@@ -5,6 +5,7 @@ use crate::call::{Answer, Call, EndState};
 use crate::carry::carry_out;
 use crate::machine::Machine;
 use crate::moved::Moved;
+use crate::phase::{Move, Phase};
 use crate::steps::Steps;
 use crate::words::peer_pending;
 use ring_words::{Layout, Orders, Ring, Role, WordName, Words};
@@ -33,10 +34,10 @@ pub struct Plain {
 
 impl Plain {
     ghost use Rattle.vchan_core.specs.Apply.{Fits, words_after, value_taken, buffer_after, filled};
-    ghost use Rattle.vchan_core.specs.Plan.{after, past};
-    ghost use Rattle.vchan_core.specs.Ends.{Standing, peer_pending as peer_pending_of};
+    ghost use Rattle.vchan_core.specs.Plan.{after, next_op, past};
+    ghost use Rattle.vchan_core.specs.Ends.{Standing, read_size, peer_pending as peer_pending_of};
     ghost use Rattle.vchan_core.specs.Calls.{plan_of, payload_of, loaded_most, most_events, Trace};
-    ghost use Rattle.vchan_core.specs.Phases.{standing, rest, left as left_of, IsIdle, Allows, out_of, into_of, Stands, StandsOrAnswered};
+    ghost use Rattle.vchan_core.specs.Phases.{standing, at_phase, rest, rest_at, plan_at, left as left_of, IsIdle, Allows, out_of, into_of, out_at, into_at, out_move, into_move, Stands, StandsOrAnswered};
     ghost use Rattle.vchan_core.specs.Core.{Core, opened, begun, event, side_of, writer_of, reader_of, plan_next, answer_in, bytes_loaded};
     ghost use Rattle.vchan_core.specs.Counts.{capped};
     ghost use Rattle.ring_words.specs.Page.{index_of};
@@ -48,6 +49,7 @@ impl Plain {
     ghost use Rattle.vchan_core.specs.ListLaw.{FollowsLists};
     ghost use Rattle.vchan_core.specs.Pieces.{MakesEvents};
     ghost use Rattle.vchan_core.specs.Beside.{IsBeside};
+    ghost use Rattle.vchan_core.specs.Midway.{page_at, page_to};
     ghost use Rattle.vchan_core.specs.Past.{machine_of, other_of, words_of, orders_of, turned_of, other_turned_of, op_of, StandsFor, HasPayload};
     ghost use Rattle.vchan_core.specs.declared.call.Call.{Call};
     ghost use Rattle.vchan_core.specs.declared.op.PastEvent.{PastEvent};
@@ -270,54 +272,82 @@ impl Plain {
         }
     }
 
-    /// The looks of an end that come next in a write or a read, and that give no answer. It answers
-    /// how many they were.
+    /// The phase with which a call of an end begins.
     #[inline(always)]
-    fn look_ahead(&mut self, who: Role) -> u32
-        ensures page { IsBeside who self.old self.new }
-        ensures low { ((standing (machine_of self.old who)).prod < 2 ^ 32) × ((standing (machine_of self.old who)).cons < 2 ^ 32) }
-        ensures events { (payload : List ℕ) → (buffer : List ℕ)
-            → MakesEvents result (orders_of self.old) payload (machine_of self.old who) (words_of self.old) buffer (machine_of self.new who) (words_of self.new) buffer }
+    fn first(&self, who: Role, call: Call) -> Phase
+        requires { IsIdle (machine_of self.now who) }
+        ensures stands { (core : Core) (payload : List ℕ) → StandsFor core self.now → length payload ≡ payload_of call → StandsFor (begun core who call payload) (page_at self.now who result) }
+        ensures plan { rest_at (standing (machine_of self.now who)) result ≡ plan_of (standing (machine_of self.now who)) call }
+        ensures out { out_at result ≤ payload_of call }
+        ensures into { into_at (read_size (standing (machine_of self.now who))) result ≤ loaded_most (standing (machine_of self.now who)) call }
     {
         match who {
-            Role::Server => self.server.look_ahead(&self.words),
-            Role::Client => self.client.look_ahead(&self.words),
+            Role::Server => self.server.first(call),
+            Role::Client => self.client.first(call),
+        }
+    }
+
+    /// The looks of an end that come next in a write or a read, and that give no answer. It answers
+    /// how many they were, and the phase then.
+    #[inline(always)]
+    fn look_ahead(&self, who: Role, phase: Phase) -> (u32, Phase)
+        ensures low { ((standing (machine_of self.now who)).prod < 2 ^ 32) × ((standing (machine_of self.now who)).cons < 2 ^ 32) }
+        ensures events { (payload : List ℕ) → (buffer : List ℕ)
+            → MakesEvents result.0 (orders_of self.now) payload (at_phase (machine_of self.now who) phase) (words_of self.now) buffer (at_phase (machine_of self.now who) result.1) (words_of self.now) buffer }
+    {
+        match who {
+            Role::Server => self.server.look_ahead(who, phase, &self.words),
+            Role::Client => self.client.look_ahead(who, phase, &self.words),
         }
     }
 
     /// The events of an end that come next as long as they are all on bytes of one piece of a ring.
-    /// It answers how many they were, and none gives an answer.
-    fn move_piece(&mut self, who: Role, payload: &[u8], buf: &mut [u8]) -> u32
-        requires payload { out_of (machine_of self.old who) ≤ length payload.now }
-        requires buf { into_of (machine_of self.old who) ≤ length buf.old }
+    /// It answers how many they were, and the phase then; none gives an answer.
+    #[inline(always)]
+    fn move_piece(
+        &mut self,
+        who: Role,
+        phase: Phase,
+        payload: &[u8],
+        buf: &mut [u8],
+    ) -> (u32, Phase)
+        requires payload { out_at phase ≤ length payload.now }
+        requires buf { into_at (read_size (standing (machine_of self.old who))) phase ≤ length buf.old }
         ensures page { IsBeside who self.old self.new }
+        ensures machine { machine_of self.new who ≡ machine_of self.old who }
         ensures low { ((standing (machine_of self.old who)).prod < 2 ^ 32) × ((standing (machine_of self.old who)).cons < 2 ^ 32) }
-        ensures events { MakesEvents result (orders_of self.old) payload.now (machine_of self.old who) (words_of self.old) buf.old (machine_of self.new who) (words_of self.new) buf.new }
+        ensures events { MakesEvents result.0 (orders_of self.old) payload.now (at_phase (machine_of self.old who) phase) (words_of self.old) buf.old (at_phase (machine_of self.old who) result.1) (words_of self.new) buf.new }
     {
         match who {
-            Role::Server => self.server.move_piece(&mut self.words, payload, buf),
-            Role::Client => self.client.move_piece(&mut self.words, payload, buf),
+            Role::Server => self
+                .server
+                .move_piece(who, phase, &mut self.words, payload, buf),
+            Role::Client => self
+                .client
+                .move_piece(who, phase, &mut self.words, payload, buf),
         }
     }
 
-    /// One event of an end that is inside a call, as [`Plain::step`] makes it. The frequent phases
-    /// are inlined.
+    /// One event of an end at a phase of its call. Its machine knows of no call, and takes only its
+    /// own counts and its state from the event.
     #[inline(always)]
-    fn event(&mut self, who: Role, payload: &[u8], buf: &mut [u8]) -> Option<Answer>
-        requires busy { ¬ IsIdle (machine_of self.old who) }
-        requires payload { out_of (machine_of self.old who) ≤ length payload.now }
-        requires buf { into_of (machine_of self.old who) ≤ length buf.old }
-        ensures stands { (core : Core) → StandsFor core self.old → HasPayload (side_of core who) payload.now → StandsFor (event core who) self.new }
-        ensures footprint { Fits (orders_of self.old) (length payload.now) (length buf.old) (op_of self.old who) }
-        ensures buffer { buf.new ≡ buffer_after (orders_of self.old) (words_of self.old) buf.old (op_of self.old who) }
-        ensures rest { left_of result (machine_of self.new who) ≡ after (rest (machine_of self.old who)) (value_taken (orders_of self.old) (words_of self.old) (op_of self.old who)) }
-        ensures idle { IsSome result ↔ IsIdle (machine_of self.new who) }
-        ensures out { out_of (machine_of self.new who) ≤ out_of (machine_of self.old who) }
-        ensures into { into_of (machine_of self.new who) ≤ into_of (machine_of self.old who) }
+    fn event(&mut self, who: Role, phase: Phase, payload: &[u8], buf: &mut [u8]) -> Move
+        requires idle { IsIdle (machine_of self.old who) }
+        requires payload { out_at phase ≤ length payload.now }
+        requires buf { into_at (read_size (standing (machine_of self.old who))) phase ≤ length buf.old }
+        ensures stands { (core : Core) → StandsFor core (page_at self.old who phase) → HasPayload (side_of core who) payload.now → StandsFor (event core who) (page_to self.new who result) }
+        ensures footprint { Fits (orders_of self.old) (length payload.now) (length buf.old) (next_op (rest_at (standing (machine_of self.old who)) phase)) }
+        ensures buffer { buf.new ≡ buffer_after (orders_of self.old) (words_of self.old) buf.old (next_op (rest_at (standing (machine_of self.old who)) phase)) }
+        ensures rest { plan_at (standing (machine_of self.new who)) result ≡ after (rest_at (standing (machine_of self.old who)) phase) (value_taken (orders_of self.old) (words_of self.old) (next_op (rest_at (standing (machine_of self.old who)) phase))) }
+        ensures idle { IsIdle (machine_of self.new who) }
+        ensures out { out_move result ≤ out_at phase }
+        ensures into { into_move (read_size (standing (machine_of self.new who))) result ≤ into_at (read_size (standing (machine_of self.old who))) phase }
         ensures other { other_of self.new who ≡ other_of self.old who }
     {
         match who {
             Role::Server => self.server.event(
+                who,
+                phase,
                 &mut self.words,
                 payload,
                 buf,
@@ -325,6 +355,8 @@ impl Plain {
                 &mut self.left,
             ),
             Role::Client => self.client.event(
+                who,
+                phase,
                 &mut self.words,
                 payload,
                 buf,
@@ -361,13 +393,24 @@ impl Plain {
         ensures idle { IsIdle (machine_of self.new who) }
         ensures other { other_of self.new who ≡ other_of self.old who }
     {
-        self.begin(who, call);
+        let mut phase = self.first(who, call);
         'events: loop {
-            steps.add(self.look_ahead(who));
-            steps.add(self.move_piece(who, payload, buf));
+            let (looks, looked) = self.look_ahead(who, phase);
+            steps.add(looks);
+            let (moved, at) = self.move_piece(who, looked, payload, buf);
+            steps.add(moved);
             steps.tick();
-            if let Some(answer) = self.event(who, payload, buf) {
-                return answer;
+            match self.event(who, at, payload, buf) {
+                // An index is stored: the event that looks whether the peer asked follows at once.
+                Move::To(Phase::Notify { bit, answer }) => {
+                    steps.tick();
+                    match self.event(who, Phase::Notify { bit, answer }, payload, buf) {
+                        Move::To(next) => phase = next,
+                        Move::Done(answer) => return answer,
+                    }
+                }
+                Move::To(next) => phase = next,
+                Move::Done(answer) => return answer,
             }
         }
     }

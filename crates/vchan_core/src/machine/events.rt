@@ -1,62 +1,177 @@
 //! An event of a machine on words in memory, from its choice to what comes of it.
 //!
 //! A whole call makes its events here. The frequent phases stand apart from the others, so that
-//! their code is small enough to be inlined.
-ghost use Rattle.std.specs.Prelude.{◌≡◌, ◌≤◌, ◌<◌, ◌+◌, ◌^◌, ◌↔◌, IsSome, length};
+//! their code is small enough to be inlined. The phase is the caller's: the machine has its own
+//! counts and its state alone, and its own phase stays as it is.
+ghost use Rattle.std.specs.Prelude.{◌≡◌, ◌≤◌, ◌<◌, ◌+◌, ◌^◌, ℕ, List, length};
 ghost use Rattle.ring_words.specs.Rings.{diff};
 ghost use Rattle.vchan_core.specs.Apply.{Fits, words_after, value_taken, buffer_after};
 ghost use Rattle.vchan_core.specs.Counts.{capped};
 ghost use Rattle.vchan_core.specs.Plan.{next_op, after};
 ghost use Rattle.vchan_core.specs.Ends.{read_size, standing_after};
-ghost use Rattle.vchan_core.specs.Phases.{standing, rest, rest_at, left as left_of, IsIdle, out_at, into_at, out_of, into_of};
+ghost use Rattle.vchan_core.specs.Phases.{standing, rest_at, plan_at, out_at, into_at, out_move, into_move};
 
 use super::Machine;
-use crate::call::Answer;
+use super::moves::{notified, put_on, take_on};
+use crate::call::{Answer, Bit};
 use crate::carry::carry_out;
 use crate::moved::Moved;
-use crate::phase::Phase;
-use ring_words::Words;
+use crate::phase::{Move, Phase};
+use crate::words::{cons_word, mask, prod_word};
+use ring_words::{Role, WordName, Words};
 
 impl Machine {
-    /// The event that comes next, on these words, with what it shows or gives up counted.
+    /// The event of a phase, on these words, with what it shows or gives up counted.
     #[inline(always)]
     pub(crate) fn event(
         &mut self,
+        role: Role,
+        phase: Phase,
         words: &mut Words,
         payload: &[u8],
         buf: &mut [u8],
         writes: &mut Moved,
         reads: &mut Moved,
-    ) -> Option<Answer>
-        requires busy { ¬ IsIdle self.old }
+    ) -> Move
+        requires role { self.old.role ≡ role }
         requires orders { words.old.orders ≡ self.old.orders }
-        requires payload { out_of self.old ≤ length payload.now }
-        requires buf { into_of self.old ≤ length buf.old }
+        requires payload { out_at phase ≤ length payload.now }
+        requires buf { into_at (read_size (standing self.old)) phase ≤ length buf.old }
         ensures orders { words.new.orders ≡ words.old.orders }
-        ensures footprint { Fits words.old.orders (length payload.now) (length buf.old) (next_op (rest self.old)) }
-        ensures words { words.new.list ≡ words_after words.old.orders words.old.list payload.now (next_op (rest self.old)) }
-        ensures buffer { buf.new ≡ buffer_after words.old.orders words.old.list buf.old (next_op (rest self.old)) }
-        ensures rest { left_of result self.new ≡ after (rest self.old) (value_taken words.old.orders words.old.list (next_op (rest self.old))) }
-        ensures idle { IsSome result ↔ IsIdle self.new }
-        ensures standing { standing self.new ≡ standing_after (standing self.old) (next_op (rest self.old)) }
-        ensures out { out_of self.new ≤ out_of self.old }
-        ensures into { into_of self.new ≤ into_of self.old }
+        ensures footprint { Fits words.old.orders (length payload.now) (length buf.old) (next_op (rest_at (standing self.old) phase)) }
+        ensures words { words.new.list ≡ words_after words.old.orders words.old.list payload.now (next_op (rest_at (standing self.old) phase)) }
+        ensures buffer { buf.new ≡ buffer_after words.old.orders words.old.list buf.old (next_op (rest_at (standing self.old) phase)) }
+        ensures rest { plan_at (standing self.new) result ≡ after (rest_at (standing self.old) phase) (value_taken words.old.orders words.old.list (next_op (rest_at (standing self.old) phase))) }
+        ensures phase { self.new.phase ≡ self.old.phase }
+        ensures standing { standing self.new ≡ standing_after (standing self.old) (next_op (rest_at (standing self.old) phase)) }
+        ensures out { out_move result ≤ out_at phase }
+        ensures into { into_move (read_size (standing self.new)) result ≤ into_at (read_size (standing self.old)) phase }
         ensures sent { writes.new ≡ record writes.old { sent = capped (writes.old.sent + diff (standing self.new).prod (standing self.old).prod) } }
         ensures got { reads.new ≡ record reads.old { got = capped (reads.old.got + diff (standing self.new).cons (standing self.old).cons) } }
         ensures low { ((standing self.old).prod < 2 ^ 32) × ((standing self.old).cons < 2 ^ 32) }
     {
-        let Some(phase) = self.phase else {
-            unreachable!()
-        };
         match phase {
-            Phase::Put { .. } | Phase::Take { .. } | Phase::Notify { .. } => self.event_at(
-                phase, words, payload, buf, writes, reads,
-            ),
-            _ => self.seldom(phase, words, payload, buf, writes, reads),
+            Phase::Put { at, count, answer } if at >= count => {
+                reads.stays();
+                self.show(role, at, count, answer, words, writes)
+            }
+            Phase::Take { at, count, answer } if at >= count => {
+                writes.stays();
+                self.give_up(role, at, count, answer, words, reads)
+            }
+            Phase::Notify { bit, answer } => {
+                writes.stays();
+                reads.stays();
+                self.notify_peer(role, bit, answer, words)
+            }
+            // Copies of their own, so that the phase and what comes of it lie in memory here alone.
+            _ => {
+                let rare = phase;
+                let next = self.seldom(rare, words, payload, buf, writes, reads);
+                next
+            }
         }
     }
 
-    /// [`Machine::event_at`] for the phases that are seldom, as one function that is called.
+    /// The event of a put once all its bytes are stored: the index that shows them all.
+    #[tactic(auto, using(crate::proofs::PlanLaws::bytes_laws), unfolding(crate::specs::Ends::standing_after, crate::specs::Phases::rest_at))]
+    #[inline(always)]
+    fn show(
+        &mut self,
+        role: Role,
+        at: u32,
+        count: u32,
+        answer: Answer,
+        words: &mut Words,
+        writes: &mut Moved,
+    ) -> Move
+        requires role { self.old.role ≡ role }
+        requires orders { words.old.orders ≡ self.old.orders }
+        requires all { count ≤ at }
+        ensures orders { words.new.orders ≡ words.old.orders }
+        ensures footprint { (payload into : ℕ) → Fits words.old.orders payload into (next_op (rest_at (standing self.old) (Phase.Put at count answer))) }
+        ensures words { (payload : List ℕ) → words.new.list ≡ words_after words.old.orders words.old.list payload (next_op (rest_at (standing self.old) (Phase.Put at count answer))) }
+        ensures buffer { (buffer : List ℕ) → buffer ≡ buffer_after words.old.orders words.old.list buffer (next_op (rest_at (standing self.old) (Phase.Put at count answer))) }
+        ensures rest { plan_at (standing self.new) result ≡ after (rest_at (standing self.old) (Phase.Put at count answer)) (value_taken words.old.orders words.old.list (next_op (rest_at (standing self.old) (Phase.Put at count answer)))) }
+        ensures phase { self.new.phase ≡ self.old.phase }
+        ensures standing { standing self.new ≡ standing_after (standing self.old) (next_op (rest_at (standing self.old) (Phase.Put at count answer))) }
+        ensures out { out_move result ≤ out_at (Phase.Put at count answer) }
+        ensures into { into_move (read_size (standing self.new)) result ≤ into_at (read_size (standing self.old)) (Phase.Put at count answer) }
+        ensures cons { (standing self.new).cons ≡ (standing self.old).cons }
+        ensures sent { writes.new ≡ record writes.old { sent = capped (writes.old.sent + diff (standing self.new).prod (standing self.old).prod) } }
+        ensures low { ((standing self.old).prod < 2 ^ 32) × ((standing self.old).cons < 2 ^ 32) }
+    {
+        let (prod, _) = self.counts();
+        let shown = prod.wrapping_add(count);
+        self.prod = shown;
+        words.store(prod_word(self.written_as(role)), u64::from(shown));
+        writes.show(prod, shown);
+        put_on(at, count, answer)
+    }
+
+    /// The event of a take once all its bytes are loaded: the index that gives up their places.
+    #[tactic(auto, using(crate::proofs::PlanLaws::bytes_laws), unfolding(crate::specs::Ends::standing_after, crate::specs::Phases::rest_at))]
+    #[inline(always)]
+    fn give_up(
+        &mut self,
+        role: Role,
+        at: u32,
+        count: u32,
+        answer: Answer,
+        words: &mut Words,
+        reads: &mut Moved,
+    ) -> Move
+        requires role { self.old.role ≡ role }
+        requires orders { words.old.orders ≡ self.old.orders }
+        requires all { count ≤ at }
+        ensures orders { words.new.orders ≡ words.old.orders }
+        ensures footprint { (payload into : ℕ) → Fits words.old.orders payload into (next_op (rest_at (standing self.old) (Phase.Take at count answer))) }
+        ensures words { (payload : List ℕ) → words.new.list ≡ words_after words.old.orders words.old.list payload (next_op (rest_at (standing self.old) (Phase.Take at count answer))) }
+        ensures buffer { (buffer : List ℕ) → buffer ≡ buffer_after words.old.orders words.old.list buffer (next_op (rest_at (standing self.old) (Phase.Take at count answer))) }
+        ensures rest { plan_at (standing self.new) result ≡ after (rest_at (standing self.old) (Phase.Take at count answer)) (value_taken words.old.orders words.old.list (next_op (rest_at (standing self.old) (Phase.Take at count answer)))) }
+        ensures phase { self.new.phase ≡ self.old.phase }
+        ensures standing { standing self.new ≡ standing_after (standing self.old) (next_op (rest_at (standing self.old) (Phase.Take at count answer))) }
+        ensures out { out_move result ≤ out_at (Phase.Take at count answer) }
+        ensures into { into_move (read_size (standing self.new)) result ≤ into_at (read_size (standing self.old)) (Phase.Take at count answer) }
+        ensures prod { (standing self.new).prod ≡ (standing self.old).prod }
+        ensures got { reads.new ≡ record reads.old { got = capped (reads.old.got + diff (standing self.new).cons (standing self.old).cons) } }
+        ensures low { ((standing self.old).prod < 2 ^ 32) × ((standing self.old).cons < 2 ^ 32) }
+    {
+        let (_, cons) = self.counts();
+        let given_up = cons.wrapping_add(count);
+        self.cons = given_up;
+        words.store(cons_word(self.read_as(role)), u64::from(given_up));
+        reads.give_up(cons, given_up);
+        take_on(at, count, answer)
+    }
+
+    /// The event after an index: the peer's bit is taken, and where it was set the peer is signalled.
+    #[tactic(auto, using(crate::proofs::PlanLaws::bytes_laws), unfolding(crate::specs::Ends::standing_after, crate::specs::Phases::rest_at))]
+    #[inline(always)]
+    fn notify_peer(&self, role: Role, bit: Bit, answer: Answer, words: &mut Words) -> Move
+        requires role { self.now.role ≡ role }
+        requires orders { words.old.orders ≡ self.now.orders }
+        ensures orders { words.new.orders ≡ words.old.orders }
+        ensures footprint { (payload into : ℕ) → Fits words.old.orders payload into (next_op (rest_at (standing self.now) (Phase.Notify bit answer))) }
+        ensures words { (payload : List ℕ) → words.new.list ≡ words_after words.old.orders words.old.list payload (next_op (rest_at (standing self.now) (Phase.Notify bit answer))) }
+        ensures buffer { (buffer : List ℕ) → buffer ≡ buffer_after words.old.orders words.old.list buffer (next_op (rest_at (standing self.now) (Phase.Notify bit answer))) }
+        ensures rest { plan_at (standing self.now) result ≡ after (rest_at (standing self.now) (Phase.Notify bit answer)) (value_taken words.old.orders words.old.list (next_op (rest_at (standing self.now) (Phase.Notify bit answer)))) }
+        ensures standing { standing self.now ≡ standing_after (standing self.now) (next_op (rest_at (standing self.now) (Phase.Notify bit answer))) }
+        ensures out { out_move result ≤ out_at (Phase.Notify bit answer) }
+        ensures into { into_move (read_size (standing self.now)) result ≤ into_at (read_size (standing self.now)) (Phase.Notify bit answer) }
+        ensures low { ((standing self.now).prod < 2 ^ 32) × ((standing self.now).cons < 2 ^ 32) }
+    {
+        let _counts = self.counts();
+        let word = match role {
+            Role::Server => WordName::SrvNotify,
+            Role::Client => WordName::CliNotify,
+        };
+        let asked = words.load(word);
+        words.store(word, asked & (u64::MAX - mask(bit)));
+        notified(bit, answer, asked)
+    }
+
+    /// [`Machine::event`] for the phases that are seldom, as one function that is called.
     #[inline(never)]
     fn seldom(
         &mut self,
@@ -66,7 +181,7 @@ impl Machine {
         buf: &mut [u8],
         writes: &mut Moved,
         reads: &mut Moved,
-    ) -> Option<Answer>
+    ) -> Move
         requires orders { words.old.orders ≡ self.old.orders }
         requires payload { out_at phase ≤ length payload.now }
         requires buf { into_at (read_size (standing self.old)) phase ≤ length buf.old }
@@ -74,40 +189,11 @@ impl Machine {
         ensures footprint { Fits words.old.orders (length payload.now) (length buf.old) (next_op (rest_at (standing self.old) phase)) }
         ensures words { words.new.list ≡ words_after words.old.orders words.old.list payload.now (next_op (rest_at (standing self.old) phase)) }
         ensures buffer { buf.new ≡ buffer_after words.old.orders words.old.list buf.old (next_op (rest_at (standing self.old) phase)) }
-        ensures rest { left_of result self.new ≡ after (rest_at (standing self.old) phase) (value_taken words.old.orders words.old.list (next_op (rest_at (standing self.old) phase))) }
-        ensures idle { IsSome result ↔ IsIdle self.new }
+        ensures rest { plan_at (standing self.new) result ≡ after (rest_at (standing self.old) phase) (value_taken words.old.orders words.old.list (next_op (rest_at (standing self.old) phase))) }
+        ensures phase { self.new.phase ≡ self.old.phase }
         ensures standing { standing self.new ≡ standing_after (standing self.old) (next_op (rest_at (standing self.old) phase)) }
-        ensures out { out_of self.new ≤ out_at phase }
-        ensures into { into_of self.new ≤ into_at (read_size (standing self.old)) phase }
-        ensures sent { writes.new ≡ record writes.old { sent = capped (writes.old.sent + diff (standing self.new).prod (standing self.old).prod) } }
-        ensures got { reads.new ≡ record reads.old { got = capped (reads.old.got + diff (standing self.new).cons (standing self.old).cons) } }
-        ensures low { ((standing self.old).prod < 2 ^ 32) × ((standing self.old).cons < 2 ^ 32) }
-    {
-        self.event_at(phase, words, payload, buf, writes, reads)
-    }
-
-    #[inline(always)]
-    fn event_at(
-        &mut self,
-        phase: Phase,
-        words: &mut Words,
-        payload: &[u8],
-        buf: &mut [u8],
-        writes: &mut Moved,
-        reads: &mut Moved,
-    ) -> Option<Answer>
-        requires orders { words.old.orders ≡ self.old.orders }
-        requires payload { out_at phase ≤ length payload.now }
-        requires buf { into_at (read_size (standing self.old)) phase ≤ length buf.old }
-        ensures orders { words.new.orders ≡ words.old.orders }
-        ensures footprint { Fits words.old.orders (length payload.now) (length buf.old) (next_op (rest_at (standing self.old) phase)) }
-        ensures words { words.new.list ≡ words_after words.old.orders words.old.list payload.now (next_op (rest_at (standing self.old) phase)) }
-        ensures buffer { buf.new ≡ buffer_after words.old.orders words.old.list buf.old (next_op (rest_at (standing self.old) phase)) }
-        ensures rest { left_of result self.new ≡ after (rest_at (standing self.old) phase) (value_taken words.old.orders words.old.list (next_op (rest_at (standing self.old) phase))) }
-        ensures idle { IsSome result ↔ IsIdle self.new }
-        ensures standing { standing self.new ≡ standing_after (standing self.old) (next_op (rest_at (standing self.old) phase)) }
-        ensures out { out_of self.new ≤ out_at phase }
-        ensures into { into_of self.new ≤ into_at (read_size (standing self.old)) phase }
+        ensures out { out_move result ≤ out_at phase }
+        ensures into { into_move (read_size (standing self.new)) result ≤ into_at (read_size (standing self.old)) phase }
         ensures sent { writes.new ≡ record writes.old { sent = capped (writes.old.sent + diff (standing self.new).prod (standing self.old).prod) } }
         ensures got { reads.new ≡ record reads.old { got = capped (reads.old.got + diff (standing self.new).cons (standing self.old).cons) } }
         ensures low { ((standing self.old).prod < 2 ^ 32) × ((standing self.old).cons < 2 ^ 32) }
@@ -115,8 +201,8 @@ impl Machine {
         let op = self.op_at(phase);
         let value = carry_out(words, op, payload, buf);
         let before = self.counts();
-        let answer = self.advance_at(phase, value);
+        let next = self.advanced(phase, value);
         Moved::count(before, self.counts(), writes, reads);
-        answer
+        next
     }
 }

@@ -2,14 +2,14 @@
 //!
 //! They are the events that the machine would make one by one, up to the first that gives an
 //! answer: a page in memory, which no other thread sees, can't tell the difference.
-ghost use Rattle.std.specs.Prelude.{◌≡◌, ◌<◌, ◌≤◌, ◌^◌, ℕ, List, Some, slice_index};
+ghost use Rattle.std.specs.Prelude.{◌≡◌, ◌<◌, ◌≤◌, ◌^◌, ℕ, List, slice_index};
 ghost use Rattle.ring_words.specs.Page.{Has, index_of};
 ghost use Rattle.ring_words.specs.declared.page.WordName.{WordName};
 ghost use Rattle.vchan_core.specs.declared.op.Op.TheVariants.{Load};
 ghost use Rattle.vchan_core.specs.declared.phase.Phase.{Phase};
 ghost use Rattle.vchan_core.specs.Plan.{Plan, does};
 ghost use Rattle.vchan_core.specs.Ends.{peer_live, read_size};
-ghost use Rattle.vchan_core.specs.Phases.{standing, rest_at, plan_at, out_at, into_at, out_move, into_move};
+ghost use Rattle.vchan_core.specs.Phases.{standing, at_phase, rest_at, plan_at, out_at, into_at, out_move, into_move};
 ghost use Rattle.vchan_core.specs.Pieces.{MakesEvents};
 
 use super::Machine;
@@ -19,113 +19,112 @@ use crate::words::{cons_word, low32, prod_word};
 use ring_words::{Role, WordName, Words};
 
 impl Machine {
-    /// Makes the looks that come next in a write or a read, up to the one that gives an answer, and
-    /// answers how many. Elsewhere in a call it makes none.
+    /// Makes the looks that come next in a write or a read, up to the one that gives an answer. It
+    /// answers how many they were, and the phase then. Elsewhere in a call it makes none.
     #[inline(always)]
-    pub(crate) fn look_ahead(&mut self, words: &Words) -> u32
-        requires orders { words.now.orders ≡ self.old.orders }
-        ensures same { standing self.new ≡ standing self.old }
-        ensures events { (payload : List ℕ) → (buffer : List ℕ) → MakesEvents result self.old.orders payload self.old words.now.list buffer self.new words.now.list buffer }
-        ensures low { ((standing self.old).prod < 2 ^ 32) × ((standing self.old).cons < 2 ^ 32) }
+    pub(crate) fn look_ahead(&self, role: Role, phase: Phase, words: &Words) -> (u32, Phase)
+        requires role { self.now.role ≡ role }
+        requires orders { words.now.orders ≡ self.now.orders }
+        ensures low { ((standing self.now).prod < 2 ^ 32) × ((standing self.now).cons < 2 ^ 32) }
+        ensures events { (payload : List ℕ) → (buffer : List ℕ) → MakesEvents result.0 self.now.orders payload (at_phase self.now phase) words.now.list buffer (at_phase self.now result.1) words.now.list buffer }
     {
         let _counts = self.counts();
-        let live = self.look_live(words);
-        live + self.look_index(words)
+        let (live, lively) = self.look_live(role, phase, words);
+        let (index, looked) = self.look_index(role, lively, words);
+        (live + index, looked)
     }
 
     /// The look at the peer's live byte with which a write begins.
     #[inline(always)]
-    fn look_live(&mut self, words: &Words) -> u32
-        requires orders { words.now.orders ≡ self.old.orders }
-        ensures most { result ≤ 1 }
-        ensures same { standing self.new ≡ standing self.old }
-        ensures events { (payload : List ℕ) → (buffer : List ℕ) → MakesEvents result self.old.orders payload self.old words.now.list buffer self.new words.now.list buffer }
+    fn look_live(&self, role: Role, phase: Phase, words: &Words) -> (u32, Phase)
+        requires role { self.now.role ≡ role }
+        requires orders { words.now.orders ≡ self.now.orders }
+        ensures most { result.0 ≤ 1 }
+        ensures events { (payload : List ℕ) → (buffer : List ℕ) → MakesEvents result.0 self.now.orders payload (at_phase self.now phase) words.now.list buffer (at_phase self.now result.1) words.now.list buffer }
     {
-        match self.phase {
-            Some(Phase::WriteLive { len }) => self.write_live(len, words),
-            _ => 0,
+        match phase {
+            Phase::WriteLive { len } => self.write_live(role, len, words),
+            _ => (0, phase),
         }
     }
 
     /// The first look at the peer's index in a write or a read.
     #[inline(always)]
-    fn look_index(&mut self, words: &Words) -> u32
-        requires orders { words.now.orders ≡ self.old.orders }
-        ensures most { result ≤ 1 }
-        ensures same { standing self.new ≡ standing self.old }
-        ensures events { (payload : List ℕ) → (buffer : List ℕ) → MakesEvents result self.old.orders payload self.old words.now.list buffer self.new words.now.list buffer }
+    fn look_index(&self, role: Role, phase: Phase, words: &Words) -> (u32, Phase)
+        requires role { self.now.role ≡ role }
+        requires orders { words.now.orders ≡ self.now.orders }
+        ensures most { result.0 ≤ 1 }
+        ensures events { (payload : List ℕ) → (buffer : List ℕ) → MakesEvents result.0 self.now.orders payload (at_phase self.now phase) words.now.list buffer (at_phase self.now result.1) words.now.list buffer }
     {
-        match self.phase {
-            Some(Phase::WriteLook { len }) => self.write_look(len, words),
-            Some(Phase::ReadLook { most }) => self.read_look(most, words),
-            _ => 0,
+        match phase {
+            Phase::WriteLook { len } => self.write_look(role, len, words),
+            Phase::ReadLook { most } => self.read_look(role, most, words),
+            _ => (0, phase),
         }
     }
 
     /// A write finds its peer's live byte.
     #[inline(always)]
-    fn write_live(&mut self, len: u32, words: &Words) -> u32
-        requires phase { self.old.phase ≡ Some (Phase.WriteLive len) }
-        requires orders { words.now.orders ≡ self.old.orders }
-        ensures most { result ≤ 1 }
-        ensures same { standing self.new ≡ standing self.old }
-        ensures events { (payload : List ℕ) → (buffer : List ℕ) → MakesEvents result self.old.orders payload self.old words.now.list buffer self.new words.now.list buffer }
+    fn write_live(&self, role: Role, len: u32, words: &Words) -> (u32, Phase)
+        requires role { self.now.role ≡ role }
+        requires orders { words.now.orders ≡ self.now.orders }
+        ensures most { result.0 ≤ 1 }
+        ensures events { (payload : List ℕ) → (buffer : List ℕ) → MakesEvents result.0 self.now.orders payload (at_phase self.now (Phase.WriteLive len)) words.now.list buffer (at_phase self.now result.1) words.now.list buffer }
     {
-        let live = words.load(self.live_word());
-        self.seen(if_alive(live, Move::To(Phase::WriteLook { len })))
+        let live = words.load(self.live_word(role));
+        let next = if_alive(live, Move::To(Phase::WriteLook { len }));
+        self.seen(Phase::WriteLive { len }, next)
     }
 
     /// A write's first look at how much room there is.
     #[inline(always)]
-    fn write_look(&mut self, len: u32, words: &Words) -> u32
-        requires phase { self.old.phase ≡ Some (Phase.WriteLook len) }
-        requires orders { words.now.orders ≡ self.old.orders }
-        ensures most { result ≤ 1 }
-        ensures same { standing self.new ≡ standing self.old }
-        ensures events { (payload : List ℕ) → (buffer : List ℕ) → MakesEvents result self.old.orders payload self.old words.now.list buffer self.new words.now.list buffer }
+    fn write_look(&self, role: Role, len: u32, words: &Words) -> (u32, Phase)
+        requires role { self.now.role ≡ role }
+        requires orders { words.now.orders ≡ self.now.orders }
+        ensures most { result.0 ≤ 1 }
+        ensures events { (payload : List ℕ) → (buffer : List ℕ) → MakesEvents result.0 self.now.orders payload (at_phase self.now (Phase.WriteLook len)) words.now.list buffer (at_phase self.now result.1) words.now.list buffer }
     {
-        let cons = words.load(cons_word(self.written()));
-        self.seen(self.write_found(len, low32(cons)))
+        let cons = words.load(cons_word(self.written_as(role)));
+        let next = self.write_found(len, low32(cons));
+        self.seen(Phase::WriteLook { len }, next)
     }
 
     /// A read's first look at how many bytes wait.
     #[inline(always)]
-    fn read_look(&mut self, most: u32, words: &Words) -> u32
-        requires phase { self.old.phase ≡ Some (Phase.ReadLook most) }
-        requires orders { words.now.orders ≡ self.old.orders }
-        ensures most { result ≤ 1 }
-        ensures same { standing self.new ≡ standing self.old }
-        ensures events { (payload : List ℕ) → (buffer : List ℕ) → MakesEvents result self.old.orders payload self.old words.now.list buffer self.new words.now.list buffer }
+    fn read_look(&self, role: Role, most: u32, words: &Words) -> (u32, Phase)
+        requires role { self.now.role ≡ role }
+        requires orders { words.now.orders ≡ self.now.orders }
+        ensures most { result.0 ≤ 1 }
+        ensures events { (payload : List ℕ) → (buffer : List ℕ) → MakesEvents result.0 self.now.orders payload (at_phase self.now (Phase.ReadLook most)) words.now.list buffer (at_phase self.now result.1) words.now.list buffer }
     {
-        let prod = words.load(prod_word(self.read()));
-        self.seen(self.read_found(most, low32(prod)))
+        let prod = words.load(prod_word(self.read_as(role)));
+        let next = self.read_found(most, low32(prod));
+        self.seen(Phase::ReadLook { most }, next)
     }
 
-    /// Moves on after a load, unless it gives the call's answer. It answers how many events it
-    /// made, 1 or 0.
+    /// Moves on after a load, unless it gives the call's answer: then the phase stays, and the event
+    /// is still to come. It answers how many events it made, 1 or 0, and the phase then.
     #[inline(always)]
-    fn seen(&mut self, next: Move) -> u32
-        ensures most { result ≤ 1 }
-        ensures same { standing self.new ≡ standing self.old }
-        ensures events { (at : Phase) → (word : WordName) → (then : ℕ → Plan) → (list payload buffer : List ℕ)
-            → self.old.phase ≡ Some at → rest_at (standing self.old) at ≡ does (Load word) then → Has self.old.orders word
-            → plan_at (standing self.old) next ≡ then (slice_index list (index_of self.old.orders word))
-            → out_move next ≤ out_at at → into_move (read_size (standing self.old)) next ≤ into_at (read_size (standing self.old)) at
-            → MakesEvents result self.old.orders payload self.old list buffer self.new list buffer }
+    fn seen(&self, at: Phase, next: Move) -> (u32, Phase)
+        ensures most { result.0 ≤ 1 }
+        ensures events { (word : WordName) → (then : ℕ → Plan) → (list payload buffer : List ℕ)
+            → rest_at (standing self.now) at ≡ does (Load word) then → Has self.now.orders word
+            → plan_at (standing self.now) next ≡ then (slice_index list (index_of self.now.orders word))
+            → out_move next ≤ out_at at → into_move (read_size (standing self.now)) next ≤ into_at (read_size (standing self.now)) at
+            → MakesEvents result.0 self.now.orders payload (at_phase self.now at) list buffer (at_phase self.now result.1) list buffer }
     {
         match next {
-            Move::To(phase) => {
-                self.phase = Some(phase);
-                1
-            }
-            Move::Done(_) => 0,
+            Move::To(phase) => (1, phase),
+            Move::Done(_) => (0, at),
         }
     }
 
-    fn live_word(&self) -> WordName
+    #[inline(always)]
+    fn live_word(&self, role: Role) -> WordName
+        requires { self.now.role ≡ role }
         ensures { result ≡ peer_live self.now.role }
     {
-        match self.role {
+        match role {
             Role::Server => WordName::CliLive,
             Role::Client => WordName::SrvLive,
         }

@@ -321,7 +321,8 @@ fn drain_live(most: u32, prod: u32, value: u64) -> Move
 }
 
 /// A put once another byte, or the index, is stored.
-fn put_on(at: u32, count: u32, answer: Answer) -> Move
+#[inline(always)]
+pub(super) fn put_on(at: u32, count: u32, answer: Answer) -> Move
     ensures byte { at < count → result ≡ Move.To (Phase.Put (at + 1) count answer) }
     ensures index { count ≤ at → result ≡ Move.To (Phase.Notify Bit.Written answer) }
 {
@@ -339,7 +340,8 @@ fn put_on(at: u32, count: u32, answer: Answer) -> Move
 }
 
 /// A take once another byte is loaded, or the index is stored.
-fn take_on(at: u32, count: u32, answer: Answer) -> Move
+#[inline(always)]
+pub(super) fn take_on(at: u32, count: u32, answer: Answer) -> Move
     ensures byte { at < count → result ≡ Move.To (Phase.Take (at + 1) count answer) }
     ensures index { count ≤ at → result ≡ Move.To (Phase.Notify Bit.Consumed answer) }
 {
@@ -358,7 +360,8 @@ fn take_on(at: u32, count: u32, answer: Answer) -> Move
 
 /// A peer that had asked is signalled.
 #[tactic(auto, unfolding(crate::specs::Phases::rest_at))]
-fn notified(bit: Bit, answer: Answer, value: u64) -> Move
+#[inline(always)]
+pub(super) fn notified(bit: Bit, answer: Answer, value: u64) -> Move
     ensures plan { (e : Standing) → plan_at e result ≡ (if bit_and value (mask_of bit) == 0 then answers answer else signal e (answers answer)) }
     ensures out { out_move result ≡ 0 }
     ensures into { (size : ℕ) → into_move size result ≡ 0 }

@@ -2,95 +2,89 @@
 //!
 //! They are the events that the machine would make one by one; a page in memory, which no other
 //! thread sees, can't tell the difference.
-ghost use Rattle.std.specs.Prelude.{◌≡◌, ◌<◌, ◌≤◌, ◌^◌, ℕ, List, Some, length};
-ghost use Rattle.vchan_core.specs.Phases.{standing, out_of, into_of};
+ghost use Rattle.std.specs.Prelude.{◌≡◌, ◌<◌, ◌≤◌, ◌+◌, ◌^◌, ℕ, List, length};
+ghost use Rattle.vchan_core.specs.Ends.{read_size};
+ghost use Rattle.vchan_core.specs.Phases.{standing, at_phase, out_at, into_at};
+ghost use Rattle.vchan_core.specs.declared.call.Answer.{Answer};
+ghost use Rattle.vchan_core.specs.declared.phase.Phase.{Phase};
 ghost use Rattle.vchan_core.specs.Pieces.{MakesEvents};
 
 use super::Machine;
-use crate::call::Answer;
 use crate::phase::Phase;
-use ring_words::{Words, place};
+use ring_words::{Role, Words, place};
 
 impl Machine {
-    /// Moves the bytes that come next in a put or a take, up to the last one or to the ring's end,
-    /// and answers how many. Elsewhere in a call it moves none.
-    pub(crate) fn move_piece(&mut self, words: &mut Words, payload: &[u8], buf: &mut [u8]) -> u32
-        requires orders { words.old.orders ≡ self.old.orders }
-        requires payload { out_of self.old ≤ length payload.now }
-        requires buf { into_of self.old ≤ length buf.old }
+    /// Moves the bytes that come next in a put or a take, up to the last one or to the ring's end.
+    /// It answers how many they were, and the phase then. Elsewhere in a call it moves none.
+    #[inline(always)]
+    pub(crate) fn move_piece(
+        &self,
+        role: Role,
+        phase: Phase,
+        words: &mut Words,
+        payload: &[u8],
+        buf: &mut [u8],
+    ) -> (u32, Phase)
+        requires role { self.now.role ≡ role }
+        requires orders { words.old.orders ≡ self.now.orders }
+        requires payload { out_at phase ≤ length payload.now }
+        requires buf { into_at (read_size (standing self.now)) phase ≤ length buf.old }
         ensures orders { words.new.orders ≡ words.old.orders }
-        ensures same { standing self.new ≡ standing self.old }
-        ensures events { MakesEvents result self.old.orders payload.now self.old words.old.list buf.old self.new words.new.list buf.new }
-        ensures low { ((standing self.old).prod < 2 ^ 32) × ((standing self.old).cons < 2 ^ 32) }
+        ensures events { MakesEvents result.0 self.now.orders payload.now (at_phase self.now phase) words.old.list buf.old (at_phase self.now result.1) words.new.list buf.new }
+        ensures low { ((standing self.now).prod < 2 ^ 32) × ((standing self.now).cons < 2 ^ 32) }
     {
         let _counts = self.counts();
-        match self.phase {
-            Some(Phase::Put { at, count, answer }) if at < count => {
-                self.put_piece(at, count, answer, words, payload)
+        match phase {
+            Phase::Put { at, count, answer } if at < count => {
+                let len = self.put_piece(role, at, count, words, payload);
+                let at = at + len;
+                (len, Phase::Put { at, count, answer })
             }
-            Some(Phase::Take { at, count, answer }) if at < count => {
-                self.take_piece(at, count, answer, words, buf)
+            Phase::Take { at, count, answer } if at < count => {
+                let len = self.take_piece(role, at, count, words, buf);
+                let at = at + len;
+                (len, Phase::Take { at, count, answer })
             }
-            _ => 0,
+            _ => (0, phase),
         }
     }
 
-    fn put_piece(
-        &mut self,
-        at: u32,
-        count: u32,
-        answer: Answer,
-        words: &mut Words,
-        payload: &[u8],
-    ) -> u32
-        requires phase { self.old.phase ≡ Some (Phase.Put at count answer) }
+    #[inline(always)]
+    fn put_piece(&self, role: Role, at: u32, count: u32, words: &mut Words, payload: &[u8]) -> u32
         requires more { at < count }
-        requires orders { words.old.orders ≡ self.old.orders }
+        requires role { self.now.role ≡ role }
+        requires orders { words.old.orders ≡ self.now.orders }
         requires payload { count ≤ length payload.now }
         ensures orders { words.new.orders ≡ words.old.orders }
-        ensures same { standing self.new ≡ standing self.old }
-        ensures events { (buffer : List ℕ) → MakesEvents result self.old.orders payload.now self.old words.old.list buffer self.new words.new.list buffer }
+        ensures within { at + result ≤ count }
+        ensures events { (answer : Answer) → (buffer : List ℕ)
+            → MakesEvents result self.now.orders payload.now (at_phase self.now (Phase.Put at count answer)) words.old.list buffer (at_phase self.now (Phase.Put (at + result) count answer)) words.new.list buffer }
     {
-        let ring = self.written();
+        let ring = self.written_as(role);
         let order = self.orders.order_of(ring);
         let first = place(self.prod.wrapping_add(at), order);
         let len = (count - at).min(order.size() - first);
         let bytes = &payload[at as usize..(at + len) as usize];
         words.store_bytes(ring, first, bytes);
-        self.phase = Some(Phase::Put {
-            at: at + len,
-            count,
-            answer,
-        });
         len
     }
 
-    fn take_piece(
-        &mut self,
-        at: u32,
-        count: u32,
-        answer: Answer,
-        words: &Words,
-        buf: &mut [u8],
-    ) -> u32
-        requires phase { self.old.phase ≡ Some (Phase.Take at count answer) }
+    #[inline(always)]
+    fn take_piece(&self, role: Role, at: u32, count: u32, words: &Words, buf: &mut [u8]) -> u32
         requires more { at < count }
-        requires orders { words.now.orders ≡ self.old.orders }
+        requires role { self.now.role ≡ role }
+        requires orders { words.now.orders ≡ self.now.orders }
         requires buf { count ≤ length buf.old }
-        ensures same { standing self.new ≡ standing self.old }
-        ensures events { (payload : List ℕ) → MakesEvents result self.old.orders payload self.old words.now.list buf.old self.new words.now.list buf.new }
+        ensures within { at + result ≤ count }
+        ensures events { (answer : Answer) → (payload : List ℕ)
+            → MakesEvents result self.now.orders payload (at_phase self.now (Phase.Take at count answer)) words.now.list buf.old (at_phase self.now (Phase.Take (at + result) count answer)) words.now.list buf.new }
     {
-        let ring = self.read();
+        let ring = self.read_as(role);
         let order = self.orders.order_of(ring);
         let first = place(self.cons.wrapping_add(at), order);
         let len = (count - at).min(order.size() - first);
         let bytes = &mut buf[at as usize..(at + len) as usize];
         words.load_bytes(ring, first, bytes);
-        self.phase = Some(Phase::Take {
-            at: at + len,
-            count,
-            answer,
-        });
         len
     }
 }

@@ -1,4 +1,4 @@
-use Rattle.std.proofs.Common.{◌≡◌, ◌<◌, ◌≤◌, ℕ, List, Option, take, drop, ◌+◌, ◌-◌, ap, sym, ◌∙◌, subst, arith}
+use Rattle.std.proofs.Common.{◌≡◌, ◌<◌, ◌≤◌, ℕ, List, take, drop, ◌+◌, ◌-◌, ap, sym, ◌∙◌, subst, arith}
 use Rattle.ring_words.specs.Page.{order_of, index_of}
 use Rattle.ring_words.specs.PageWords.{PageWords}
 use Rattle.ring_words.specs.Rings.{place, size}
@@ -8,8 +8,6 @@ use Rattle.ring_words.specs.declared.order.Orders.{Orders}
 use Rattle.ring_words.specs.declared.page.Ring.{Ring}
 use Rattle.ring_words.specs.declared.page.WordName.TheVariants.{RingByte}
 use Rattle.ring_words.proofs.RingLaws.{place_wraps, place_on}
-use Rattle.vchan_core.specs.declared.machine.Machine.{Machine}
-use Rattle.vchan_core.specs.declared.phase.Phase.{Phase}
 use Rattle.vchan_core.specs.Ends.{write_order, written_ring}
 use Rattle.vchan_core.specs.Phases.{standing}
 use Rattle.vchan_core.specs.Pieces.{MakesEvents}
@@ -17,12 +15,12 @@ use Rattle.vchan_core.proofs.PieceLaws.{put_piece, at_put, put_place}
 use Rattle.vchan_core.proofs.machine.Machine.put_piece.Goals as goal
 
 pub returns-clause-events : goal.returns-clause-events
-returns-clause-events c = λ buffer.
+returns-clause-events c = λ answer buffer.
     let m = c.args.self.now in
     let at = c.args.at in
     let len = c.min-len.result in
     let first = c.place-first.result in
-    let order : c.order_of-order.result ≡ write_order (standing m) = c.order_of-order.ensures ∙ ap (λ (r : Ring). order_of m.orders r) c.written-ring.ensures in
+    let order : c.order_of-order.result ≡ write_order (standing m) = c.order_of-order.ensures ∙ ap (λ (r : Ring). order_of m.orders r) c.written_as-ring.ensures in
     let begins : first ≡ put_place m at =
     c.place-first.ensures.place ∙ place_wraps (m.prod + at) c.order_of-order.result ∙ ap (λ (o : Order). place (m.prod + at) o) order in
     let fits : first + len ≤ size (write_order (standing m)) = subst (λ (o : Order). first + len ≤ size o) order (omega (arith, c.size.ensures.size, c.place-first.ensures.within)) in
@@ -33,11 +31,8 @@ returns-clause-events c = λ buffer.
     let back : at + len - at ≡ len = omega arith in
     let list : c.store_bytes.new.self.list ≡ laid c.args.words.now.list (index_of m.orders (RingByte (written_ring m.role) first)) (take len (drop at c.args.payload.now)) =
     ap (λ (w : PageWords). w.list) c.store_bytes.ensures.words
-    ∙ ap (λ (o : Orders). laid c.args.words.now.list (index_of o (RingByte c.written-ring.result first)) (take (at + len - at) (drop at c.args.payload.now))) c.requires.orders
-    ∙ ap (λ (r : Ring). laid c.args.words.now.list (index_of m.orders (RingByte r first)) (take (at + len - at) (drop at c.args.payload.now))) c.written-ring.ensures
+    ∙ ap (λ (o : Orders). laid c.args.words.now.list (index_of o (RingByte c.written_as-ring.result first)) (take (at + len - at) (drop at c.args.payload.now))) c.requires.orders
+    ∙ ap (λ (r : Ring). laid c.args.words.now.list (index_of m.orders (RingByte r first)) (take (at + len - at) (drop at c.args.payload.now))) c.written_as-ring.ensures
     ∙ ap (λ (x : ℕ). laid c.args.words.now.list (index_of m.orders (RingByte (written_ring m.role) first)) (take x (drop at c.args.payload.now))) back in
-    let moved = put_piece m c.args.words.now.list c.args.payload.now buffer at c.args.count len first c.args.answer (omega arith) c.requires.payload places in
-    let whole : at_put m at c.args.count c.args.answer ≡ m = ap (λ (p : Option Phase). record m { phase = p }) (sym c.requires.phase) in
-    subst (λ (l : List ℕ). MakesEvents len m.orders c.args.payload.now m c.args.words.now.list buffer (at_put m (at + len) c.args.count c.args.answer) l buffer) (sym list)
-    (subst (λ (x : Machine). MakesEvents len m.orders c.args.payload.now x c.args.words.now.list buffer (at_put m (at + len) c.args.count c.args.answer)
-    (laid c.args.words.now.list (index_of m.orders (RingByte (written_ring m.role) first)) (take len (drop at c.args.payload.now))) buffer) whole moved)
+    let moved = put_piece m c.args.words.now.list c.args.payload.now buffer at c.args.count len first answer (omega arith) c.requires.payload places in
+    subst (λ (l : List ℕ). MakesEvents len m.orders c.args.payload.now (at_put m at c.args.count answer) c.args.words.now.list buffer (at_put m (at + len) c.args.count answer) l buffer) (sym list) moved

@@ -3,7 +3,6 @@ use Rattle.ring_words.specs.Page.{index_of}
 use Rattle.ring_words.specs.declared.order.Orders.{Orders}
 use Rattle.ring_words.specs.declared.page.Ring.{Ring}
 use Rattle.ring_words.specs.declared.page.WordName.{WordName}
-use Rattle.vchan_core.specs.declared.phase.Phase.TheVariants.{ReadLook}
 use Rattle.vchan_core.specs.Ends.{prod_word, read_ring, low32}
 use Rattle.vchan_core.specs.Phases.{standing}
 use Rattle.vchan_core.proofs.Counted.{has_look_read}
@@ -18,9 +17,8 @@ returns-clause-events c = λ payload buffer.
     let list = c.args.words.now.list in
     let value : c.load-prod.result ≡ slice_index list (index_of m.orders (prod_word (read_ring m.role))) =
     c.load-prod.ensures.value ∙ ap (λ (o : Orders). slice_index list (index_of o c.prod_word.result)) c.requires.orders
-    ∙ ap (λ (w : WordName). slice_index list (index_of m.orders w)) (c.prod_word.ensures ∙ ap (λ (r : Ring). prod_word r) c.read.ensures) in
-    c.seen.ensures.events (ReadLook n) (prod_word (read_ring m.role)) (λ v. read_next e n (low32 v)) list payload buffer
-    c.requires.phase
+    ∙ ap (λ (w : WordName). slice_index list (index_of m.orders w)) (c.prod_word.ensures ∙ ap (λ (r : Ring). prod_word r) c.read_as.ensures) in
+    c.seen.ensures.events (prod_word (read_ring m.role)) (λ v. read_next e n (low32 v)) list payload buffer
     (read_is e n) (has_look_read m.orders m.role)
-    (c.read_found.ensures.plan ∙ ap (λ (v : ℕ). read_next e n v) (c.low32.ensures ∙ ap (λ (v : ℕ). low32 v) value))
-    (omega (arith, c.read_found.ensures.out)) c.read_found.ensures.into
+    (c.read_found-next.ensures.plan ∙ ap (λ (v : ℕ). read_next e n v) (c.low32.ensures ∙ ap (λ (v : ℕ). low32 v) value))
+    (omega (arith, c.read_found-next.ensures.out)) c.read_found-next.ensures.into

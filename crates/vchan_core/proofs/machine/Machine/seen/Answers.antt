@@ -7,12 +7,13 @@ use Rattle.vchan_core.proofs.LookLaws.{look_one}
 use Rattle.vchan_core.proofs.machine.Machine.seen.Goals as goal
 
 pub returns-in-To-clause-events : goal.returns-in-To-clause-events
-returns-in-To-clause-events c = λ at word then list payload buffer is plan has goes out into.
+returns-in-To-clause-events c = λ word then list payload buffer plan has goes out into.
     let m = c.args.self.now in
-    look_one m at c.in-To.phase word then list payload buffer is plan has
+    let at = c.args.at in
+    look_one m at c.in-To.phase word then list payload buffer plan has
     (subst (λ (x : Move). plan_at (standing m) x ≡ then (slice_index list (index_of m.orders word))) c.in-To.is goes)
     (subst (λ (x : Move). out_move x ≤ out_at at) c.in-To.is out)
     (subst (λ (x : Move). into_move (read_size (standing m)) x ≤ into_at (read_size (standing m)) at) c.in-To.is into)
 
 pub returns-in-Done-clause-events : goal.returns-in-Done-clause-events
-returns-in-Done-clause-events c = λ at word then list payload buffer is plan has goes out into. (refl, refl, refl)
+returns-in-Done-clause-events c = λ word then list payload buffer plan has goes out into. (refl, refl, refl)

@@ -2,7 +2,6 @@ use Rattle.std.proofs.Common.{◌≡◌, ℕ, ap, ◌∙◌, slice_index}
 use Rattle.ring_words.specs.Page.{index_of}
 use Rattle.ring_words.specs.declared.order.Orders.{Orders}
 use Rattle.ring_words.specs.declared.page.WordName.{WordName}
-use Rattle.vchan_core.specs.declared.phase.Phase.TheVariants.{WriteLive}
 use Rattle.vchan_core.specs.Ends.{peer_live, read_size}
 use Rattle.vchan_core.specs.Phases.{standing}
 use Rattle.vchan_core.proofs.Counted.{has_peer_live}
@@ -18,8 +17,7 @@ returns-clause-events c = λ payload buffer.
     let value : c.load-live.result ≡ slice_index list (index_of m.orders (peer_live m.role)) =
     c.load-live.ensures.value ∙ ap (λ (o : Orders). slice_index list (index_of o c.live_word.result)) c.requires.orders
     ∙ ap (λ (w : WordName). slice_index list (index_of m.orders w)) c.live_word.ensures in
-    c.seen.ensures.events (WriteLive n) (peer_live m.role) (live_next e n) list payload buffer
-    c.requires.phase
+    c.seen.ensures.events (peer_live m.role) (live_next e n) list payload buffer
     (live_is e n) (has_peer_live m.orders m.role)
-    (c.if_alive.ensures.plan e ∙ alive_is e n c.load-live.result ∙ ap (λ (v : ℕ). live_next e n v) value)
-    c.if_alive.ensures.out (c.if_alive.ensures.into (read_size e))
+    (c.if_alive-next.ensures.plan e ∙ alive_is e n c.load-live.result ∙ ap (λ (v : ℕ). live_next e n v) value)
+    c.if_alive-next.ensures.out (c.if_alive-next.ensures.into (read_size e))

@@ -1,144 +1,254 @@
-use Rattle.std.proofs.Common.{ℕ, ◌<◌, ◌∙◌, ◌+◌, arith, sym, refl, [], take, None, Some}
-use Rattle.vchan_core.specs.Calls.{payload_of}
-use Rattle.vchan_core.proofs.RunLaws.{IsStep, length-payload, runs_begun}
-use Rattle.vchan_core.proofs.LoopLaws.{InLoop, loop_along, loop_step, loop_short, ends_trace, ends_stands, ends_answer, ends_buffer}
+use Rattle.std.proofs.Common.{ℕ, ◌<◌, ◌+◌, arith, subst}
 use Rattle.std.proofs.lemmas.List.Elements.{All-from_get_or}
+use Rattle.vchan_core.specs.declared.phase.Phase.{Phase}
+use Rattle.vchan_core.specs.declared.phase.Move.TheVariants.{To, Done}
+use Rattle.vchan_core.specs.declared.phase.Phase.TheVariants.{Notify}
+use Rattle.vchan_core.specs.Midway.{page_at}
+use Rattle.vchan_core.proofs.LoopLaws.{InLoop, MovesAt, IsEnded, loop_first, loop_seen, loop_moved, loop_out, loop_into, loop_to, loop_done, loop_short}
 use Rattle.vchan_core.proofs.PlainLaws.{kept_call}
 use Rattle.vchan_core.proofs.ListWhole.{page_follows_lists}
 use Rattle.vchan_core.proofs.plain.Plain.run_call.Given.{Over}
 use Rattle.vchan_core.proofs.plain.Plain.run_call.Goals as goal
 
 pub events-init : goal.events-init
-events-init g c =
-    let source = c.args.payload.now in
-    let payload = take (payload_of c.args.call) source in (
-      0,
-      record {
-        busy = c.begin.ensures.busy;
-        out = omega (arith, c.begin.ensures.out, c.requires.payload);
-        into = omega (arith, c.begin.ensures.into, c.requires.buf);
-        long = refl;
-        other = c.begin.ensures.other;
-        so_far = ([], sym c.begin.ensures.rest, refl);
-        running = λ core h. runs_begun core c.args.who c.args.call payload c.args.buf.now c.args.self.now c.begin.new.self h
-            (c.begin.ensures.stands core payload h (length-payload c.args.call source c.requires.payload)) c.begin.ensures.rest;
-      },
-      omega arith,
-    )
+events-init g c = (
+  0,
+  loop_first c.args.self.now c.args.who c.args.call c.args.payload.now c.args.buf.now c.first-phase.result c.requires.payload c.requires.buf
+      c.first-phase.ensures.stands c.first-phase.ensures.plan c.first-phase.ensures.out c.first-phase.ensures.into,
+  c.requires.allowed.0,
+  omega arith,
+)
 
--- the loop once the looks are made: before a piece is moved, before the event, where no answer comes, and where one does
-looked_now : (g : Over) (c : goal.After-move_piece-arg-in-events-1 g) → InLoop c.args.self.now c.args.who c.args.call c.args.payload.now c.args.buf.now c.look_ahead.new.self c.events.buf (c.events.invariant.0 + c.look_ahead.result)
-looked_now g c =
-    loop_along c.args.self.now c.args.who c.args.call c.args.payload.now c.args.buf.now c.requires.payload c.look_ahead.result c.events.self c.look_ahead.new.self c.events.buf c.events.buf c.events.invariant.0
-    c.events.invariant.1 c.look_ahead.ensures.low c.look_ahead.ensures.page (c.look_ahead.ensures.events c.args.payload.now c.events.buf)
+-- ---- the loop once the looks are made, and once a piece is moved
 
-pub move_piece-requires-clause-payload : goal.move_piece-requires-clause-payload
-move_piece-requires-clause-payload g c = (looked_now g c).out
+pub move_piece-moved-requires-clause-payload : goal.move_piece-moved-requires-clause-payload
+move_piece-moved-requires-clause-payload g c =
+    loop_out c.args.self.now c.args.who c.args.call c.args.payload.now c.args.buf.now c.events.self c.look_ahead-looks.result.1 c.events.buf _
+    (loop_seen c.args.self.now c.args.who c.args.call c.args.payload.now c.args.buf.now c.requires.payload c.look_ahead-looks.result.0 c.events.self c.events.phase c.look_ahead-looks.result.1 c.events.buf c.events.invariant.0
+    c.events.invariant.1 c.look_ahead-looks.ensures.low (c.look_ahead-looks.ensures.events c.args.payload.now c.events.buf))
 
-pub move_piece-requires-clause-buf : goal.move_piece-requires-clause-buf
-move_piece-requires-clause-buf g c = (looked_now g c).into
-
-looked_then : (g : Over) (c : goal.After-event-arg-in-events-1 g) → InLoop c.args.self.now c.args.who c.args.call c.args.payload.now c.args.buf.now c.look_ahead.new.self c.events.buf (c.events.invariant.0 + c.look_ahead.result)
-looked_then g c =
-    loop_along c.args.self.now c.args.who c.args.call c.args.payload.now c.args.buf.now c.requires.payload c.look_ahead.result c.events.self c.look_ahead.new.self c.events.buf c.events.buf c.events.invariant.0
-    c.events.invariant.1 c.look_ahead.ensures.low c.look_ahead.ensures.page (c.look_ahead.ensures.events c.args.payload.now c.events.buf)
-
-moved_now : (g : Over) (c : goal.After-event-arg-in-events-1 g) → InLoop c.args.self.now c.args.who c.args.call c.args.payload.now c.args.buf.now c.move_piece.new.self c.move_piece.new.buf (c.events.invariant.0 + c.look_ahead.result + c.move_piece.result)
-moved_now g c =
-    loop_along c.args.self.now c.args.who c.args.call c.args.payload.now c.args.buf.now c.requires.payload c.move_piece.result c.look_ahead.new.self c.move_piece.new.self c.events.buf c.move_piece.new.buf _
-    (looked_then g c) c.move_piece.ensures.low c.move_piece.ensures.page c.move_piece.ensures.events
-
-looked : (g : Over) (c : goal.In_default g) → InLoop c.args.self.now c.args.who c.args.call c.args.payload.now c.args.buf.now c.look_ahead.new.self c.events.buf (c.events.invariant.0 + c.look_ahead.result)
-looked g c =
-    loop_along c.args.self.now c.args.who c.args.call c.args.payload.now c.args.buf.now c.requires.payload c.look_ahead.result c.events.self c.look_ahead.new.self c.events.buf c.events.buf c.events.invariant.0
-    c.events.invariant.1 c.look_ahead.ensures.low c.look_ahead.ensures.page (c.look_ahead.ensures.events c.args.payload.now c.events.buf)
-
-moved : (g : Over) (c : goal.In_default g) → InLoop c.args.self.now c.args.who c.args.call c.args.payload.now c.args.buf.now c.move_piece.new.self c.move_piece.new.buf (c.events.invariant.0 + c.look_ahead.result + c.move_piece.result)
-moved g c =
-    loop_along c.args.self.now c.args.who c.args.call c.args.payload.now c.args.buf.now c.requires.payload c.move_piece.result c.look_ahead.new.self c.move_piece.new.self c.events.buf c.move_piece.new.buf _
-    (looked g c) c.move_piece.ensures.low c.move_piece.ensures.page c.move_piece.ensures.events
-
-looked_last : (g : Over) (c : goal.In-Some g) → InLoop c.args.self.now c.args.who c.args.call c.args.payload.now c.args.buf.now c.look_ahead.new.self c.events.buf (c.events.invariant.0 + c.look_ahead.result)
-looked_last g c =
-    loop_along c.args.self.now c.args.who c.args.call c.args.payload.now c.args.buf.now c.requires.payload c.look_ahead.result c.events.self c.look_ahead.new.self c.events.buf c.events.buf c.events.invariant.0
-    c.events.invariant.1 c.look_ahead.ensures.low c.look_ahead.ensures.page (c.look_ahead.ensures.events c.args.payload.now c.events.buf)
-
-moved_last : (g : Over) (c : goal.In-Some g) → InLoop c.args.self.now c.args.who c.args.call c.args.payload.now c.args.buf.now c.move_piece.new.self c.move_piece.new.buf (c.events.invariant.0 + c.look_ahead.result + c.move_piece.result)
-moved_last g c =
-    loop_along c.args.self.now c.args.who c.args.call c.args.payload.now c.args.buf.now c.requires.payload c.move_piece.result c.look_ahead.new.self c.move_piece.new.self c.events.buf c.move_piece.new.buf _
-    (looked_last g c) c.move_piece.ensures.low c.move_piece.ensures.page c.move_piece.ensures.events
-
-pub event-requires-clause-busy : goal.event-requires-clause-busy
-event-requires-clause-busy g c = (moved_now g c).busy
+pub move_piece-moved-requires-clause-buf : goal.move_piece-moved-requires-clause-buf
+move_piece-moved-requires-clause-buf g c =
+    loop_into c.args.self.now c.args.who c.args.call c.args.payload.now c.args.buf.now c.events.self c.look_ahead-looks.result.1 c.events.buf _
+    (loop_seen c.args.self.now c.args.who c.args.call c.args.payload.now c.args.buf.now c.requires.payload c.look_ahead-looks.result.0 c.events.self c.events.phase c.look_ahead-looks.result.1 c.events.buf c.events.invariant.0
+    c.events.invariant.1 c.look_ahead-looks.ensures.low (c.look_ahead-looks.ensures.events c.args.payload.now c.events.buf))
 
 pub event-requires-clause-payload : goal.event-requires-clause-payload
-event-requires-clause-payload g c = (moved_now g c).out
+event-requires-clause-payload g c =
+    loop_out c.args.self.now c.args.who c.args.call c.args.payload.now c.args.buf.now c.move_piece-moved.new.self c.move_piece-moved.result.1 c.move_piece-moved.new.buf _
+    (loop_moved c.args.self.now c.args.who c.args.call c.args.payload.now c.args.buf.now c.requires.payload c.move_piece-moved.result.0 c.events.self c.move_piece-moved.new.self c.look_ahead-looks.result.1 c.move_piece-moved.result.1 c.events.buf c.move_piece-moved.new.buf _
+    (loop_seen c.args.self.now c.args.who c.args.call c.args.payload.now c.args.buf.now c.requires.payload c.look_ahead-looks.result.0 c.events.self c.events.phase c.look_ahead-looks.result.1 c.events.buf c.events.invariant.0
+    c.events.invariant.1 c.look_ahead-looks.ensures.low (c.look_ahead-looks.ensures.events c.args.payload.now c.events.buf)) c.move_piece-moved.ensures.low c.move_piece-moved.ensures.page c.move_piece-moved.ensures.machine c.move_piece-moved.ensures.events)
 
 pub event-requires-clause-buf : goal.event-requires-clause-buf
-event-requires-clause-buf g c = (moved_now g c).into
+event-requires-clause-buf g c =
+    loop_into c.args.self.now c.args.who c.args.call c.args.payload.now c.args.buf.now c.move_piece-moved.new.self c.move_piece-moved.result.1 c.move_piece-moved.new.buf _
+    (loop_moved c.args.self.now c.args.who c.args.call c.args.payload.now c.args.buf.now c.requires.payload c.move_piece-moved.result.0 c.events.self c.move_piece-moved.new.self c.look_ahead-looks.result.1 c.move_piece-moved.result.1 c.events.buf c.move_piece-moved.new.buf _
+    (loop_seen c.args.self.now c.args.who c.args.call c.args.payload.now c.args.buf.now c.requires.payload c.look_ahead-looks.result.0 c.events.self c.events.phase c.look_ahead-looks.result.1 c.events.buf c.events.invariant.0
+    c.events.invariant.1 c.look_ahead-looks.ensures.low (c.look_ahead-looks.ensures.events c.args.payload.now c.events.buf)) c.move_piece-moved.ensures.low c.move_piece-moved.ensures.page c.move_piece-moved.ensures.machine c.move_piece-moved.ensures.events)
+
+-- ---- an index and the look at the peer's bit, which moves on
+
+on_moved : (g : Over) (c : goal.In-To-event g) → InLoop c.args.self.now c.args.who c.args.call c.args.payload.now c.args.buf.now (page_at c.move_piece-moved.new.self c.args.who c.move_piece-moved.result.1) c.move_piece-moved.new.buf (c.events.invariant.0 + c.look_ahead-looks.result.0 + c.move_piece-moved.result.0)
+on_moved g c =
+    loop_moved c.args.self.now c.args.who c.args.call c.args.payload.now c.args.buf.now c.requires.payload c.move_piece-moved.result.0 c.events.self c.move_piece-moved.new.self c.look_ahead-looks.result.1 c.move_piece-moved.result.1 c.events.buf c.move_piece-moved.new.buf _
+    (loop_seen c.args.self.now c.args.who c.args.call c.args.payload.now c.args.buf.now c.requires.payload c.look_ahead-looks.result.0 c.events.self c.events.phase c.look_ahead-looks.result.1 c.events.buf c.events.invariant.0
+    c.events.invariant.1 c.look_ahead-looks.ensures.low (c.look_ahead-looks.ensures.events c.args.payload.now c.events.buf)) c.move_piece-moved.ensures.low c.move_piece-moved.ensures.page c.move_piece-moved.ensures.machine c.move_piece-moved.ensures.events
+
+on_shown : (g : Over) (c : goal.In-To-event g) → MovesAt c.args.who c.args.payload.now c.move_piece-moved.new.self c.event.new.self c.move_piece-moved.result.1 (To c.in-To-Notify.field-0) c.move_piece-moved.new.buf c.event.new.buf
+on_shown g c = record {
+  stands = c.in-To-Notify.ensures.stands;
+  footprint = c.event.ensures.footprint;
+  buffers = c.event.ensures.buffer;
+  leads = c.in-To-Notify.ensures.rest;
+  idle = c.event.ensures.idle;
+  out = c.in-To-Notify.ensures.out;
+  into = c.in-To-Notify.ensures.into;
+  other = c.event.ensures.other;
+}
+
+on_noted : (g : Over) (c : goal.In-To-event g) → InLoop c.args.self.now c.args.who c.args.call c.args.payload.now c.args.buf.now (page_at c.event.new.self c.args.who (Notify c.in-To-Notify.bit c.in-To-Notify.answer)) c.event.new.buf (c.events.invariant.0 + c.look_ahead-looks.result.0 + c.move_piece-moved.result.0 + 1)
+on_noted g c =
+    subst (λ (phase : Phase). InLoop c.args.self.now c.args.who c.args.call c.args.payload.now c.args.buf.now (page_at c.event.new.self c.args.who phase) c.event.new.buf (c.events.invariant.0 + c.look_ahead-looks.result.0 + c.move_piece-moved.result.0 + 1)) c.in-To-Notify.field-0-is
+    (loop_to c.args.self.now c.args.who c.args.call c.args.payload.now c.args.buf.now c.requires.payload c.move_piece-moved.new.self c.event.new.self c.move_piece-moved.result.1 c.in-To-Notify.field-0 c.move_piece-moved.new.buf c.event.new.buf _ (on_moved g c) (on_shown g c))
+
+on_made : (g : Over) (c : goal.In-To-event g) → MovesAt c.args.who c.args.payload.now c.event.new.self c.event-in-To-Notify.new.self (Notify c.in-To-Notify.bit c.in-To-Notify.answer) (To c.in-To-event.next) c.event.new.buf c.event-in-To-Notify.new.buf
+on_made g c = record {
+  stands = c.in-To-event.ensures.stands;
+  footprint = c.event-in-To-Notify.ensures.footprint;
+  buffers = c.event-in-To-Notify.ensures.buffer;
+  leads = c.in-To-event.ensures.rest;
+  idle = c.event-in-To-Notify.ensures.idle;
+  out = c.in-To-event.ensures.out;
+  into = c.in-To-event.ensures.into;
+  other = c.event-in-To-Notify.ensures.other;
+}
+
+pub events-smaller-in-To-event : goal.events-smaller-in-To-event
+events-smaller-in-To-event g c =
+    let short = loop_short c.args.self.now c.args.who c.args.call c.args.payload.now c.args.buf.now c.requires.payload (page_at c.event.new.self c.args.who (Notify c.in-To-Notify.bit c.in-To-Notify.answer)) c.event.new.buf _ (on_noted g c) in
+    omega (arith, short, c.events.invariant.3, c.add.ensures, c.add-in-events.ensures, c.tick.ensures, c.tick-in-To-Notify.ensures)
+
+pub events-preserved-in-To-event : goal.events-preserved-in-To-event
+events-preserved-in-To-event g c = (
+  c.events.invariant.0 + c.look_ahead-looks.result.0 + c.move_piece-moved.result.0 + 1 + 1,
+  loop_to c.args.self.now c.args.who c.args.call c.args.payload.now c.args.buf.now c.requires.payload c.event.new.self c.event-in-To-Notify.new.self (Notify c.in-To-Notify.bit c.in-To-Notify.answer) c.in-To-event.next c.event.new.buf c.event-in-To-Notify.new.buf _ (on_noted g c) (on_made g c),
+  c.event-in-To-Notify.ensures.idle,
+  omega (arith, c.events.invariant.3, c.add.ensures, c.add-in-events.ensures, c.tick.ensures, c.tick-in-To-Notify.ensures),
+)
+
+-- ---- and which gives the answer
+
+told_moved : (g : Over) (c : goal.In-Done-event g) → InLoop c.args.self.now c.args.who c.args.call c.args.payload.now c.args.buf.now (page_at c.move_piece-moved.new.self c.args.who c.move_piece-moved.result.1) c.move_piece-moved.new.buf (c.events.invariant.0 + c.look_ahead-looks.result.0 + c.move_piece-moved.result.0)
+told_moved g c =
+    loop_moved c.args.self.now c.args.who c.args.call c.args.payload.now c.args.buf.now c.requires.payload c.move_piece-moved.result.0 c.events.self c.move_piece-moved.new.self c.look_ahead-looks.result.1 c.move_piece-moved.result.1 c.events.buf c.move_piece-moved.new.buf _
+    (loop_seen c.args.self.now c.args.who c.args.call c.args.payload.now c.args.buf.now c.requires.payload c.look_ahead-looks.result.0 c.events.self c.events.phase c.look_ahead-looks.result.1 c.events.buf c.events.invariant.0
+    c.events.invariant.1 c.look_ahead-looks.ensures.low (c.look_ahead-looks.ensures.events c.args.payload.now c.events.buf)) c.move_piece-moved.ensures.low c.move_piece-moved.ensures.page c.move_piece-moved.ensures.machine c.move_piece-moved.ensures.events
+
+told_shown : (g : Over) (c : goal.In-Done-event g) → MovesAt c.args.who c.args.payload.now c.move_piece-moved.new.self c.event.new.self c.move_piece-moved.result.1 (To c.in-To-Notify.field-0) c.move_piece-moved.new.buf c.event.new.buf
+told_shown g c = record {
+  stands = c.in-To-Notify.ensures.stands;
+  footprint = c.event.ensures.footprint;
+  buffers = c.event.ensures.buffer;
+  leads = c.in-To-Notify.ensures.rest;
+  idle = c.event.ensures.idle;
+  out = c.in-To-Notify.ensures.out;
+  into = c.in-To-Notify.ensures.into;
+  other = c.event.ensures.other;
+}
+
+told_noted : (g : Over) (c : goal.In-Done-event g) → InLoop c.args.self.now c.args.who c.args.call c.args.payload.now c.args.buf.now (page_at c.event.new.self c.args.who (Notify c.in-To-Notify.bit c.in-To-Notify.answer)) c.event.new.buf (c.events.invariant.0 + c.look_ahead-looks.result.0 + c.move_piece-moved.result.0 + 1)
+told_noted g c =
+    subst (λ (phase : Phase). InLoop c.args.self.now c.args.who c.args.call c.args.payload.now c.args.buf.now (page_at c.event.new.self c.args.who phase) c.event.new.buf (c.events.invariant.0 + c.look_ahead-looks.result.0 + c.move_piece-moved.result.0 + 1)) c.in-To-Notify.field-0-is
+    (loop_to c.args.self.now c.args.who c.args.call c.args.payload.now c.args.buf.now c.requires.payload c.move_piece-moved.new.self c.event.new.self c.move_piece-moved.result.1 c.in-To-Notify.field-0 c.move_piece-moved.new.buf c.event.new.buf _ (told_moved g c) (told_shown g c))
+
+told_made : (g : Over) (c : goal.In-Done-event g) → MovesAt c.args.who c.args.payload.now c.event.new.self c.event-in-To-Notify.new.self (Notify c.in-To-Notify.bit c.in-To-Notify.answer) (Done c.in-Done-event.answer) c.event.new.buf c.event-in-To-Notify.new.buf
+told_made g c = record {
+  stands = c.in-Done-event.ensures.stands;
+  footprint = c.event-in-To-Notify.ensures.footprint;
+  buffers = c.event-in-To-Notify.ensures.buffer;
+  leads = c.in-Done-event.ensures.rest;
+  idle = c.event-in-To-Notify.ensures.idle;
+  out = c.in-Done-event.ensures.out;
+  into = c.in-Done-event.ensures.into;
+  other = c.event-in-To-Notify.ensures.other;
+}
+
+told_ended : (g : Over) (c : goal.In-Done-event g) → IsEnded c.args.self.now c.args.who c.args.call c.args.payload.now c.args.buf.now c.event-in-To-Notify.new.self c.event-in-To-Notify.new.buf (c.events.invariant.0 + c.look_ahead-looks.result.0 + c.move_piece-moved.result.0 + 1 + 1) c.in-Done-event.answer
+told_ended g c =
+    loop_done c.args.self.now c.args.who c.args.call c.args.payload.now c.args.buf.now c.requires.payload c.event.new.self c.event-in-To-Notify.new.self (Notify c.in-To-Notify.bit c.in-To-Notify.answer) c.in-Done-event.answer c.event.new.buf c.event-in-To-Notify.new.buf _ (told_noted g c) (told_made g c)
+
+pub returns-in-Done-event-clause-stands : goal.returns-in-Done-event-clause-stands
+returns-in-Done-event-clause-stands g c = (told_ended g c).stands
+
+pub returns-in-Done-event-clause-answer : goal.returns-in-Done-event-clause-answer
+returns-in-Done-event-clause-answer g c = (told_ended g c).answers
+
+pub returns-in-Done-event-clause-buffer : goal.returns-in-Done-event-clause-buffer
+returns-in-Done-event-clause-buffer g c = (told_ended g c).fills
+
+pub returns-in-Done-event-clause-other : goal.returns-in-Done-event-clause-other
+returns-in-Done-event-clause-other g c = (told_ended g c).other
+
+pub returns-in-Done-event-clause-bound : goal.returns-in-Done-event-clause-bound
+returns-in-Done-event-clause-bound g c = let ended = told_ended g c in
+    omega (arith, ended.short, c.events.invariant.3, c.add.ensures, c.add-in-events.ensures, c.tick.ensures, c.tick-in-To-Notify.ensures)
+
+pub returns-in-Done-event-clause-trace : goal.returns-in-Done-event-clause-trace
+returns-in-Done-event-clause-trace g c = let t = (told_ended g c).trace in
+    (t.0, t.1, omega (arith, t.2, c.events.invariant.3, c.add.ensures, c.add-in-events.ensures, c.tick.ensures, c.tick-in-To-Notify.ensures))
+
+pub returns-in-Done-event-clause-kept : goal.returns-in-Done-event-clause-kept
+returns-in-Done-event-clause-kept g c = λ core h kept.
+    kept_call core c.args.self.now c.args.who c.args.call c.args.payload.now h c.requires.honest c.requires.allowed c.requires.payload (λ k. omega (arith, c.type_inv.payload k)) kept
+
+pub returns-in-Done-event-clause-lists : goal.returns-in-Done-event-clause-lists
+returns-in-Done-event-clause-lists g c = λ core h lawful.
+    page_follows_lists core c.args.self.now c.args.who c.args.call c.args.payload.now c.requires.allowed c.requires.payload
+    (All-from_get_or (λ (byte : ℕ). byte < 256) c.args.payload.now 0 (λ i within. let low = c.type_inv.payload i in omega (arith, low))) h lawful
+
+-- ---- another event, which moves on
+
+then_moved : (g : Over) (c : goal.In-To g) → InLoop c.args.self.now c.args.who c.args.call c.args.payload.now c.args.buf.now (page_at c.move_piece-moved.new.self c.args.who c.move_piece-moved.result.1) c.move_piece-moved.new.buf (c.events.invariant.0 + c.look_ahead-looks.result.0 + c.move_piece-moved.result.0)
+then_moved g c =
+    loop_moved c.args.self.now c.args.who c.args.call c.args.payload.now c.args.buf.now c.requires.payload c.move_piece-moved.result.0 c.events.self c.move_piece-moved.new.self c.look_ahead-looks.result.1 c.move_piece-moved.result.1 c.events.buf c.move_piece-moved.new.buf _
+    (loop_seen c.args.self.now c.args.who c.args.call c.args.payload.now c.args.buf.now c.requires.payload c.look_ahead-looks.result.0 c.events.self c.events.phase c.look_ahead-looks.result.1 c.events.buf c.events.invariant.0
+    c.events.invariant.1 c.look_ahead-looks.ensures.low (c.look_ahead-looks.ensures.events c.args.payload.now c.events.buf)) c.move_piece-moved.ensures.low c.move_piece-moved.ensures.page c.move_piece-moved.ensures.machine c.move_piece-moved.ensures.events
+
+then_made : (g : Over) (c : goal.In-To g) → MovesAt c.args.who c.args.payload.now c.move_piece-moved.new.self c.event.new.self c.move_piece-moved.result.1 (To c.in-To.next) c.move_piece-moved.new.buf c.event.new.buf
+then_made g c = record {
+  stands = c.in-To.ensures.stands;
+  footprint = c.event.ensures.footprint;
+  buffers = c.event.ensures.buffer;
+  leads = c.in-To.ensures.rest;
+  idle = c.event.ensures.idle;
+  out = c.in-To.ensures.out;
+  into = c.in-To.ensures.into;
+  other = c.event.ensures.other;
+}
 
 pub events-smaller : goal.events-smaller
 events-smaller g c =
-    let short = loop_short c.args.self.now c.args.who c.args.call c.args.payload.now c.args.buf.now c.requires.payload c.move_piece.new.self c.move_piece.new.buf _ (moved g c) in
-    omega (arith, short, c.events.invariant.2, c.add.ensures, c.add-in-events.ensures, c.tick.ensures)
+    let short = loop_short c.args.self.now c.args.who c.args.call c.args.payload.now c.args.buf.now c.requires.payload (page_at c.move_piece-moved.new.self c.args.who c.move_piece-moved.result.1) c.move_piece-moved.new.buf _ (then_moved g c) in
+    omega (arith, short, c.events.invariant.3, c.add.ensures, c.add-in-events.ensures, c.tick.ensures)
 
 pub events-preserved : goal.events-preserved
-events-preserved g c =
-    let step : IsStep c.args.who c.args.payload.now c.move_piece.new.self c.event.new.self None c.move_piece.new.buf c.event.new.buf = record {
-      busy = (moved g c).busy;
-      stands = c.event.ensures.stands;
-      footprint = c.event.ensures.footprint;
-      buffers = c.event.ensures.buffer;
-      leads = c.in_default.ensures.rest;
-      idle = c.in_default.ensures.idle;
-    } in (
-      c.events.invariant.0 + c.look_ahead.result + c.move_piece.result + 1,
-      loop_step c.args.self.now c.args.who c.args.call c.args.payload.now c.args.buf.now c.requires.payload c.move_piece.new.self c.event.new.self c.move_piece.new.buf c.event.new.buf _ (moved g c) step
-          c.event.ensures.out c.event.ensures.into c.event.ensures.other,
-      omega (arith, c.events.invariant.2, c.add.ensures, c.add-in-events.ensures, c.tick.ensures),
-    )
+events-preserved g c = (
+  c.events.invariant.0 + c.look_ahead-looks.result.0 + c.move_piece-moved.result.0 + 1,
+  loop_to c.args.self.now c.args.who c.args.call c.args.payload.now c.args.buf.now c.requires.payload c.move_piece-moved.new.self c.event.new.self c.move_piece-moved.result.1 c.in-To.next c.move_piece-moved.new.buf c.event.new.buf _ (then_moved g c) (then_made g c),
+  c.event.ensures.idle,
+  omega (arith, c.events.invariant.3, c.add.ensures, c.add-in-events.ensures, c.tick.ensures),
+)
 
--- the last step, with its answer
-last : (g : Over) (c : goal.In-Some g) → IsStep c.args.who c.args.payload.now c.move_piece.new.self c.event.new.self (Some c.in-Some.answer) c.move_piece.new.buf c.event.new.buf
-last g c = record {
-  busy = (moved_last g c).busy;
-  stands = c.event.ensures.stands;
+-- ---- and which gives the answer
+
+last_moved : (g : Over) (c : goal.In-Done g) → InLoop c.args.self.now c.args.who c.args.call c.args.payload.now c.args.buf.now (page_at c.move_piece-moved.new.self c.args.who c.move_piece-moved.result.1) c.move_piece-moved.new.buf (c.events.invariant.0 + c.look_ahead-looks.result.0 + c.move_piece-moved.result.0)
+last_moved g c =
+    loop_moved c.args.self.now c.args.who c.args.call c.args.payload.now c.args.buf.now c.requires.payload c.move_piece-moved.result.0 c.events.self c.move_piece-moved.new.self c.look_ahead-looks.result.1 c.move_piece-moved.result.1 c.events.buf c.move_piece-moved.new.buf _
+    (loop_seen c.args.self.now c.args.who c.args.call c.args.payload.now c.args.buf.now c.requires.payload c.look_ahead-looks.result.0 c.events.self c.events.phase c.look_ahead-looks.result.1 c.events.buf c.events.invariant.0
+    c.events.invariant.1 c.look_ahead-looks.ensures.low (c.look_ahead-looks.ensures.events c.args.payload.now c.events.buf)) c.move_piece-moved.ensures.low c.move_piece-moved.ensures.page c.move_piece-moved.ensures.machine c.move_piece-moved.ensures.events
+
+last_made : (g : Over) (c : goal.In-Done g) → MovesAt c.args.who c.args.payload.now c.move_piece-moved.new.self c.event.new.self c.move_piece-moved.result.1 (Done c.in-Done.answer) c.move_piece-moved.new.buf c.event.new.buf
+last_made g c = record {
+  stands = c.in-Done.ensures.stands;
   footprint = c.event.ensures.footprint;
   buffers = c.event.ensures.buffer;
-  leads = c.in-Some.ensures.rest;
-  idle = c.in-Some.ensures.idle;
+  leads = c.in-Done.ensures.rest;
+  idle = c.event.ensures.idle;
+  out = c.in-Done.ensures.out;
+  into = c.in-Done.ensures.into;
+  other = c.event.ensures.other;
 }
 
-pub returns-in-Some-clause-bound : goal.returns-in-Some-clause-bound
-returns-in-Some-clause-bound g c =
-    let short = loop_short c.args.self.now c.args.who c.args.call c.args.payload.now c.args.buf.now c.requires.payload c.move_piece.new.self c.move_piece.new.buf _ (moved_last g c) in
-    omega (arith, short, c.events.invariant.2, c.add.ensures, c.add-in-events.ensures, c.tick.ensures)
+last_ended : (g : Over) (c : goal.In-Done g) → IsEnded c.args.self.now c.args.who c.args.call c.args.payload.now c.args.buf.now c.event.new.self c.event.new.buf (c.events.invariant.0 + c.look_ahead-looks.result.0 + c.move_piece-moved.result.0 + 1) c.in-Done.answer
+last_ended g c =
+    loop_done c.args.self.now c.args.who c.args.call c.args.payload.now c.args.buf.now c.requires.payload c.move_piece-moved.new.self c.event.new.self c.move_piece-moved.result.1 c.in-Done.answer c.move_piece-moved.new.buf c.event.new.buf _ (last_moved g c) (last_made g c)
 
-pub returns-in-Some-clause-trace : goal.returns-in-Some-clause-trace
-returns-in-Some-clause-trace g c =
-    let t = ends_trace c.args.self.now c.args.who c.args.call c.args.payload.now c.args.buf.now c.requires.payload c.move_piece.new.self c.event.new.self c.move_piece.new.buf c.event.new.buf _ c.in-Some.answer (moved_last g c) (last g c) in
-    (t.0, t.1, omega (arith, t.2, c.events.invariant.2, c.add.ensures, c.add-in-events.ensures, c.tick.ensures))
+pub returns-in-Done-clause-stands : goal.returns-in-Done-clause-stands
+returns-in-Done-clause-stands g c = (last_ended g c).stands
 
-pub returns-in-Some-clause-other : goal.returns-in-Some-clause-other
-returns-in-Some-clause-other g c = c.event.ensures.other ∙ (moved_last g c).other
+pub returns-in-Done-clause-answer : goal.returns-in-Done-clause-answer
+returns-in-Done-clause-answer g c = (last_ended g c).answers
 
-pub returns-in-Some-clause-stands : goal.returns-in-Some-clause-stands
-returns-in-Some-clause-stands g c =
-    ends_stands c.args.self.now c.args.who c.args.call c.args.payload.now c.args.buf.now c.requires.payload c.move_piece.new.self c.event.new.self c.move_piece.new.buf c.event.new.buf _ c.in-Some.answer (moved_last g c) (last g c)
+pub returns-in-Done-clause-buffer : goal.returns-in-Done-clause-buffer
+returns-in-Done-clause-buffer g c = (last_ended g c).fills
 
-pub returns-in-Some-clause-answer : goal.returns-in-Some-clause-answer
-returns-in-Some-clause-answer g c =
-    ends_answer c.args.self.now c.args.who c.args.call c.args.payload.now c.args.buf.now c.requires.payload c.move_piece.new.self c.event.new.self c.move_piece.new.buf c.event.new.buf _ c.in-Some.answer (moved_last g c) (last g c)
+pub returns-in-Done-clause-other : goal.returns-in-Done-clause-other
+returns-in-Done-clause-other g c = (last_ended g c).other
 
-pub returns-in-Some-clause-buffer : goal.returns-in-Some-clause-buffer
-returns-in-Some-clause-buffer g c =
-    ends_buffer c.args.self.now c.args.who c.args.call c.args.payload.now c.args.buf.now c.requires.payload c.move_piece.new.self c.event.new.self c.move_piece.new.buf c.event.new.buf _ c.in-Some.answer (moved_last g c) (last g c)
+pub returns-in-Done-clause-bound : goal.returns-in-Done-clause-bound
+returns-in-Done-clause-bound g c = let ended = last_ended g c in
+    omega (arith, ended.short, c.events.invariant.3, c.add.ensures, c.add-in-events.ensures, c.tick.ensures)
 
-pub returns-in-Some-clause-kept : goal.returns-in-Some-clause-kept
-returns-in-Some-clause-kept g c = λ core h kept.
+pub returns-in-Done-clause-trace : goal.returns-in-Done-clause-trace
+returns-in-Done-clause-trace g c = let t = (last_ended g c).trace in
+    (t.0, t.1, omega (arith, t.2, c.events.invariant.3, c.add.ensures, c.add-in-events.ensures, c.tick.ensures))
+
+pub returns-in-Done-clause-kept : goal.returns-in-Done-clause-kept
+returns-in-Done-clause-kept g c = λ core h kept.
     kept_call core c.args.self.now c.args.who c.args.call c.args.payload.now h c.requires.honest c.requires.allowed c.requires.payload (λ k. omega (arith, c.type_inv.payload k)) kept
 
-pub returns-in-Some-clause-lists : goal.returns-in-Some-clause-lists
-returns-in-Some-clause-lists g c = λ core h lawful.
+pub returns-in-Done-clause-lists : goal.returns-in-Done-clause-lists
+returns-in-Done-clause-lists g c = λ core h lawful.
     page_follows_lists core c.args.self.now c.args.who c.args.call c.args.payload.now c.requires.allowed c.requires.payload
     (All-from_get_or (λ (byte : ℕ). byte < 256) c.args.payload.now 0 (λ i within. let low = c.type_inv.payload i in omega (arith, low))) h lawful

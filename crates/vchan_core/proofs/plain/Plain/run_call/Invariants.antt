@@ -1,12 +1,14 @@
 use Rattle.std.proofs.Common.{◌≡◌, ℕ, ◌+◌, ◌-◌}
 use Rattle.vchan_core.specs.Calls.{most_events}
-use Rattle.vchan_core.specs.Phases.{standing}
+use Rattle.vchan_core.specs.Phases.{standing, IsIdle}
 use Rattle.vchan_core.specs.Past.{machine_of}
+use Rattle.vchan_core.specs.Midway.{page_at}
 use Rattle.vchan_core.proofs.LoopLaws.{InLoop}
 use Rattle.vchan_core.proofs.plain.Plain.run_call.Given as goal
 
 abbrev pub invariant-events : goal.invariant-events
-invariant-events g l = (count : ℕ) × InLoop l.fn.self l.who l.fn.call l.payload l.initial.buf l.self l.buf count × (l.steps ≡ l.fn.steps + count)
+invariant-events g l =
+    (count : ℕ) × InLoop l.fn.self l.who l.fn.call l.payload l.initial.buf (page_at l.self l.who l.phase) l.buf count × IsIdle (machine_of l.self l.who) × (l.steps ≡ l.fn.steps + count)
 
 abbrev pub decreases-events : goal.decreases-events
 decreases-events g l = most_events (standing (machine_of l.fn.self l.who)) l.fn.call - (l.steps - l.fn.steps)
