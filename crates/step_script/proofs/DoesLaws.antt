@@ -228,8 +228,8 @@ does_call who c page page' hand hand' old text text' result fits stands answer f
 -- the begin of a call
 pub does_begin : (who : Role) (c : StepCall) (page page' : Plain) (hand hand' : Hand) (text : List ℕ) → length c.payload ≡ payload_of c.call
     → ((core : Core) (payload : List ℕ) → StandsFor core page → length payload ≡ payload_of c.call → StandsFor (begun core who c.call payload) page')
-    → out_of (machine_of page' who) ≤ length hand'.payload.now → into_of (machine_of page' who) ≤ length hand'.buffer.items
-    → hand'.call ≡ c.call → hand'.payload.now ≡ c.payload → other_of page' who ≡ other_of page who
+    → out_of (machine_of page' who) ≤ length hand'.payload.items → into_of (machine_of page' who) ≤ length hand'.buffer.items
+    → hand'.call ≡ c.call → hand'.payload.items ≡ c.payload → other_of page' who ≡ other_of page who
     → Does who (begins_call who c) page page' hand hand' text text
 does_begin who c page page' hand hand' text fits stands out into call payload other = record {
   at = λ core h. record {

@@ -72,15 +72,15 @@ has_payload s payload is = subst (λ (l : List ℕ). take (length s.payload) l �
 -- what one step of the code knows
 pub record IsStep (who : Role) (page page' : Plain) (hand hand' : Hand) (result : Option Answer) : Type 0 where
   pub busy : ¬ IsIdle (machine_of page who)
-  pub stands : (core : Core) → StandsFor core page → HasPayload (side_of core who) hand.payload.now → StandsFor (event core who) page'
-  pub footprint : Fits (orders_of page) (length hand.payload.now) (length hand.buffer.items) (op_of page who)
+  pub stands : (core : Core) → StandsFor core page → HasPayload (side_of core who) hand.payload.items → StandsFor (event core who) page'
+  pub footprint : Fits (orders_of page) (length hand.payload.items) (length hand.buffer.items) (op_of page who)
   pub buffers : hand'.buffer.items ≡ buffer_after (orders_of page) (words_of page) hand.buffer.items (op_of page who)
   pub long : length hand'.buffer.items ≡ length hand.buffer.items
   pub leads : left result (machine_of page' who) ≡ after (rest (machine_of page who)) (value_taken (orders_of page) (words_of page) (op_of page who))
   pub out : out_of (machine_of page' who) ≤ out_of (machine_of page who)
   pub into : into_of (machine_of page' who) ≤ into_of (machine_of page who)
   pub call : hand'.call ≡ hand.call
-  pub payload : hand'.payload.now ≡ hand.payload.now
+  pub payload : hand'.payload.items ≡ hand.payload.items
 
 -- an end that is still inside a call is inside the same one
 settled-call : (s : Side) (plan : Plan) (m : Machine) → IsMachineOf (settled s plan) m → ¬ IsIdle m → (settled s plan).call ≡ s.call
@@ -107,7 +107,7 @@ module _ (core : Core) (who : Role) (page page' : Plain) (hand hand' : Hand) (re
   plan = after (rest m) value
 
   then_stands : StandsFor (event core who) page'
-  then_stands = d.stands core h.stands (has_payload s hand.payload.now (h.held.payload d.busy))
+  then_stands = d.stands core h.stands (has_payload s hand.payload.items (h.held.payload d.busy))
 
   then_side : side_of (event core who) who ≡ settled (made s op value) plan
   then_side = side_after core who m here
@@ -125,7 +125,7 @@ module _ (core : Core) (who : Role) (page page' : Plain) (hand hand' : Hand) (re
   then_fills : HasLoaded (side_of (event core who) who).trail hand'.buffer.items
   then_fills =
       let bytes = hand.buffer.items in
-      let fits : FillsNext s.trail (length bytes) op = fills_next s m here (orders_of page) (length hand.payload.now) (length bytes) d.busy d.footprint in
+      let fits : FillsNext s.trail (length bytes) op = fills_next s m here (orders_of page) (length hand.payload.items) (length bytes) d.busy d.footprint in
       has_filled (side_of (event core who) who).trail bytes hand'.buffer.items
       (d.buffers ∙ ap (λ (o : Orders). buffer_after o (words_of page) bytes op) h.stands.orders ∙ ap (λ (w : List ℕ). buffer_after core.orders w bytes op) h.stands.words
       ∙ ap (λ (b : List ℕ). buffer_after core.orders core.words b op) h.held.loaded ∙ fills_on core.orders core.words bytes s.trail op fits

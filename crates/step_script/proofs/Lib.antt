@@ -10,3 +10,4 @@ pub mod FinishLaws
 pub mod DoesLaws
 pub mod PlayerLaws
 pub mod ListScriptLaws
+pub mod RunningLaws

@@ -277,6 +277,14 @@ playing_fits script player line rest rest' so_far next =
     let fit : All (LineFits so_far.core.orders) (line ∷ rest') = subst (λ (l : List StepLine). All (LineFits so_far.core.orders) l) next so_far.fit in
     subst (λ (o : Orders). LineFits o line) (sym so_far.to.stands.orders) (fit 0 line (omega arith))
 
+-- what a line printed stands in front of what the lines behind it print
+pub played_on : (player player' : Player) (line : StepLine) (rest : List StepLine) (core : Core) → IsPlayedTo core player → Plays (line_done line) player player' →
+    player'.text.items ++ text_of (plays rest (line_done line core).core) ≡ player.text.items ++ text_of (plays (line ∷ rest) core)
+played_on player player' line rest core at p =
+    let after : Core = (line_done line core).core in
+    ap (λ (l : List ℕ). l ++ text_of (plays rest after)) (p.prints core at) ∙ append_assoc player.text.items (text_of (line_done line core).lines) (text_of (plays rest after))
+    ∙ ap (λ (l : List ℕ). player.text.items ++ l) (sym (flat_map-append line_text (line_done line core).lines (plays rest after)) ∙ sym (ap text_of (plays-cons line rest core)))
+
 -- one more line is played
 pub playing_on : (script : List StepLine) (player player' : Player) (line : StepLine) (rest rest' : List StepLine) → IsPlaying script player rest → rest ≡ line ∷ rest' → Plays (line_done line) player player' →
     IsPlaying script player' rest'
@@ -288,18 +296,13 @@ playing_on script player player' line rest rest' so_far next p =
       core = after;
       to = p.to core so_far.to;
       fit = subst (λ (o : Orders). All (LineFits o) rest') (sym (orders_kept line core)) (All-tail (LineFits core.orders) line rest' fit);
-      played = ap (λ (l : List ℕ). l ++ text_of (plays rest' after)) (p.prints core so_far.to) ∙ append_assoc player.text.items (text_of (line_done line core).lines) (text_of (plays rest' after))
-          ∙ ap (λ (l : List ℕ). player.text.items ++ l) (sym (flat_map-append line_text (line_done line core).lines (plays rest' after)) ∙ sym (ap text_of (plays-cons line rest' core)))
-          ∙ ap (λ (l : List StepLine). player.text.items ++ text_of (plays l core)) (sym next) ∙ so_far.played;
+      played = played_on player player' line rest' core so_far.to p ∙ ap (λ (l : List StepLine). player.text.items ++ text_of (plays l core)) (sym next) ∙ so_far.played;
     }
 
--- all is played, and the rings' lines end the text
-pub playing_last : (script : List StepLine) (player : Player) (first second : List ℕ) → IsPlaying script player [] →
-    ((core : Core) → StandsFor core player.page → first ≡ player.text.items ++ line_text (ring_line core Left)) → ((core : Core) → StandsFor core player.page → second ≡ first ++ line_text (ring_line core Right)) →
-    second ≡ step_text script
-playing_last script player first second so_far left right =
-    let core : Core = so_far.core in
+-- the rings' lines end the text
+pub ended : (core : Core) (text first second : List ℕ) → first ≡ text ++ line_text (ring_line core Left) → second ≡ first ++ line_text (ring_line core Right) → second ≡ text ++ text_of (plays [] core)
+ended core text first second left right =
     let one : List ℕ = line_text (ring_line core Left) in
     let two : List ℕ = line_text (ring_line core Right) in
-    right core so_far.to.stands ∙ ap (λ (l : List ℕ). l ++ two) (left core so_far.to.stands) ∙ append_assoc player.text.items one two
-    ∙ ap (λ (l : List ℕ). player.text.items ++ (one ++ l)) (sym (append-nil two)) ∙ ap (λ (l : List TextLine). player.text.items ++ text_of l) (sym (plays-end core)) ∙ so_far.played
+    right ∙ ap (λ (l : List ℕ). l ++ two) left ∙ append_assoc text one two ∙ ap (λ (l : List ℕ). text ++ (one ++ l)) (sym (append-nil two))
+    ∙ ap (λ (l : List TextLine). text ++ text_of l) (sym (plays-end core))

@@ -13,7 +13,7 @@ use Rattle.step_script.specs.declared.lines.NextLine.{NextLine}
 use Rattle.step_script.specs.declared.lines.NextLine.TheVariants as nexts
 use denote.Ref.{Bor}
 use Rattle.script_words.specs.Words.{words_of}
-use Rattle.step_script.specs.declared.script.Line.{Line}
+use Rattle.step_script.specs.declared.script.ScriptLine.{ScriptLine}
 use Rattle.step_script.specs.Grammar.{at_number, line_of, lines_from}
 use Rattle.step_script.specs.Kept.{Lines, stops, refused, line}
 use Rattle.step_script.specs.LinesLeft.{IsNext}
@@ -71,16 +71,21 @@ unfolding goes_on
 goes_on-Err orders room more bad = refl
 
 -- a read line joins those read so far
-pub read_on : (orders : Orders) (lines : List Line) (next : Line) (left more : Lines) (room number : ℕ) (words : List (List ℕ)) (due : Result (List StepLine) (ℕ × ScriptKind))
+pub read_further : (orders : Orders) (front : List StepLine) (next : StepLine) (left more : Lines) (room number : ℕ) (words : List (List ℕ)) (due : Result (List StepLine) (ℕ × ScriptKind))
+    → behind front (lines_from orders room left) ≡ due → left ≡ line number words more → at_number number (line_of orders room words) ≡ Ok next
+    → behind (front ++ next ∷ []) (lines_from orders (room - payload_len next) more) ≡ due
+read_further orders front next left more room number words due so_far cut good =
+    sym (goes_on-Ok front orders room more next)
+    ∙ ap (λ (r : Result StepLine (ℕ × ScriptKind)). behind front (goes_on orders room more r)) (sym good)
+    ∙ ap (behind front) (sym (lines_from-line orders room number words more))
+    ∙ ap (λ (l : Lines). behind front (lines_from orders room l)) (sym cut) ∙ so_far
+
+pub read_on : (orders : Orders) (lines : List ScriptLine) (next : ScriptLine) (left more : Lines) (room number : ℕ) (words : List (List ℕ)) (due : Result (List StepLine) (ℕ × ScriptKind))
     → behind (lines_seen lines) (lines_from orders room left) ≡ due → left ≡ line number words more → at_number number (line_of orders room words) ≡ Ok (line_seen next)
     → behind (lines_seen (lines ++ next ∷ [])) (lines_from orders (room - payload_len (line_seen next)) more) ≡ due
 read_on orders lines next left more room number words due so_far cut good =
-    let joined : lines_seen (lines ++ next ∷ []) ≡ lines_seen lines ++ line_seen next ∷ [] = map-append line_seen lines (next ∷ []) in
-    ap (λ (front : List StepLine). behind front (lines_from orders (room - payload_len (line_seen next)) more)) joined
-    ∙ sym (goes_on-Ok (lines_seen lines) orders room more (line_seen next))
-    ∙ ap (λ (r : Result StepLine (ℕ × ScriptKind)). behind (lines_seen lines) (goes_on orders room more r)) (sym good)
-    ∙ ap (behind (lines_seen lines)) (sym (lines_from-line orders room number words more))
-    ∙ ap (λ (l : Lines). behind (lines_seen lines) (lines_from orders room l)) (sym cut) ∙ so_far
+    ap (λ (front : List StepLine). behind front (lines_from orders (room - payload_len (line_seen next)) more)) (map-append line_seen lines (next ∷ []))
+    ∙ read_further orders (lines_seen lines) (line_seen next) left more room number words due so_far cut good
 
 bad_line : (e : ScriptError) (front : List StepLine) (orders : Orders) (room number : ℕ) (words : List (List ℕ)) (more : Lines) → IsScriptRefusal e (at_number number (line_of orders room words))
     → IsScriptRefusal e (behind front (lines_from orders room (line number words more)))
@@ -109,13 +114,13 @@ all_read front orders left room number due so_far none =
     sym so_far ∙ ap (λ (l : Lines). behind front (lines_from orders room l)) none ∙ ap (behind front) (lines_from-stops orders room number) ∙ ap (λ (l : List StepLine). Ok l) (append-nil front)
 
 -- the bytes of one more line
-pub sum-more : (lines : List Line) (next : Line) → sum_by payload_len (lines_seen (lines ++ next ∷ [])) ≡ sum_by payload_len (lines_seen lines) + payload_len (line_seen next)
+pub sum-more : (lines : List ScriptLine) (next : ScriptLine) → sum_by payload_len (lines_seen (lines ++ next ∷ [])) ≡ sum_by payload_len (lines_seen lines) + payload_len (line_seen next)
 sum-more lines next = grind (arith, map-append, sum_by-append)
 
-alone_fits : (orders : Orders) (next : StepLine) → LineFits orders next → All (LineFits orders) (next ∷ [])
+pub alone_fits : (orders : Orders) (next : StepLine) → LineFits orders next → All (LineFits orders) (next ∷ [])
 alone_fits orders next one = search rules
 
 -- all lines fit with one more that does
-pub fit-more : (orders : Orders) (lines : List Line) (next : Line) → All (LineFits orders) (lines_seen lines) → LineFits orders (line_seen next) → All (LineFits orders) (lines_seen (lines ++ next ∷ []))
+pub fit-more : (orders : Orders) (lines : List ScriptLine) (next : ScriptLine) → All (LineFits orders) (lines_seen lines) → LineFits orders (line_seen next) → All (LineFits orders) (lines_seen (lines ++ next ∷ []))
 fit-more orders lines next fit one =
     subst (All (LineFits orders)) (sym (map-append line_seen lines (next ∷ []))) (All-append (LineFits orders) (lines_seen lines) (line_seen next ∷ []) fit (alone_fits orders (line_seen next) one))

@@ -1,5 +1,7 @@
 -- The calls that the words of a script stand for.
-use Rattle.std.specs.Prelude.{ℕ, ◌≤◌, [], length}
+use Rattle.std.specs.Prelude.{ℕ, ◌≤◌, List, [], length, Option, None, Some}
+use Rattle.script_words.specs.declared.words.Words.{Words}
+use Rattle.script_words.specs.WordsLeft.{words_left}
 use Rattle.ring_words.specs.declared.order.Orders.{Orders}
 use Rattle.ring_words.specs.declared.page.Role.{Role}
 use Rattle.vchan_core.specs.declared.call.Call.{Call}
@@ -7,6 +9,11 @@ use Rattle.step_script.specs.declared.forms.CallForm.{CallForm}
 use Rattle.step_script.specs.declared.forms.CallForm.TheVariants.{Bare}
 use Rattle.step_script.specs.Script.{StepCall, StepLine, CallFits, LineFits}
 use Rattle.step_script.specs.ScriptLines.{payload_len}
+
+-- what was found, and the words behind it, as contracts see them
+abbrev pub found_in : {A : Type 0} → Option (A × Words) → Option (A × List (List ℕ))
+found_in None = None
+found_in (Some found) = Some (found.0, words_left found.1)
 
 -- a call with no payload
 abbrev pub without_payload : Call → StepCall

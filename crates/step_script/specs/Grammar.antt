@@ -10,6 +10,8 @@ use Rattle.step_script.specs.declared.error.ScriptKind.{ScriptKind}
 use Rattle.step_script.specs.declared.error.ScriptKind.TheVariants.{BadHeader, BadLine, BadOrders, TooManyLines}
 use Rattle.step_script.specs.declared.forms.CallForm.{CallForm}
 use Rattle.step_script.specs.declared.forms.CallForm.TheVariants.{Write, Send, Read, Recv, Drain, Bare}
+use Rattle.step_script.specs.declared.forms.PageLine.{PageLine}
+use Rattle.step_script.specs.declared.forms.PageLine.TheVariants.{Head, Image}
 use Rattle.step_script.specs.declared.forms.Act.{Act}
 use Rattle.step_script.specs.declared.forms.Act.TheVariants.{Begin, Step, Finish, Poke, Signal}
 use Rattle.step_script.specs.declared.script.Opening.{Opening}
@@ -21,7 +23,7 @@ use Rattle.step_script.specs.Kept.{Lines, stops, refused, line, kept_lines}
 use Rattle.step_script.specs.Pokes.{poked_word}
 use Rattle.step_script.specs.Script.{StepCall, StepLine, opens, calls, begins, steps, finishes, pokes, signals, head, image}
 use Rattle.step_script.specs.ScriptLines.{payload_len}
-use Rattle.step_script.specs.Tables.{meaning_in, ends, calls_of, acts}
+use Rattle.step_script.specs.Tables.{meaning_first, ends, calls_of, acts, page_lines}
 
 -- a call of a form with the words behind it; there is room for so many bytes
 abbrev pub call_of_form : ℕ → CallForm → List (List ℕ) → Result StepCall ScriptKind
@@ -43,15 +45,10 @@ call_of_form room Drain words = do
 call_of_form room (Bare c) words = alone (without_payload c) words
 
 -- a call of an end: its word, and the words behind it
-abbrev pub call_of : ℕ → Role → List ℕ → List (List ℕ) → Result StepCall ScriptKind
-call_of room who verb words = do
-  form ← ok_or (meaning_in (calls_of who) verb) BadLine
-  call_of_form room form words
-
--- a call as the words behind `begin`
-abbrev pub begun_of : ℕ → Role → List (List ℕ) → Result StepCall ScriptKind
-begun_of room who [] = Err BadLine
-begun_of room who (verb ∷ words) = call_of room who verb words
+abbrev pub call_of : ℕ → Role → List (List ℕ) → Result StepCall ScriptKind
+call_of room who words = do
+  found ← ok_or (meaning_first (calls_of who) words) BadLine
+  call_of_form room found.0 found.1
 
 -- a hostile store: a word of the page, and a number of 64 bits
 abbrev pub poke_of : Orders → Role → List (List ℕ) → Result StepLine ScriptKind
@@ -62,10 +59,10 @@ poke_of orders who (name ∷ words) = do
   number ← number_between 0 18446744073709551615 value
   Ok (pokes who word number)
 
--- what an end does that is no whole call, with the words behind it
+-- what an end does that is no whole call, with the words behind its word
 abbrev pub line_of_act : Orders → ℕ → Role → Act → List (List ℕ) → Result StepLine ScriptKind
 line_of_act orders room who Begin words = do
-  c ← begun_of room who words
+  c ← call_of room who words
   Ok (begins who c)
 line_of_act orders room who Step words = do
   most ← count_of 1 2147483647 words
@@ -74,34 +71,40 @@ line_of_act orders room who Finish words = alone (finishes who) words
 line_of_act orders room who Poke words = poke_of orders who words
 line_of_act orders room who Signal words = alone (signals who) words
 
--- a line of an end: such an act, or a whole call
-abbrev pub line_of_verb : Orders → ℕ → Role → Option Act → List ℕ → List (List ℕ) → Result StepLine ScriptKind
-line_of_verb orders room who (Some act) verb words = line_of_act orders room who act words
-line_of_verb orders room who None verb words = do
-  c ← call_of room who verb words
+abbrev pub act_of : Orders → ℕ → Role → List (List ℕ) → Result StepLine ScriptKind
+act_of orders room who words = do
+  found ← ok_or (meaning_first acts words) BadLine
+  line_of_act orders room who found.0 found.1
+
+-- a line of an end: a whole call, where its word is one's, or such an act
+abbrev pub line_of_form : Orders → ℕ → Role → Option (CallForm × List (List ℕ)) → List (List ℕ) → Result StepLine ScriptKind
+line_of_form orders room who (Some (form, more)) words = do
+  c ← call_of_form room form more
   Ok (calls who c)
+line_of_form orders room who None words = act_of orders room who words
 
 -- a line of an end, as the words behind the end's
 abbrev pub line_of_end : Orders → ℕ → Role → List (List ℕ) → Result StepLine ScriptKind
-line_of_end orders room who [] = Err BadLine
-line_of_end orders room who (verb ∷ words) = line_of_verb orders room who (meaning_in acts verb) verb words
+line_of_end orders room who words = line_of_form orders room who (meaning_first (calls_of who) words) words
 
 -- `head` and `image`
-abbrev pub line_of_page : List ℕ → List (List ℕ) → Result StepLine ScriptKind
-line_of_page verb words =
-    if bytes_eq verb (codes "head") then alone head words
-    else if bytes_eq verb (codes "image") then alone image words
-    else Err BadLine
+abbrev pub page_line : PageLine → StepLine
+page_line Head = head
+page_line Image = image
+
+abbrev pub line_of_page : List (List ℕ) → Result StepLine ScriptKind
+line_of_page words = do
+  found ← ok_or (meaning_first page_lines words) BadLine
+  alone (page_line found.0) found.1
 
 -- a line of an end, where there is one of that name, or one of the page
-abbrev pub line_of_first : Orders → ℕ → Option Role → List ℕ → List (List ℕ) → Result StepLine ScriptKind
-line_of_first orders room (Some who) first words = line_of_end orders room who words
-line_of_first orders room None first words = line_of_page first words
+abbrev pub line_of_first : Orders → ℕ → Option (Role × List (List ℕ)) → List (List ℕ) → Result StepLine ScriptKind
+line_of_first orders room (Some (who, more)) words = line_of_end orders room who more
+line_of_first orders room None words = line_of_page words
 
 -- a line behind the opening, as its words
 abbrev pub line_of : Orders → ℕ → List (List ℕ) → Result StepLine ScriptKind
-line_of orders room [] = Err BadLine
-line_of orders room (first ∷ words) = line_of_first orders room (meaning_in ends first) first words
+line_of orders room words = line_of_first orders room (meaning_first ends words) words
 
 -- two numbers that are orders of a page
 abbrev pub orders_of_words : List ℕ → List ℕ → Result (ℕ × ℕ) ScriptKind
@@ -190,6 +193,13 @@ start_from (stops number) = Ok (0, stops number)
 start_from (refused number) = Err (number, TooManyLines)
 start_from (line number words more) = started number (start_word words) (line number words more) more
 
+-- how the page is opened, by the first line and a `start` line behind it; and the lines behind these
+abbrev pub front_from : Lines → Result (Opening × Lines) (ℕ × ScriptKind)
+front_from lines = do
+  first ← opening_from lines
+  second ← start_from first.1
+  Ok (record first.0 { start = second.0 }, second.1)
+
 -- the lines of a page with these orders, with room for so many bytes; or the first bad one
 unfoldable pub lines_from : Orders → ℕ → Lines → Result (List StepLine) (ℕ × ScriptKind)
 lines_from orders room (stops number) = Ok []
@@ -202,10 +212,9 @@ lines_from orders room (line number words more) = do
 -- a script as its lines: all byte strings together have at most 8,388,608 bytes
 abbrev pub script_of_lines : Lines → Result (List StepLine) (ℕ × ScriptKind)
 script_of_lines lines = do
-  first ← opening_from lines
-  second ← start_from first.1
-  rest ← lines_from first.0.orders 8388608 second.1
-  Ok (opens (record first.0 { start = second.0 }) ∷ rest)
+  front ← front_from lines
+  rest ← lines_from front.0.orders 8388608 front.1
+  Ok (opens front.0 ∷ rest)
 
 -- the lines of a script; or the number of its first bad line, from 1, and what is wrong with it
 abbrev pub script_of : List ℕ → Result (List StepLine) (ℕ × ScriptKind)

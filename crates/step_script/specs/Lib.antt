@@ -14,3 +14,4 @@ pub mod Spaced
 pub mod Played
 pub mod Players
 pub mod ListScript
+pub mod ScriptText

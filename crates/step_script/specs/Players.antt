@@ -49,8 +49,8 @@ call_of s = option_map (λ b. b.call) s.call
 -- what is kept for an end is that of the call that it is inside
 pub record IsHeld (s : Side) (m : Machine) (hand : Hand) : Type 0 where
   pub call : ¬ IsIdle m → call_of s ≡ Some hand.call
-  pub payload : ¬ IsIdle m → s.payload ≡ hand.payload.now
-  pub out : out_of m ≤ length hand.payload.now
+  pub payload : ¬ IsIdle m → s.payload ≡ hand.payload.items
+  pub out : out_of m ≤ length hand.payload.items
   pub into : into_of m ≤ length hand.buffer.items
   pub loaded : HasLoaded s.trail hand.buffer.items
 

@@ -1,8 +1,9 @@
 -- The words of a script, and what each stands for.
 -- Source: this project's own; the calls are those of libxenvchan.h with three more, the fields those of
 -- struct vchan_interface in public/io/libxenvchan.h.
-use Rattle.std.specs.Prelude.{ℕ, List, [], ◌∷◌, Option, codes, bytes_eq}
+use Rattle.std.specs.Prelude.{ℕ, List, [], ◌∷◌, Option, None, codes, bytes_eq}
 use Rattle.std.specs.Map.{lookup}
+use Rattle.std.specs.Option.{option_map}
 use Rattle.ring_words.specs.declared.page.Role.{Role}
 use Rattle.ring_words.specs.declared.page.Role.TheVariants.{Server, Client}
 use Rattle.ring_words.specs.declared.page.WordName.{WordName}
@@ -10,6 +11,8 @@ use Rattle.ring_words.specs.declared.page.WordName.TheVariants.{LeftCons, LeftPr
 use Rattle.vchan_core.specs.declared.call.Call.TheVariants.{DataReady, BufferSpace, Connect, Close, TakeEvent, PeerGone, Retire}
 use Rattle.step_script.specs.declared.forms.CallForm.{CallForm}
 use Rattle.step_script.specs.declared.forms.CallForm.TheVariants.{Write, Send, Read, Recv, Drain, Bare}
+use Rattle.step_script.specs.declared.forms.PageLine.{PageLine}
+use Rattle.step_script.specs.declared.forms.PageLine.TheVariants.{Head, Image}
 use Rattle.step_script.specs.declared.forms.Act.{Act}
 use Rattle.step_script.specs.declared.forms.Act.TheVariants.{Begin, Step, Finish, Poke, Signal}
 
@@ -17,16 +20,19 @@ use Rattle.step_script.specs.declared.forms.Act.TheVariants.{Begin, Step, Finish
 abbrev pub meaning_in : {A : Type 0} → List (List ℕ × A) → List ℕ → Option A
 meaning_in table word = lookup (bytes_eq word) table
 
+-- what the first of these words stands for in a table, and the words behind it
+abbrev pub meaning_first : {A : Type 0} → List (List ℕ × A) → List (List ℕ) → Option (A × List (List ℕ))
+meaning_first table [] = None
+meaning_first table (word ∷ more) = option_map (λ x. (x, more)) (meaning_in table word)
+
 -- the ends
 abbrev pub ends : List (List ℕ × Role)
 ends = (codes "server", Server) ∷ (codes "client", Client) ∷ []
 
 -- the calls that both ends may make
-abbrev pub common_calls : List (List ℕ × CallForm)
-common_calls =
-    (codes "write", Write) ∷
+abbrev pub further_calls : List (List ℕ × CallForm)
+further_calls =
     (codes "send", Send) ∷
-    (codes "read", Read) ∷
     (codes "recv", Recv) ∷
     (codes "drain", Drain) ∷
     (codes "ready", Bare DataReady) ∷
@@ -36,6 +42,9 @@ common_calls =
     (codes "gone", Bare PeerGone) ∷
     (codes "retire", Bare Retire) ∷
     []
+
+abbrev pub common_calls : List (List ℕ × CallForm)
+common_calls = (codes "write", Write) ∷ (codes "read", Read) ∷ further_calls
 
 -- the calls of an end: only a client connects
 abbrev pub calls_of : Role → List (List ℕ × CallForm)
@@ -51,6 +60,10 @@ acts =
     (codes "poke", Poke) ∷
     (codes "signal", Signal) ∷
     []
+
+-- the lines that print bytes of the page
+abbrev pub page_lines : List (List ℕ × PageLine)
+page_lines = (codes "head", Head) ∷ (codes "image", Image) ∷ []
 
 -- the header fields of a page
 abbrev pub fields : List (List ℕ × WordName)

@@ -57,6 +57,16 @@ impl From<AllocError> for ScriptError {
     }
 }
 
+impl From<vchan_io::Memory> for ScriptError {
+    ghost use Rattle.step_script.specs.declared.error.ScriptError.TheVariants.{Memory};
+
+    ghost from_gives = { λ _ e. e ≡ Memory };
+
+    fn from(_e: vchan_io::Memory) -> ScriptError {
+        ScriptError::Memory
+    }
+}
+
 impl<T: Drop> From<AllocFailed<T>> for ScriptError {
     ghost use Rattle.step_script.specs.declared.error.ScriptError.TheVariants.{Memory};
 

@@ -1,10 +1,12 @@
 //! What the words of a script stand for.
 ghost use Rattle.std.specs.Prelude.{◌≡◌, IfSome, bytes_eq};
 ghost use Rattle.ring_words.specs.declared.page.Role.{Role};
-ghost use Rattle.step_script.specs.Forms.{FormFits};
-ghost use Rattle.step_script.specs.Tables.{meaning_in, ends, calls_of, common_calls, acts, fields};
+ghost use Rattle.script_words.specs.WordsLeft.{words_left};
+ghost use Rattle.step_script.specs.Forms.{FormFits, found_in};
+ghost use Rattle.step_script.specs.Tables.{meaning_in, meaning_first, ends, calls_of, common_calls, further_calls, acts, page_lines, fields};
 
 use ring_words::{Role, WordName};
+use script_words::Words;
 use vchan_core::Call;
 
 /// A call as its word names it, and with that the form of the words behind it.
@@ -39,6 +41,15 @@ pub(crate) enum Act {
     Signal,
 }
 
+/// A line that prints bytes of the page.
+#[derive(Clone, Copy, Debug, PartialEq, Eq)]
+pub(crate) enum PageLine {
+    /// `head`.
+    Head,
+    /// `image`.
+    Image,
+}
+
 /// Whether a word is this name. It is taken in where it is called, so that a name of a few bytes
 /// costs a few comparisons and no call.
 #[inline(always)]
@@ -49,81 +60,125 @@ fn is_named(word: &[u8], name: &[u8]) -> bool
     word.len() == name.len() && name.starts_with(word)
 }
 
-/// The end that a word names.
+/// The end that the first of these words names, and the words behind it.
 #[inline(always)]
-pub(crate) fn end_named(word: &[u8]) -> Option<Role>
-    ensures { result ≡ meaning_in ends word.now }
+#[tactic(auto, using(crate::proofs::NameLaws::unnamed))]
+pub(crate) fn end_in<'a>(words: &Words<'a>) -> Option<(Role, Words<'a>)>
+    ensures { found_in result ≡ meaning_first ends (words_left words.now) }
 {
-    if is_named(word, b"server") {
-        Some(Role::Server)
-    } else if is_named(word, b"client") {
-        Some(Role::Client)
+    if let Some(rest) = words.behind(b"client") {
+        Some((Role::Client, rest))
+    } else if let Some(rest) = words.behind(b"server") {
+        Some((Role::Server, rest))
     } else {
         None
     }
 }
 
-/// The call that a word names, of this end.
+/// The call of this end that the first of these words names, and the words behind it.
 #[inline(always)]
-pub(crate) fn call_named(who: Role, word: &[u8]) -> Option<CallForm>
-    ensures form { result ≡ meaning_in (calls_of who) word.now }
-    ensures fits { IfSome result (λ form. FormFits who form) }
+pub(crate) fn call_in<'a>(who: Role, words: &Words<'a>) -> Option<(CallForm, Words<'a>)>
+    ensures form { found_in result ≡ meaning_first (calls_of who) (words_left words.now) }
+    ensures fits { IfSome result (λ found. FormFits who found.0) }
 {
     match who {
-        Role::Server => common_call_named(word),
-        Role::Client if is_named(word, b"connect") => Some(CallForm::Bare(Call::Connect)),
-        Role::Client => common_call_named(word),
+        Role::Server => common_call_in(words),
+        Role::Client => client_call_in(words),
     }
 }
 
-/// The call that a word names, of either end.
+/// The call of a client that the first of these words names, and the words behind it.
 #[inline(always)]
-fn common_call_named(word: &[u8]) -> Option<CallForm>
-    ensures form { result ≡ meaning_in common_calls word.now }
-    ensures fits { (who : Role) → IfSome result (λ form. FormFits who form) }
+#[tactic(auto, using(crate::proofs::NameLaws::past_name))]
+fn client_call_in<'a>(words: &Words<'a>) -> Option<(CallForm, Words<'a>)>
+    ensures form { found_in result ≡ meaning_first (calls_of Role.Client) (words_left words.now) }
+    ensures fits { IfSome result (λ found. FormFits Role.Client found.0) }
 {
-    if is_named(word, b"write") {
-        Some(CallForm::Write)
-    } else if is_named(word, b"send") {
-        Some(CallForm::Send)
-    } else if is_named(word, b"read") {
-        Some(CallForm::Read)
-    } else if is_named(word, b"recv") {
-        Some(CallForm::Recv)
-    } else if is_named(word, b"drain") {
-        Some(CallForm::Drain)
-    } else if is_named(word, b"ready") {
-        Some(CallForm::Bare(Call::DataReady))
-    } else if is_named(word, b"space") {
-        Some(CallForm::Bare(Call::BufferSpace))
-    } else if is_named(word, b"close") {
-        Some(CallForm::Bare(Call::Close))
-    } else if is_named(word, b"event") {
-        Some(CallForm::Bare(Call::TakeEvent))
-    } else if is_named(word, b"gone") {
-        Some(CallForm::Bare(Call::PeerGone))
-    } else if is_named(word, b"retire") {
-        Some(CallForm::Bare(Call::Retire))
+    if let Some(rest) = words.behind(b"connect") {
+        Some((CallForm::Bare(Call::Connect), rest))
+    } else {
+        common_call_in(words)
+    }
+}
+
+/// The call of either end that the first of these words names, and the words behind it. The two
+/// calls that scripts have most are looked for where this is called.
+#[inline(always)]
+#[tactic(auto, using(crate::proofs::NameLaws::past_name))]
+fn common_call_in<'a>(words: &Words<'a>) -> Option<(CallForm, Words<'a>)>
+    ensures form { found_in result ≡ meaning_first common_calls (words_left words.now) }
+    ensures fits { (who : Role) → IfSome result (λ found. FormFits who found.0) }
+{
+    if let Some(rest) = words.behind(b"write") {
+        Some((CallForm::Write, rest))
+    } else if let Some(rest) = words.behind(b"read") {
+        Some((CallForm::Read, rest))
+    } else {
+        further_call_in(words)
+    }
+}
+
+/// The call of either end, but for `write` and `read`, that the first of these words names, and the
+/// words behind it.
+#[inline(never)]
+#[tactic(auto, using(crate::proofs::NameLaws::unnamed))]
+fn further_call_in<'a>(words: &Words<'a>) -> Option<(CallForm, Words<'a>)>
+    ensures form { found_in result ≡ meaning_first further_calls (words_left words.now) }
+    ensures fits { (who : Role) → IfSome result (λ found. FormFits who found.0) }
+{
+    if let Some(rest) = words.behind(b"send") {
+        Some((CallForm::Send, rest))
+    } else if let Some(rest) = words.behind(b"recv") {
+        Some((CallForm::Recv, rest))
+    } else if let Some(rest) = words.behind(b"drain") {
+        Some((CallForm::Drain, rest))
+    } else if let Some(rest) = words.behind(b"ready") {
+        Some((CallForm::Bare(Call::DataReady), rest))
+    } else if let Some(rest) = words.behind(b"space") {
+        Some((CallForm::Bare(Call::BufferSpace), rest))
+    } else if let Some(rest) = words.behind(b"close") {
+        Some((CallForm::Bare(Call::Close), rest))
+    } else if let Some(rest) = words.behind(b"event") {
+        Some((CallForm::Bare(Call::TakeEvent), rest))
+    } else if let Some(rest) = words.behind(b"gone") {
+        Some((CallForm::Bare(Call::PeerGone), rest))
+    } else if let Some(rest) = words.behind(b"retire") {
+        Some((CallForm::Bare(Call::Retire), rest))
     } else {
         None
     }
 }
 
-/// The act that a word names.
-#[inline(always)]
-pub(crate) fn act_named(word: &[u8]) -> Option<Act>
-    ensures { result ≡ meaning_in acts word.now }
+/// The act that the first of these words names, and the words behind it.
+#[tactic(auto, using(crate::proofs::NameLaws::unnamed))]
+pub(crate) fn act_in<'a>(words: &Words<'a>) -> Option<(Act, Words<'a>)>
+    ensures { found_in result ≡ meaning_first acts (words_left words.now) }
 {
-    if is_named(word, b"begin") {
-        Some(Act::Begin)
-    } else if is_named(word, b"step") {
-        Some(Act::Step)
-    } else if is_named(word, b"finish") {
-        Some(Act::Finish)
-    } else if is_named(word, b"poke") {
-        Some(Act::Poke)
-    } else if is_named(word, b"signal") {
-        Some(Act::Signal)
+    if let Some(rest) = words.behind(b"begin") {
+        Some((Act::Begin, rest))
+    } else if let Some(rest) = words.behind(b"step") {
+        Some((Act::Step, rest))
+    } else if let Some(rest) = words.behind(b"finish") {
+        Some((Act::Finish, rest))
+    } else if let Some(rest) = words.behind(b"poke") {
+        Some((Act::Poke, rest))
+    } else if let Some(rest) = words.behind(b"signal") {
+        Some((Act::Signal, rest))
+    } else {
+        None
+    }
+}
+
+/// The line that prints bytes of the page that the first of these words names, and the words behind
+/// it.
+#[tactic(auto, using(crate::proofs::NameLaws::unnamed))]
+pub(crate) fn page_line_in<'a>(words: &Words<'a>) -> Option<(PageLine, Words<'a>)>
+    ensures { found_in result ≡ meaning_first page_lines (words_left words.now) }
+{
+    if let Some(rest) = words.behind(b"head") {
+        Some((PageLine::Head, rest))
+    } else if let Some(rest) = words.behind(b"image") {
+        Some((PageLine::Image, rest))
     } else {
         None
     }

@@ -8,11 +8,10 @@ ghost use Rattle.vchan_core.specs.Past.{StandsFor, machine_of, other_of, turned_
 ghost use Rattle.vchan_core.specs.Phases.{Allows, IsIdle, standing};
 ghost use Rattle.step_script.specs.Played.{begins_call, call_refusal as call_refusal_of, finished, has_retired as has_retired_of, line_done, makes_call, state_refusal as state_refusal_of, step_refusal as step_refusal_of, stepped, unless_refused};
 ghost use Rattle.step_script.specs.Script.{CallFits, CanSay, begins, calls, finishes, steps};
-ghost use Rattle.step_script.specs.ScriptLines.{call_seen};
+ghost use Rattle.step_script.specs.ScriptLines.{call_with};
 
 use crate::printer::{push_answer, push_refusal};
 use crate::refusal::Refusal;
-use crate::script::ScriptCall;
 use ring_words::{Ring, Role, WordName};
 use std::alloc::{AllocError, Global};
 use std::marker::Brand;
@@ -24,24 +23,25 @@ const ALL_EVENTS: u32 = u32::MAX;
 
 /// What is kept for one end: the call that it is inside, the bytes that this call writes or sends,
 /// and the buffer for those that it takes. The buffer serves all calls of the end, and grows where
-/// it is too short for one.
+/// it is too short for one. A call that is begun outlives its line, so its bytes are kept here; a
+/// whole call needs them in its line alone.
 #[derive(Drop)]
-pub(crate) struct Hand<'a> {
+pub(crate) struct Hand {
     call: Call,
-    payload: &'a [u8],
+    payload: Vec<u8>,
     buffer: Vec<u8>,
 }
 
-impl<'a> Hand<'a> {
+impl Hand {
     ghost use Rattle.step_script.specs.Players.{Does, IsAt, IsKnown, IsTaken};
 
     /// What is kept for an end that has made no call yet.
-    pub(crate) fn new(alloc: Global) -> Hand<'a>
+    pub(crate) fn new(alloc: Global) -> Hand
         ensures { result.buffer.items ≡ [] }
     {
         Hand {
             call: Call::Retire,
-            payload: &[],
+            payload: Vec::new(alloc),
             buffer: Vec::new(alloc),
         }
     }
@@ -51,15 +51,16 @@ impl<'a> Hand<'a> {
         &mut self,
         page: &mut Plain,
         who: Role,
-        call: &'a ScriptCall,
+        call: Call,
+        payload: &[u8],
         text: &mut Vec<u8>,
     ) -> Result<(), AllocError>
         requires known { IsKnown who page.old self.old }
-        requires fits { CallFits who (call_seen call.now) }
-        ensures { OnOk result (Does who (line_done (calls who (call_seen call.now))) page.old page.new self.old self.new text.old.items text.new.items) }
+        requires fits { CallFits who (call_with call payload.now) }
+        ensures { OnOk result (Does who (line_done (calls who (call_with call payload.now))) page.old page.new self.old self.new text.old.items text.new.items) }
     {
         self.finish_call(page, who, text)?;
-        self.make(page, who, call, text)
+        self.make(page, who, call, payload, text)
     }
 
     /// The begin of a call, which makes no event. The call that the end is inside is finished
@@ -68,15 +69,16 @@ impl<'a> Hand<'a> {
         &mut self,
         page: &mut Plain,
         who: Role,
-        call: &'a ScriptCall,
+        call: Call,
+        payload: &[u8],
         text: &mut Vec<u8>,
     ) -> Result<(), AllocError>
         requires known { IsKnown who page.old self.old }
-        requires fits { CallFits who (call_seen call.now) }
-        ensures { OnOk result (Does who (line_done (begins who (call_seen call.now))) page.old page.new self.old self.new text.old.items text.new.items) }
+        requires fits { CallFits who (call_with call payload.now) }
+        ensures { OnOk result (Does who (line_done (begins who (call_with call payload.now))) page.old page.new self.old self.new text.old.items text.new.items) }
     {
         self.finish_call(page, who, text)?;
-        self.enter(page, who, call, text)
+        self.enter(page, who, call, payload, text)
     }
 
     /// At most so many events of the call that the end is inside, up to its answer.
@@ -138,23 +140,23 @@ impl<'a> Hand<'a> {
         &mut self,
         page: &mut Plain,
         who: Role,
-        call: &ScriptCall,
+        call: Call,
+        payload: &[u8],
         text: &mut Vec<u8>,
     ) -> Result<(), AllocError>
         requires known { IsKnown who page.old self.old }
         requires idle { IsIdle (machine_of page.old who) }
-        requires fits { CallFits who (call_seen call.now) }
-        ensures { let c = call_seen call.now in
+        requires fits { CallFits who (call_with call payload.now) }
+        ensures { let c = call_with call payload.now in
             OnOk result (Does who (λ core. unless_refused (call_refusal_of core who c.call) who core (makes_call who c))
             page.old page.new self.old self.new text.old.items text.new.items) }
     {
-        if let Some(why) = call_refusal(page, who, call.call) {
+        if let Some(why) = call_refusal(page, who, call) {
             return push_refusal(text, who, why);
         }
-        self.make_room(page, who, call.call)?;
-        let payload = call.payload.as_slice();
-        let answer = run_call(page, who, call.call, payload, self.buffer.as_mut_slice());
-        push_answer(text, who, call.call, answer, self.buffer.as_slice())
+        self.make_room(page, who, call)?;
+        let answer = run_call(page, who, call, payload, self.buffer.as_mut_slice());
+        push_answer(text, who, call, answer, self.buffer.as_slice())
     }
 
     /// Begins a call of an end between two calls, or says why it can't make it.
@@ -162,23 +164,25 @@ impl<'a> Hand<'a> {
         &mut self,
         page: &mut Plain,
         who: Role,
-        call: &'a ScriptCall,
+        call: Call,
+        payload: &[u8],
         text: &mut Vec<u8>,
     ) -> Result<(), AllocError>
         requires known { IsKnown who page.old self.old }
         requires idle { IsIdle (machine_of page.old who) }
-        requires fits { CallFits who (call_seen call.now) }
-        ensures { let c = call_seen call.now in
+        requires fits { CallFits who (call_with call payload.now) }
+        ensures { let c = call_with call payload.now in
             OnOk result (Does who (λ core. unless_refused (call_refusal_of core who c.call) who core (begins_call who c))
             page.old page.new self.old self.new text.old.items text.new.items) }
     {
-        if let Some(why) = call_refusal(page, who, call.call) {
+        if let Some(why) = call_refusal(page, who, call) {
             return push_refusal(text, who, why);
         }
-        self.make_room(page, who, call.call)?;
-        self.call = call.call;
-        self.payload = call.payload.as_slice();
-        page.begin(who, call.call);
+        self.make_room(page, who, call)?;
+        self.call = call;
+        self.payload.clear();
+        self.payload.extend_from_slice(payload)?;
+        page.begin(who, call);
         Ok(())
     }
 
@@ -247,7 +251,7 @@ impl<'a> Hand<'a> {
         ensures call { self.new.call ≡ self.old.call }
         ensures other { other_of page.new who ≡ other_of page.old who }
     {
-        page.step(who, self.payload, self.buffer.as_mut_slice())
+        page.step(who, self.payload.as_slice(), self.buffer.as_mut_slice())
     }
 }
 

@@ -21,12 +21,14 @@ mod poke;
 mod printer;
 mod reader;
 mod refusal;
+mod running;
 mod script;
 
 pub use error::{ScriptError, ScriptKind};
 pub use played::{Played, text};
 pub use player::play;
 pub use reader::parse;
+pub use running::script_text;
 pub use script::Script;
 pub use script_words::{ByteError, bytes_of};
 

@@ -1,106 +1,132 @@
 //! Reading one line of a script behind its opening.
-ghost use Rattle.std.specs.Prelude.{◌≡◌, ◌≤◌, ℕ, IfOk};
+ghost use Rattle.std.specs.Prelude.{◌≡◌, ◌≤◌, ℕ, List, [], length, IfOk};
 ghost use Rattle.script_words.specs.Words.{words_of};
 ghost use Rattle.script_words.specs.WordsLeft.{words_left};
 ghost use Rattle.step_script.specs.Readings.{Gives};
-ghost use Rattle.step_script.specs.Grammar.{begun_of, call_of, call_of_form, line_of, line_of_act, line_of_end, line_of_page, poke_of};
+ghost use Rattle.step_script.specs.Grammar.{act_of, call_of, call_of_form, line_of, line_of_act, line_of_end, line_of_page, poke_of};
 ghost use Rattle.step_script.specs.Forms.{FormFits, CallKeeps, LineKeeps, without_payload};
-ghost use Rattle.step_script.specs.ScriptLines.{payload_len};
 ghost use Rattle.ring_words.specs.declared.order.Orders.{Orders};
 ghost use Rattle.ring_words.specs.declared.page.Role.{Role};
-ghost use Rattle.step_script.specs.ScriptLines.{call_seen, line_seen};
+ghost use Rattle.step_script.specs.ScriptLines.{call_with, line_with, payload_len};
 
 use crate::error::LineError;
-use crate::forms::{Act, CallForm, act_named, call_named, end_named};
-use crate::operand::{Strings, read_count, read_nothing, read_number, read_operand, read_payload};
+use crate::forms::{Act, CallForm, PageLine, act_in, call_in, end_in, page_line_in};
+use crate::operand::{ByteString, read_count, read_nothing, read_number, read_operand};
 use crate::poke::read_word_name;
-use crate::script::{Line, ScriptCall};
+use crate::script::Line;
 use ring_words::{Orders, Role};
 use script_words::Words;
-use smallvec::SmallVec;
-use std::alloc::Global;
 use vchan_core::Call;
 
 /// Reads a line of a script whose page has these orders, with `room` bytes left for its byte
-/// strings.
+/// strings. Its own byte string goes to `payload`, which is left empty where it has none.
 ///
 /// # Errors
 ///
 /// A bad line where the line is none of the language; then, from the left, a bad number or bad hex
 /// where a word is none; too many bytes; `Memory`.
 pub(crate) fn read_line(
-    strings: &mut Strings,
+    payload: &mut ByteString,
     orders: Orders,
     room: usize,
     line: &[u8],
 ) -> Result<Line, LineError>
     requires { room ≤ 8388608 }
-    ensures line { Gives line_seen result (line_of orders room (words_of line.now)) }
-    ensures fits { IfOk result (λ line. LineKeeps orders room (line_seen line)) }
+    ensures line { Gives (λ line. line_with line payload.new) result (line_of orders room (words_of line.now)) }
+    ensures fits { IfOk result (λ line. LineKeeps orders room (line_with line payload.new)) }
+    ensures len { IfOk result (λ line. payload_len (line_with line payload.new) ≡ length payload.new) }
 {
-    let mut words = Words::of(line);
-    let first = words.next().ok_or(LineError::BAD_LINE)?;
-    match end_named(first) {
-        Some(who) => read_end_line(strings, orders, room, who, words),
-        None => read_page_line(first, words),
+    payload.clear();
+    let words = Words::of(line);
+    match end_in(&words) {
+        Some((who, words)) => read_end_line(payload, orders, room, who, words),
+        None => read_page_line(words),
     }
 }
 
 /// Reads `head` or `image`.
-fn read_page_line(verb: &[u8], words: Words) -> Result<Line, LineError>
-    ensures line { Gives line_seen result (line_of_page verb.now (words_left words.entry)) }
-    ensures fits { (orders : Orders) (room : ℕ) → IfOk result (λ line. LineKeeps orders room (line_seen line)) }
+#[inline(never)]
+fn read_page_line(words: Words) -> Result<Line, LineError>
+    ensures line { (payload : List ℕ) → Gives (λ line. line_with line payload) result (line_of_page (words_left words.entry)) }
+    ensures fits { (payload : List ℕ) (orders : Orders) (room : ℕ) → IfOk result (λ line. LineKeeps orders room (line_with line payload)) }
+    ensures len { (payload : List ℕ) → IfOk result (λ line. payload_len (line_with line payload) ≡ 0) }
 {
-    if verb == b"head".as_slice() {
-        read_nothing(words)?;
-        Ok(Line::Head)
-    } else if verb == b"image".as_slice() {
-        read_nothing(words)?;
-        Ok(Line::Image)
-    } else {
-        Err(LineError::BAD_LINE)
+    match page_line_in(&words) {
+        Some((PageLine::Head, words)) => {
+            read_nothing(words)?;
+            Ok(Line::Head)
+        }
+        Some((PageLine::Image, words)) => {
+            read_nothing(words)?;
+            Ok(Line::Image)
+        }
+        None => Err(LineError::BAD_LINE),
     }
 }
 
 /// Reads what an end does.
 #[inline(always)]
 fn read_end_line(
-    strings: &mut Strings,
+    payload: &mut ByteString,
     orders: Orders,
     room: usize,
     who: Role,
-    mut words: Words,
+    words: Words,
 ) -> Result<Line, LineError>
-    requires { room ≤ 8388608 }
-    ensures line { Gives line_seen result (line_of_end orders room who (words_left words.entry)) }
-    ensures fits { IfOk result (λ line. LineKeeps orders room (line_seen line)) }
+    requires none { payload.old ≡ [] }
+    requires room { room ≤ 8388608 }
+    ensures line { Gives (λ line. line_with line payload.new) result (line_of_end orders room who (words_left words.entry)) }
+    ensures fits { IfOk result (λ line. LineKeeps orders room (line_with line payload.new)) }
+    ensures len { IfOk result (λ line. payload_len (line_with line payload.new) ≡ length payload.new) }
 {
-    let verb = words.next().ok_or(LineError::BAD_LINE)?;
-    match act_named(verb) {
-        Some(act) => read_act(strings, orders, room, who, act, words),
-        None => {
-            let call = read_call(strings, room, who, verb, words)?;
+    match call_in(who, &words) {
+        Some((form, words)) => {
+            let call = read_call_of_form(payload, room, form, words)?;
             Ok(Line::Call { who, call })
         }
+        None => read_act(payload, orders, room, who, words),
+    }
+}
+
+/// Reads what an end does that is no whole call.
+#[inline(never)]
+fn read_act(
+    payload: &mut ByteString,
+    orders: Orders,
+    room: usize,
+    who: Role,
+    words: Words,
+) -> Result<Line, LineError>
+    requires none { payload.old ≡ [] }
+    requires room { room ≤ 8388608 }
+    ensures line { Gives (λ line. line_with line payload.new) result (act_of orders room who (words_left words.entry)) }
+    ensures fits { IfOk result (λ line. LineKeeps orders room (line_with line payload.new)) }
+    ensures len { IfOk result (λ line. payload_len (line_with line payload.new) ≡ length payload.new) }
+{
+    match act_in(&words) {
+        Some((act, words)) => read_line_of_act(payload, orders, room, who, act, words),
+        None => Err(LineError::BAD_LINE),
     }
 }
 
 /// Reads the words behind an act's word.
-fn read_act(
-    strings: &mut Strings,
+fn read_line_of_act(
+    payload: &mut ByteString,
     orders: Orders,
     room: usize,
     who: Role,
     act: Act,
     words: Words,
 ) -> Result<Line, LineError>
-    requires { room ≤ 8388608 }
-    ensures line { Gives line_seen result (line_of_act orders room who act (words_left words.entry)) }
-    ensures fits { IfOk result (λ line. LineKeeps orders room (line_seen line)) }
+    requires none { payload.old ≡ [] }
+    requires room { room ≤ 8388608 }
+    ensures line { Gives (λ line. line_with line payload.new) result (line_of_act orders room who act (words_left words.entry)) }
+    ensures fits { IfOk result (λ line. LineKeeps orders room (line_with line payload.new)) }
+    ensures len { IfOk result (λ line. payload_len (line_with line payload.new) ≡ length payload.new) }
 {
     match act {
         Act::Begin => {
-            let call = read_begun(strings, room, who, words)?;
+            let call = read_call(payload, room, who, words)?;
             Ok(Line::Begin { who, call })
         }
         Act::Step => {
@@ -121,8 +147,9 @@ fn read_act(
 
 /// Reads the words `WORD VALUE` of a poke.
 fn read_poke(orders: Orders, who: Role, mut words: Words) -> Result<Line, LineError>
-    ensures line { Gives line_seen result (poke_of orders who (words_left words.entry)) }
-    ensures fits { (room : ℕ) → IfOk result (λ line. LineKeeps orders room (line_seen line)) }
+    ensures line { (payload : List ℕ) → Gives (λ line. line_with line payload) result (poke_of orders who (words_left words.entry)) }
+    ensures fits { (payload : List ℕ) (room : ℕ) → IfOk result (λ line. LineKeeps orders room (line_with line payload)) }
+    ensures len { (payload : List ℕ) → IfOk result (λ line. payload_len (line_with line payload) ≡ 0) }
 {
     let name = words.next().ok_or(LineError::BAD_LINE)?;
     let value = read_operand(words)?;
@@ -131,36 +158,20 @@ fn read_poke(orders: Orders, who: Role, mut words: Words) -> Result<Line, LineEr
     Ok(Line::Poke { who, word, value })
 }
 
-/// Reads the call behind `begin`.
-fn read_begun(
-    strings: &mut Strings,
-    room: usize,
-    who: Role,
-    mut words: Words,
-) -> Result<ScriptCall, LineError>
-    requires { room ≤ 8388608 }
-    ensures call { Gives call_seen result (begun_of room who (words_left words.entry)) }
-    ensures fits { IfOk result (λ call. CallKeeps room who (call_seen call)) }
-{
-    let verb = words.next().ok_or(LineError::BAD_LINE)?;
-    read_call(strings, room, who, verb, words)
-}
-
 /// Reads a call of an end: its word, and the words behind it.
-#[inline(always)]
 fn read_call(
-    strings: &mut Strings,
+    payload: &mut ByteString,
     room: usize,
     who: Role,
-    verb: &[u8],
     words: Words,
-) -> Result<ScriptCall, LineError>
-    requires { room ≤ 8388608 }
-    ensures call { Gives call_seen result (call_of room who verb.now (words_left words.entry)) }
-    ensures fits { IfOk result (λ call. CallKeeps room who (call_seen call)) }
+) -> Result<Call, LineError>
+    requires none { payload.old ≡ [] }
+    requires room { room ≤ 8388608 }
+    ensures call { Gives (λ call. call_with call payload.new) result (call_of room who (words_left words.entry)) }
+    ensures fits { IfOk result (λ call. CallKeeps room who (call_with call payload.new)) }
 {
-    match call_named(who, verb) {
-        Some(form) => read_call_of_form(strings, room, form, words),
+    match call_in(who, &words) {
+        Some((form, words)) => read_call_of_form(payload, room, form, words),
         None => Err(LineError::BAD_LINE),
     }
 }
@@ -168,69 +179,40 @@ fn read_call(
 /// Reads the words behind a call's word.
 #[inline(always)]
 fn read_call_of_form(
-    strings: &mut Strings,
+    payload: &mut ByteString,
     room: usize,
     form: CallForm,
     words: Words,
-) -> Result<ScriptCall, LineError>
-    requires { room ≤ 8388608 }
-    ensures call { Gives call_seen result (call_of_form room form (words_left words.entry)) }
-    ensures fits { (who : Role) → FormFits who form → IfOk result (λ call. CallKeeps room who (call_seen call)) }
+) -> Result<Call, LineError>
+    requires none { payload.old ≡ [] }
+    requires room { room ≤ 8388608 }
+    ensures call { Gives (λ call. call_with call payload.new) result (call_of_form room form (words_left words.entry)) }
+    ensures fits { (who : Role) → FormFits who form → IfOk result (λ call. CallKeeps room who (call_with call payload.new)) }
 {
     match form {
         CallForm::Write => {
-            let payload = read_payload(strings, words, room)?;
-            let len = payload.len() as u32;
-            Ok(ScriptCall {
-                call: Call::Write { len },
-                payload,
-            })
+            let len = payload.read(words, room)?;
+            Ok(Call::Write { len })
         }
         CallForm::Send => {
-            let payload = read_payload(strings, words, room)?;
-            let len = payload.len() as u32;
-            Ok(ScriptCall {
-                call: Call::Send { len },
-                payload,
-            })
+            let len = payload.read(words, room)?;
+            Ok(Call::Send { len })
         }
         CallForm::Read => {
             let most = read_count(words, 0)?;
-            Ok(bare(strings.alloc, Call::Read { most }))
+            Ok(Call::Read { most })
         }
         CallForm::Recv => {
             let len = read_count(words, 0)?;
-            Ok(bare(strings.alloc, Call::Recv { len }))
+            Ok(Call::Recv { len })
         }
         CallForm::Drain => {
             let most = read_count(words, 1)?;
-            Ok(bare(strings.alloc, Call::Drain { most }))
+            Ok(Call::Drain { most })
         }
         CallForm::Bare(call) => {
             read_nothing(words)?;
-            Ok(bare(strings.alloc, call))
-        }
-    }
-}
-
-/// A call without a payload.
-fn bare(alloc: Global, call: Call) -> ScriptCall
-    ensures { call_seen result ≡ without_payload call }
-{
-    ScriptCall {
-        call,
-        payload: SmallVec::new(alloc),
-    }
-}
-
-impl Line {
-    /// The number of bytes of the line's byte string, 0 where it has none.
-    pub(crate) fn payload_len(&self) -> usize
-        ensures { result ≡ payload_len (line_seen self.now) }
-    {
-        match self {
-            Line::Call { call, .. } | Line::Begin { call, .. } => call.payload.len(),
-            _ => 0,
+            Ok(call)
         }
     }
 }

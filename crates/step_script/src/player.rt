@@ -6,10 +6,10 @@ ghost use Rattle.step_script.specs.ListScript.{ToldByLists};
 use crate::hand::Hand;
 use crate::played::Played;
 use crate::printer::{push_head, push_image, push_lengths};
-use crate::script::{Line, Opening, Script, ScriptCall};
+use crate::script::{Line, Opening, Script};
 use ring_words::{Ring, Role, page_image};
 use std::alloc::{AllocError, Global};
-use vchan_core::Plain;
+use vchan_core::{Call, Plain};
 use vchan_io::Memory;
 
 /// The bytes of a page that `head` prints: its fields, up to the grant list.
@@ -32,36 +32,35 @@ pub fn play(alloc: Global, script: &Script) -> Result<Played, Memory>
 {
     let mut player = Player::open(alloc, script.opening)?;
     for line in &script.lines {
-        player.play_line(line)?;
+        player.play_line(line.line, line.payload.as_slice())?;
     }
-    player.push_ring(Ring::Left)?;
-    player.push_ring(Ring::Right)?;
-    Ok(Played::of(player.text))
+    let text = player.end()?;
+    Ok(Played::of(text))
 }
 
 /// A page with its two ends, and the text that was printed so far.
 #[derive(Drop)]
-struct Player<'a> {
+pub(crate) struct Player {
     page: Plain,
-    server: Hand<'a>,
-    client: Hand<'a>,
+    server: Hand,
+    client: Hand,
     text: Vec<u8>,
 }
 
-impl<'a> Player<'a> {
+impl Player {
     ghost use Rattle.std.specs.Prelude.{◌≢◌, [], take, List};
     ghost use Rattle.vchan_core.specs.Core.{Core, opened};
     ghost use Rattle.vchan_core.specs.Past.{StandsFor, orders_of};
     ghost use Rattle.vchan_core.specs.declared.call.EndState.TheVariants.{Shut};
     ghost use Rattle.step_script.specs.Output.{line_text, text_of};
-    ghost use Rattle.step_script.specs.Played.{line_done, ring_line};
+    ghost use Rattle.step_script.specs.Played.{line_done, plays, ring_line};
     ghost use Rattle.step_script.specs.ListScript.{CanOpen};
     ghost use Rattle.step_script.specs.Players.{IsPlayedTo, Plays};
     ghost use Rattle.step_script.specs.Script.{CallFits, LineFits, begins, calls, finishes, head, image as image_line, steps};
-    ghost use Rattle.step_script.specs.ScriptLines.{call_seen, line_seen};
+    ghost use Rattle.step_script.specs.ScriptLines.{call_with, line_with};
 
     /// A page on which nothing has happened yet.
-    fn open(alloc: Global, opening: Opening) -> Result<Player<'a>, Memory>
+    pub(crate) fn open(alloc: Global, opening: Opening) -> Result<Player, Memory>
         requires { opening.state ≢ Shut }
         ensures opens { CanOpen opening }
         ensures at { IfOk result (λ player. IsPlayedTo (opened opening.orders opening.start opening.said opening.state) player) }
@@ -81,23 +80,23 @@ impl<'a> Player<'a> {
         })
     }
 
-    /// Carries one line out, and prints what it prints.
-    fn play_line(&mut self, line: &'a Line) -> Result<(), AllocError>
+    /// Carries one line out, with the bytes of its byte string, and prints what it prints.
+    pub(crate) fn play_line(&mut self, line: Line, payload: &[u8]) -> Result<(), AllocError>
         requires known { (core : Core) × IsPlayedTo core self.old }
-        requires fits { LineFits (orders_of self.old.page) (line_seen line.now) }
-        ensures plays { OnOk result (Plays (line_done (line_seen line.now)) self.old self.new) }
+        requires fits { LineFits (orders_of self.old.page) (line_with line payload.now) }
+        ensures plays { OnOk result (Plays (line_done (line_with line payload.now)) self.old self.new) }
     {
         match line {
-            Line::Call { who, call } => self.call(*who, call),
-            Line::Begin { who, call } => self.begin(*who, call),
-            Line::Step { who, most } => self.step(*who, *most),
-            Line::Finish { who } => self.finish(*who),
+            Line::Call { who, call } => self.call(who, call, payload),
+            Line::Begin { who, call } => self.begin(who, call, payload),
+            Line::Step { who, most } => self.step(who, most),
+            Line::Finish { who } => self.finish(who),
             Line::Poke { who, word, value } => {
-                self.page.poke(*who, *word, *value);
+                self.page.poke(who, word, value);
                 Ok(())
             }
             Line::Signal { who } => {
-                self.page.signal(*who);
+                self.page.signal(who);
                 Ok(())
             }
             Line::Head => self.push_page_head(),
@@ -106,26 +105,34 @@ impl<'a> Player<'a> {
     }
 
     /// A whole call of an end.
-    fn call(&mut self, who: Role, call: &'a ScriptCall) -> Result<(), AllocError>
+    fn call(&mut self, who: Role, call: Call, payload: &[u8]) -> Result<(), AllocError>
         requires known { (core : Core) × IsPlayedTo core self.old }
-        requires fits { CallFits who (call_seen call.now) }
-        ensures { OnOk result (Plays (line_done (calls who (call_seen call.now))) self.old self.new) }
+        requires fits { CallFits who (call_with call payload.now) }
+        ensures { OnOk result (Plays (line_done (calls who (call_with call payload.now))) self.old self.new) }
     {
         match who {
-            Role::Server => self.server.call(&mut self.page, who, call, &mut self.text),
-            Role::Client => self.client.call(&mut self.page, who, call, &mut self.text),
+            Role::Server => self
+                .server
+                .call(&mut self.page, who, call, payload, &mut self.text),
+            Role::Client => self
+                .client
+                .call(&mut self.page, who, call, payload, &mut self.text),
         }
     }
 
     /// The begin of a call of an end.
-    fn begin(&mut self, who: Role, call: &'a ScriptCall) -> Result<(), AllocError>
+    fn begin(&mut self, who: Role, call: Call, payload: &[u8]) -> Result<(), AllocError>
         requires known { (core : Core) × IsPlayedTo core self.old }
-        requires fits { CallFits who (call_seen call.now) }
-        ensures { OnOk result (Plays (line_done (begins who (call_seen call.now))) self.old self.new) }
+        requires fits { CallFits who (call_with call payload.now) }
+        ensures { OnOk result (Plays (line_done (begins who (call_with call payload.now))) self.old self.new) }
     {
         match who {
-            Role::Server => self.server.begin(&mut self.page, who, call, &mut self.text),
-            Role::Client => self.client.begin(&mut self.page, who, call, &mut self.text),
+            Role::Server => self
+                .server
+                .begin(&mut self.page, who, call, payload, &mut self.text),
+            Role::Client => self
+                .client
+                .begin(&mut self.page, who, call, payload, &mut self.text),
         }
     }
 
@@ -165,6 +172,16 @@ impl<'a> Player<'a> {
     {
         let image = page_image(self.page.words());
         push_image(&mut self.text, &image)
+    }
+
+    /// All that was printed, and last how many bytes went through each ring.
+    pub(crate) fn end(mut self) -> Result<Vec<u8>, AllocError>
+        ensures { IfOk result (λ text. (core : Core) → IsPlayedTo core self
+            → text.items ≡ self.text.items ++ text_of (plays [] core)) }
+    {
+        self.push_ring(Ring::Left)?;
+        self.push_ring(Ring::Right)?;
+        Ok(self.text)
     }
 
     /// Prints how many bytes a ring's writer has sent and its reader has got.

@@ -1,26 +1,27 @@
 //! Reading a script.
-ghost use Rattle.std.specs.Prelude.{◌≡◌, ◌≢◌, ◌≤◌, IfErr, IfOk, sum_by};
+ghost use Rattle.std.specs.Prelude.{◌≡◌, ◌≢◌, ◌≤◌, IfErr, IfOk, length, sum_by};
 ghost use Rattle.std.specs.List.{All};
 ghost use Rattle.vchan_core.specs.declared.call.EndState.TheVariants.{Shut};
-ghost use Rattle.step_script.specs.Grammar.{at_number, opening_of, opening_from, start_from, line_of, lines_from, script_of};
+ghost use Rattle.step_script.specs.Grammar.{at_number, front_from, opening_of, opening_from, start_from, line_of, lines_from, script_of};
 ghost use Rattle.step_script.specs.Forms.{LineKeeps};
 ghost use Rattle.step_script.specs.LinesLeft.{lines_left};
 ghost use Rattle.step_script.specs.Readings.{Gives, IsScriptRefusal, Reads};
 ghost use Rattle.step_script.specs.Script.{LineFits};
-ghost use Rattle.step_script.specs.ScriptLines.{line_seen, lines_seen, payload_len};
+ghost use Rattle.step_script.specs.ScriptLines.{line_with, lines_seen, payload_len};
 ghost use Rattle.script_words.specs.Words.{words_of};
 
 use crate::error::{LineError, ScriptError};
 use crate::line::read_line;
 use crate::lines::{LineReader, NextLine};
 use crate::opening::{read_opening, read_start, start_word};
-use crate::operand::Strings;
-use crate::script::{Line, Opening, Script};
+use crate::operand::ByteString;
+use crate::script::{Line, Opening, Script, ScriptLine};
 use ring_words::Orders;
+use smallvec::SmallVec;
 use std::alloc::Global;
 
 /// The most bytes that the byte strings of a script may have in all.
-const MOST_BYTES: usize = 8_388_608;
+pub(crate) const MOST_BYTES: usize = 8_388_608;
 
 /// Reads a script: its opening, then one line after another, each ended by a line feed, which the
 /// last line may lack. An empty line and one that begins with `#` are passed over, but counted.
@@ -34,13 +35,20 @@ pub fn parse(alloc: Global, bytes: &[u8]) -> Result<Script, ScriptError>
     ensures bad { IfErr result (λ e. IsScriptRefusal e (script_of bytes.now)) }
 {
     let mut reader = LineReader::of(bytes);
-    let opening = read_first(&mut reader)?;
-    let start = start_at(&mut reader)?;
+    let opening = read_front(&mut reader)?;
     let lines = read_lines(alloc, opening.orders, reader)?;
-    Ok(Script {
-        opening: Opening { start, ..opening },
-        lines,
-    })
+    Ok(Script { opening, lines })
+}
+
+/// Reads how the page is opened: the first line, and a `start` line where one comes next.
+pub(crate) fn read_front(reader: &mut LineReader) -> Result<Opening, ScriptError>
+    ensures opening { let due = front_from (lines_left reader.old) in
+        Reads (λ opening. (opening, lines_left reader.new)) result due }
+    ensures state { IfOk result (λ opening. opening.state ≢ Shut) }
+{
+    let opening = read_first(reader)?;
+    let start = start_at(reader)?;
+    Ok(Opening { start, ..opening })
 }
 
 /// Reads the first line.
@@ -76,26 +84,27 @@ fn read_lines(
     alloc: Global,
     orders: Orders,
     mut reader: LineReader,
-) -> Result<Vec<Line>, ScriptError>
+) -> Result<Vec<ScriptLine>, ScriptError>
     ensures lines { let due = lines_from orders 8388608 (lines_left reader.entry) in
         Reads (λ lines. lines_seen lines.items) result due }
     ensures fit { IfOk result (λ lines. All (LineFits orders) (lines_seen lines.items)) }
     ensures short { IfOk result (λ lines. sum_by payload_len (lines_seen lines.items) ≤ 8388608) }
 {
     let mut lines = Vec::new(alloc);
-    let mut strings = Strings::new(alloc);
+    let mut payload = ByteString::new(alloc);
     let mut room = MOST_BYTES;
     while let NextLine::Line { number, text } = reader.next()? {
-        let line = read_line_at(&mut strings, orders, room, number, text)?;
-        room -= line.payload_len();
-        lines.push(line)?;
+        let line = read_line_at(&mut payload, orders, room, number, text)?;
+        room -= payload.len();
+        let payload = SmallVec::from_slice(alloc, payload.as_slice())?;
+        lines.push(ScriptLine { line, payload })?;
     }
     Ok(lines)
 }
 
 /// Reads the line of this number, with `room` bytes left for its byte strings.
-fn read_line_at(
-    strings: &mut Strings,
+pub(crate) fn read_line_at(
+    payload: &mut ByteString,
     orders: Orders,
     room: usize,
     number: u32,
@@ -103,8 +112,9 @@ fn read_line_at(
 ) -> Result<Line, ScriptError>
     requires { room ≤ 8388608 }
     ensures line { let due = line_of orders room (words_of text.now) in
-        Reads line_seen result (at_number number due) }
-    ensures fits { IfOk result (λ line. LineKeeps orders room (line_seen line)) }
+        Reads (λ line. line_with line payload.new) result (at_number number due) }
+    ensures fits { IfOk result (λ line. LineKeeps orders room (line_with line payload.new)) }
+    ensures len { IfOk result (λ line. payload_len (line_with line payload.new) ≡ length payload.new) }
 {
-    read_line(strings, orders, room, text).map_err(|error| error.at(number))
+    read_line(payload, orders, room, text).map_err(|error| error.at(number))
 }

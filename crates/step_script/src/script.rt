@@ -9,7 +9,7 @@ use vchan_core::{Call, EndState};
 #[derive(Drop)]
 pub struct Script {
     pub(crate) opening: Opening,
-    pub(crate) lines: Vec<Line>,
+    pub(crate) lines: Vec<ScriptLine>,
 }
 
 impl Model for Script {
@@ -38,22 +38,32 @@ pub struct Opening {
     pub start: u32,
 }
 
-/// A line after the opening that isn't passed over.
+/// A line after the opening that isn't passed over, with its byte string.
 #[derive(Drop)]
+pub(crate) struct ScriptLine {
+    /// The line.
+    pub(crate) line: Line,
+    /// The bytes that its call writes or sends, none for any other line.
+    pub(crate) payload: Payload,
+}
+
+/// What a line says, but for the bytes that its call writes or sends. These stand with a write and
+/// a send alone, and have the length that the call names.
+#[derive(Clone, Copy)]
 pub(crate) enum Line {
     /// A whole call of one end.
     Call {
         /// The end that makes it.
         who: Role,
         /// What it calls.
-        call: ScriptCall,
+        call: Call,
     },
     /// A call of one end is begun, and makes no event.
     Begin {
         /// The end that begins it.
         who: Role,
         /// What it calls.
-        call: ScriptCall,
+        call: Call,
     },
     /// Events of the call under way.
     Step {
@@ -85,16 +95,6 @@ pub(crate) enum Line {
     Head,
     /// Prints the 4,096 bytes of the page's image.
     Image,
-}
-
-/// A call as a script says it. A payload stands with a write and a send alone, and has the length
-/// that the call names.
-#[derive(Drop)]
-pub(crate) struct ScriptCall {
-    /// The call.
-    pub(crate) call: Call,
-    /// The bytes that it writes or sends.
-    pub(crate) payload: Payload,
 }
 
 /// The bytes that a call writes or sends. Up to 16 lie in the line itself, since a script may have

@@ -1,5 +1,5 @@
 //! What a script prints, and which inputs are none.
-use crate::{parse, play, text};
+use crate::{parse, play, script_text, text};
 use std::test::Fail;
 
 mod refusals;
@@ -14,5 +14,6 @@ fn a_script_prints_its_text(rt: HostRuntime) -> Result<(), Fail> {
     let copied = text(rt.alloc(), &played)?;
     assert!(rt; copied.as_slice() == wanted.as_slice());
     assert!(rt; played.into_text().as_slice() == wanted.as_slice());
+    assert!(rt; script_text(rt.alloc(), bytes)?.as_slice() == wanted.as_slice());
     Ok(())
 }

@@ -1,15 +1,12 @@
 //! The text of a command.
 ghost use Rattle.std.specs.Prelude.{◌≡◌, IfErr, IfOk};
-ghost use Rattle.step_script.specs.ListScript.{ToldByLists};
-ghost use Rattle.step_script.specs.Played.{step_text as step_text_of};
 ghost use Rattle.vchan.specs.Top.{IsDue, ToldIn, output_of};
 
 use crate::command::Command;
 use crate::status::Bad;
 use std::alloc::Global;
-use step_script::{Script, ScriptError, parse, play};
+use step_script::{ScriptError, script_text};
 use stream_text::{Channel, DecodeError, decode_text};
-use vchan_io::Memory;
 
 /// Why a command has no text.
 #[derive(Clone, Copy, Debug, PartialEq, Eq)]
@@ -38,24 +35,13 @@ fn step(alloc: Global, input: &[u8]) -> Result<Vec<u8>, OutputError>
     ensures lists { IfOk result (λ output. ToldIn Command.Step input.now output.items) }
     ensures bad { IfErr result (λ e. IsDue e (output_of Command.Step input.now)) }
 {
-    let script = match parse(alloc, input) {
-        Ok(script) => script,
-        Err(ScriptError::Bad { line, kind }) => {
-            return Err(OutputError::Refused(Bad::Script { line, kind }));
-        }
-        Err(ScriptError::Memory) => return Err(OutputError::Memory),
-    };
-    match printed(alloc, &script) {
+    match script_text(alloc, input) {
         Ok(output) => Ok(output),
-        Err(Memory) => Err(OutputError::Memory),
+        Err(ScriptError::Bad { line, kind }) => {
+            Err(OutputError::Refused(Bad::Script { line, kind }))
+        }
+        Err(ScriptError::Memory) => Err(OutputError::Memory),
     }
-}
-
-fn printed(alloc: Global, script: &Script) -> Result<Vec<u8>, Memory>
-    ensures text { IfOk result (λ output. output.items ≡ step_text_of script.now) }
-    ensures lists { IfOk result (λ output. ToldByLists script.now output.items) }
-{
-    Ok(play(alloc, script)?.into_text())
 }
 
 /// The text of a captured stream.

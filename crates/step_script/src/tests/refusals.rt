@@ -1,5 +1,5 @@
 //! Which inputs are refused, at which line and for what.
-use crate::{ScriptError, ScriptKind, parse};
+use crate::{ScriptError, ScriptKind, parse, script_text};
 use std::alloc::{AllocError, AllocGlobal, Global};
 use std::process::Abort;
 use std::test::Fail;
@@ -54,7 +54,7 @@ const BAD_ORDERS: [(&str, u32); 5] = [
 ];
 
 /// Lines behind `open 10 11` that are none of the language.
-const BAD_LINES: [&str; 44] = [
+const BAD_LINES: [&str; 48] = [
     "open 10 11",
     " ",
     "server",
@@ -63,6 +63,10 @@ const BAD_LINES: [&str; 44] = [
     "server  read 1",
     "server\tread 1",
     "broker read 1",
+    "servers read 1",
+    "server reads 1",
+    "serverread 1",
+    "heads",
     "SERVER read 1",
     "server shout",
     "server read",
@@ -155,8 +159,14 @@ const GOOD_LINES: [&str; 14] = [
 
 /// Fails where `script` isn't refused so.
 fn check_refused(rt: &(impl Abort + AllocGlobal), script: &[u8], line: u32, kind: ScriptKind) {
-    let found = parse(rt.alloc(), script).err();
-    assert_eq!(rt; found, Some(ScriptError::Bad { line, kind }));
+    let wanted = Some(ScriptError::Bad { line, kind });
+    assert_eq!(rt; parse(rt.alloc(), script).err(), wanted);
+    assert_eq!(rt; script_text(rt.alloc(), script).err(), wanted);
+}
+
+/// Whether `script` is taken, with and without a list of its lines.
+fn is_taken(alloc: Global, script: &[u8]) -> bool {
+    parse(alloc, script).is_ok() && script_text(alloc, script).is_ok()
 }
 
 /// Fails where one of these inputs isn't refused for this at its line.
@@ -214,7 +224,7 @@ fn bad_lines_are_refused(rt: HostRuntime) -> Result<(), Fail> {
 fn lines_at_the_edge_are_taken(rt: HostRuntime) -> Result<(), Fail> {
     for line in &GOOD_LINES {
         let script = with_line(rt.alloc(), line)?;
-        assert!(rt; parse(rt.alloc(), script.as_slice()).is_ok(), "of {line}");
+        assert!(rt; is_taken(rt.alloc(), script.as_slice()), "of {line}");
     }
     Ok(())
 }
@@ -223,7 +233,7 @@ fn lines_at_the_edge_are_taken(rt: HostRuntime) -> Result<(), Fail> {
 fn a_script_has_at_most_65536_lines(rt: HostRuntime) -> Result<(), Fail> {
     for line in ["server read 0\n", "\n"] {
         let mut script = repeated(rt.alloc(), line, 65_536)?;
-        assert!(rt; parse(rt.alloc(), script.as_slice()).is_ok(), "of {line}");
+        assert!(rt; is_taken(rt.alloc(), script.as_slice()), "of {line}");
         script.extend_from_slice(b"# more\nserver shout")?;
         check_refused(&rt, script.as_slice(), 65_537, ScriptKind::TooManyLines);
     }
@@ -234,7 +244,7 @@ fn a_script_has_at_most_65536_lines(rt: HostRuntime) -> Result<(), Fail> {
 fn byte_strings_have_at_most_8388608_bytes(rt: HostRuntime) -> Result<(), Fail> {
     let mut script = repeated(rt.alloc(), "client write 00*2097152\n", 5)?;
     script.extend_from_slice(b"server write -\n")?;
-    assert!(rt; parse(rt.alloc(), script.as_slice()).is_ok());
+    assert!(rt; is_taken(rt.alloc(), script.as_slice()));
     script.extend_from_slice(b"server begin send 6")?;
     check_refused(&rt, script.as_slice(), 7, ScriptKind::BadHex);
     script.extend_from_slice(b"1")?;

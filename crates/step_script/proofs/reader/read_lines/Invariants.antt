@@ -7,12 +7,12 @@ use Rattle.step_script.specs.ScriptLines.{lines_seen, payload_len}
 use Rattle.step_script.proofs.ScriptLaws.{behind, count_left}
 use Rattle.step_script.proofs.reader.read_lines.Given as goal
 
-abbrev pub invariant-loop-strings : goal.invariant-loop-strings
-invariant-loop-strings l = record {
+abbrev pub invariant-loop-payload : goal.invariant-loop-payload
+invariant-loop-payload l = record {
   read : behind (lines_seen l.lines.items) (lines_from l.orders l.room (lines_left l.reader)) ≡ lines_from l.orders 8388608 (lines_left l.fn.reader);
   fit : All (LineFits l.orders) (lines_seen l.lines.items);
   short : sum_by payload_len (lines_seen l.lines.items) + l.room ≡ 8388608;
 }
 
-abbrev pub decreases-loop-strings : goal.decreases-loop-strings
-decreases-loop-strings l = count_left (lines_left l.reader)
+abbrev pub decreases-loop-payload : goal.decreases-loop-payload
+decreases-loop-payload l = count_left (lines_left l.reader)

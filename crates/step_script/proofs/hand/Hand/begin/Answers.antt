@@ -1,6 +1,6 @@
 use Rattle.vchan_core.specs.Core.{Core}
 use Rattle.step_script.specs.Played.{begins_call, call_refusal, finished, unless_refused}
-use Rattle.step_script.specs.ScriptLines.{call_seen}
+use Rattle.step_script.specs.ScriptLines.{call_with}
 use Rattle.step_script.proofs.DoesLaws.{does_then, known_on, on_ok_map}
 use Rattle.step_script.proofs.hand.Hand.begin.Goals as goal
 
@@ -11,5 +11,5 @@ enter-requires-clause-known c =
 pub returns : goal.returns
 returns c =
     on_ok_map c.enter.result c.enter.ensures
-    (does_then c.args.who (finished c.args.who) (λ (core : Core). unless_refused (call_refusal core c.args.who c.args.call.now.call) c.args.who core (begins_call c.args.who (call_seen c.args.call.now))) c.args.page.now c.finish_call.new.page c.enter.new.page c.args.self.now
+    (does_then c.args.who (finished c.args.who) (λ (core : Core). unless_refused (call_refusal core c.args.who c.args.call) c.args.who core (begins_call c.args.who (call_with c.args.call c.args.payload.now))) c.args.page.now c.finish_call.new.page c.enter.new.page c.args.self.now
     c.finish_call.new.self c.enter.new.self c.args.text.now.items c.finish_call.new.text.items c.enter.new.text.items c.in_ok-finish_call.ensures.does)

@@ -1,15 +1,12 @@
-use Rattle.std.proofs.Common.{◌≡◌, ℕ, ◌++◌, ◌≤◌, List, length, take, ap, subst, sym, ◌∙◌}
+use Rattle.std.proofs.Common.{ℕ, ◌++◌, ◌≤◌, List, length, take, ap, subst, sym, ◌∙◌}
 use Rattle.std.specs.Vec.{with_items}
-use Rattle.vchan_core.specs.Alone.{call_answer, called}
-use Rattle.vchan_core.specs.Apply.{filled}
 use Rattle.vchan_core.specs.Calls.{payload_of}
-use Rattle.vchan_core.specs.Core.{Core, bytes_loaded, side_of}
-use Rattle.vchan_core.specs.Past.{StandsFor}
+use Rattle.vchan_core.specs.Core.{Core}
 use Rattle.step_script.specs.declared.hand.Hand.{Hand}
 use Rattle.step_script.specs.Output.{answered, line_text}
 use Rattle.step_script.specs.Played.{call_refusal, makes_call}
 use Rattle.step_script.specs.Players.{got_front, got_len}
-use Rattle.step_script.specs.ScriptLines.{call_seen}
+use Rattle.step_script.specs.ScriptLines.{call_with}
 use Rattle.step_script.proofs.DoesLaws.{does_allowed, does_call, does_refused, on_ok_map, taken_by_call}
 use Rattle.step_script.proofs.HandLaws.{written_through}
 use Rattle.step_script.proofs.hand.Hand.make.Goals as goal
@@ -17,7 +14,7 @@ use Rattle.step_script.proofs.hand.Hand.make.Goals as goal
 pub returns-in-Some : goal.returns-in-Some
 returns-in-Some c =
     on_ok_map c.push_refusal.result c.push_refusal.ensures
-    (does_refused c.args.who (λ (core : Core). call_refusal core c.args.who c.args.call.now.call) (makes_call c.args.who (call_seen c.args.call.now)) c.args.page.now c.args.self.now c.args.text.now.items c.push_refusal.new.out.items c.in-Some.why
+    (does_refused c.args.who (λ (core : Core). call_refusal core c.args.who c.args.call) (makes_call c.args.who (call_with c.args.call c.args.payload.now)) c.args.page.now c.args.self.now c.args.text.now.items c.push_refusal.new.out.items c.in-Some.why
     (λ core stands. sym c.in-Some.is ∙ c.call_refusal.ensures.refusal core stands))
 
 pub push_answer-requires : goal.push_answer-requires
@@ -26,24 +23,19 @@ push_answer-requires c =
     let stands = c.requires.known.1.stands in
     let call = c.run_call-answer in
     let written = written_through call.new.buffer c.make_room.new.self.buffer.items c.make_room.new.self.buffer.len (call.auto.buffer ∙ c.as_mut_slice.ensures.len) in
-    let taken = taken_by_call core c.args.who c.args.call.now.call (take (payload_of c.args.call.now.call) c.as_slice-payload.result.now) c.as_mut_slice.result.now call.new.buffer call.result (call.ensures.answer core stands) (call.ensures.buffer core stands) in
+    let taken = taken_by_call core c.args.who c.args.call (take (payload_of c.args.call) c.args.payload.now) c.as_mut_slice.result.now call.new.buffer call.result (call.ensures.answer core stands) (call.ensures.buffer core stands) in
     subst (λ (l : List ℕ). got_len call.result ≤ length l) (sym (c.as_slice.ensures.value ∙ written)) taken.within
 
 pub returns : goal.returns
 returns c =
     let call = c.run_call-answer in
-    let seen = call_seen c.args.call.now in
-    let value : c.as_slice-payload.result.now ≡ c.args.call.now.payload.items = c.as_slice-payload.ensures in
+    let seen = call_with c.args.call c.args.payload.now in
     let written = written_through call.new.buffer c.make_room.new.self.buffer.items c.make_room.new.self.buffer.len (call.auto.buffer ∙ c.as_mut_slice.ensures.len) in
     let kept : Hand = record { call = c.make_room.new.self.call; payload = c.make_room.new.self.payload; buffer = with_items c.make_room.new.self.buffer call.new.buffer } in
     on_ok_map c.push_answer.result c.push_answer.ensures (λ printed.
-    does_allowed c.args.who (λ (core : Core). call_refusal core c.args.who c.args.call.now.call) (makes_call c.args.who seen) c.args.page.now call.new.page c.args.self.now kept c.args.text.now.items c.push_answer.new.out.items
+    does_allowed c.args.who (λ (core : Core). call_refusal core c.args.who c.args.call) (makes_call c.args.who seen) c.args.page.now call.new.page c.args.self.now kept c.args.text.now.items c.push_answer.new.out.items
     (λ core stands. sym c.in_default.is ∙ c.call_refusal.ensures.refusal core stands)
     (does_call c.args.who seen c.args.page.now call.new.page c.args.self.now kept c.as_mut_slice.result.now c.args.text.now.items c.push_answer.new.out.items call.result c.requires.fits.payload
-    (λ core stands. subst (λ (l : List ℕ). StandsFor (called core c.args.who seen.call (take (payload_of seen.call) l)) call.new.page) value (call.ensures.stands core stands))
-    (λ core stands. subst (λ (l : List ℕ). call.result ≡ call_answer core c.args.who seen.call (take (payload_of seen.call) l)) value (call.ensures.answer core stands))
-    (λ core stands.
-    written
-    ∙ subst (λ (l : List ℕ). call.new.buffer ≡ filled c.as_mut_slice.result.now (bytes_loaded (side_of (called core c.args.who seen.call (take (payload_of seen.call) l)) c.args.who).trail)) value (call.ensures.buffer core stands))
+    call.ensures.stands call.ensures.answer (λ core stands. written ∙ call.ensures.buffer core stands)
     call.ensures.idle call.ensures.other
     (printed ∙ ap (λ (l : List ℕ). c.args.text.now.items ++ line_text (answered c.args.who seen.call call.result (got_front call.result l))) c.as_slice.ensures.value)))

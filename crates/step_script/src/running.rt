@@ -1,0 +1,37 @@
+//! Reading a script and playing it in one pass.
+ghost use Rattle.std.specs.Prelude.{IfErr, IfOk};
+ghost use Rattle.step_script.specs.Grammar.{script_of};
+ghost use Rattle.step_script.specs.Readings.{IsScriptRefusal};
+ghost use Rattle.step_script.specs.ScriptText.{IsTextOf};
+
+use crate::error::ScriptError;
+use crate::lines::{LineReader, NextLine};
+use crate::operand::ByteString;
+use crate::player::Player;
+use crate::reader::{MOST_BYTES, read_front, read_line_at};
+use std::alloc::Global;
+
+/// The text that a script prints: what [`text`](crate::text) gives of [`play`](crate::play) of
+/// [`parse`](crate::parse). Each line is played where it is read, so no list of lines is kept.
+///
+/// # Errors
+///
+/// [`ScriptError::Bad`] exactly where the bytes are no script, with the first line that doesn't
+/// fit and what is wrong with it; `ScriptError::Memory`.
+pub fn script_text(alloc: Global, bytes: &[u8]) -> Result<Vec<u8>, ScriptError>
+    ensures text { IfOk result (λ text. IsTextOf bytes.now text.items) }
+    ensures bad { IfErr result (λ e. IsScriptRefusal e (script_of bytes.now)) }
+{
+    let mut reader = LineReader::of(bytes);
+    let opening = read_front(&mut reader)?;
+    let mut player = Player::open(alloc, opening)?;
+    let mut payload = ByteString::new(alloc);
+    let mut room = MOST_BYTES;
+    while let NextLine::Line { number, text } = reader.next()? {
+        let line = read_line_at(&mut payload, opening.orders, room, number, text)?;
+        room -= payload.len();
+        player.play_line(line, payload.as_slice())?;
+    }
+    let text = player.end()?;
+    Ok(text)
+}
