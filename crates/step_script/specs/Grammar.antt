@@ -10,8 +10,6 @@ use Rattle.step_script.specs.declared.error.ScriptKind.{ScriptKind}
 use Rattle.step_script.specs.declared.error.ScriptKind.TheVariants.{BadHeader, BadLine, BadOrders, TooManyLines}
 use Rattle.step_script.specs.declared.forms.CallForm.{CallForm}
 use Rattle.step_script.specs.declared.forms.CallForm.TheVariants.{Write, Send, Read, Recv, Drain, Bare}
-use Rattle.step_script.specs.declared.forms.PageLine.{PageLine}
-use Rattle.step_script.specs.declared.forms.PageLine.TheVariants.{Head, Image}
 use Rattle.step_script.specs.declared.forms.Act.{Act}
 use Rattle.step_script.specs.declared.forms.Act.TheVariants.{Begin, Step, Finish, Poke, Signal}
 use Rattle.step_script.specs.declared.script.Opening.{Opening}
@@ -21,7 +19,7 @@ use Rattle.step_script.specs.Forms.{without_payload}
 use Rattle.step_script.specs.Operands.{◌>>=◌, given, operand_of, alone, number_between, count_of, payload_of}
 use Rattle.step_script.specs.Kept.{Lines, stops, refused, line, kept_lines}
 use Rattle.step_script.specs.Pokes.{poked_word}
-use Rattle.step_script.specs.Script.{StepCall, StepLine, opens, calls, begins, steps, finishes, pokes, signals, head, image}
+use Rattle.step_script.specs.Script.{StepCall, StepLine, opens, calls, begins, steps, finishes, pokes, signals}
 use Rattle.step_script.specs.ScriptLines.{payload_len}
 use Rattle.step_script.specs.Tables.{meaning_first, ends, calls_of, acts, page_lines}
 
@@ -88,14 +86,10 @@ abbrev pub line_of_end : Orders → ℕ → Role → List (List ℕ) → Result 
 line_of_end orders room who words = line_of_form orders room who (meaning_first (calls_of who) words) words
 
 -- `head` and `image`
-abbrev pub page_line : PageLine → StepLine
-page_line Head = head
-page_line Image = image
-
 abbrev pub line_of_page : List (List ℕ) → Result StepLine ScriptKind
 line_of_page words = do
   found ← ok_or (meaning_first page_lines words) BadLine
-  alone (page_line found.0) found.1
+  alone found.0 found.1
 
 -- a line of an end, where there is one of that name, or one of the page
 abbrev pub line_of_first : Orders → ℕ → Option (Role × List (List ℕ)) → List (List ℕ) → Result StepLine ScriptKind

@@ -11,8 +11,7 @@ use Rattle.ring_words.specs.declared.page.WordName.TheVariants.{LeftCons, LeftPr
 use Rattle.vchan_core.specs.declared.call.Call.TheVariants.{DataReady, BufferSpace, Connect, Close, TakeEvent, PeerGone, Retire}
 use Rattle.step_script.specs.declared.forms.CallForm.{CallForm}
 use Rattle.step_script.specs.declared.forms.CallForm.TheVariants.{Write, Send, Read, Recv, Drain, Bare}
-use Rattle.step_script.specs.declared.forms.PageLine.{PageLine}
-use Rattle.step_script.specs.declared.forms.PageLine.TheVariants.{Head, Image}
+use Rattle.step_script.specs.Script.{StepLine, head, image}
 use Rattle.step_script.specs.declared.forms.Act.{Act}
 use Rattle.step_script.specs.declared.forms.Act.TheVariants.{Begin, Step, Finish, Poke, Signal}
 
@@ -30,8 +29,10 @@ abbrev pub ends : List (List ℕ × Role)
 ends = (codes "server", Server) ∷ (codes "client", Client) ∷ []
 
 -- the calls that both ends may make
-abbrev pub further_calls : List (List ℕ × CallForm)
-further_calls =
+abbrev pub common_calls : List (List ℕ × CallForm)
+common_calls =
+    (codes "write", Write) ∷
+    (codes "read", Read) ∷
     (codes "send", Send) ∷
     (codes "recv", Recv) ∷
     (codes "drain", Drain) ∷
@@ -42,9 +43,6 @@ further_calls =
     (codes "gone", Bare PeerGone) ∷
     (codes "retire", Bare Retire) ∷
     []
-
-abbrev pub common_calls : List (List ℕ × CallForm)
-common_calls = (codes "write", Write) ∷ (codes "read", Read) ∷ further_calls
 
 -- the calls of an end: only a client connects
 abbrev pub calls_of : Role → List (List ℕ × CallForm)
@@ -62,8 +60,8 @@ acts =
     []
 
 -- the lines that print bytes of the page
-abbrev pub page_lines : List (List ℕ × PageLine)
-page_lines = (codes "head", Head) ∷ (codes "image", Image) ∷ []
+abbrev pub page_lines : List (List ℕ × StepLine)
+page_lines = (codes "head", head) ∷ (codes "image", image) ∷ []
 
 -- the header fields of a page
 abbrev pub fields : List (List ℕ × WordName)

@@ -1,9 +1,9 @@
 //! What the words of a script stand for.
-ghost use Rattle.std.specs.Prelude.{◌≡◌, IfSome, bytes_eq};
+ghost use Rattle.std.specs.Prelude.{◌≡◌, drop, IfSome};
 ghost use Rattle.ring_words.specs.declared.page.Role.{Role};
 ghost use Rattle.script_words.specs.WordsLeft.{words_left};
 ghost use Rattle.step_script.specs.Forms.{FormFits, found_in};
-ghost use Rattle.step_script.specs.Tables.{meaning_in, meaning_first, ends, calls_of, common_calls, further_calls, acts, page_lines, fields};
+ghost use Rattle.step_script.specs.Tables.{meaning_in, meaning_first, ends, calls_of, common_calls, acts, fields};
 
 use ring_words::{Role, WordName};
 use script_words::Words;
@@ -39,25 +39,6 @@ pub(crate) enum Act {
     Poke,
     /// `signal`.
     Signal,
-}
-
-/// A line that prints bytes of the page.
-#[derive(Clone, Copy, Debug, PartialEq, Eq)]
-pub(crate) enum PageLine {
-    /// `head`.
-    Head,
-    /// `image`.
-    Image,
-}
-
-/// Whether a word is this name. It is taken in where it is called, so that a name of a few bytes
-/// costs a few comparisons and no call.
-#[inline(always)]
-#[tactic(auto, using(crate::proofs::NameLaws::same_length, crate::proofs::NameLaws::other_length))]
-fn is_named(word: &[u8], name: &[u8]) -> bool
-    ensures { result ≡ bytes_eq word.now name.now }
-{
-    word.len() == name.len() && name.starts_with(word)
 }
 
 /// The end that the first of these words names, and the words behind it.
@@ -123,7 +104,7 @@ fn common_call_in<'a>(words: &Words<'a>) -> Option<(CallForm, Words<'a>)>
 #[inline(never)]
 #[tactic(auto, using(crate::proofs::NameLaws::unnamed))]
 fn further_call_in<'a>(words: &Words<'a>) -> Option<(CallForm, Words<'a>)>
-    ensures form { found_in result ≡ meaning_first further_calls (words_left words.now) }
+    ensures form { found_in result ≡ meaning_first (drop 2 common_calls) (words_left words.now) }
     ensures fits { (who : Role) → IfSome result (λ found. FormFits who found.0) }
 {
     if let Some(rest) = words.behind(b"send") {
@@ -169,44 +150,29 @@ pub(crate) fn act_in<'a>(words: &Words<'a>) -> Option<(Act, Words<'a>)>
     }
 }
 
-/// The line that prints bytes of the page that the first of these words names, and the words behind
-/// it.
-#[tactic(auto, using(crate::proofs::NameLaws::unnamed))]
-pub(crate) fn page_line_in<'a>(words: &Words<'a>) -> Option<(PageLine, Words<'a>)>
-    ensures { found_in result ≡ meaning_first page_lines (words_left words.now) }
-{
-    if let Some(rest) = words.behind(b"head") {
-        Some((PageLine::Head, rest))
-    } else if let Some(rest) = words.behind(b"image") {
-        Some((PageLine::Image, rest))
-    } else {
-        None
-    }
-}
-
 /// The header field that a word names.
 pub(crate) fn field_named(word: &[u8]) -> Option<WordName>
     ensures { result ≡ meaning_in fields word.now }
 {
-    if is_named(word, b"left_cons") {
+    if word == b"left_cons".as_slice() {
         Some(WordName::LeftCons)
-    } else if is_named(word, b"left_prod") {
+    } else if word == b"left_prod".as_slice() {
         Some(WordName::LeftProd)
-    } else if is_named(word, b"right_cons") {
+    } else if word == b"right_cons".as_slice() {
         Some(WordName::RightCons)
-    } else if is_named(word, b"right_prod") {
+    } else if word == b"right_prod".as_slice() {
         Some(WordName::RightProd)
-    } else if is_named(word, b"left_order") {
+    } else if word == b"left_order".as_slice() {
         Some(WordName::LeftOrder)
-    } else if is_named(word, b"right_order") {
+    } else if word == b"right_order".as_slice() {
         Some(WordName::RightOrder)
-    } else if is_named(word, b"cli_live") {
+    } else if word == b"cli_live".as_slice() {
         Some(WordName::CliLive)
-    } else if is_named(word, b"srv_live") {
+    } else if word == b"srv_live".as_slice() {
         Some(WordName::SrvLive)
-    } else if is_named(word, b"cli_notify") {
+    } else if word == b"cli_notify".as_slice() {
         Some(WordName::CliNotify)
-    } else if is_named(word, b"srv_notify") {
+    } else if word == b"srv_notify".as_slice() {
         Some(WordName::SrvNotify)
     } else {
         None

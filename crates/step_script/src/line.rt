@@ -10,8 +10,8 @@ ghost use Rattle.ring_words.specs.declared.page.Role.{Role};
 ghost use Rattle.step_script.specs.ScriptLines.{call_with, line_with, payload_len};
 
 use crate::error::LineError;
-use crate::forms::{Act, CallForm, PageLine, act_in, call_in, end_in, page_line_in};
-use crate::operand::{ByteString, read_count, read_nothing, read_number, read_operand};
+use crate::forms::{Act, CallForm, act_in, call_in, end_in};
+use crate::operand::{read_count, read_nothing, read_number, read_operand, read_payload};
 use crate::poke::read_word_name;
 use crate::script::Line;
 use ring_words::{Orders, Role};
@@ -26,15 +26,15 @@ use vchan_core::Call;
 /// A bad line where the line is none of the language; then, from the left, a bad number or bad hex
 /// where a word is none; too many bytes; `Memory`.
 pub(crate) fn read_line(
-    payload: &mut ByteString,
+    payload: &mut Vec<u8>,
     orders: Orders,
     room: usize,
     line: &[u8],
 ) -> Result<Line, LineError>
     requires { room ≤ 8388608 }
-    ensures line { Gives (λ line. line_with line payload.new) result (line_of orders room (words_of line.now)) }
-    ensures fits { IfOk result (λ line. LineKeeps orders room (line_with line payload.new)) }
-    ensures len { IfOk result (λ line. payload_len (line_with line payload.new) ≡ length payload.new) }
+    ensures line { Gives (λ line. line_with line payload.new.items) result (line_of orders room (words_of line.now)) }
+    ensures fits { IfOk result (λ line. LineKeeps orders room (line_with line payload.new.items)) }
+    ensures len { IfOk result (λ line. payload_len (line_with line payload.new.items) ≡ length payload.new.items) }
 {
     payload.clear();
     let words = Words::of(line);
@@ -45,39 +45,38 @@ pub(crate) fn read_line(
 }
 
 /// Reads `head` or `image`.
+#[tactic(auto, using(crate::proofs::NameLaws::unnamed))]
 #[inline(never)]
 fn read_page_line(words: Words) -> Result<Line, LineError>
     ensures line { (payload : List ℕ) → Gives (λ line. line_with line payload) result (line_of_page (words_left words.entry)) }
     ensures fits { (payload : List ℕ) (orders : Orders) (room : ℕ) → IfOk result (λ line. LineKeeps orders room (line_with line payload)) }
     ensures len { (payload : List ℕ) → IfOk result (λ line. payload_len (line_with line payload) ≡ 0) }
 {
-    match page_line_in(&words) {
-        Some((PageLine::Head, words)) => {
-            read_nothing(words)?;
-            Ok(Line::Head)
-        }
-        Some((PageLine::Image, words)) => {
-            read_nothing(words)?;
-            Ok(Line::Image)
-        }
-        None => Err(LineError::BAD_LINE),
+    if let Some(words) = words.behind(b"head") {
+        read_nothing(words)?;
+        Ok(Line::Head)
+    } else if let Some(words) = words.behind(b"image") {
+        read_nothing(words)?;
+        Ok(Line::Image)
+    } else {
+        Err(LineError::BAD_LINE)
     }
 }
 
 /// Reads what an end does.
 #[inline(always)]
 fn read_end_line(
-    payload: &mut ByteString,
+    payload: &mut Vec<u8>,
     orders: Orders,
     room: usize,
     who: Role,
     words: Words,
 ) -> Result<Line, LineError>
-    requires none { payload.old ≡ [] }
+    requires none { payload.old.items ≡ [] }
     requires room { room ≤ 8388608 }
-    ensures line { Gives (λ line. line_with line payload.new) result (line_of_end orders room who (words_left words.entry)) }
-    ensures fits { IfOk result (λ line. LineKeeps orders room (line_with line payload.new)) }
-    ensures len { IfOk result (λ line. payload_len (line_with line payload.new) ≡ length payload.new) }
+    ensures line { Gives (λ line. line_with line payload.new.items) result (line_of_end orders room who (words_left words.entry)) }
+    ensures fits { IfOk result (λ line. LineKeeps orders room (line_with line payload.new.items)) }
+    ensures len { IfOk result (λ line. payload_len (line_with line payload.new.items) ≡ length payload.new.items) }
 {
     match call_in(who, &words) {
         Some((form, words)) => {
@@ -91,17 +90,17 @@ fn read_end_line(
 /// Reads what an end does that is no whole call.
 #[inline(never)]
 fn read_act(
-    payload: &mut ByteString,
+    payload: &mut Vec<u8>,
     orders: Orders,
     room: usize,
     who: Role,
     words: Words,
 ) -> Result<Line, LineError>
-    requires none { payload.old ≡ [] }
+    requires none { payload.old.items ≡ [] }
     requires room { room ≤ 8388608 }
-    ensures line { Gives (λ line. line_with line payload.new) result (act_of orders room who (words_left words.entry)) }
-    ensures fits { IfOk result (λ line. LineKeeps orders room (line_with line payload.new)) }
-    ensures len { IfOk result (λ line. payload_len (line_with line payload.new) ≡ length payload.new) }
+    ensures line { Gives (λ line. line_with line payload.new.items) result (act_of orders room who (words_left words.entry)) }
+    ensures fits { IfOk result (λ line. LineKeeps orders room (line_with line payload.new.items)) }
+    ensures len { IfOk result (λ line. payload_len (line_with line payload.new.items) ≡ length payload.new.items) }
 {
     match act_in(&words) {
         Some((act, words)) => read_line_of_act(payload, orders, room, who, act, words),
@@ -111,18 +110,18 @@ fn read_act(
 
 /// Reads the words behind an act's word.
 fn read_line_of_act(
-    payload: &mut ByteString,
+    payload: &mut Vec<u8>,
     orders: Orders,
     room: usize,
     who: Role,
     act: Act,
     words: Words,
 ) -> Result<Line, LineError>
-    requires none { payload.old ≡ [] }
+    requires none { payload.old.items ≡ [] }
     requires room { room ≤ 8388608 }
-    ensures line { Gives (λ line. line_with line payload.new) result (line_of_act orders room who act (words_left words.entry)) }
-    ensures fits { IfOk result (λ line. LineKeeps orders room (line_with line payload.new)) }
-    ensures len { IfOk result (λ line. payload_len (line_with line payload.new) ≡ length payload.new) }
+    ensures line { Gives (λ line. line_with line payload.new.items) result (line_of_act orders room who act (words_left words.entry)) }
+    ensures fits { IfOk result (λ line. LineKeeps orders room (line_with line payload.new.items)) }
+    ensures len { IfOk result (λ line. payload_len (line_with line payload.new.items) ≡ length payload.new.items) }
 {
     match act {
         Act::Begin => {
@@ -159,16 +158,11 @@ fn read_poke(orders: Orders, who: Role, mut words: Words) -> Result<Line, LineEr
 }
 
 /// Reads a call of an end: its word, and the words behind it.
-fn read_call(
-    payload: &mut ByteString,
-    room: usize,
-    who: Role,
-    words: Words,
-) -> Result<Call, LineError>
-    requires none { payload.old ≡ [] }
+fn read_call(payload: &mut Vec<u8>, room: usize, who: Role, words: Words) -> Result<Call, LineError>
+    requires none { payload.old.items ≡ [] }
     requires room { room ≤ 8388608 }
-    ensures call { Gives (λ call. call_with call payload.new) result (call_of room who (words_left words.entry)) }
-    ensures fits { IfOk result (λ call. CallKeeps room who (call_with call payload.new)) }
+    ensures call { Gives (λ call. call_with call payload.new.items) result (call_of room who (words_left words.entry)) }
+    ensures fits { IfOk result (λ call. CallKeeps room who (call_with call payload.new.items)) }
 {
     match call_in(who, &words) {
         Some((form, words)) => read_call_of_form(payload, room, form, words),
@@ -179,23 +173,23 @@ fn read_call(
 /// Reads the words behind a call's word.
 #[inline(always)]
 fn read_call_of_form(
-    payload: &mut ByteString,
+    payload: &mut Vec<u8>,
     room: usize,
     form: CallForm,
     words: Words,
 ) -> Result<Call, LineError>
-    requires none { payload.old ≡ [] }
+    requires none { payload.old.items ≡ [] }
     requires room { room ≤ 8388608 }
-    ensures call { Gives (λ call. call_with call payload.new) result (call_of_form room form (words_left words.entry)) }
-    ensures fits { (who : Role) → FormFits who form → IfOk result (λ call. CallKeeps room who (call_with call payload.new)) }
+    ensures call { Gives (λ call. call_with call payload.new.items) result (call_of_form room form (words_left words.entry)) }
+    ensures fits { (who : Role) → FormFits who form → IfOk result (λ call. CallKeeps room who (call_with call payload.new.items)) }
 {
     match form {
         CallForm::Write => {
-            let len = payload.read(words, room)?;
+            let len = read_payload(payload, words, room)?;
             Ok(Call::Write { len })
         }
         CallForm::Send => {
-            let len = payload.read(words, room)?;
+            let len = read_payload(payload, words, room)?;
             Ok(Call::Send { len })
         }
         CallForm::Read => {

@@ -7,8 +7,6 @@ ghost use Rattle.step_script.specs.Readings.{Gives};
 
 use crate::error::LineError;
 use script_words::{Words, parse_number, push_bytes};
-use std::alloc::Global;
-use std::marker::Model;
 
 /// The most that a count of bytes or of events may say.
 const MOST_COUNT: u32 = 2_147_483_647;
@@ -85,74 +83,32 @@ pub(crate) fn read_count(words: Words, least: u32) -> Result<u32, LineError>
     Ok(count as u32)
 }
 
-/// The byte string of the line that was read last. One buffer serves all lines.
-#[derive(Drop)]
-pub(crate) struct ByteString {
-    bytes: Vec<u8>,
-}
-
-impl Model for ByteString {
-    ghost use Rattle.std.specs.Prelude.{ℕ, List};
-
-    ghost Value = { List ℕ };
-
-    ghost view = { λ p. p.bytes.items };
-}
-
-impl ByteString {
-    /// No bytes.
-    pub(crate) fn new(alloc: Global) -> ByteString
-        ensures { result ≡ [] }
-    {
-        ByteString {
-            bytes: Vec::new(alloc),
-        }
+/// Takes the bytes of a byte string that is the only word that is left, at most `room` of them, to
+/// `payload`, which has none yet. It answers how many.
+///
+/// # Errors
+///
+/// A bad line where it isn't the only word or is empty; bad hex where it is no byte string; too
+/// many bytes; `Memory`.
+#[inline(always)]
+pub(crate) fn read_payload(
+    payload: &mut Vec<u8>,
+    words: Words,
+    room: usize,
+) -> Result<u32, LineError>
+    requires none { payload.old.items ≡ [] }
+    requires room { room ≤ 8388608 }
+    ensures payload { Gives (λ count. payload.new.items) result (payload_of room (words_left words.entry)) }
+    ensures count { IfOk result (λ count. count ≡ length payload.new.items) }
+    ensures within { IfOk result (λ count. length payload.new.items ≤ room) }
+    ensures bytes { IfOk result (λ count. AreBytes payload.new.items) }
+{
+    let word = read_operand(words)?;
+    push_bytes(payload, word)?;
+    if is_too_long(payload.as_slice(), room) {
+        return Err(LineError::TOO_MANY_BYTES);
     }
-
-    /// Drops its bytes.
-    pub(crate) fn clear(&mut self)
-        ensures { self.new ≡ [] }
-    {
-        self.bytes.clear();
-    }
-
-    /// How many bytes it has.
-    pub(crate) fn len(&self) -> usize
-        ensures { result ≡ length self.now }
-    {
-        self.bytes.len()
-    }
-
-    /// Its bytes.
-    pub(crate) fn as_slice(&self) -> &[u8]
-        ensures { result.now ≡ self.now }
-    {
-        self.bytes.as_slice()
-    }
-
-    /// Takes the bytes of a byte string that is the only word that is left, at most `room` of
-    /// them, where it has none yet. It answers how many.
-    ///
-    /// # Errors
-    ///
-    /// A bad line where it isn't the only word or is empty; bad hex where it is no byte string;
-    /// too many bytes; `Memory`.
-    #[inline(always)]
-    pub(crate) fn read(&mut self, words: Words, room: usize) -> Result<u32, LineError>
-        requires none { self.old ≡ [] }
-        requires room { room ≤ 8388608 }
-        ensures payload { Gives (λ count. self.new) result (payload_of room (words_left words.entry)) }
-        ensures count { IfOk result (λ count. count ≡ length self.new) }
-        ensures within { IfOk result (λ count. length self.new ≤ room) }
-        ensures bytes { IfOk result (λ count. AreBytes self.new) }
-    {
-        let word = read_operand(words)?;
-        push_bytes(&mut self.bytes, word)?;
-        if is_too_long(self.bytes.as_slice(), room) {
-            return Err(LineError::TOO_MANY_BYTES);
-        }
-        Ok(self.bytes.len() as u32)
-    }
+    Ok(payload.len() as u32)
 }
 
 /// Whether there are more bytes than there is room for.

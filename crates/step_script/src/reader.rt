@@ -14,7 +14,6 @@ use crate::error::{LineError, ScriptError};
 use crate::line::read_line;
 use crate::lines::{LineReader, NextLine};
 use crate::opening::{read_opening, read_start, start_word};
-use crate::operand::ByteString;
 use crate::script::{Line, Opening, Script, ScriptLine};
 use ring_words::Orders;
 use smallvec::SmallVec;
@@ -91,7 +90,7 @@ fn read_lines(
     ensures short { IfOk result (λ lines. sum_by payload_len (lines_seen lines.items) ≤ 8388608) }
 {
     let mut lines = Vec::new(alloc);
-    let mut payload = ByteString::new(alloc);
+    let mut payload = Vec::new(alloc);
     let mut room = MOST_BYTES;
     while let NextLine::Line { number, text } = reader.next()? {
         let line = read_line_at(&mut payload, orders, room, number, text)?;
@@ -104,7 +103,7 @@ fn read_lines(
 
 /// Reads the line of this number, with `room` bytes left for its byte strings.
 pub(crate) fn read_line_at(
-    payload: &mut ByteString,
+    payload: &mut Vec<u8>,
     orders: Orders,
     room: usize,
     number: u32,
@@ -112,9 +111,9 @@ pub(crate) fn read_line_at(
 ) -> Result<Line, ScriptError>
     requires { room ≤ 8388608 }
     ensures line { let due = line_of orders room (words_of text.now) in
-        Reads (λ line. line_with line payload.new) result (at_number number due) }
-    ensures fits { IfOk result (λ line. LineKeeps orders room (line_with line payload.new)) }
-    ensures len { IfOk result (λ line. payload_len (line_with line payload.new) ≡ length payload.new) }
+        Reads (λ line. line_with line payload.new.items) result (at_number number due) }
+    ensures fits { IfOk result (λ line. LineKeeps orders room (line_with line payload.new.items)) }
+    ensures len { IfOk result (λ line. payload_len (line_with line payload.new.items) ≡ length payload.new.items) }
 {
     read_line(payload, orders, room, text).map_err(|error| error.at(number))
 }

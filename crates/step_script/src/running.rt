@@ -6,7 +6,6 @@ ghost use Rattle.step_script.specs.ScriptText.{IsTextOf};
 
 use crate::error::ScriptError;
 use crate::lines::{LineReader, NextLine};
-use crate::operand::ByteString;
 use crate::player::Player;
 use crate::reader::{MOST_BYTES, read_front, read_line_at};
 use std::alloc::Global;
@@ -25,7 +24,7 @@ pub fn script_text(alloc: Global, bytes: &[u8]) -> Result<Vec<u8>, ScriptError>
     let mut reader = LineReader::of(bytes);
     let opening = read_front(&mut reader)?;
     let mut player = Player::open(alloc, opening)?;
-    let mut payload = ByteString::new(alloc);
+    let mut payload = Vec::new(alloc);
     let mut room = MOST_BYTES;
     while let NextLine::Line { number, text } = reader.next()? {
         let line = read_line_at(&mut payload, opening.orders, room, number, text)?;

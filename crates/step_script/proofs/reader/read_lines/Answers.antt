@@ -23,8 +23,8 @@ loop-payload-preserved c =
     let before = c.loop-payload.lines.items in
     let next : ScriptLine = record { line = c.in_ok-line.line; payload = c.in_ok-payload.payload } in
     let cut = next_line _ _ _ _ _ c.in_ok-number.ensures c.in-Line.is in
-    let same : line_seen next ≡ line_with c.in_ok-line.line c.read_line_at.new.payload = ap (line_with c.in_ok-line.line) (c.in_ok-payload.ensures.ok ∙ c.as_slice.ensures) in
-    let measured : payload_len (line_seen next) ≡ c.len-room.result = ap payload_len same ∙ c.in_ok-line.ensures.len ∙ sym c.len-room.ensures in
+    let same : line_seen next ≡ line_with c.in_ok-line.line c.read_line_at.new.payload.items = ap (line_with c.in_ok-line.line) (c.in_ok-payload.ensures.ok ∙ c.as_slice.ensures.value) in
+    let measured : payload_len (line_seen next) ≡ c.len-room.result = omega (arith, ap payload_len same, c.in_ok-line.ensures.len, c.len-room.ensures) in
     record {
       read = rw (c.in_ok-push.ensures.items, sym measured) (read_on orders before next _ _ _ _ _ _ c.loop-payload.invariant.read cut (c.in_ok-line.ensures.line ∙ ap (λ (l : StepLine). Ok l) (sym same)));
       fit = rw c.in_ok-push.ensures.items (fit-more orders before next c.loop-payload.invariant.fit (subst (LineFits orders) (sym same) c.in_ok-line.ensures.fits.0));

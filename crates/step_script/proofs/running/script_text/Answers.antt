@@ -1,4 +1,4 @@
-use Rattle.std.proofs.Common.{◌≡◌, ℕ, List, ap, sym, subst, ◌∙◌, arith}
+use Rattle.std.proofs.Common.{◌≡◌, ℕ, List, ap, sym, subst, arith}
 use Rattle.std.proofs.lemmas.Result.{err_from_is_err_and}
 use Rattle.step_script.specs.Grammar.{script_of_lines}
 use Rattle.step_script.specs.LinesLeft.{lines_left}
@@ -35,14 +35,14 @@ play_line-requires-clause-known c = (c.loop-payload.invariant.so_far.core, c.loo
 
 pub play_line-requires-clause-fits : goal.play_line-requires-clause-fits
 play_line-requires-clause-fits c =
-    subst (λ (l : List ℕ). LineFits (orders_of c.loop-payload.player.page) (line_with c.in_ok-line.line l)) (sym c.as_slice.ensures)
+    subst (λ (l : List ℕ). LineFits (orders_of c.loop-payload.player.page) (line_with c.in_ok-line.line l)) (sym c.as_slice.ensures.value)
     (running_fits _ _ _ _ _ _ c.loop-payload.invariant.so_far c.in_ok-line.ensures.fits.0)
 
 pub loop-payload-preserved : goal.loop-payload-preserved
 loop-payload-preserved c =
-    let plays : Plays (line_done (line_with c.in_ok-line.line c.read_line_at.new.payload)) c.loop-payload.player c.play_line.new.self =
-    subst (λ (l : List ℕ). Plays (line_done (line_with c.in_ok-line.line l)) c.loop-payload.player c.play_line.new.self) c.as_slice.ensures c.in_ok-play_line.ensures.plays in
-    let measured : payload_len (line_with c.in_ok-line.line c.read_line_at.new.payload) ≡ c.len-room.result = c.in_ok-line.ensures.len ∙ sym c.len-room.ensures in
+    let plays : Plays (line_done (line_with c.in_ok-line.line c.read_line_at.new.payload.items)) c.loop-payload.player c.play_line.new.self =
+    subst (λ (l : List ℕ). Plays (line_done (line_with c.in_ok-line.line l)) c.loop-payload.player c.play_line.new.self) c.as_slice.ensures.value c.in_ok-play_line.ensures.plays in
+    let measured : payload_len (line_with c.in_ok-line.line c.read_line_at.new.payload.items) ≡ c.len-room.result = omega (arith, c.in_ok-line.ensures.len, c.len-room.ensures) in
     running_next _ _ _ _ _ _ _ _ _ _ _ _ c.loop-payload.invariant c.in_ok-number.ensures c.in-Line.is c.in_ok-line.ensures.line c.in_ok-line.ensures.fits.0 measured plays
 
 pub returns-clause-text : goal.returns-clause-text
