@@ -70,7 +70,7 @@ fn run<S: Source, K: Sink>(alloc: Global, words: &[String], source: &mut S, out:
 }
 
 /// Says on `err` how the run ended, where it didn't end well.
-fn report<E: Sink>(status: Status, err: &mut E) -> Result<(), WriteFault>
+pub(crate) fn report<E: Sink>(status: Status, err: &mut E) -> Result<(), WriteFault>
     ensures line { OnOk result (Appends (E.held err.old) (E.held err.new) (status_line status)) }
     ensures fault { OnErr result (Rose (E.faults err.old) (E.faults err.new)) }
 {
