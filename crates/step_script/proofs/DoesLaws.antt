@@ -13,15 +13,15 @@ use Rattle.vchan_protocol.specs.declared.side.Begun.{Begun}
 use Rattle.vchan_protocol.specs.declared.side.Side.{Side}
 use Rattle.vchan_core.specs.declared.machine.Machine.{Machine}
 use Rattle.vchan_core.specs.declared.plain.Plain.{Plain}
-use Rattle.vchan_protocol.specs.Alone.{alone, called, call_answer, whole_call}
-use Rattle.vchan_protocol.specs.Apply.{filled}
-use Rattle.vchan_protocol.specs.Calls.{payload_of}
-use Rattle.vchan_protocol.specs.Core.{Core, side_of, bytes_loaded, begun, plan_left}
-use Rattle.vchan_core.specs.Past.{IsInCall, StandsFor, machine_of, other_of}
-use Rattle.vchan_core.specs.Phases.{IsIdle, out_of, into_of, out_at, into_at, standing}
-use Rattle.vchan_protocol.specs.Ends.{read_size}
-use Rattle.vchan_core.proofs.RunLaws.{machine_stands}
-use Rattle.vchan_protocol.proofs.EventLaws.{side_of-with_side}
+use Rattle.vchan_protocol.specs.History.WholeCall.{alone, called, call_answer, whole_call}
+use Rattle.vchan_protocol.specs.Table.Apply.{filled}
+use Rattle.vchan_protocol.specs.Table.Calls.{payload_of}
+use Rattle.vchan_protocol.specs.History.Core.{Core, side_of, bytes_loaded, begun, plan_left}
+use Rattle.vchan_core.specs.Page.StandsFor.{IsInCall, StandsFor, machine_of, other_of}
+use Rattle.vchan_core.specs.Machine.Phases.{IsIdle, out_of, into_of, out_at, into_at, standing}
+use Rattle.vchan_protocol.specs.Table.Ends.{read_size}
+use Rattle.vchan_core.proofs.WholeCall.RunLaws.{machine_stands}
+use Rattle.vchan_protocol.proofs.History.EventLaws.{side_of-with_side}
 use Rattle.step_script.specs.declared.hand.Hand.{Hand}
 use Rattle.step_script.specs.declared.refusal.Refusal.{Refusal}
 use Rattle.step_script.specs.Output.{TextLine, answered as line_answered, refused, line_text, text_of}

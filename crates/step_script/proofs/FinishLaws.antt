@@ -10,20 +10,20 @@ use Rattle.vchan_protocol.specs.declared.call.Call.TheVariants.{Write, Send, Rea
 use Rattle.vchan_protocol.specs.declared.side.Begun.{Begun}
 use Rattle.vchan_protocol.specs.declared.side.Side.{Side}
 use Rattle.vchan_core.specs.declared.machine.Machine.{Machine}
-use Rattle.vchan_protocol.specs.Alone.{alone}
-use Rattle.vchan_protocol.specs.Apply.{value_taken}
-use Rattle.vchan_protocol.specs.Calls.{most_events, plan_of}
-use Rattle.vchan_protocol.specs.Core.{Core, side_of, with_side, event, begun_standing, carried_out, answered, plan_left, plan_next, answer_in, made}
-use Rattle.vchan_protocol.specs.Ends.{Standing, read_order, write_order}
-use Rattle.vchan_core.specs.Past.{IsMachineOf}
-use Rattle.vchan_core.specs.Phases.{IsIdle}
-use Rattle.vchan_protocol.specs.Plan.{EndsWithin, GoesOn, Plan, answers, does, next_op, after, left_after, past}
-use Rattle.vchan_protocol.proofs.Bounds.{ends_call, more_time}
-use Rattle.vchan_core.proofs.PhaseLaws.{GoesOn-machine}
-use Rattle.vchan_protocol.proofs.AloneLaws.{alone-after, alone-answers}
-use Rattle.vchan_protocol.proofs.EventLaws.{event_by-answers, event_by-on, side_of-with_side}
-use Rattle.vchan_core.proofs.StepLaws.{InCall, in_call, plan_left-is}
-use Rattle.vchan_protocol.proofs.EventLaws.{event_by}
+use Rattle.vchan_protocol.specs.History.WholeCall.{alone}
+use Rattle.vchan_protocol.specs.Table.Apply.{value_taken}
+use Rattle.vchan_protocol.specs.Table.Calls.{most_events, plan_of}
+use Rattle.vchan_protocol.specs.History.Core.{Core, side_of, with_side, event, begun_standing, carried_out, answered, plan_left, plan_next, answer_in, made}
+use Rattle.vchan_protocol.specs.Table.Ends.{Standing, read_order, write_order}
+use Rattle.vchan_core.specs.Page.StandsFor.{IsMachineOf}
+use Rattle.vchan_core.specs.Machine.Phases.{IsIdle}
+use Rattle.vchan_protocol.specs.Table.Plan.{EndsWithin, GoesOn, Plan, answers, does, next_op, after, rest_after, past}
+use Rattle.vchan_protocol.proofs.Table.Bounds.{ends_call, more_time}
+use Rattle.vchan_core.proofs.Machine.PhaseLaws.{GoesOn-machine}
+use Rattle.vchan_protocol.proofs.History.WholeCallLaws.{alone-after, alone-answers}
+use Rattle.vchan_protocol.proofs.History.EventLaws.{event_by-answers, event_by-on, side_of-with_side}
+use Rattle.vchan_core.proofs.Page.StepLaws.{InCall, in_call, plan_left-is}
+use Rattle.vchan_protocol.proofs.History.EventLaws.{event_by}
 use Rattle.step_script.specs.Played.{stepped, unless_answered}
 
 -- ---- how many events are left
@@ -42,13 +42,13 @@ few_events e TakeEvent = omega arith
 few_events e PeerGone = omega arith
 few_events e Retire = omega arith
 
-ends_left : (plan : Plan) (events : List PastEvent) (most : ℕ) → EndsWithin most plan → EndsWithin most (left_after plan events)
+ends_left : (plan : Plan) (events : List PastEvent) (most : ℕ) → EndsWithin most plan → EndsWithin most (rest_after plan events)
 unfolding EndsWithin
 ends_left plan [] most w = w
 ends_left (answers answer) (event ∷ events) most w = tt
 ends_left (does op next) (event ∷ events) zero w = absurd w
 ends_left (does op next) (event ∷ events) (suc most) w =
-    more_time most (suc most) (left_after (next event.taken) events) (omega arith) (ends_left (next event.taken) events most (w event.taken))
+    more_time most (suc most) (rest_after (next event.taken) events) (omega arith) (ends_left (next event.taken) events most (w event.taken))
 
 ends_next : (most : ℕ) (plan : Plan) (value : ℕ) → GoesOn plan → EndsWithin (suc most) plan → EndsWithin most (after plan value)
 unfolding EndsWithin
@@ -62,20 +62,20 @@ ends_never (does op next) more w = w
 
 -- ---- one event of a plan
 
-left_after-push : (plan : Plan) (events : List PastEvent) (event : PastEvent) → left_after plan (events ++ event ∷ []) ≡ after (left_after plan events) event.taken
-left_after-push (answers answer) [] event = refl
-left_after-push (does op next) [] event = refl
-left_after-push (answers answer) (first ∷ events) event = refl
-left_after-push (does op next) (first ∷ events) event = left_after-push (next first.taken) events event
+rest_after-push : (plan : Plan) (events : List PastEvent) (event : PastEvent) → rest_after plan (events ++ event ∷ []) ≡ after (rest_after plan events) event.taken
+rest_after-push (answers answer) [] event = refl
+rest_after-push (does op next) [] event = refl
+rest_after-push (answers answer) (first ∷ events) event = refl
+rest_after-push (does op next) (first ∷ events) event = rest_after-push (next first.taken) events event
 
 -- this end is inside this call, of which this plan is left
 record IsInside (s : Side) (b : Begun) (plan : Plan) : Type 0 where
   call : s.call ≡ Some b
-  left : left_after (plan_of (begun_standing s b) b.call) s.trail ≡ plan
+  left : rest_after (plan_of (begun_standing s b) b.call) s.trail ≡ plan
 
 plan_inside : (s : Side) (b : Begun) (plan : Plan) → IsInside s b plan → plan_left s ≡ plan
 plan_inside s b plan i =
-    ap (λ (c : Option Begun). elim c [ None ↦ answers Done | Some x ↦ left_after (plan_of (begun_standing s x) x.call) s.trail ]) i.call ∙ i.left
+    ap (λ (c : Option Begun). elim c [ None ↦ answers Done | Some x ↦ rest_after (plan_of (begun_standing s x) x.call) s.trail ]) i.call ∙ i.left
 
 inside_on : (core : Core) (who : Role) (b : Begun) (plan : Plan) → IsInside (side_of core who) b plan →
     IsInside (side_of (carried_out core who (next_op plan)) who) b (after plan (value_taken core.orders core.words (next_op plan)))
@@ -85,7 +85,7 @@ inside_on core who b plan i =
     subst (λ (x : Side). IsInside x b (after plan value)) (sym (side_of-with_side _ who (made s (next_op plan) value)))
     (record {
       call = i.call;
-      left = left_after-push (plan_of (begun_standing s b) b.call) s.trail (past (next_op plan) value) ∙ ap (λ (p : Plan). after p value) i.left;
+      left = rest_after-push (plan_of (begun_standing s b) b.call) s.trail (past (next_op plan) value) ∙ ap (λ (p : Plan). after p value) i.left;
     })
 
 event_inside : (core : Core) (who : Role) (b : Begun) (plan : Plan) → IsInside (side_of core who) b plan → event core who ≡ event_by core who plan
@@ -135,7 +135,7 @@ stepped_out core who m h busy =
     let s : Side = side_of core who in
     let c : InCall s m = in_call s m h busy in
     let e : Standing = begun_standing s c.begun in
-    let plan : Plan = left_after (plan_of e c.begun.call) s.trail in
+    let plan : Plan = rest_after (plan_of e c.begun.call) s.trail in
     let left : plan_left s ≡ plan = plan_inside s c.begun plan (record { call = c.is; left = refl }) in
     let more : GoesOn plan = subst GoesOn (sym (plan_left-is s m c) ∙ left) (GoesOn-machine m busy) in
     let ends : EndsWithin 4294967295 plan =

@@ -15,12 +15,12 @@ use Rattle.vchan_protocol.specs.declared.op.Op.{Op}
 use Rattle.vchan_protocol.specs.declared.op.Op.TheVariants.{Load, LoadByte, Store, StoreByte, Or, And, Swap, Nothing}
 use Rattle.vchan_protocol.specs.declared.op.PastEvent.{PastEvent}
 use Rattle.vchan_protocol.specs.declared.side.Side.{Side}
-use Rattle.vchan_protocol.specs.Alone.{alone, called, call_answer}
-use Rattle.vchan_protocol.specs.Apply.{value_taken}
-use Rattle.vchan_protocol.specs.Calls.{put_bytes, take_bytes, put_index, take_index, put, take, notify, signal, ask, look_read, look_write, write, write_open, write_looked, read, read_live, read_looked, send, send_open, send_looked, recv, recv_live, recv_looked, drain, drain_found, drain_second, drain_live, drain_further, drain_gone, drain_last, connect, connect_right, close, retire, retire_shut, plan_of, Trace}
-use Rattle.vchan_protocol.specs.Core.{Core, side_of, with_side, standing_of, begun, begins, made, carried_out, answered, bytes_loaded, loaded_by}
-use Rattle.vchan_protocol.specs.Ends.{Standing, ready_at, free_at, low16, low32}
-use Rattle.vchan_protocol.specs.Plan.{Plan, answers, does, past, Leads}
+use Rattle.vchan_protocol.specs.History.WholeCall.{alone, called, call_answer}
+use Rattle.vchan_protocol.specs.Table.Apply.{value_taken}
+use Rattle.vchan_protocol.specs.Table.Calls.{put_bytes, take_bytes, put_index, take_index, put, take, notify, signal, ask, look_read, look_write, write, write_open, write_looked, read, read_live, read_looked, send, send_open, send_looked, recv, recv_live, recv_looked, drain, drain_found, drain_second, drain_live, drain_further, drain_gone, drain_last, connect, connect_right, close, retire, retire_shut, plan_of, Trace}
+use Rattle.vchan_protocol.specs.History.Core.{Core, side_of, with_side, standing_of, begun, begins, made, carried_out, answered, bytes_loaded, loaded_by}
+use Rattle.vchan_protocol.specs.Table.Ends.{Standing, ready_at, free_at, low16, low32}
+use Rattle.vchan_protocol.specs.Table.Plan.{Plan, answers, does, past, Leads}
 
 -- the bytes loaded after an event
 abbrev pub loaded_then : Op → ℕ → ℕ
@@ -284,12 +284,12 @@ loaded_of core who = length (bytes_loaded (side_of core who).trail)
 
 got_alone : (plan : Plan) (core : Core) (who : Role) (l : ℕ) → Delivers l plan → loaded_of core who ≡ l → (k : ℕ) → (alone core who plan).1 ≡ Got k → loaded_of (alone core who plan).0 who ≡ k
 unfolding alone Delivers loaded_of
-got_alone (answers answer) core who l d so_far k is =
-    ap (λ (s : Side). length (bytes_loaded s.trail)) (side_of-with_side core who (answered (side_of core who) answer)) ∙ so_far ∙ d k is
-got_alone (does op next) core who l d so_far k is =
+got_alone (answers answer) core who l d summary k is =
+    ap (λ (s : Side). length (bytes_loaded s.trail)) (side_of-with_side core who (answered (side_of core who) answer)) ∙ summary ∙ d k is
+got_alone (does op next) core who l d summary k is =
     let value : ℕ = value_taken core.orders core.words op in
     let more : loaded_of (carried_out core who op) who ≡ loaded_then op l =
-    ap (λ (s : Side). length (bytes_loaded s.trail)) (side_of-with_side _ who (made (side_of core who) op value)) ∙ length-loaded-more (side_of core who).trail op value l so_far in
+    ap (λ (s : Side). length (bytes_loaded s.trail)) (side_of-with_side _ who (made (side_of core who) op value)) ∙ length-loaded-more (side_of core who).trail op value l summary in
     got_alone (next value) (carried_out core who op) who (loaded_then op l) (d value) more k is
 
 -- the same of a whole call that is made alone

@@ -13,18 +13,18 @@ use Rattle.vchan_protocol.specs.declared.side.Begun.{Begun}
 use Rattle.vchan_protocol.specs.declared.side.Side.{Side}
 use Rattle.vchan_core.specs.declared.machine.Machine.{Machine}
 use Rattle.vchan_core.specs.declared.plain.Plain.{Plain}
-use Rattle.vchan_protocol.specs.Apply.{Fits, value_taken, buffer_after, filled}
-use Rattle.vchan_protocol.specs.Calls.{plan_of}
-use Rattle.vchan_protocol.specs.Core.{Core, side_of, event, bytes_loaded, begun_standing, plan_next, answer_in, made, settled}
-use Rattle.vchan_core.specs.Past.{StandsFor, HasPayload, IsMachineOf, machine_of, orders_of, words_of, op_of}
-use Rattle.vchan_core.specs.Phases.{rest, left, IsIdle, out_of, into_of}
-use Rattle.vchan_protocol.specs.Plan.{Plan, answers, does, Leads, next_op, after, past}
-use Rattle.vchan_core.proofs.PhaseLaws.{GoesOn-machine}
-use Rattle.vchan_protocol.proofs.PlanLaws.{Leads-more}
-use Rattle.vchan_protocol.proofs.AloneLaws.{FillsNext, fills_on}
-use Rattle.vchan_core.proofs.RunLaws.{fills_next, machine_stands, side_after}
-use Rattle.vchan_protocol.proofs.EventLaws.{settled-payload, settled-trail}
-use Rattle.vchan_core.proofs.StepLaws.{InCall, in_call}
+use Rattle.vchan_protocol.specs.Table.Apply.{Fits, value_taken, buffer_after, filled}
+use Rattle.vchan_protocol.specs.Table.Calls.{plan_of}
+use Rattle.vchan_protocol.specs.History.Core.{Core, side_of, event, bytes_loaded, begun_standing, plan_next, answer_in, made, settled}
+use Rattle.vchan_core.specs.Page.StandsFor.{StandsFor, HasPayload, IsMachineOf, machine_of, orders_of, words_of, op_of}
+use Rattle.vchan_core.specs.Machine.Phases.{rest, left, IsIdle, out_of, into_of}
+use Rattle.vchan_protocol.specs.Table.Plan.{Plan, answers, does, Leads, next_op, after, past}
+use Rattle.vchan_core.proofs.Machine.PhaseLaws.{GoesOn-machine}
+use Rattle.vchan_protocol.proofs.Table.PlanLaws.{Leads-more}
+use Rattle.vchan_protocol.proofs.History.WholeCallLaws.{FillsNext, fills_on}
+use Rattle.vchan_core.proofs.WholeCall.RunLaws.{fills_next, machine_stands, side_after}
+use Rattle.vchan_protocol.proofs.History.EventLaws.{settled-payload, settled-trail}
+use Rattle.vchan_core.proofs.Page.StepLaws.{InCall, in_call}
 use Rattle.step_script.specs.declared.hand.Hand.{Hand}
 use Rattle.step_script.specs.Played.{bytes_got, stepped, unless_answered}
 use Rattle.step_script.specs.Players.{HasLoaded, IsAt, IsTaken, call_of, got_front, got_len}

@@ -14,20 +14,20 @@ use Rattle.vchan_protocol.specs.declared.call.EndState.TheVariants.{Fresh, Open,
 use Rattle.vchan_protocol.specs.declared.op.PastEvent.{PastEvent}
 use Rattle.vchan_protocol.specs.declared.side.Begun.{Begun}
 use Rattle.vchan_protocol.specs.declared.side.Side.{Side}
-use Rattle.vchan_protocol.specs.Alone.{alone, called, call_answer}
-use Rattle.vchan_protocol.specs.Apply.{value_taken}
-use Rattle.vchan_protocol.specs.Calls.{plan_of, IsAllowed}
-use Rattle.vchan_protocol.specs.Core.{Core, opened, side_of, standing_of, begun, bytes_loaded, carried_out}
-use Rattle.vchan_protocol.specs.Lawful.{Lawful}
-use Rattle.vchan_protocol.specs.LifeLaw.{TellsGone}
-use Rattle.vchan_protocol.specs.ListCall.{ChannelLists, Outcome as ListOutcome, end_of, waiting, lists_of, list_call, free, avail, peer_is_shut}
-use Rattle.vchan_protocol.specs.ListLaw.{IsTold, FollowsLists, count_got}
-use Rattle.vchan_protocol.specs.Peer.{peer}
-use Rattle.vchan_protocol.specs.Plan.{Plan, answers, does}
-use Rattle.vchan_protocol.specs.Reached.{MayBegin}
-use Rattle.vchan_protocol.proofs.LawfulSteps.{lawful_opened}
-use Rattle.vchan_protocol.proofs.ListWhole.{tells_lists, follows_lists, may_there}
-use Rattle.vchan_protocol.proofs.WholeCalls.{lawful_called}
+use Rattle.vchan_protocol.specs.History.WholeCall.{alone, called, call_answer}
+use Rattle.vchan_protocol.specs.Table.Apply.{value_taken}
+use Rattle.vchan_protocol.specs.Table.Calls.{plan_of, IsAllowed}
+use Rattle.vchan_protocol.specs.History.Core.{Core, opened, side_of, standing_of, begun, bytes_loaded, carried_out}
+use Rattle.vchan_protocol.specs.Honest.Lawful.{Lawful}
+use Rattle.vchan_protocol.specs.Honest.LifeLaw.{TellsGone}
+use Rattle.vchan_protocol.specs.Lists.ListCall.{ChannelLists, Outcome as ListOutcome, end_of, waiting, lists_of, list_call, free, avail, peer_is_shut}
+use Rattle.vchan_protocol.specs.Lists.ListLaw.{IsTold, FollowsLists, count_got}
+use Rattle.vchan_protocol.specs.History.Peer.{peer}
+use Rattle.vchan_protocol.specs.Table.Plan.{Plan, answers, does}
+use Rattle.vchan_protocol.specs.Honest.Reached.{MayBegin}
+use Rattle.vchan_protocol.proofs.Honest.LawfulSteps.{lawful_opened}
+use Rattle.vchan_protocol.proofs.Lists.ListWhole.{tells_lists, follows_lists, may_there}
+use Rattle.vchan_protocol.proofs.History.WholeCallSteps.{lawful_called}
 use Rattle.step_script.specs.declared.refusal.Refusal.{Refusal}
 use Rattle.step_script.specs.declared.refusal.Refusal.TheVariants.{Turned}
 use Rattle.step_script.specs.declared.script.Opening.{Opening}
@@ -59,7 +59,7 @@ alone_other core Client (answers answer) = refl
 alone_other core Server (does op next) = alone_other (carried_out core Server op) Server (next (value_taken core.orders core.words op))
 alone_other core Client (does op next) = alone_other (carried_out core Client op) Client (next (value_taken core.orders core.words op))
 
--- the end itself is between two calls then, and no more given up than before
+-- the end itself is between two calls then, and no more turned than before
 alone_idle : (core : Core) (who : Role) (plan : Plan) → (side_of (alone core who plan).0 who).call ≡ None
 unfolding alone
 alone_idle core Server (answers answer) = refl

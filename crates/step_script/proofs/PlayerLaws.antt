@@ -17,16 +17,16 @@ use Rattle.vchan_protocol.specs.declared.side.Begun.{Begun}
 use Rattle.vchan_protocol.specs.declared.side.Side.{Side}
 use Rattle.vchan_core.specs.declared.machine.Machine.{Machine}
 use Rattle.vchan_core.specs.declared.plain.Plain.{Plain}
-use Rattle.vchan_protocol.specs.Alone.{alone}
-use Rattle.vchan_protocol.specs.Apply.{filled, value_taken}
-use Rattle.vchan_protocol.specs.Calls.{plan_of}
-use Rattle.vchan_protocol.specs.Core.{Core, side_of, with_side, event, begun, bytes_loaded, loaded_by, plan_left, plan_next, answer_in, carried_out, standing_of, reader_of, opened}
-use Rattle.vchan_core.specs.Past.{IsMachineOf, StandsFor, machine_of, other_of, orders_of}
-use Rattle.vchan_protocol.specs.Plan.{Plan, answers, does, past}
-use Rattle.vchan_protocol.specs.Ends.{peer_pending, written_ring}
-use Rattle.vchan_protocol.specs.Turned.{given_up, strays, turns, strayed}
-use Rattle.vchan_core.proofs.RunLaws.{machine_stands}
-use Rattle.vchan_protocol.proofs.EventLaws.{side_of-with_side}
+use Rattle.vchan_protocol.specs.History.WholeCall.{alone}
+use Rattle.vchan_protocol.specs.Table.Apply.{filled, value_taken}
+use Rattle.vchan_protocol.specs.Table.Calls.{plan_of}
+use Rattle.vchan_protocol.specs.History.Core.{Core, side_of, with_side, event, begun, bytes_loaded, loaded_by, plan_left, plan_next, answer_in, carried_out, standing_of, reader_of, opened}
+use Rattle.vchan_core.specs.Page.StandsFor.{IsMachineOf, StandsFor, machine_of, other_of, orders_of}
+use Rattle.vchan_protocol.specs.Table.Plan.{Plan, answers, does, past}
+use Rattle.vchan_protocol.specs.Table.Ends.{peer_pending, written_ring}
+use Rattle.vchan_protocol.specs.Hostile.Turned.{turned_side, strays, turns, strayed}
+use Rattle.vchan_core.proofs.WholeCall.RunLaws.{machine_stands}
+use Rattle.vchan_protocol.proofs.History.EventLaws.{side_of-with_side}
 use Rattle.step_script.specs.declared.hand.Hand.{Hand}
 use Rattle.step_script.specs.declared.player.Player.{Player}
 use Rattle.step_script.specs.declared.script.Opening.{Opening}
@@ -205,7 +205,7 @@ plays_print act player player' line is page server client printed = record {
   prints = λ core h. printed ∙ ap (λ (l : List ℕ). player.text.items ++ l) (sym (text_of_one line)) ∙ sym (ap (λ (o : Outcome). player.text.items ++ text_of o.lines) (is core h.stands));
 }
 
--- ---- an end that is given up
+-- ---- an end that is turned
 
 loaded-push : (trail : List PastEvent) (word : WordName) (value taken : ℕ) → bytes_loaded (trail ++ past (Store word value) taken ∷ []) ≡ bytes_loaded trail
 loaded-push [] word value taken = refl
@@ -218,7 +218,7 @@ loaded_given false s consumed buffer loaded = refl
 held_strayed : (core : Core) (who : Role) (word : WordName) (value : ℕ) (page' : Plain) (hand : Hand) → StandsFor (strayed core who (Store word value)) page' → HasLoaded (side_of core who).trail hand.buffer.items →
     IsHeld (side_of (strayed core who (Store word value)) who) (machine_of page' who) hand
 held_strayed core who word value page' hand stood loaded =
-    let s : Side = given_up (side_of core who) (length (reader_of core (written_ring who)).got) in
+    let s : Side = turned_side (side_of core who) (length (reader_of core (written_ring who)).got) in
     let taken : ℕ = value_taken core.orders core.words (Store word value) in
     let is : side_of (strayed core who (Store word value)) who ≡ strays s (Store word value) taken = side_of-with_side _ who (strays s (Store word value) taken) in
     let machine : IsMachineOf (strays s (Store word value) taken) (machine_of page' who) =
@@ -274,9 +274,9 @@ playing_first script o player rest is fit at none = record {
 
 -- the next line fits the page
 pub playing_fits : (script : List StepLine) (player : Player) (line : StepLine) (rest rest' : List StepLine) → IsPlaying script player rest → rest ≡ line ∷ rest' → LineFits (orders_of player.page) line
-playing_fits script player line rest rest' so_far next =
-    let fit : All (LineFits so_far.core.orders) (line ∷ rest') = subst (λ (l : List StepLine). All (LineFits so_far.core.orders) l) next so_far.fit in
-    subst (λ (o : Orders). LineFits o line) (sym so_far.to.stands.orders) (fit 0 line (omega arith))
+playing_fits script player line rest rest' summary next =
+    let fit : All (LineFits summary.core.orders) (line ∷ rest') = subst (λ (l : List StepLine). All (LineFits summary.core.orders) l) next summary.fit in
+    subst (λ (o : Orders). LineFits o line) (sym summary.to.stands.orders) (fit 0 line (omega arith))
 
 -- what a line printed stands in front of what the lines behind it print
 pub played_on : (player player' : Player) (line : StepLine) (rest : List StepLine) (core : Core) → IsPlayedTo core player → Plays (line_done line) player player' →
@@ -289,15 +289,15 @@ played_on player player' line rest core at p =
 -- one more line is played
 pub playing_on : (script : List StepLine) (player player' : Player) (line : StepLine) (rest rest' : List StepLine) → IsPlaying script player rest → rest ≡ line ∷ rest' → Plays (line_done line) player player' →
     IsPlaying script player' rest'
-playing_on script player player' line rest rest' so_far next p =
-    let core : Core = so_far.core in
+playing_on script player player' line rest rest' summary next p =
+    let core : Core = summary.core in
     let after : Core = (line_done line core).core in
-    let fit : All (LineFits core.orders) (line ∷ rest') = subst (λ (l : List StepLine). All (LineFits core.orders) l) next so_far.fit in
+    let fit : All (LineFits core.orders) (line ∷ rest') = subst (λ (l : List StepLine). All (LineFits core.orders) l) next summary.fit in
     record {
       core = after;
-      to = p.to core so_far.to;
+      to = p.to core summary.to;
       fit = subst (λ (o : Orders). All (LineFits o) rest') (sym (orders_kept line core)) (All-tail (LineFits core.orders) line rest' fit);
-      played = played_on player player' line rest' core so_far.to p ∙ ap (λ (l : List StepLine). player.text.items ++ text_of (plays l core)) (sym next) ∙ so_far.played;
+      played = played_on player player' line rest' core summary.to p ∙ ap (λ (l : List StepLine). player.text.items ++ text_of (plays l core)) (sym next) ∙ summary.played;
     }
 
 -- the rings' lines end the text

@@ -4,8 +4,8 @@ use denote.Ref.{Bor}
 use Rattle.std.specs.List.{All}
 use Rattle.std.proofs.lemmas.List.Elements.{All-append}
 use Rattle.ring_words.specs.declared.order.Orders.{Orders}
-use Rattle.vchan_protocol.specs.Core.{Core, opened}
-use Rattle.vchan_core.specs.Past.{orders_of}
+use Rattle.vchan_protocol.specs.History.Core.{Core, opened}
+use Rattle.vchan_core.specs.Page.StandsFor.{orders_of}
 use Rattle.script_words.specs.Words.{words_of}
 use Rattle.step_script.specs.declared.error.ScriptKind.{ScriptKind}
 use Rattle.step_script.specs.declared.error.ScriptError.{ScriptError}
@@ -70,58 +70,58 @@ running_first bytes o player lines left is head at none = record {
 
 -- a line of the page of the player
 pub running_fits : (bytes : List ℕ) (o : Opening) (player : Player) (room : ℕ) (left : Lines) (next : StepLine) → IsRunning bytes o player room left → LineFits o.orders next → LineFits (orders_of player.page) next
-running_fits bytes o player room left next so_far fits =
-    subst (λ (orders : Orders). LineFits orders next) (sym (so_far.to.stands.orders ∙ so_far.orders)) fits
+running_fits bytes o player room left next summary fits =
+    subst (λ (orders : Orders). LineFits orders next) (sym (summary.to.stands.orders ∙ summary.orders)) fits
 
 -- one more line is read and played
 pub running_on : (bytes : List ℕ) (o : Opening) (player player' : Player) (room number : ℕ) (words : List (List ℕ)) (left more : Lines) (next : StepLine) → IsRunning bytes o player room left → left ≡ line number words more →
     at_number number (line_of o.orders room words) ≡ Ok next → LineFits o.orders next → Plays (line_done next) player player' → IsRunning bytes o player' (room - payload_len next) more
-running_on bytes o player player' room number words left more next so_far cut good fits p =
-    let front : List StepLine = so_far.front ++ next ∷ [] in
-    let fit : All (LineFits o.orders) front = All-append (LineFits o.orders) so_far.front (next ∷ []) so_far.fit (alone_fits o.orders next fits) in
+running_on bytes o player player' room number words left more next summary cut good fits p =
+    let front : List StepLine = summary.front ++ next ∷ [] in
+    let fit : All (LineFits o.orders) front = All-append (LineFits o.orders) summary.front (next ∷ []) summary.fit (alone_fits o.orders next fits) in
     record {
-      due = so_far.due;
+      due = summary.due;
       front = front;
-      read = read_further o.orders so_far.front next left more room number words so_far.due so_far.read cut good;
-      whole = so_far.whole;
+      read = read_further o.orders summary.front next left more room number words summary.due summary.read cut good;
+      whole = summary.whole;
       fit = fit;
-      core = (line_done next so_far.core).core;
-      to = p.to so_far.core so_far.to;
-      orders = orders_kept next so_far.core ∙ so_far.orders;
-      played = λ rest. played_on player player' next rest so_far.core so_far.to p ∙ so_far.played (next ∷ rest)
-          ∙ ap (λ (l : List StepLine). step_text (opens o ∷ l)) (sym (append_assoc so_far.front (next ∷ []) rest));
+      core = (line_done next summary.core).core;
+      to = p.to summary.core summary.to;
+      orders = orders_kept next summary.core ∙ summary.orders;
+      played = λ rest. played_on player player' next rest summary.core summary.to p ∙ summary.played (next ∷ rest)
+          ∙ ap (λ (l : List StepLine). step_text (opens o ∷ l)) (sym (append_assoc summary.front (next ∷ []) rest));
     }
 
 -- what the loop over the lines keeps
 abbrev pub Running : List ℕ → Opening → Player → ℕ → Lines → Type 0
-Running bytes o player room left = record { so_far : IsRunning bytes o player room left; room : room ≤ 8388608 }
+Running bytes o player room left = record { summary : IsRunning bytes o player room left; room : room ≤ 8388608 }
 
 -- the line that is next is read and played
 pub running_next : (bytes : List ℕ) (o : Opening) (player player' : Player) (room number len : ℕ) (found : NextLine) (text : Bor (List ℕ)) (left more : Lines) (next : StepLine) → Running bytes o player room left → IsNext (Ok found) left more →
     found ≡ nexts.Line number text → at_number number (line_of o.orders room (words_of text.now)) ≡ Ok next → LineFits o.orders next → payload_len next ≡ len → Plays (line_done next) player player' → Running bytes o player' (room - len) more
-running_next bytes o player player' room number len found text left more next so_far cut is good fits measured p =
+running_next bytes o player player' room number len found text left more next summary cut is good fits measured p =
     let on : IsRunning bytes o player' (room - payload_len next) more =
-    running_on bytes o player player' room number (words_of text.now) left more next so_far.so_far (next_line found number text left more cut is) good fits p in
+    running_on bytes o player player' room number (words_of text.now) left more next summary.summary (next_line found number text left more cut is) good fits p in
     record {
-      so_far = subst (λ (n : ℕ). IsRunning bytes o player' (room - n) more) measured on;
-      room = omega (arith, so_far.room);
+      summary = subst (λ (n : ℕ). IsRunning bytes o player' (room - n) more) measured on;
+      room = omega (arith, summary.room);
     }
 
 -- what is wrong with the lines is wrong with the script
-pub running_refused : (e : ScriptError) (bytes : List ℕ) (o : Opening) (player : Player) (room : ℕ) (left : Lines) (so_far : IsRunning bytes o player room left) → IsScriptRefusal e so_far.due → IsScriptRefusal e (script_of bytes)
-running_refused (script.Bad number kind) bytes o player room left so_far is = sym so_far.whole ∙ ap (opened_by o) is
-running_refused script.Memory bytes o player room left so_far is = tt
+pub running_refused : (e : ScriptError) (bytes : List ℕ) (o : Opening) (player : Player) (room : ℕ) (left : Lines) (summary : IsRunning bytes o player room left) → IsScriptRefusal e summary.due → IsScriptRefusal e (script_of bytes)
+running_refused (script.Bad number kind) bytes o player room left summary is = sym summary.whole ∙ ap (opened_by o) is
+running_refused script.Memory bytes o player room left summary is = tt
 
 -- all is read and played
 pub running_last : (bytes : List ℕ) (o : Opening) (player : Player) (room number : ℕ) (left : Lines) (text : List ℕ) → IsRunning bytes o player room left → left ≡ stops number → CanOpen o →
     ((core : Core) → IsPlayedTo core player → text ≡ player.text.items ++ text_of (plays [] core)) → IsTextOf bytes text
-running_last bytes o player room number left text so_far none can ends =
-    let whole : List StepLine = opens o ∷ so_far.front in
+running_last bytes o player room number left text summary none can ends =
+    let whole : List StepLine = opens o ∷ summary.front in
     let prints : text ≡ step_text whole =
-    ends so_far.core so_far.to ∙ so_far.played [] ∙ ap (λ (l : List StepLine). step_text (opens o ∷ l)) (append-nil so_far.front) in
+    ends summary.core summary.to ∙ summary.played [] ∙ ap (λ (l : List StepLine). step_text (opens o ∷ l)) (append-nil summary.front) in
     record {
       script = whole;
-      reads = sym so_far.whole ∙ ap (opened_by o) (all_read so_far.front o.orders left room number so_far.due so_far.read none);
+      reads = sym summary.whole ∙ ap (opened_by o) (all_read summary.front o.orders left room number summary.due summary.read none);
       prints = prints;
-      told = script_text whole o so_far.front text refl can so_far.fit prints;
+      told = script_text whole o summary.front text refl can summary.fit prints;
     }

@@ -74,18 +74,18 @@ goes_on-Err orders room more bad = refl
 pub read_further : (orders : Orders) (front : List StepLine) (next : StepLine) (left more : Lines) (room number : ℕ) (words : List (List ℕ)) (due : Result (List StepLine) (ℕ × ScriptKind))
     → behind front (lines_from orders room left) ≡ due → left ≡ line number words more → at_number number (line_of orders room words) ≡ Ok next
     → behind (front ++ next ∷ []) (lines_from orders (room - payload_len next) more) ≡ due
-read_further orders front next left more room number words due so_far cut good =
+read_further orders front next left more room number words due summary cut good =
     sym (goes_on-Ok front orders room more next)
     ∙ ap (λ (r : Result StepLine (ℕ × ScriptKind)). behind front (goes_on orders room more r)) (sym good)
     ∙ ap (behind front) (sym (lines_from-line orders room number words more))
-    ∙ ap (λ (l : Lines). behind front (lines_from orders room l)) (sym cut) ∙ so_far
+    ∙ ap (λ (l : Lines). behind front (lines_from orders room l)) (sym cut) ∙ summary
 
 pub read_on : (orders : Orders) (lines : List ScriptLine) (next : ScriptLine) (left more : Lines) (room number : ℕ) (words : List (List ℕ)) (due : Result (List StepLine) (ℕ × ScriptKind))
     → behind (lines_seen lines) (lines_from orders room left) ≡ due → left ≡ line number words more → at_number number (line_of orders room words) ≡ Ok (line_seen next)
     → behind (lines_seen (lines ++ next ∷ [])) (lines_from orders (room - payload_len (line_seen next)) more) ≡ due
-read_on orders lines next left more room number words due so_far cut good =
+read_on orders lines next left more room number words due summary cut good =
     ap (λ (front : List StepLine). behind front (lines_from orders (room - payload_len (line_seen next)) more)) (map-append line_seen lines (next ∷ []))
-    ∙ read_further orders (lines_seen lines) (line_seen next) left more room number words due so_far cut good
+    ∙ read_further orders (lines_seen lines) (line_seen next) left more room number words due summary cut good
 
 bad_line : (e : ScriptError) (front : List StepLine) (orders : Orders) (room number : ℕ) (words : List (List ℕ)) (more : Lines) → IsScriptRefusal e (at_number number (line_of orders room words))
     → IsScriptRefusal e (behind front (lines_from orders room (line number words more)))
@@ -96,22 +96,22 @@ bad_line script.Memory front orders room number words more is = tt
 -- a refused line is what the whole reading is refused for
 pub refused_line : (e : ScriptError) (front : List StepLine) (orders : Orders) (left more : Lines) (room number : ℕ) (words : List (List ℕ)) (due : Result (List StepLine) (ℕ × ScriptKind))
     → behind front (lines_from orders room left) ≡ due → left ≡ line number words more → IsScriptRefusal e (at_number number (line_of orders room words)) → IsScriptRefusal e due
-refused_line e front orders left more room number words due so_far cut bad =
+refused_line e front orders left more room number words due summary cut bad =
     let family : Result (List StepLine) (ℕ × ScriptKind) → Type 0 = λ r. IsScriptRefusal e r in
-    subst family (ap (λ (l : Lines). behind front (lines_from orders room l)) (sym cut) ∙ so_far) (bad_line e front orders room number words more bad)
+    subst family (ap (λ (l : Lines). behind front (lines_from orders room l)) (sym cut) ∙ summary) (bad_line e front orders room number words more bad)
 
 -- so is a line too many
 pub refused_next : (e : ScriptError) (front : List StepLine) (orders : Orders) (left after : Lines) (room : ℕ) (due : Result (List StepLine) (ℕ × ScriptKind))
     → behind front (lines_from orders room left) ≡ due → IsNext (Err e) left after → IsScriptRefusal e due
-refused_next (script.Bad number kind) front orders left after room due so_far is =
-    sym so_far ∙ ap (λ (l : Lines). behind front (lines_from orders room l)) is.0 ∙ ap (behind front) (lines_from-refused orders room number) ∙ ap (λ (k : ScriptKind). Err (number, k)) (sym is.1)
-refused_next script.Memory front orders left after room due so_far is = tt
+refused_next (script.Bad number kind) front orders left after room due summary is =
+    sym summary ∙ ap (λ (l : Lines). behind front (lines_from orders room l)) is.0 ∙ ap (behind front) (lines_from-refused orders room number) ∙ ap (λ (k : ScriptKind). Err (number, k)) (sym is.1)
+refused_next script.Memory front orders left after room due summary is = tt
 
 -- where no line is left, all is read
 pub all_read : (front : List StepLine) (orders : Orders) (left : Lines) (room number : ℕ) (due : Result (List StepLine) (ℕ × ScriptKind))
     → behind front (lines_from orders room left) ≡ due → left ≡ stops number → due ≡ Ok front
-all_read front orders left room number due so_far none =
-    sym so_far ∙ ap (λ (l : Lines). behind front (lines_from orders room l)) none ∙ ap (behind front) (lines_from-stops orders room number) ∙ ap (λ (l : List StepLine). Ok l) (append-nil front)
+all_read front orders left room number due summary none =
+    sym summary ∙ ap (λ (l : Lines). behind front (lines_from orders room l)) none ∙ ap (behind front) (lines_from-stops orders room number) ∙ ap (λ (l : List StepLine). Ok l) (append-nil front)
 
 -- the bytes of one more line
 pub sum-more : (lines : List ScriptLine) (next : ScriptLine) → sum_by payload_len (lines_seen (lines ++ next ∷ [])) ≡ sum_by payload_len (lines_seen lines) + payload_len (line_seen next)

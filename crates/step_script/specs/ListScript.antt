@@ -11,8 +11,8 @@ use Rattle.vchan_protocol.specs.declared.call.Call.{Call}
 use Rattle.vchan_protocol.specs.declared.call.Call.TheVariants.{TakeEvent}
 use Rattle.vchan_protocol.specs.declared.call.EndState.{EndState}
 use Rattle.vchan_protocol.specs.declared.call.EndState.TheVariants.{Open, Shut}
-use Rattle.vchan_core.specs.Counts.{capped}
-use Rattle.vchan_protocol.specs.ListCall.{ListEnd, ChannelLists, end_of, waiting, list_call}
+use Rattle.vchan_core.specs.Page.Counts.{capped}
+use Rattle.vchan_protocol.specs.Lists.ListCall.{ListEnd, ChannelLists, end_of, waiting, list_call}
 use Rattle.step_script.specs.declared.refusal.Refusal.{Refusal}
 use Rattle.step_script.specs.declared.script.Opening.{Opening}
 use Rattle.step_script.specs.Output.{TextLine, answered, lengths, text_of}

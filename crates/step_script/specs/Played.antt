@@ -15,11 +15,11 @@ use Rattle.vchan_protocol.specs.declared.call.EndState.TheVariants.{Fresh, Open,
 use Rattle.vchan_protocol.specs.declared.op.PastEvent.{PastEvent}
 use Rattle.vchan_protocol.specs.declared.side.Begun.{Begun}
 use Rattle.vchan_protocol.specs.declared.side.Side.{Side}
-use Rattle.vchan_protocol.specs.Alone.{alone, whole_call}
-use Rattle.vchan_protocol.specs.Core.{Core, opened, side_of, writer_of, reader_of, bytes_loaded, begun, event, plan_left, plan_next, answer_in}
-use Rattle.vchan_core.specs.Counts.{capped}
-use Rattle.vchan_protocol.specs.Ends.{own_gone}
-use Rattle.vchan_protocol.specs.Turned.{poked, signalled}
+use Rattle.vchan_protocol.specs.History.WholeCall.{alone, whole_call}
+use Rattle.vchan_protocol.specs.History.Core.{Core, opened, side_of, writer_of, reader_of, bytes_loaded, begun, event, plan_left, plan_next, answer_in}
+use Rattle.vchan_core.specs.Page.Counts.{capped}
+use Rattle.vchan_protocol.specs.Table.Ends.{own_gone}
+use Rattle.vchan_protocol.specs.Hostile.Turned.{poked, signalled}
 use Rattle.step_script.specs.declared.refusal.Refusal.{Refusal}
 use Rattle.step_script.specs.declared.refusal.Refusal.TheVariants.{Turned, Idle, Shut as IsShut, Unconnected}
 use Rattle.step_script.specs.Output.{TextLine, answered, refused, heads, images, lengths, text_of}

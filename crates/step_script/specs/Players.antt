@@ -10,10 +10,10 @@ use Rattle.vchan_core.specs.declared.machine.Machine.{Machine}
 use Rattle.vchan_protocol.specs.declared.op.PastEvent.{PastEvent}
 use Rattle.vchan_core.specs.declared.plain.Plain.{Plain}
 use Rattle.vchan_protocol.specs.declared.side.Side.{Side}
-use Rattle.vchan_protocol.specs.Apply.{filled}
-use Rattle.vchan_protocol.specs.Core.{Core, side_of, bytes_loaded}
-use Rattle.vchan_core.specs.Past.{StandsFor, machine_of, other_of}
-use Rattle.vchan_core.specs.Phases.{IsIdle, out_of, into_of}
+use Rattle.vchan_protocol.specs.Table.Apply.{filled}
+use Rattle.vchan_protocol.specs.History.Core.{Core, side_of, bytes_loaded}
+use Rattle.vchan_core.specs.Page.StandsFor.{StandsFor, machine_of, other_of}
+use Rattle.vchan_core.specs.Machine.Phases.{IsIdle, out_of, into_of}
 use Rattle.step_script.specs.declared.hand.Hand.{Hand}
 use Rattle.step_script.specs.declared.player.Player.{Player}
 use Rattle.step_script.specs.Output.{text_of}

@@ -7,9 +7,9 @@ use Rattle.ring_words.specs.declared.page.Role.TheVariants.{Client}
 use Rattle.ring_words.specs.declared.page.WordName.{WordName}
 use Rattle.vchan_protocol.specs.declared.call.Call.{Call}
 use Rattle.vchan_protocol.specs.declared.call.Call.TheVariants.{Drain, Connect}
-use Rattle.vchan_protocol.specs.Calls.{payload_of}
-use Rattle.vchan_protocol.specs.RingLaw.{AreBytes}
-use Rattle.vchan_protocol.specs.Turned.{MayPoke}
+use Rattle.vchan_protocol.specs.Table.Calls.{payload_of}
+use Rattle.vchan_protocol.specs.Honest.RingLaw.{AreBytes}
+use Rattle.vchan_protocol.specs.Hostile.Turned.{MayPoke}
 use Rattle.step_script.specs.declared.script.Opening.{Opening}
 
 -- a call, with the bytes that it writes or sends

@@ -3,7 +3,7 @@
 /// Why an end couldn't do what a line says: the first of these that applies.
 #[derive(Clone, Copy, Debug, PartialEq, Eq)]
 pub(crate) enum Refusal {
-    /// The end was given up to a hostile user.
+    /// The end was turned over to a hostile user.
     Turned,
     /// The end is inside no call, or the client has connected already.
     Idle,

@@ -79,7 +79,7 @@ pub(crate) enum Line {
     },
     /// A hostile store.
     Poke {
-        /// The end that is given up.
+        /// The end that is turned.
         who: Role,
         /// The word that is stored to.
         word: WordName,
@@ -88,7 +88,7 @@ pub(crate) enum Line {
     },
     /// A hostile signal.
     Signal {
-        /// The end that is given up.
+        /// The end that is turned.
         who: Role,
     },
     /// Prints the first 24 bytes of the page's image.

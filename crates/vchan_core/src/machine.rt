@@ -27,11 +27,11 @@ impl Machine {
     ghost use Rattle.std.specs.Prelude.{◌≡◌, ◌↔◌, ◌+◌, ◌-◌, ◌++◌, ◌∷◌, [], List, IsTrue, IsSome, ◌≢◌, ◌≤◌, ℕ};
     ghost use Rattle.ring_words.specs.Page.{order_of, Has};
     ghost use Rattle.ring_words.specs.Rings.{place as place_of};
-    ghost use Rattle.vchan_protocol.specs.Apply.{Fits};
-    ghost use Rattle.vchan_protocol.specs.Plan.{next_op, after, left_after, past};
-    ghost use Rattle.vchan_protocol.specs.Ends.{Standing, written_ring, read_ring, ask_word, notify_word, peer_live, peer_pending as peer_pending_of, prod_word as prod_word_of, cons_word as cons_word_of, mask as mask_of, own_live, own_gone, own_pending, peer_gone, free_at, ready_at, read_size, standing_after};
-    ghost use Rattle.vchan_protocol.specs.Calls.{plan_of, payload_of, loaded_most, IsAllowed};
-    ghost use Rattle.vchan_core.specs.Phases.{standing, rest, rest_at, plan_at, left, IsIdle, Allows, out_at, into_at, out_of, into_of, out_move, into_move, Stands, StandsOrAnswered};
+    ghost use Rattle.vchan_protocol.specs.Table.Apply.{Fits};
+    ghost use Rattle.vchan_protocol.specs.Table.Plan.{next_op, after, rest_after, past};
+    ghost use Rattle.vchan_protocol.specs.Table.Ends.{Standing, written_ring, read_ring, ask_word, notify_word, peer_live, peer_pending as peer_pending_of, prod_word as prod_word_of, cons_word as cons_word_of, mask as mask_of, own_live, own_gone, own_pending, peer_gone, free_at, ready_at, read_size, standing_after};
+    ghost use Rattle.vchan_protocol.specs.Table.Calls.{plan_of, payload_of, loaded_most, IsAllowed};
+    ghost use Rattle.vchan_core.specs.Machine.Phases.{standing, rest, rest_at, plan_at, left, IsIdle, Allows, out_at, into_at, out_of, into_of, out_move, into_move, Stands, StandsOrAnswered};
     ghost use Rattle.vchan_protocol.specs.declared.call.Call.{Call};
     ghost use Rattle.vchan_protocol.specs.declared.call.Answer.{Answer};
     ghost use Rattle.vchan_protocol.specs.declared.op.PastEvent.{PastEvent};
@@ -112,7 +112,7 @@ impl Machine {
     }
 
     /// The phase with which a call begins.
-    #[tactic(auto, unfolding(crate::specs::Phases::rest_at))]
+    #[tactic(auto, unfolding(crate::specs::Machine::Phases::rest_at))]
     #[inline(always)]
     pub(crate) fn first(&self, call: Call) -> Phase
         ensures plan { rest_at (standing self.now) result ≡ plan_of (standing self.now) call }
@@ -143,7 +143,7 @@ impl Machine {
     pub fn next(&self) -> Op
         ensures op { result ≡ next_op (rest self.now) }
         ensures trail { (begun : Standing) → (call : Call) → (events : List PastEvent) → Stands begun call events self.now
-            → result ≡ next_op (left_after (plan_of begun call) events) }
+            → result ≡ next_op (rest_after (plan_of begun call) events) }
         ensures idle { (result ≡ Op.Nothing) ↔ IsIdle self.now }
         ensures fits { Fits self.now.orders (out_of self.now) (into_of self.now) result }
     {
@@ -229,7 +229,7 @@ impl Machine {
 
     /// Takes the event of a phase into its own counts and its state: an own index that it stores is
     /// its count, and its own live byte makes its state.
-    #[tactic(auto, using(vchan_protocol::proofs::PlanLaws::bytes_laws), unfolding(vchan_protocol::specs::Ends::standing_after, crate::specs::Phases::rest_at, vchan_protocol::specs::Calls::write, vchan_protocol::specs::Calls::write_open, vchan_protocol::specs::Calls::read, vchan_protocol::specs::Calls::read_live, vchan_protocol::specs::Calls::send, vchan_protocol::specs::Calls::send_open, vchan_protocol::specs::Calls::recv, vchan_protocol::specs::Calls::recv_live, vchan_protocol::specs::Calls::drain, vchan_protocol::specs::Calls::drain_second, vchan_protocol::specs::Calls::drain_live, vchan_protocol::specs::Calls::drain_further, vchan_protocol::specs::Calls::drain_gone, vchan_protocol::specs::Calls::drain_last, vchan_protocol::specs::Calls::connect, vchan_protocol::specs::Calls::connect_right))]
+    #[tactic(auto, using(vchan_protocol::proofs::Table::PlanLaws::bytes_laws), unfolding(vchan_protocol::specs::Table::Ends::standing_after, crate::specs::Machine::Phases::rest_at, vchan_protocol::specs::Table::Calls::write, vchan_protocol::specs::Table::Calls::write_open, vchan_protocol::specs::Table::Calls::read, vchan_protocol::specs::Table::Calls::read_live, vchan_protocol::specs::Table::Calls::send, vchan_protocol::specs::Table::Calls::send_open, vchan_protocol::specs::Table::Calls::recv, vchan_protocol::specs::Table::Calls::recv_live, vchan_protocol::specs::Table::Calls::drain, vchan_protocol::specs::Table::Calls::drain_second, vchan_protocol::specs::Table::Calls::drain_live, vchan_protocol::specs::Table::Calls::drain_further, vchan_protocol::specs::Table::Calls::drain_gone, vchan_protocol::specs::Table::Calls::drain_last, vchan_protocol::specs::Table::Calls::connect, vchan_protocol::specs::Table::Calls::connect_right))]
     #[inline(always)]
     fn count(&mut self, phase: Phase)
         ensures standing { standing self.new ≡ standing_after (standing self.old) (next_op (rest_at (standing self.old) phase)) }
@@ -254,7 +254,7 @@ impl Machine {
         }
     }
 
-    /// Drops the call under way, as where the end is given up to a hostile user.
+    /// Drops the call under way, as where the end is turned over to a hostile user.
     pub(crate) fn drop_call(&mut self)
         ensures idle { IsIdle self.new }
         ensures standing { standing self.new ≡ standing self.old }
@@ -264,7 +264,7 @@ impl Machine {
 
     // ---- the events
 
-    #[tactic(auto, using(vchan_protocol::proofs::PlanLaws::bytes_laws), unfolding(crate::specs::Phases::rest_at, vchan_protocol::specs::Calls::write, vchan_protocol::specs::Calls::write_open, vchan_protocol::specs::Calls::read, vchan_protocol::specs::Calls::read_live, vchan_protocol::specs::Calls::send, vchan_protocol::specs::Calls::send_open, vchan_protocol::specs::Calls::recv, vchan_protocol::specs::Calls::recv_live, vchan_protocol::specs::Calls::drain, vchan_protocol::specs::Calls::drain_second, vchan_protocol::specs::Calls::drain_live, vchan_protocol::specs::Calls::drain_further, vchan_protocol::specs::Calls::drain_gone, vchan_protocol::specs::Calls::drain_last, vchan_protocol::specs::Calls::connect, vchan_protocol::specs::Calls::connect_right))]
+    #[tactic(auto, using(vchan_protocol::proofs::Table::PlanLaws::bytes_laws), unfolding(crate::specs::Machine::Phases::rest_at, vchan_protocol::specs::Table::Calls::write, vchan_protocol::specs::Table::Calls::write_open, vchan_protocol::specs::Table::Calls::read, vchan_protocol::specs::Table::Calls::read_live, vchan_protocol::specs::Table::Calls::send, vchan_protocol::specs::Table::Calls::send_open, vchan_protocol::specs::Table::Calls::recv, vchan_protocol::specs::Table::Calls::recv_live, vchan_protocol::specs::Table::Calls::drain, vchan_protocol::specs::Table::Calls::drain_second, vchan_protocol::specs::Table::Calls::drain_live, vchan_protocol::specs::Table::Calls::drain_further, vchan_protocol::specs::Table::Calls::drain_gone, vchan_protocol::specs::Table::Calls::drain_last, vchan_protocol::specs::Table::Calls::connect, vchan_protocol::specs::Table::Calls::connect_right))]
     #[inline(always)]
     fn op_at(&self, phase: Phase) -> Op
         ensures op { result ≡ next_op (rest_at (standing self.now) phase) }
@@ -338,7 +338,7 @@ impl Machine {
 
     /// The event of a put of `count` bytes once `stored` of them are: the bytes come first, and
     /// then the index shows them all at once.
-    #[tactic(auto, using(vchan_protocol::proofs::PlanLaws::bytes_laws), unfolding(crate::specs::Phases::rest_at))]
+    #[tactic(auto, using(vchan_protocol::proofs::Table::PlanLaws::bytes_laws), unfolding(crate::specs::Machine::Phases::rest_at))]
     fn put_event(&self, stored: u32, count: u32) -> Op
         ensures op { (answer : Answer) → result ≡ next_op (rest_at (standing self.now) (Phase.Put stored count answer)) }
         ensures some { result ≢ Op.Nothing }
@@ -357,9 +357,9 @@ impl Machine {
         }
     }
 
-    /// The event of a take of `count` bytes once `loaded` of them are: the index gives up their
+    /// The event of a take of `count` bytes once `loaded` of them are: the index releases their
     /// places only after all bytes were loaded.
-    #[tactic(auto, using(vchan_protocol::proofs::PlanLaws::bytes_laws), unfolding(crate::specs::Phases::rest_at))]
+    #[tactic(auto, using(vchan_protocol::proofs::Table::PlanLaws::bytes_laws), unfolding(crate::specs::Machine::Phases::rest_at))]
     fn take_event(&self, loaded: u32, count: u32) -> Op
         ensures op { (answer : Answer) → result ≡ next_op (rest_at (standing self.now) (Phase.Take loaded count answer)) }
         ensures some { result ≢ Op.Nothing }
@@ -371,10 +371,10 @@ impl Machine {
                 at: loaded,
             };
         }
-        let given_up = self.cons.wrapping_add(count);
+        let turned_side = self.cons.wrapping_add(count);
         Op::Store {
             word: cons_word(self.read()),
-            value: u64::from(given_up),
+            value: u64::from(turned_side),
         }
     }
 

@@ -13,10 +13,10 @@ pub struct Moved {
 
 impl Moved {
     ghost use Rattle.ring_words.specs.Rings.{diff};
-    ghost use Rattle.vchan_protocol.specs.Plan.{after, next_op, past};
-    ghost use Rattle.vchan_protocol.specs.Ends.{standing_after, Standing};
-    ghost use Rattle.vchan_core.specs.Phases.{standing, rest, left as left_of, IsIdle, out_of, into_of, Stands, StandsOrAnswered};
-    ghost use Rattle.vchan_core.specs.Counts.{capped};
+    ghost use Rattle.vchan_protocol.specs.Table.Plan.{after, next_op, past};
+    ghost use Rattle.vchan_protocol.specs.Table.Ends.{standing_after, Standing};
+    ghost use Rattle.vchan_core.specs.Machine.Phases.{standing, rest, left as left_of, IsIdle, out_of, into_of, Stands, StandsOrAnswered};
+    ghost use Rattle.vchan_core.specs.Page.Counts.{capped};
     ghost use Rattle.vchan_protocol.specs.declared.call.Call.{Call};
     ghost use Rattle.vchan_protocol.specs.declared.op.PastEvent.{PastEvent};
 
@@ -35,7 +35,7 @@ impl Moved {
     }
 
     /// Hands the value of an event to the end that made it, and counts what the event moved: an own
-    /// index that moves on shows that many bytes, or gives up the places of that many.
+    /// index that moves on shows that many bytes, or releases the places of that many.
     #[inline(always)]
     pub(crate) fn took(
         machine: &mut Machine,
@@ -75,8 +75,8 @@ impl Moved {
     pub(crate) fn give_up(&mut self, before: u32, now: u32)
         ensures { self.new ≡ record self.old { got = capped (self.old.got + diff now before) } }
     {
-        let given_up = now.wrapping_sub(before);
-        self.got = self.got.saturating_add(u64::from(given_up));
+        let turned_side = now.wrapping_sub(before);
+        self.got = self.got.saturating_add(u64::from(turned_side));
     }
 
     /// Where an own count doesn't move, what was moved stays. It only says so, for a caller whose

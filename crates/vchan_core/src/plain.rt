@@ -33,24 +33,24 @@ pub struct Plain {
 }
 
 impl Plain {
-    ghost use Rattle.vchan_protocol.specs.Apply.{Fits, words_after, value_taken, buffer_after, filled};
-    ghost use Rattle.vchan_protocol.specs.Plan.{after, next_op, past};
-    ghost use Rattle.vchan_protocol.specs.Ends.{Standing, read_size, peer_pending as peer_pending_of};
-    ghost use Rattle.vchan_protocol.specs.Calls.{plan_of, payload_of, loaded_most, most_events, Trace};
-    ghost use Rattle.vchan_core.specs.Phases.{standing, at_phase, rest, rest_at, plan_at, left as left_of, IsIdle, Allows, out_of, into_of, out_at, into_at, out_move, into_move, Stands, StandsOrAnswered};
-    ghost use Rattle.vchan_protocol.specs.Core.{Core, opened, begun, event, side_of, writer_of, reader_of, plan_next, answer_in, bytes_loaded};
-    ghost use Rattle.vchan_core.specs.Counts.{capped};
+    ghost use Rattle.vchan_protocol.specs.Table.Apply.{Fits, words_after, value_taken, buffer_after, filled};
+    ghost use Rattle.vchan_protocol.specs.Table.Plan.{after, next_op, past};
+    ghost use Rattle.vchan_protocol.specs.Table.Ends.{Standing, read_size, peer_pending as peer_pending_of};
+    ghost use Rattle.vchan_protocol.specs.Table.Calls.{plan_of, payload_of, loaded_most, most_events, Trace};
+    ghost use Rattle.vchan_core.specs.Machine.Phases.{standing, at_phase, rest, rest_at, plan_at, left as left_of, IsIdle, Allows, out_of, into_of, out_at, into_at, out_move, into_move, Stands, StandsOrAnswered};
+    ghost use Rattle.vchan_protocol.specs.History.Core.{Core, opened, begun, event, side_of, writer_of, reader_of, plan_next, answer_in, bytes_loaded};
+    ghost use Rattle.vchan_core.specs.Page.Counts.{capped};
     ghost use Rattle.ring_words.specs.Page.{index_of};
-    ghost use Rattle.vchan_protocol.specs.Turned.{MayPoke, poked, signalled};
-    ghost use Rattle.vchan_protocol.specs.Alone.{called, call_answer};
-    ghost use Rattle.vchan_protocol.specs.RingLaw.{AreBytes};
-    ghost use Rattle.vchan_protocol.specs.Kept.{Kept};
-    ghost use Rattle.vchan_protocol.specs.Lawful.{Lawful};
-    ghost use Rattle.vchan_protocol.specs.ListLaw.{FollowsLists};
-    ghost use Rattle.vchan_core.specs.Pieces.{MakesEvents};
-    ghost use Rattle.vchan_core.specs.Beside.{IsBeside};
-    ghost use Rattle.vchan_core.specs.Midway.{page_at, page_to};
-    ghost use Rattle.vchan_core.specs.Past.{machine_of, other_of, words_of, orders_of, turned_of, other_turned_of, op_of, StandsFor, HasPayload};
+    ghost use Rattle.vchan_protocol.specs.Hostile.Turned.{MayPoke, poked, signalled};
+    ghost use Rattle.vchan_protocol.specs.History.WholeCall.{called, call_answer};
+    ghost use Rattle.vchan_protocol.specs.Honest.RingLaw.{AreBytes};
+    ghost use Rattle.vchan_protocol.specs.Always.Invariant.{Invariant};
+    ghost use Rattle.vchan_protocol.specs.Honest.Lawful.{Lawful};
+    ghost use Rattle.vchan_protocol.specs.Lists.ListLaw.{FollowsLists};
+    ghost use Rattle.vchan_core.specs.WholeCall.EventsMade.{MakesEvents};
+    ghost use Rattle.vchan_core.specs.WholeCall.Beside.{IsBeside};
+    ghost use Rattle.vchan_core.specs.WholeCall.AtPhase.{page_at, page_to};
+    ghost use Rattle.vchan_core.specs.Page.StandsFor.{machine_of, other_of, words_of, orders_of, turned_of, other_turned_of, op_of, StandsFor, HasPayload};
     ghost use Rattle.vchan_protocol.specs.declared.call.Call.{Call};
     ghost use Rattle.vchan_protocol.specs.declared.op.PastEvent.{PastEvent};
 
@@ -65,7 +65,7 @@ impl Plain {
     ) -> Result<Plain, Memory>
         requires { state ≢ EndState.Shut }
         ensures stands { IfOk result (λ page. StandsFor (opened orders start said state) page) }
-        ensures kept { IfOk result (λ page. Kept (opened orders start said state)) }
+        ensures invariant { IfOk result (λ page. Invariant (opened orders start said state)) }
     {
         let index = u64::from(start);
         let live = match state {
@@ -121,7 +121,7 @@ impl Plain {
         }
     }
 
-    /// Whether an end was given up to a hostile user.
+    /// Whether an end was turned over to a hostile user.
     pub fn turned(&self, who: Role) -> bool
         ensures { result ≡ turned_of self.now who }
     {
@@ -153,13 +153,13 @@ impl Plain {
         }
     }
 
-    /// A hostile store of an end: it is given up to a hostile user where it wasn't yet, and a call
+    /// A hostile store of an end: it is turned over to a hostile user where it wasn't yet, and a call
     /// under way is dropped. The word is a header field or a ring byte that the page has, which
     /// `may_poke` tests.
     pub fn poke(&mut self, who: Role, word: WordName, value: u64)
         requires { MayPoke (orders_of self.old) word }
         ensures stands { (core : Core) → StandsFor core self.old → StandsFor (poked core who word value) self.new }
-        ensures kept { (core : Core) → StandsFor core self.old → Kept core → Kept (poked core who word value) }
+        ensures invariant { (core : Core) → StandsFor core self.old → Invariant core → Invariant (poked core who word value) }
         ensures words { words_of self.new ≡ slice_set (words_of self.old) (index_of (orders_of self.old) word) value }
         ensures orders { orders_of self.new ≡ orders_of self.old }
         ensures turned { turned_of self.new who ≡ true }
@@ -180,11 +180,11 @@ impl Plain {
         }
     }
 
-    /// A hostile signal of an end: it is given up where it wasn't yet, and its peer's pending word is
+    /// A hostile signal of an end: it is turned where it wasn't yet, and its peer's pending word is
     /// set.
     pub fn signal(&mut self, who: Role)
         ensures stands { (core : Core) → StandsFor core self.old → StandsFor (signalled core who) self.new }
-        ensures kept { (core : Core) → StandsFor core self.old → Kept core → Kept (signalled core who) }
+        ensures invariant { (core : Core) → StandsFor core self.old → Invariant core → Invariant (signalled core who) }
         ensures words { words_of self.new ≡ slice_set (words_of self.old) (index_of (orders_of self.old) (peer_pending_of who)) 1 }
         ensures orders { orders_of self.new ≡ orders_of self.old }
         ensures turned { turned_of self.new who ≡ true }
@@ -223,7 +223,7 @@ impl Plain {
         requires honest { turned_of self.old who ≡ false }
         requires allowed { Allows (machine_of self.old who) call }
         ensures stands { (core : Core) (payload : List ℕ) → StandsFor core self.old → length payload ≡ payload_of call → StandsFor (begun core who call payload) self.new }
-        ensures kept { (core : Core) (payload : List ℕ) → StandsFor core self.old → length payload ≡ payload_of call → AreBytes payload → Kept core → Kept (begun core who call payload) }
+        ensures invariant { (core : Core) (payload : List ℕ) → StandsFor core self.old → length payload ≡ payload_of call → AreBytes payload → Invariant core → Invariant (begun core who call payload) }
         ensures busy { ¬ IsIdle (machine_of self.new who) }
         ensures rest { rest (machine_of self.new who) ≡ plan_of (standing (machine_of self.old who)) call }
         ensures out { out_of (machine_of self.new who) ≤ payload_of call }
@@ -250,7 +250,7 @@ impl Plain {
         requires payload { out_of (machine_of self.old who) ≤ length payload.now }
         requires buf { into_of (machine_of self.old who) ≤ length buf.old }
         ensures stands { (core : Core) → StandsFor core self.old → HasPayload (side_of core who) payload.now → StandsFor (event core who) self.new }
-        ensures kept { (core : Core) → StandsFor core self.old → turned_of self.old who ≡ false → Kept core → Kept (event core who) }
+        ensures invariant { (core : Core) → StandsFor core self.old → turned_of self.old who ≡ false → Invariant core → Invariant (event core who) }
         ensures answer { (core : Core) → StandsFor core self.old → result ≡ answer_in (plan_next core who) }
         ensures footprint { Fits (orders_of self.old) (length payload.now) (length buf.old) (op_of self.old who) }
         ensures buffer { buf.new ≡ buffer_after (orders_of self.old) (words_of self.old) buf.old (op_of self.old who) }
@@ -383,7 +383,7 @@ impl Plain {
         requires payload { payload_of call ≤ length payload.now }
         requires buf { loaded_most (standing (machine_of self.old who)) call ≤ length buf.old }
         ensures stands { (core : Core) → StandsFor core self.old → StandsFor (called core who call (take (payload_of call) payload.now)) self.new }
-        ensures kept { (core : Core) → StandsFor core self.old → Kept core → Kept (called core who call (take (payload_of call) payload.now)) }
+        ensures invariant { (core : Core) → StandsFor core self.old → Invariant core → Invariant (called core who call (take (payload_of call) payload.now)) }
         ensures answer { (core : Core) → StandsFor core self.old → result ≡ call_answer core who call (take (payload_of call) payload.now) }
         ensures buffer { (core : Core) → StandsFor core self.old
             → buf.new ≡ filled buf.old (bytes_loaded (side_of (called core who call (take (payload_of call) payload.now)) who).trail) }

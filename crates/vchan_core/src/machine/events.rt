@@ -5,11 +5,11 @@
 //! counts and its state alone, and its own phase stays as it is.
 ghost use Rattle.std.specs.Prelude.{◌≡◌, ◌≤◌, ◌<◌, ◌+◌, ◌^◌, ℕ, List, length};
 ghost use Rattle.ring_words.specs.Rings.{diff};
-ghost use Rattle.vchan_protocol.specs.Apply.{Fits, words_after, value_taken, buffer_after};
-ghost use Rattle.vchan_core.specs.Counts.{capped};
-ghost use Rattle.vchan_protocol.specs.Plan.{next_op, after};
-ghost use Rattle.vchan_protocol.specs.Ends.{read_size, standing_after};
-ghost use Rattle.vchan_core.specs.Phases.{standing, rest_at, plan_at, out_at, into_at, out_move, into_move};
+ghost use Rattle.vchan_protocol.specs.Table.Apply.{Fits, words_after, value_taken, buffer_after};
+ghost use Rattle.vchan_core.specs.Page.Counts.{capped};
+ghost use Rattle.vchan_protocol.specs.Table.Plan.{next_op, after};
+ghost use Rattle.vchan_protocol.specs.Table.Ends.{read_size, standing_after};
+ghost use Rattle.vchan_core.specs.Machine.Phases.{standing, rest_at, plan_at, out_at, into_at, out_move, into_move};
 
 use super::Machine;
 use super::moves::{notified, put_on, take_on};
@@ -21,7 +21,7 @@ use ring_words::{Role, WordName, Words};
 use vchan_protocol::{Answer, Bit};
 
 impl Machine {
-    /// The event of a phase, on these words, with what it shows or gives up counted.
+    /// The event of a phase, on these words, with what it shows or releases counted.
     #[inline(always)]
     pub(crate) fn event(
         &mut self,
@@ -74,7 +74,7 @@ impl Machine {
     }
 
     /// The event of a put once all its bytes are stored: the index that shows them all.
-    #[tactic(auto, using(vchan_protocol::proofs::PlanLaws::bytes_laws), unfolding(vchan_protocol::specs::Ends::standing_after, crate::specs::Phases::rest_at))]
+    #[tactic(auto, using(vchan_protocol::proofs::Table::PlanLaws::bytes_laws), unfolding(vchan_protocol::specs::Table::Ends::standing_after, crate::specs::Machine::Phases::rest_at))]
     #[inline(always)]
     fn show(
         &mut self,
@@ -109,8 +109,8 @@ impl Machine {
         put_on(at, count, answer)
     }
 
-    /// The event of a take once all its bytes are loaded: the index that gives up their places.
-    #[tactic(auto, using(vchan_protocol::proofs::PlanLaws::bytes_laws), unfolding(vchan_protocol::specs::Ends::standing_after, crate::specs::Phases::rest_at))]
+    /// The event of a take once all its bytes are loaded: the index that releases their places.
+    #[tactic(auto, using(vchan_protocol::proofs::Table::PlanLaws::bytes_laws), unfolding(vchan_protocol::specs::Table::Ends::standing_after, crate::specs::Machine::Phases::rest_at))]
     #[inline(always)]
     fn give_up(
         &mut self,
@@ -138,15 +138,15 @@ impl Machine {
         ensures low { ((standing self.old).prod < 2 ^ 32) × ((standing self.old).cons < 2 ^ 32) }
     {
         let (_, cons) = self.counts();
-        let given_up = cons.wrapping_add(count);
-        self.cons = given_up;
-        words.store(cons_word(self.read_as(role)), u64::from(given_up));
-        reads.give_up(cons, given_up);
+        let turned_side = cons.wrapping_add(count);
+        self.cons = turned_side;
+        words.store(cons_word(self.read_as(role)), u64::from(turned_side));
+        reads.give_up(cons, turned_side);
         take_on(at, count, answer)
     }
 
     /// The event after an index: the peer's bit is taken, and where it was set the peer is signalled.
-    #[tactic(auto, using(vchan_protocol::proofs::PlanLaws::bytes_laws), unfolding(vchan_protocol::specs::Ends::standing_after, crate::specs::Phases::rest_at))]
+    #[tactic(auto, using(vchan_protocol::proofs::Table::PlanLaws::bytes_laws), unfolding(vchan_protocol::specs::Table::Ends::standing_after, crate::specs::Machine::Phases::rest_at))]
     #[inline(always)]
     fn notify_peer(&self, role: Role, bit: Bit, answer: Answer, words: &mut Words) -> Move
         requires role { self.now.role ≡ role }

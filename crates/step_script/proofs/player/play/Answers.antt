@@ -1,7 +1,7 @@
 use Rattle.std.proofs.Common.{◌≡◌, ℕ, ◌+◌, ◌<◌, suc, List, [], ◌∷◌, drop, length, sym, ◌∙◌, ap, subst, add-one, drop-cons, slice_index_or}
 use Rattle.std.proofs.Math.ListN.{drop_of_length-le}
 use Rattle.step_script.specs.declared.script.ScriptLine.{ScriptLine}
-use Rattle.vchan_core.specs.Past.{orders_of}
+use Rattle.vchan_core.specs.Page.StandsFor.{orders_of}
 use Rattle.step_script.specs.Played.{line_done}
 use Rattle.step_script.specs.Players.{Plays}
 use Rattle.step_script.specs.Script.{LineFits}

@@ -1,7 +1,7 @@
 use Rattle.std.proofs.Common.{◌≡◌, ◌-◌}
-use Rattle.vchan_protocol.specs.Core.{Core}
-use Rattle.vchan_core.specs.Past.{machine_of, other_of}
-use Rattle.vchan_core.specs.Phases.{IsIdle}
+use Rattle.vchan_protocol.specs.History.Core.{Core}
+use Rattle.vchan_core.specs.Page.StandsFor.{machine_of, other_of}
+use Rattle.vchan_core.specs.Machine.Phases.{IsIdle}
 use Rattle.step_script.specs.Players.{IsAt}
 use Rattle.step_script.proofs.HandLaws.{IsAdvancing}
 use Rattle.step_script.proofs.hand.Hand.advance.Given as goal

@@ -2,11 +2,11 @@ use Rattle.std.proofs.Common.{◌≡◌, Option, Some, None, sym, ◌∙◌, ap,
 use Rattle.ring_words.specs.declared.page.Role.{Role}
 use Rattle.vchan_protocol.specs.declared.call.Answer.{Answer}
 use Rattle.vchan_core.specs.declared.plain.Plain.{Plain}
-use Rattle.vchan_protocol.specs.Core.{Core, plan_left, side_of}
-use Rattle.vchan_protocol.specs.Alone.{alone}
-use Rattle.vchan_core.specs.Past.{machine_of}
-use Rattle.vchan_core.specs.Phases.{IsIdle}
-use Rattle.vchan_core.proofs.RunLaws.{machine_stands}
+use Rattle.vchan_protocol.specs.History.Core.{Core, plan_left, side_of}
+use Rattle.vchan_protocol.specs.History.WholeCall.{alone}
+use Rattle.vchan_core.specs.Page.StandsFor.{machine_of}
+use Rattle.vchan_core.specs.Machine.Phases.{IsIdle}
+use Rattle.vchan_core.proofs.WholeCall.RunLaws.{machine_stands}
 use Rattle.step_script.specs.declared.hand.Hand.{Hand}
 use Rattle.step_script.specs.Played.{stepped}
 use Rattle.step_script.specs.Players.{IsAt, IsTaken}

@@ -2,8 +2,8 @@ use Rattle.std.proofs.Common.{ℕ, ◌≤◌, ◌++◌, List, length, ap, subst,
 use Rattle.std.proofs.lemmas.Bool.{false≢true}
 use Rattle.vchan_core.specs.declared.machine.Machine.{Machine}
 use Rattle.vchan_protocol.specs.declared.side.Begun.{Begun}
-use Rattle.vchan_core.specs.Past.{machine_of}
-use Rattle.vchan_core.specs.Phases.{IsIdle}
+use Rattle.vchan_core.specs.Page.StandsFor.{machine_of}
+use Rattle.vchan_core.specs.Machine.Phases.{IsIdle}
 use Rattle.std.proofs.Common.{Option}
 use Rattle.step_script.specs.Output.{answered, line_text}
 use Rattle.step_script.specs.Played.{finished, finishes_call}

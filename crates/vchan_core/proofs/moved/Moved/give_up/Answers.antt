@@ -1,6 +1,6 @@
 use Rattle.std.proofs.Common.{ℕ, ap, arith, refl}
 use Rattle.vchan_core.specs.declared.moved.Moved.{Moved}
-use Rattle.vchan_core.proofs.StepLaws.{counts_on}
+use Rattle.vchan_core.proofs.Page.StepLaws.{counts_on}
 use Rattle.vchan_core.proofs.moved.Moved.give_up.Goals as goal
 
 moved : ℕ → ℕ → Moved

@@ -3,8 +3,8 @@ use Rattle.ring_words.specs.Page.{index_of}
 use Rattle.ring_words.specs.PageWords.{PageWords}
 use Rattle.ring_words.specs.declared.order.Orders.{Orders}
 use Rattle.vchan_protocol.specs.declared.op.Op.TheVariants.{Store}
-use Rattle.vchan_core.proofs.TurnLaws.{stands_strayed}
-use Rattle.vchan_protocol.proofs.KeptSteps.{kept_strayed}
+use Rattle.vchan_core.proofs.Page.TurnLaws.{stands_strayed}
+use Rattle.vchan_protocol.proofs.Always.InvariantSteps.{invariant_strayed}
 use Rattle.vchan_core.proofs.plain.Plain.poke.Goals as goal
 
 pub returns-clause-stands : goal.returns-clause-stands
@@ -29,5 +29,5 @@ returns-clause-stands c = λ core h. stands_strayed core c.args.who (Store c.arg
   client_turned_is = refl;
 })
 
-pub returns-clause-kept : goal.returns-clause-kept
-returns-clause-kept c = λ core h kept. kept_strayed core c.args.who (Store c.args.word c.args.value) kept
+pub returns-clause-invariant : goal.returns-clause-invariant
+returns-clause-invariant c = λ core h kept. invariant_strayed core c.args.who (Store c.args.word c.args.value) kept

@@ -3,10 +3,10 @@ use Rattle.std.proofs.lemmas.List.Elements.{All-from_get_or}
 use Rattle.vchan_core.specs.declared.phase.Phase.{Phase}
 use Rattle.vchan_core.specs.declared.phase.Move.TheVariants.{To, Done}
 use Rattle.vchan_core.specs.declared.phase.Phase.TheVariants.{Notify}
-use Rattle.vchan_core.specs.Midway.{page_at}
-use Rattle.vchan_core.proofs.LoopLaws.{InLoop, MovesAt, IsEnded, loop_first, loop_seen, loop_moved, loop_out, loop_into, loop_to, loop_done, loop_short}
-use Rattle.vchan_core.proofs.PlainLaws.{kept_call}
-use Rattle.vchan_core.proofs.PlainLaws.{page_follows_lists}
+use Rattle.vchan_core.specs.WholeCall.AtPhase.{page_at}
+use Rattle.vchan_core.proofs.WholeCall.LoopLaws.{InLoop, MovesAt, IsEnded, loop_first, loop_seen, loop_moved, loop_out, loop_into, loop_to, loop_done, loop_short}
+use Rattle.vchan_core.proofs.Page.PlainLaws.{invariant_call}
+use Rattle.vchan_core.proofs.Page.PlainLaws.{page_follows_lists}
 use Rattle.vchan_core.proofs.plain.Plain.run_call.Given.{Over}
 use Rattle.vchan_core.proofs.plain.Plain.run_call.Goals as goal
 
@@ -158,9 +158,9 @@ pub returns-in-Done-event-clause-trace : goal.returns-in-Done-event-clause-trace
 returns-in-Done-event-clause-trace g c = let t = (told_ended g c).trace in
     (t.0, t.1, omega (arith, t.2, c.events.invariant.3, c.add.ensures, c.add-in-events.ensures, c.tick.ensures, c.tick-in-To-Notify.ensures))
 
-pub returns-in-Done-event-clause-kept : goal.returns-in-Done-event-clause-kept
-returns-in-Done-event-clause-kept g c = λ core h kept.
-    kept_call core c.args.self.now c.args.who c.args.call c.args.payload.now h c.requires.honest c.requires.allowed c.requires.payload (λ k. omega (arith, c.type_inv.payload k)) kept
+pub returns-in-Done-event-clause-invariant : goal.returns-in-Done-event-clause-invariant
+returns-in-Done-event-clause-invariant g c = λ core h kept.
+    invariant_call core c.args.self.now c.args.who c.args.call c.args.payload.now h c.requires.honest c.requires.allowed c.requires.payload (λ k. omega (arith, c.type_inv.payload k)) kept
 
 pub returns-in-Done-event-clause-lists : goal.returns-in-Done-event-clause-lists
 returns-in-Done-event-clause-lists g c = λ core h lawful.
@@ -244,9 +244,9 @@ pub returns-in-Done-clause-trace : goal.returns-in-Done-clause-trace
 returns-in-Done-clause-trace g c = let t = (last_ended g c).trace in
     (t.0, t.1, omega (arith, t.2, c.events.invariant.3, c.add.ensures, c.add-in-events.ensures, c.tick.ensures))
 
-pub returns-in-Done-clause-kept : goal.returns-in-Done-clause-kept
-returns-in-Done-clause-kept g c = λ core h kept.
-    kept_call core c.args.self.now c.args.who c.args.call c.args.payload.now h c.requires.honest c.requires.allowed c.requires.payload (λ k. omega (arith, c.type_inv.payload k)) kept
+pub returns-in-Done-clause-invariant : goal.returns-in-Done-clause-invariant
+returns-in-Done-clause-invariant g c = λ core h kept.
+    invariant_call core c.args.self.now c.args.who c.args.call c.args.payload.now h c.requires.honest c.requires.allowed c.requires.payload (λ k. omega (arith, c.type_inv.payload k)) kept
 
 pub returns-in-Done-clause-lists : goal.returns-in-Done-clause-lists
 returns-in-Done-clause-lists g c = λ core h lawful.

@@ -4,9 +4,9 @@ use Rattle.ring_words.specs.declared.page.WordName.{WordName}
 use Rattle.ring_words.specs.PageWords.{PageWords}
 use Rattle.ring_words.specs.declared.order.Orders.{Orders}
 use Rattle.vchan_protocol.specs.declared.op.Op.TheVariants.{Store}
-use Rattle.vchan_protocol.specs.Ends.{peer_pending}
-use Rattle.vchan_core.proofs.TurnLaws.{stands_strayed}
-use Rattle.vchan_protocol.proofs.KeptSteps.{kept_strayed}
+use Rattle.vchan_protocol.specs.Table.Ends.{peer_pending}
+use Rattle.vchan_core.proofs.Page.TurnLaws.{stands_strayed}
+use Rattle.vchan_protocol.proofs.Always.InvariantSteps.{invariant_strayed}
 use Rattle.vchan_core.proofs.plain.Plain.signal.Goals as goal
 
 pub returns-clause-stands : goal.returns-clause-stands
@@ -32,5 +32,5 @@ returns-clause-stands c = λ core h. stands_strayed core c.args.who (Store (peer
   client_turned_is = refl;
 })
 
-pub returns-clause-kept : goal.returns-clause-kept
-returns-clause-kept c = λ core h kept. kept_strayed core c.args.who (Store (peer_pending c.args.who) 1) kept
+pub returns-clause-invariant : goal.returns-clause-invariant
+returns-clause-invariant c = λ core h kept. invariant_strayed core c.args.who (Store (peer_pending c.args.who) 1) kept

@@ -1,0 +1,146 @@
+-- What a machine still does of its call, and the pasts that it stands for.
+use Rattle.std.specs.Prelude.{ℕ, ◌-◌, min, IsNone, Option, Some, None, List}
+use Rattle.vchan_protocol.specs.declared.op.Op.TheVariants.{Store}
+use Rattle.ring_words.specs.declared.page.WordName.TheVariants.{CliLive}
+use Rattle.vchan_protocol.specs.declared.op.PastEvent.{PastEvent}
+use Rattle.vchan_protocol.specs.declared.call.Answer.{Answer}
+use Rattle.vchan_protocol.specs.declared.call.Answer.TheVariants.{PeerClosed, Ready, Space, Connected}
+use Rattle.vchan_protocol.specs.declared.call.Call.{Call}
+use Rattle.vchan_protocol.specs.declared.call.Call.TheVariants.{DataReady, BufferSpace, Close, TakeEvent, PeerGone as AskGone}
+use Rattle.vchan_protocol.specs.declared.call.Bit.TheVariants.{Written, Consumed}
+use Rattle.vchan_core.specs.declared.machine.Machine.{Machine}
+use Rattle.vchan_core.specs.declared.phase.Phase.{Phase}
+use Rattle.vchan_core.specs.declared.phase.Phase.TheVariants.{WriteLive, WriteLook, WriteAsk, WriteLookAgain, SendLive, SendLook, SendAsk, SendLookAgain, Put, ReadLook, ReadAsk, ReadLookAgain, ReadLive, RecvLook, RecvAsk, RecvLookAgain, RecvLive, DrainLook, DrainAsk, DrainSecond, DrainLive, DrainFurther, DrainGone, DrainLast, Take, Notify, Signal, ReadyAsk, ReadyLook, SpaceAsk, SpaceLook, ConnectLeft, ConnectRight, ConnectStore, CloseStore, TakePending, LoadGone, RetireStore, RetireSignal, GoneStore}
+use Rattle.vchan_core.specs.declared.phase.Move.{Move}
+use Rattle.vchan_core.specs.declared.phase.Move.TheVariants.{To, Done}
+use Rattle.vchan_protocol.specs.Table.Plan.{Plan, answers, does, Leads}
+use Rattle.vchan_protocol.specs.Table.Ends.{Standing, read_size, free_at, ready_at}
+use Rattle.vchan_protocol.specs.Table.Calls.{write, write_open, write_looked, look_write, ask, read, read_looked, read_live, look_read, put_bytes, put_index, take_bytes, take_index, notify, signal, plan_of, send, send_open, send_looked, recv, recv_looked, recv_live, drain, drain_second, drain_live, drain_further, drain_gone, drain_last, connect, connect_right, close, retire_shut, IsAllowed}
+
+-- what is left of a call at a phase
+unfoldable pub rest_at : Standing → Phase → Plan
+rest_at e (WriteLive n) = write e n
+rest_at e (WriteLook n) = write_open e n
+rest_at e (WriteAsk n) = ask e Consumed (look_write e (write_looked e n))
+rest_at e (WriteLookAgain n) = look_write e (write_looked e n)
+rest_at e (Put i k answer) = put_bytes e i (k - i) (put_index e k (answers answer))
+rest_at e (ReadLook n) = read e n
+rest_at e (ReadAsk n) = ask e Written (look_read e (read_looked e n))
+rest_at e (ReadLookAgain n) = look_read e (read_looked e n)
+rest_at e (ReadLive prod) = read_live e prod
+rest_at e (Take i k answer) = take_bytes e i (k - i) (take_index e k (answers answer))
+rest_at e (Notify bit answer) = notify e bit (answers answer)
+rest_at e (Signal answer) = signal e (answers answer)
+rest_at e (SendLive n) = send e n
+rest_at e (SendLook n) = send_open e n
+rest_at e (SendAsk n) = ask e Consumed (look_write e (send_looked e n))
+rest_at e (SendLookAgain n) = look_write e (send_looked e n)
+rest_at e (RecvLook n) = recv e n
+rest_at e (RecvAsk n) = ask e Written (look_read e (recv_looked e n))
+rest_at e (RecvLookAgain n) = look_read e (recv_looked e n)
+rest_at e (RecvLive prod) = recv_live e prod
+rest_at e (DrainLook n) = drain e n
+rest_at e (DrainAsk n) = ask e Written (look_read e (drain_second e n))
+rest_at e (DrainSecond n) = look_read e (drain_second e n)
+rest_at e (DrainLive n prod) = drain_live e n prod
+rest_at e (DrainFurther n) = look_read e (drain_further e n)
+rest_at e (DrainGone n prod) = drain_gone e n prod
+rest_at e (DrainLast n) = look_read e (drain_last e n)
+rest_at e ReadyAsk = plan_of e DataReady
+rest_at e ReadyLook = look_read e (λ prod. answers (Ready (ready_at e prod)))
+rest_at e SpaceAsk = plan_of e BufferSpace
+rest_at e SpaceLook = look_write e (λ cons. answers (Space (free_at e cons)))
+rest_at e ConnectLeft = connect e
+rest_at e (ConnectRight n) = connect_right e n
+rest_at e ConnectStore = does (Store CliLive 1) (λ _. answers Connected)
+rest_at e CloseStore = plan_of e Close
+rest_at e TakePending = plan_of e TakeEvent
+rest_at e LoadGone = plan_of e AskGone
+rest_at e RetireStore = close e (retire_shut e)
+rest_at e RetireSignal = signal e (retire_shut e)
+rest_at e GoneStore = retire_shut e
+
+abbrev pub standing : Machine → Standing
+standing m = record { role = m.role; orders = m.orders; state = m.state; prod = m.prod; cons = m.cons }
+
+abbrev pub rest : Machine → Plan
+rest m = elim m.phase [ None ↦ answers PeerClosed | Some phase ↦ rest_at (standing m) phase ]
+
+-- what is left after a move
+abbrev pub plan_at : Standing → Move → Plan
+plan_at e (To phase) = rest_at e phase
+plan_at e (Done answer) = answers answer
+
+-- what is left where the machine gave this answer or none
+abbrev pub left : Option Answer → Machine → Plan
+left None m = rest m
+left (Some answer) m = answers answer
+
+-- the machine, at this phase of a call
+abbrev pub at_phase : Machine → Phase → Machine
+at_phase m phase = record m { phase = Some phase }
+
+-- the answer that a move gives, if any
+abbrev pub answer_of : Move → Option Answer
+answer_of (To phase) = None
+answer_of (Done answer) = Some answer
+
+-- the machine is between calls
+abbrev pub IsIdle : Machine → Type 0
+IsIdle m = IsNone m.phase
+
+-- A machine stands for a call that was begun with this standing, and for the events since.
+abbrev pub Stands : Standing → Call → List PastEvent → Machine → Type 0
+Stands begun call events m = Leads (plan_of begun call) events (rest m)
+
+-- Here the answer was given as the last event came.
+abbrev pub StandsOrAnswered : Standing → Call → List PastEvent → Option Answer → Machine → Type 0
+StandsOrAnswered begun call events answer m = Leads (plan_of begun call) events (left answer m)
+
+-- the bytes of data that a phase may still send, and those of the buffer that it may still fill
+abbrev pub out_at : Phase → ℕ
+out_at (WriteLive n) = n
+out_at (WriteLook n) = n
+out_at (WriteAsk n) = n
+out_at (WriteLookAgain n) = n
+out_at (SendLive n) = n
+out_at (SendLook n) = n
+out_at (SendAsk n) = n
+out_at (SendLookAgain n) = n
+out_at (Put i k answer) = k
+out_at _ = 0
+
+abbrev pub into_at : ℕ → Phase → ℕ
+into_at size (ReadLook n) = min n size
+into_at size (ReadAsk n) = min n size
+into_at size (ReadLookAgain n) = min n size
+into_at size (RecvLook n) = min n size
+into_at size (RecvAsk n) = min n size
+into_at size (RecvLookAgain n) = min n size
+into_at size (DrainLook n) = min n size
+into_at size (DrainAsk n) = min n size
+into_at size (DrainSecond n) = min n size
+into_at size (DrainLive n prod) = min n size
+into_at size (DrainFurther n) = min n size
+into_at size (DrainGone n prod) = min n size
+into_at size (DrainLast n) = min n size
+into_at size (Take i k answer) = k
+into_at size _ = 0
+
+abbrev pub out_of : Machine → ℕ
+out_of m = elim m.phase [ None ↦ 0 | Some phase ↦ out_at phase ]
+
+abbrev pub into_of : Machine → ℕ
+into_of m = elim m.phase [ None ↦ 0 | Some phase ↦ into_at (read_size (standing m)) phase ]
+
+abbrev pub out_move : Move → ℕ
+out_move (To phase) = out_at phase
+out_move (Done answer) = 0
+
+abbrev pub into_move : ℕ → Move → ℕ
+into_move size (To phase) = into_at size phase
+into_move size (Done answer) = 0
+
+-- between two calls, the call is one that this end may begin
+abbrev pub Allows : Machine → Call → Type 0
+Allows m call = IsIdle m × IsAllowed m.role m.state call

@@ -1,0 +1,3 @@
+-- The worked rows, computed.
+pub mod WorkedRow
+pub mod WorkedEnd

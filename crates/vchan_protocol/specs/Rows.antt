@@ -1,0 +1,3 @@
+-- Worked rows, by which the definitions can be checked.
+pub mod WorkedRow
+pub mod WorkedEnd
