@@ -14,11 +14,11 @@ pub struct Script {
 
 impl Model for Script {
     ghost use Rattle.std.specs.Prelude.{List, ◌∷◌};
-    ghost use Rattle.step_script.specs.Script.{StepLine, opens};
+    ghost use Rattle.step_script.specs.Language.Script.{StepLine, opens};
 
     ghost Value = { List StepLine };
 
-    ghost use Rattle.step_script.specs.ScriptLines.{lines_seen, IsScript};
+    ghost use Rattle.step_script.specs.Parts.ScriptLines.{lines_seen, IsScript};
 
     ghost view = { λ s. opens s.opening ∷ lines_seen s.lines.items };
 

@@ -1,3 +1,3 @@
-pub mod Machine
+pub mod OneEnd
 pub mod Page
 pub mod WholeCall

@@ -19,22 +19,22 @@ use Rattle.vchan_protocol.specs.declared.call.Answer.TheVariants.{Done}
 use Rattle.vchan_protocol.specs.declared.side.Side.{Side}
 use Rattle.vchan_protocol.specs.declared.side.Begun.{Begun}
 use Rattle.vchan_core.specs.declared.machine.Machine.{Machine}
-use Rattle.vchan_core.specs.declared.moved.Moved.{Moved}
+use Rattle.vchan_core.specs.declared.totals.Totals.{Totals}
 use Rattle.vchan_core.specs.declared.phase.Phase.{Phase}
-use Rattle.vchan_core.specs.declared.phase.Move.{Move}
-use Rattle.vchan_core.specs.declared.phase.Move.TheVariants.{To, Done as Ended}
+use Rattle.vchan_core.specs.declared.phase.Next.{Next}
+use Rattle.vchan_core.specs.declared.phase.Next.TheVariants.{To, Done as Ended}
 use Rattle.vchan_core.specs.declared.plain.Plain.{Plain}
 use Rattle.vchan_protocol.specs.Table.Plan.{Plan, answers, does, next_op, after, rest_after, past, Leads, GoesOn}
 use Rattle.vchan_protocol.specs.Table.Ends.{Standing, standing_after, prod_stored, cons_stored, prod_after, cons_after}
 use Rattle.vchan_protocol.specs.Table.Calls.{plan_of, payload_of, stored_most, loaded_most}
 use Rattle.vchan_protocol.specs.Table.Apply.{words_after, value_taken}
-use Rattle.vchan_core.specs.Machine.Phases.{standing, at_phase, rest, rest_at, plan_at, left, IsIdle}
+use Rattle.vchan_core.specs.OneEnd.Phases.{standing, at_phase, rest, rest_at, plan_at, rest_or_answer, IsIdle}
 use Rattle.vchan_protocol.specs.History.Core.{Core, side_of, event, plan_next, begun_standing, standing_of, standing_along, plan_left, made, settled, answered, answer_in, count_stored, bytes_loaded, sent_stored, sent_after, got_stored, got_after}
 use Rattle.vchan_core.specs.Page.Counts.{capped}
 use Rattle.vchan_core.specs.WholeCall.AtPhase.{page_at, page_to}
 use Rattle.vchan_core.specs.Page.StandsFor.{IsInCall, IsMachineOf, HasPayload, StandsFor, orders_of, words_of}
 use Rattle.vchan_protocol.proofs.Table.PlanLaws.{Leads-more, rest_after-Leads}
-use Rattle.vchan_core.proofs.Machine.PhaseLaws.{GoesOn-machine}
+use Rattle.vchan_core.proofs.OneEnd.PhaseLaws.{GoesOn-machine}
 use Rattle.vchan_protocol.proofs.Table.Counted.{Counted, OwesIndex, counted_call, counts_within, Counted-Leads}
 use Rattle.vchan_protocol.proofs.History.EventLaws.{owes_next, stored_most-payload, most_small, OwesNext, settled-on, settled-sent, settled-got, settled-turned, standing_of-made, standing_along-push, prod-after, cons-after, diff-same, side_by, event_by}
 
@@ -95,7 +95,7 @@ words_same s b orders words source Nothing pays has owes = refl
 
 -- the machine's event is one of the end: it stands for the end with that event, and with the answer that came
 pub made_stands : (s : Side) (m m' : Machine) (result : Option Answer) (taken : ℕ) → IsMachineOf s m → ¬ IsIdle m →
-    left result m' ≡ after (rest m) taken → (IsSome result ↔ IsIdle m') → standing m' ≡ standing_after (standing m) (next_op (rest m)) →
+    rest_or_answer result m' ≡ after (rest m) taken → (IsSome result ↔ IsIdle m') → standing m' ≡ standing_after (standing m) (next_op (rest m)) →
     IsMachineOf (settled (made s (next_op (rest m)) taken) (after (rest m) taken)) m'
 made_stands s m m' result taken h busy leads idle stands = go result leads idle
   where
@@ -116,7 +116,7 @@ made_stands s m m' result taken h busy leads idle stands = go result leads idle
         standing_along-push (begun_standing s c.begun) s.trail (past (next_op (rest m)) taken) ∙ ap (λ (e : Standing). standing_after e (next_op (rest m))) c.stands
         ∙ sym (standing_of-made s (next_op (rest m)) taken)
 
-    go : (r : Option Answer) → left r m' ≡ after (rest m) taken → (IsSome r ↔ IsIdle m') → IsMachineOf (settled (made s (next_op (rest m)) taken) (after (rest m) taken)) m'
+    go : (r : Option Answer) → rest_or_answer r m' ≡ after (rest m) taken → (IsSome r ↔ IsIdle m') → IsMachineOf (settled (made s (next_op (rest m)) taken) (after (rest m) taken)) m'
     go None same iff =
         let awake : ¬ IsIdle m' = λ quiet. false≢true (iff.1 quiet) in
         let on : GoesOn (after (rest m) taken) = subst GoesOn same (GoesOn-machine m' awake) in
@@ -169,9 +169,9 @@ got_grows _ _ now trail got s value low few owes = stays got now.cons
 -- ---- an event of a page
 
 -- what the code of one event does: to the machine, to the words, and to the counts of its two rings
-pub record DoesEvent (orders : Orders) (words source : List ℕ) (m m' : Machine) (result : Option Answer) (words' : List ℕ) (writes reads writes' reads' : Moved) : Type 0 where
+pub record DoesEvent (orders : Orders) (words source : List ℕ) (m m' : Machine) (result : Option Answer) (words' : List ℕ) (writes reads writes' reads' : Totals) : Type 0 where
   pub busy : ¬ IsIdle m
-  pub leads : left result m' ≡ after (rest m) (value_taken orders words (next_op (rest m)))
+  pub leads : rest_or_answer result m' ≡ after (rest m) (value_taken orders words (next_op (rest m)))
   pub idle : IsSome result ↔ IsIdle m'
   pub stands : standing m' ≡ standing_after (standing m) (next_op (rest m))
   pub words_are : words' ≡ words_after orders words source (next_op (rest m))
@@ -187,12 +187,12 @@ few_moved s m c =
     let small = most_small e c.begun.call in
     (omega (arith, moved.0, c.pays, stored_most-payload e c.begun.call), omega (arith, moved.0, small.0), omega (arith, moved.1, small.1))
 
-pub side_steps : (orders : Orders) (words source : List ℕ) (s : Side) (m m' : Machine) (result : Option Answer) (words' : List ℕ) (writes reads writes' reads' : Moved) →
+pub side_steps : (orders : Orders) (words source : List ℕ) (s : Side) (m m' : Machine) (result : Option Answer) (words' : List ℕ) (writes reads writes' reads' : Totals) →
     IsMachineOf s m → DoesEvent orders words source m m' result words' writes reads writes' reads' → IsMachineOf (side_by orders words s (rest m)) m'
 side_steps orders words source s m m' result words' writes reads writes' reads' h d =
     made_stands s m m' result (value_taken orders words (next_op (rest m))) h d.busy d.leads d.idle d.stands
 
-pub words_step : (orders : Orders) (words source : List ℕ) (s : Side) (m m' : Machine) (result : Option Answer) (words' : List ℕ) (writes reads writes' reads' : Moved) →
+pub words_step : (orders : Orders) (words source : List ℕ) (s : Side) (m m' : Machine) (result : Option Answer) (words' : List ℕ) (writes reads writes' reads' : Totals) →
     IsMachineOf s m → HasPayload s source → DoesEvent orders words source m m' result words' writes reads writes' reads' → words' ≡ words_after orders words s.payload (next_op (rest m))
 words_step orders words source s m m' result words' writes reads writes' reads' h has d =
     let c = in_call s m h d.busy in
@@ -220,7 +220,7 @@ got_of s b (And word bits) owes low few = stays s.got s.cons
 got_of s b (Swap word value) owes low few = stays s.got s.cons
 got_of s b Nothing owes low few = stays s.got s.cons
 
-pub sent_step : (orders : Orders) (words source : List ℕ) (s : Side) (m m' : Machine) (result : Option Answer) (words' : List ℕ) (writes reads writes' reads' : Moved) →
+pub sent_step : (orders : Orders) (words source : List ℕ) (s : Side) (m m' : Machine) (result : Option Answer) (words' : List ℕ) (writes reads writes' reads' : Totals) →
     IsMachineOf s m → DoesEvent orders words source m m' result words' writes reads writes' reads' → writes.sent ≡ capped (length s.sent) →
     writes'.sent ≡ capped (length (side_by orders words s (rest m)).sent)
 sent_step orders words source s m m' result words' writes reads writes' reads' h d was =
@@ -230,14 +230,14 @@ sent_step orders words source s m m' result words' writes reads writes' reads' h
     let same : standing m ≡ standing_of s = h.standing_is in
     let low : s.prod < 2 ^ 32 = subst (λ (e : Standing). e.prod < 2 ^ 32) same d.low.0 in
     let then_prod : (standing m').prod ≡ prod_after op s.role s.prod = ap (λ (e : Standing). e.prod) d.stands ∙ ap (λ (e : Standing). (standing_after e op).prod) same ∙ prod-after (standing_of s) op in
-    ap (λ (w : Moved). w.sent) d.writes_are
+    ap (λ (w : Totals). w.sent) d.writes_are
     ∙ ap (λ (n : ℕ). capped (n + diff (standing m').prod (standing m).prod)) was
     ∙ ap (λ (n : ℕ). capped (capped (length s.sent) + diff n (standing m).prod)) then_prod
     ∙ ap (λ (e : Standing). capped (capped (length s.sent) + diff (prod_after op s.role s.prod) e.prod)) same
     ∙ sent_of s c.begun op (owed s m c d.busy) low few.0 few.1
     ∙ ap (λ (xs : List ℕ). capped (length xs)) (sym (settled-sent (made s op (value_taken orders words op)) (after (rest m) (value_taken orders words op))))
 
-pub got_step : (orders : Orders) (words source : List ℕ) (s : Side) (m m' : Machine) (result : Option Answer) (words' : List ℕ) (writes reads writes' reads' : Moved) →
+pub got_step : (orders : Orders) (words source : List ℕ) (s : Side) (m m' : Machine) (result : Option Answer) (words' : List ℕ) (writes reads writes' reads' : Totals) →
     IsMachineOf s m → DoesEvent orders words source m m' result words' writes reads writes' reads' → reads.got ≡ capped (length s.got) →
     reads'.got ≡ capped (length (side_by orders words s (rest m)).got)
 got_step orders words source s m m' result words' writes reads writes' reads' h d was =
@@ -247,7 +247,7 @@ got_step orders words source s m m' result words' writes reads writes' reads' h 
     let same : standing m ≡ standing_of s = h.standing_is in
     let low : s.cons < 2 ^ 32 = subst (λ (e : Standing). e.cons < 2 ^ 32) same d.low.1 in
     let then_cons : (standing m').cons ≡ cons_after op s.role s.cons = ap (λ (e : Standing). e.cons) d.stands ∙ ap (λ (e : Standing). (standing_after e op).cons) same ∙ cons-after (standing_of s) op in
-    ap (λ (w : Moved). w.got) d.reads_are
+    ap (λ (w : Totals). w.got) d.reads_are
     ∙ ap (λ (n : ℕ). capped (n + diff (standing m').cons (standing m).cons)) was
     ∙ ap (λ (n : ℕ). capped (capped (length s.got) + diff n (standing m).cons)) then_cons
     ∙ ap (λ (e : Standing). capped (capped (length s.got) + diff (cons_after op s.role s.cons) e.cons)) same
@@ -274,12 +274,12 @@ stands_server core page page' source result h has d orders other server_turned c
       server = side_steps core.orders core.words source core.server page.server page'.server result (words_of page') page.right page.left page'.right page'.left h.server here;
       client = subst (λ (m : Machine). IsMachineOf core.client m) (sym other) h.client;
       left = record {
-        sent = ap (λ (w : Moved). w.sent) here.reads_are ∙ h.left.sent;
+        sent = ap (λ (w : Totals). w.sent) here.reads_are ∙ h.left.sent;
         got = got_step core.orders core.words source core.server page.server page'.server result (words_of page') page.right page.left page'.right page'.left h.server here h.left.got;
       };
       right = record {
         sent = sent_step core.orders core.words source core.server page.server page'.server result (words_of page') page.right page.left page'.right page'.left h.server here h.right.sent;
-        got = ap (λ (w : Moved). w.got) here.writes_are ∙ h.right.got;
+        got = ap (λ (w : Totals). w.got) here.writes_are ∙ h.right.got;
       };
       server_turned = server_turned ∙ h.server_turned ∙ sym (settled-turned (made core.server (next_op (rest page.server)) (value_taken core.orders core.words (next_op (rest page.server)))) (after (rest page.server) (value_taken core.orders core.words (next_op (rest page.server)))));
       client_turned = client_turned ∙ h.client_turned;
@@ -300,10 +300,10 @@ stands_client core page page' source result h has d orders other server_turned c
       client = side_steps core.orders core.words source core.client page.client page'.client result (words_of page') page.left page.right page'.left page'.right h.client here;
       left = record {
         sent = sent_step core.orders core.words source core.client page.client page'.client result (words_of page') page.left page.right page'.left page'.right h.client here h.left.sent;
-        got = ap (λ (w : Moved). w.got) here.writes_are ∙ h.left.got;
+        got = ap (λ (w : Totals). w.got) here.writes_are ∙ h.left.got;
       };
       right = record {
-        sent = ap (λ (w : Moved). w.sent) here.reads_are ∙ h.right.sent;
+        sent = ap (λ (w : Totals). w.sent) here.reads_are ∙ h.right.sent;
         got = got_step core.orders core.words source core.client page.client page'.client result (words_of page') page.left page.right page'.left page'.right h.client here h.right.got;
       };
       server_turned = server_turned ∙ h.server_turned;
@@ -311,20 +311,20 @@ stands_client core page page' source result h has d orders other server_turned c
     })
 
 -- the answer of a step is what is left of the end's call
-answer_in-left : (m' : Machine) (result : Option Answer) → (IsSome result ↔ IsIdle m') → answer_in (left result m') ≡ result
-answer_in-left m' (Some answer) idle = refl
-answer_in-left m' None idle = quiet (rest m') (GoesOn-machine m' (λ q. false≢true (idle.1 q)))
+answer_in-rest : (m' : Machine) (result : Option Answer) → (IsSome result ↔ IsIdle m') → answer_in (rest_or_answer result m') ≡ result
+answer_in-rest m' (Some answer) idle = refl
+answer_in-rest m' None idle = quiet (rest m') (GoesOn-machine m' (λ q. false≢true (idle.1 q)))
   where
     quiet : (plan : Plan) → GoesOn plan → answer_in plan ≡ None
     quiet (answers answer) more = absurd more
     quiet (does op next) more = refl
 
 pub answer_is : (core : Core) (who : Role) (orders : Orders) (words : List ℕ) (m m' : Machine) (result : Option Answer) → IsMachineOf (side_of core who) m → orders ≡ core.orders → words ≡ core.words → ¬ IsIdle m →
-    left result m' ≡ after (rest m) (value_taken orders words (next_op (rest m))) → (IsSome result ↔ IsIdle m') → result ≡ answer_in (plan_next core who)
+    rest_or_answer result m' ≡ after (rest m) (value_taken orders words (next_op (rest m))) → (IsSome result ↔ IsIdle m') → result ≡ answer_in (plan_next core who)
 answer_is core who orders words m m' result h same_orders same_words busy leads idle =
-    let there : left result m' ≡ after (rest m) (value_taken core.orders core.words (next_op (rest m))) =
+    let there : rest_or_answer result m' ≡ after (rest m) (value_taken core.orders core.words (next_op (rest m))) =
     leads ∙ ap (λ (o : Orders). after (rest m) (value_taken o words (next_op (rest m)))) same_orders ∙ ap (λ (w : List ℕ). after (rest m) (value_taken core.orders w (next_op (rest m)))) same_words in
-    sym (answer_in-left m' result idle) ∙ ap answer_in there
+    sym (answer_in-rest m' result idle) ∙ ap answer_in there
     ∙ ap (λ (plan : Plan). answer_in (after plan (value_taken core.orders core.words (next_op plan)))) (sym (plan_left-is (side_of core who) m (in_call (side_of core who) m h busy)))
 
 -- ---- for the code
@@ -336,7 +336,7 @@ counts_on result was from x y before then_after xs ys low_x low_y from_is is =
     is ∙ ap (λ (n : ℕ). min (was + n) 18446744073709551615) (from_is ∙ diff-wraps x y low_x low_y ∙ ap (λ (n : ℕ). diff n y) xs ∙ ap (λ (n : ℕ). diff then_after n) ys)
 
 -- what a machine does at a phase that its page doesn't know of
-pub record DoesAt (orders : Orders) (words source : List ℕ) (m m' : Machine) (phase : Phase) (move : Move) (words' : List ℕ) (writes reads writes' reads' : Moved) : Type 0 where
+pub record DoesAt (orders : Orders) (words source : List ℕ) (m m' : Machine) (phase : Phase) (move : Next) (words' : List ℕ) (writes reads writes' reads' : Totals) : Type 0 where
   pub leads : plan_at (standing m') move ≡ after (rest_at (standing m) phase) (value_taken orders words (next_op (rest_at (standing m) phase)))
   pub idle : IsIdle m'
   pub stands : standing m' ≡ standing_after (standing m) (next_op (rest_at (standing m) phase))
@@ -345,7 +345,7 @@ pub record DoesAt (orders : Orders) (words source : List ℕ) (m m' : Machine) (
   pub reads_are : reads' ≡ record reads { got = capped (reads.got + diff (standing m').cons (standing m).cons) }
   pub low : ((standing m).prod < 2 ^ 32) × ((standing m).cons < 2 ^ 32)
 
-does_to : (orders : Orders) (words source : List ℕ) (m m' : Machine) (phase next : Phase) (words' : List ℕ) (writes reads writes' reads' : Moved) →
+does_to : (orders : Orders) (words source : List ℕ) (m m' : Machine) (phase next : Phase) (words' : List ℕ) (writes reads writes' reads' : Totals) →
     DoesAt orders words source m m' phase (To next) words' writes reads writes' reads' → DoesEvent orders words source (at_phase m phase) (at_phase m' next) None words' writes reads writes' reads'
 does_to orders words source m m' phase next words' writes reads writes' reads' d = record {
   busy = λ idle. false≢true (sym idle);
@@ -358,7 +358,7 @@ does_to orders words source m m' phase next words' writes reads writes' reads' d
   low = d.low;
 }
 
-does_last : (orders : Orders) (words source : List ℕ) (m m' : Machine) (phase : Phase) (answer : Answer) (words' : List ℕ) (writes reads writes' reads' : Moved) →
+does_last : (orders : Orders) (words source : List ℕ) (m m' : Machine) (phase : Phase) (answer : Answer) (words' : List ℕ) (writes reads writes' reads' : Totals) →
     DoesAt orders words source m m' phase (Ended answer) words' writes reads writes' reads' → DoesEvent orders words source (at_phase m phase) m' (Some answer) words' writes reads writes' reads'
 does_last orders words source m m' phase answer words' writes reads writes' reads' d = record {
   busy = λ idle. false≢true (sym idle);
@@ -371,7 +371,7 @@ does_last orders words source m m' phase answer words' writes reads writes' read
   low = d.low;
 }
 
-pub stands_server_at : (core : Core) (page page' : Plain) (source : List ℕ) (phase : Phase) (move : Move) → StandsFor core (page_at page Server phase) → HasPayload core.server source →
+pub stands_server_at : (core : Core) (page page' : Plain) (source : List ℕ) (phase : Phase) (move : Next) → StandsFor core (page_at page Server phase) → HasPayload core.server source →
     DoesAt (orders_of page) (words_of page) source page.server page'.server phase move (words_of page') page.right page.left page'.right page'.left →
     orders_of page' ≡ orders_of page → page'.client ≡ page.client → page'.server_turned ≡ page.server_turned → page'.client_turned ≡ page.client_turned →
     StandsFor (event core Server) (page_to page' Server move)
@@ -382,7 +382,7 @@ stands_server_at core page page' source phase (Ended answer) h has d orders othe
     stands_server core (page_at page Server phase) page' source (Some answer) h has
     (does_last (orders_of page) (words_of page) source page.server page'.server phase answer (words_of page') page.right page.left page'.right page'.left d) orders other server_turned client_turned
 
-pub stands_client_at : (core : Core) (page page' : Plain) (source : List ℕ) (phase : Phase) (move : Move) → StandsFor core (page_at page Client phase) → HasPayload core.client source →
+pub stands_client_at : (core : Core) (page page' : Plain) (source : List ℕ) (phase : Phase) (move : Next) → StandsFor core (page_at page Client phase) → HasPayload core.client source →
     DoesAt (orders_of page) (words_of page) source page.client page'.client phase move (words_of page') page.left page.right page'.left page'.right →
     orders_of page' ≡ orders_of page → page'.server ≡ page.server → page'.server_turned ≡ page.server_turned → page'.client_turned ≡ page.client_turned →
     StandsFor (event core Client) (page_to page' Client move)

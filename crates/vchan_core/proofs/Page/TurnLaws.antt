@@ -6,10 +6,10 @@ use Rattle.ring_words.specs.declared.page.Role.TheVariants.{Server, Client}
 use Rattle.vchan_protocol.specs.declared.op.Op.{Op}
 use Rattle.vchan_protocol.specs.declared.side.Side.{Side}
 use Rattle.vchan_core.specs.declared.machine.Machine.{Machine}
-use Rattle.vchan_core.specs.declared.moved.Moved.{Moved}
+use Rattle.vchan_core.specs.declared.totals.Totals.{Totals}
 use Rattle.vchan_core.specs.declared.plain.Plain.{Plain}
 use Rattle.vchan_protocol.specs.Table.Apply.{words_after, value_taken}
-use Rattle.vchan_core.specs.Machine.Phases.{standing, IsIdle}
+use Rattle.vchan_core.specs.OneEnd.Phases.{standing, IsIdle}
 use Rattle.vchan_core.specs.Page.Counts.{capped}
 use Rattle.vchan_protocol.specs.History.Core.{Core, standing_of}
 use Rattle.vchan_core.specs.Page.StandsFor.{IsMachineOf, StandsFor, machine_of, other_of, turned_of, other_turned_of, words_of, orders_of}
@@ -78,12 +78,12 @@ stands_strayed core Server op page given page' h d = record {
   server = strays_machine core.server (length core.client.got) (value_taken core.orders core.words op) op page.server page'.server h.server (subst IsIdle (sym d.server_is) d.idle) (ap standing d.server_is ∙ d.stands);
   client = subst (λ (m : Machine). IsMachineOf core.client m) (sym (d.client_is ∙ d.other)) h.client;
   left = record {
-    sent = ap (λ (w : Moved). w.sent) (d.left_is ∙ d.left) ∙ h.left.sent;
-    got = ap (λ (w : Moved). w.got) (d.left_is ∙ d.left) ∙ h.left.got ∙ ap (λ (xs : List ℕ). capped (length xs)) (sym (got-turned_side core.server (length core.client.got)));
+    sent = ap (λ (w : Totals). w.sent) (d.left_is ∙ d.left) ∙ h.left.sent;
+    got = ap (λ (w : Totals). w.got) (d.left_is ∙ d.left) ∙ h.left.got ∙ ap (λ (xs : List ℕ). capped (length xs)) (sym (got-turned_side core.server (length core.client.got)));
   };
   right = record {
-    sent = ap (λ (w : Moved). w.sent) (d.right_is ∙ d.right) ∙ h.right.sent ∙ ap (λ (xs : List ℕ). capped (length xs)) (sym (sent-turned_side core.server (length core.client.got)));
-    got = ap (λ (w : Moved). w.got) (d.right_is ∙ d.right) ∙ h.right.got;
+    sent = ap (λ (w : Totals). w.sent) (d.right_is ∙ d.right) ∙ h.right.sent ∙ ap (λ (xs : List ℕ). capped (length xs)) (sym (sent-turned_side core.server (length core.client.got)));
+    got = ap (λ (w : Totals). w.got) (d.right_is ∙ d.right) ∙ h.right.got;
   };
   server_turned = d.server_turned_is ∙ d.turned ∙ sym (turned-turned_side core.server (length core.client.got));
   client_turned = d.client_turned_is ∙ d.other_turned ∙ h.client_turned;
@@ -94,12 +94,12 @@ stands_strayed core Client op page given page' h d = record {
   server = subst (λ (m : Machine). IsMachineOf core.server m) (sym (d.server_is ∙ d.other)) h.server;
   client = strays_machine core.client (length core.server.got) (value_taken core.orders core.words op) op page.client page'.client h.client (subst IsIdle (sym d.client_is) d.idle) (ap standing d.client_is ∙ d.stands);
   left = record {
-    sent = ap (λ (w : Moved). w.sent) (d.left_is ∙ d.left) ∙ h.left.sent ∙ ap (λ (xs : List ℕ). capped (length xs)) (sym (sent-turned_side core.client (length core.server.got)));
-    got = ap (λ (w : Moved). w.got) (d.left_is ∙ d.left) ∙ h.left.got;
+    sent = ap (λ (w : Totals). w.sent) (d.left_is ∙ d.left) ∙ h.left.sent ∙ ap (λ (xs : List ℕ). capped (length xs)) (sym (sent-turned_side core.client (length core.server.got)));
+    got = ap (λ (w : Totals). w.got) (d.left_is ∙ d.left) ∙ h.left.got;
   };
   right = record {
-    sent = ap (λ (w : Moved). w.sent) (d.right_is ∙ d.right) ∙ h.right.sent;
-    got = ap (λ (w : Moved). w.got) (d.right_is ∙ d.right) ∙ h.right.got ∙ ap (λ (xs : List ℕ). capped (length xs)) (sym (got-turned_side core.client (length core.server.got)));
+    sent = ap (λ (w : Totals). w.sent) (d.right_is ∙ d.right) ∙ h.right.sent;
+    got = ap (λ (w : Totals). w.got) (d.right_is ∙ d.right) ∙ h.right.got ∙ ap (λ (xs : List ℕ). capped (length xs)) (sym (got-turned_side core.client (length core.server.got)));
   };
   server_turned = d.server_turned_is ∙ d.other_turned ∙ h.server_turned;
   client_turned = d.client_turned_is ∙ d.turned ∙ sym (turned-turned_side core.client (length core.server.got));

@@ -16,7 +16,7 @@ use Rattle.vchan_protocol.specs.Table.Calls.{write, write_open, write_looked, re
 use Rattle.vchan_protocol.specs.Table.Plan.{Plan, answers, does, next_op, after}
 use Rattle.vchan_protocol.specs.Table.Ends.{Standing, standing_after, read_size, peer_live, cons_word, prod_word, written_ring, read_ring, free_at, ready_at, low8, low32}
 use Rattle.vchan_protocol.specs.Table.Apply.{Fits, words_after, value_taken, buffer_after}
-use Rattle.vchan_core.specs.Machine.Phases.{standing, at_phase, rest, rest_at, out_at, into_at}
+use Rattle.vchan_core.specs.OneEnd.Phases.{standing, at_phase, rest, rest_at, payload_at, buffer_at}
 use Rattle.vchan_core.specs.WholeCall.EventsMade.{MakesEvent, MakesEvents}
 
 -- a load leaves the end's standing
@@ -26,7 +26,7 @@ stands_look e op word is = rw is refl
 
 look_at : (m : Machine) (at to : Phase) (word : WordName) (next : ℕ → Plan) (list source buffer : List ℕ) →
     rest_at (standing m) at ≡ does (Load word) next → Has m.orders word → rest_at (standing m) to ≡ next (slice_index list (index_of m.orders word)) →
-    out_at to ≤ out_at at → into_at (read_size (standing m)) to ≤ into_at (read_size (standing m)) at →
+    payload_at to ≤ payload_at at → buffer_at (read_size (standing m)) to ≤ buffer_at (read_size (standing m)) at →
     MakesEvent m.orders source (at_phase m at) list buffer (at_phase m to) list buffer
 look_at m at to word next list source buffer plan has goes out into =
     let op : next_op (rest (at_phase m at)) ≡ Load word = ap next_op plan in
@@ -39,14 +39,14 @@ look_at m at to word next list source buffer plan has goes out into =
       words = sym (set-get_or list (index_of m.orders word) 0) ∙ sym (ap (λ (o : Op). words_after m.orders list source o) op);
       buffers = sym (ap (λ (o : Op). buffer_after m.orders list buffer o) op);
       fits = subst (λ (o : Op). Fits m.orders (length source) (length buffer) o) (sym op) has;
-      out = out;
-      into = into;
+      payload_left = out;
+      buffer_left = into;
     }
 
 -- a load that moves on to a phase
 pub look_one : (m : Machine) (at to : Phase) (word : WordName) (next : ℕ → Plan) (list source buffer : List ℕ) →
     rest_at (standing m) at ≡ does (Load word) next → Has m.orders word → rest_at (standing m) to ≡ next (slice_index list (index_of m.orders word)) →
-    out_at to ≤ out_at at → into_at (read_size (standing m)) to ≤ into_at (read_size (standing m)) at →
+    payload_at to ≤ payload_at at → buffer_at (read_size (standing m)) to ≤ buffer_at (read_size (standing m)) at →
     MakesEvents 1 m.orders source (at_phase m at) list buffer (at_phase m to) list buffer
 look_one m at to word next list source buffer plan has goes out into =
     (at_phase m to, list, buffer, look_at m at to word next list source buffer plan has goes out into, (refl, refl, refl))

@@ -12,16 +12,16 @@ use Rattle.vchan_protocol.specs.declared.op.PastEvent.{PastEvent}
 use Rattle.vchan_protocol.specs.declared.call.Answer.{Answer}
 use Rattle.vchan_protocol.specs.declared.call.Call.{Call}
 use Rattle.vchan_core.specs.declared.machine.Machine.{Machine}
-use Rattle.vchan_core.specs.declared.moved.Moved.{Moved}
+use Rattle.vchan_core.specs.declared.totals.Totals.{Totals}
 use Rattle.vchan_core.specs.declared.plain.Plain.{Plain}
 use Rattle.vchan_core.specs.declared.phase.Phase.{Phase}
-use Rattle.vchan_core.specs.declared.phase.Move.{Move}
-use Rattle.vchan_core.specs.declared.phase.Move.TheVariants.{To, Done}
+use Rattle.vchan_core.specs.declared.phase.Next.{Next}
+use Rattle.vchan_core.specs.declared.phase.Next.TheVariants.{To, Done}
 use Rattle.vchan_protocol.specs.Table.Plan.{Plan, past, Leads, next_op, after}
 use Rattle.vchan_protocol.specs.Table.Ends.{Standing, read_size}
 use Rattle.vchan_protocol.specs.Table.Calls.{plan_of, payload_of, loaded_most, most_events, Trace}
 use Rattle.vchan_protocol.specs.Table.Apply.{Fits, value_taken, buffer_after, filled}
-use Rattle.vchan_core.specs.Machine.Phases.{standing, at_phase, rest, rest_at, plan_at, IsIdle, out_of, into_of, out_at, into_at, out_move, into_move, Stands}
+use Rattle.vchan_core.specs.OneEnd.Phases.{standing, at_phase, rest, rest_at, plan_at, IsIdle, payload_needed, buffer_needed, payload_at, buffer_at, payload_next, buffer_next, Stands}
 use Rattle.vchan_core.specs.Page.Counts.{capped}
 use Rattle.vchan_protocol.specs.History.Core.{Core, side_of, begun, event, bytes_loaded}
 use Rattle.vchan_protocol.specs.History.WholeCall.{alone, whole_call, called, call_answer}
@@ -29,13 +29,13 @@ use Rattle.vchan_core.specs.Page.StandsFor.{IsMachineOf, HasPayload, StandsFor, 
 use Rattle.vchan_core.specs.WholeCall.EventsMade.{MakesEvent, MakesEvents}
 use Rattle.vchan_core.specs.WholeCall.Beside.{IsBeside}
 use Rattle.vchan_core.specs.WholeCall.AtPhase.{page_at, page_to}
-use Rattle.vchan_core.proofs.Machine.PhaseLaws.{GoesOn-machine}
+use Rattle.vchan_core.proofs.OneEnd.PhaseLaws.{GoesOn-machine}
 use Rattle.vchan_protocol.proofs.Table.PlanLaws.{Leads-more}
 use Rattle.vchan_core.proofs.Page.StepLaws.{DoesEvent, stands_server, stands_client}
 use Rattle.vchan_protocol.proofs.History.EventLaws.{diff-same}
-use Rattle.vchan_core.proofs.WholeCall.RunLaws.{IsRunning, IsStep, runs_begun, runs_on, runs_out, then_stands, then_fills}
+use Rattle.vchan_core.proofs.WholeCall.RunLaws.{IsRunning, IsStep, runs_begun, runs_on, runs_out, then_stands, then_fills, then_trail}
 use Rattle.vchan_protocol.proofs.History.WholeCallLaws.{length-payload}
-use Rattle.vchan_core.proofs.Machine.PhaseLaws.{length-Stands}
+use Rattle.vchan_core.proofs.OneEnd.PhaseLaws.{length-Stands}
 
 -- ---- an event on a ring byte as a step
 
@@ -45,7 +45,7 @@ unmoved moved count now before is same =
     let none : diff now before ≡ 0 = ap (λ (n : ℕ). diff n before) same ∙ diff-same before in
     omega (arith, none, is)
 
-does_event : (orders : Orders) (source buffer : List ℕ) (m m' : Machine) (list list' buffer' : List ℕ) (writes reads writes' reads' : Moved) (sent got : ℕ) →
+does_event : (orders : Orders) (source buffer : List ℕ) (m m' : Machine) (list list' buffer' : List ℕ) (writes reads writes' reads' : Totals) (sent got : ℕ) →
     ((standing m).prod < 2 ^ 32) × ((standing m).cons < 2 ^ 32) → MakesEvent orders source m list buffer m' list' buffer' → writes' ≡ writes → reads' ≡ reads → writes.sent ≡ capped sent → reads.got ≡ capped got →
     DoesEvent orders list source m m' None list' writes reads writes' reads'
 does_event orders source buffer m m' list list' buffer' writes reads writes' reads' sent got low d writes_same reads_same sent_is got_is = record {
@@ -104,69 +104,74 @@ length-buffer_after orders words buffer Nothing = refl
 -- after so many events of a call that began on this page with this buffer
 pub record InLoop (first : Plain) (who : Role) (call : Call) (source start : List ℕ) (page : Plain) (buffer : List ℕ) (count : ℕ) : Type 0 where
   pub busy : ¬ IsIdle (machine_of page who)
-  pub out : out_of (machine_of page who) ≤ length source
-  pub into : into_of (machine_of page who) ≤ length buffer
+  pub payload_left : payload_needed (machine_of page who) ≤ length source
+  pub buffer_left : buffer_needed (machine_of page who) ≤ length buffer
   pub long : length buffer ≡ length start
   pub other : other_of page who ≡ other_of first who
-  pub summary : (events : List PastEvent) × Stands (standing (machine_of first who)) call events (machine_of page who) × (count ≡ length events)
-  pub running : (core : Core) → StandsFor core first → IsRunning core who call (take (payload_of call) source) start page buffer
+  pub trace : (events : List PastEvent) × Stands (standing (machine_of first who)) call events (machine_of page who) × (count ≡ length events)
+  pub running : (core : Core) → StandsFor core first → IsRunning core who call (take (payload_of call) source) start page buffer trace.0
 
 module _ (first : Plain) (who : Role) (call : Call) (source start : List ℕ) (enough : payload_of call ≤ length source) where
   -- one more event, which gave no answer
   pub loop_step : (page page' : Plain) (buffer buffer' : List ℕ) (count : ℕ) → InLoop first who call source start page buffer count → IsStep who source page page' None buffer buffer' →
-      out_of (machine_of page' who) ≤ out_of (machine_of page who) → into_of (machine_of page' who) ≤ into_of (machine_of page who) → other_of page' who ≡ other_of page who →
+      payload_needed (machine_of page' who) ≤ payload_needed (machine_of page who) → buffer_needed (machine_of page' who) ≤ buffer_needed (machine_of page who) → other_of page' who ≡ other_of page who →
       InLoop first who call source start page' buffer' (count + 1)
   loop_step page page' buffer buffer' count l d out into other =
       let value = value_taken (orders_of page) (words_of page) (op_of page who) in
       let more : PastEvent = past (op_of page who) value in
       let kept : length buffer' ≡ length buffer = ap length d.buffers ∙ length-buffer_after (orders_of page) (words_of page) buffer (op_of page who) in
       let plan = plan_of (standing (machine_of first who)) call in
-      let led = Leads-more plan l.summary.0 (rest (machine_of page who)) value (GoesOn-machine (machine_of page who) d.busy) l.summary.1 in
+      let led = Leads-more plan l.trace.0 (rest (machine_of page who)) value (GoesOn-machine (machine_of page who) d.busy) l.trace.1 in
       record {
         busy = λ quiet. false≢true (d.idle.1 quiet);
-        out = omega (arith, out, l.out);
-        into = omega (arith, into, l.into, kept);
+        payload_left = omega (arith, out, l.payload_left);
+        buffer_left = omega (arith, into, l.buffer_left, kept);
         long = kept ∙ l.long;
         other = other ∙ l.other;
-        summary = (l.summary.0 ++ more ∷ [], subst (λ (p : Plan). Leads plan (l.summary.0 ++ more ∷ []) p) (sym d.leads) led, omega (arith, l.summary.2, length_push l.summary.0 more));
-        running = λ core h. runs_on core who call source start buffer buffer' page page' None enough l.long (l.running core h) d refl;
+        trace = (l.trace.0 ++ more ∷ [], subst (λ (p : Plan). Leads plan (l.trace.0 ++ more ∷ []) p) (sym d.leads) led, omega (arith, l.trace.2, length_push l.trace.0 more));
+        running = λ core h. runs_on core who call source start buffer buffer' l.trace.0 page page' None enough l.long (l.running core h) d refl;
       }
 
   -- one more event on a ring byte
   loop_on : (page page' : Plain) (buffer buffer' : List ℕ) (count : ℕ) → InLoop first who call source start page buffer count → IsLow (machine_of page who) → IsBeside who page page' →
       EventOn who source page buffer page' buffer' → InLoop first who call source start page' buffer' (count + 1)
   loop_on page page' buffer buffer' count l low beside d =
-      loop_step page page' buffer buffer' count l (is_step who source buffer buffer' page page' low beside d) d.out d.into beside.other
+      loop_step page page' buffer buffer' count l (is_step who source buffer buffer' page page' low beside d) d.payload_left d.buffer_left beside.other
 
   -- a call has made fewer events than it may
   pub loop_short : (page : Plain) (buffer : List ℕ) (count : ℕ) → InLoop first who call source start page buffer count → count < most_events (standing (machine_of first who)) call
   loop_short page buffer count l =
-      omega (arith, l.summary.2, length-Stands (standing (machine_of first who)) call l.summary.0 (machine_of page who) l.summary.1 l.busy)
+      omega (arith, l.trace.2, length-Stands (standing (machine_of first who)) call l.trace.0 (machine_of page who) l.trace.1 l.busy)
 
   -- the last event, with its answer
   module _ (page page' : Plain) (buffer buffer' : List ℕ) (count : ℕ) (answer : Answer) (l : InLoop first who call source start page buffer count) (d : IsStep who source page page' (Some answer) buffer buffer') where
-    pub ends_trace : (events : List PastEvent) × Trace (standing (machine_of first who)) call events answer × (count + 1 ≡ length events)
+    ends : (core : Core) (h : StandsFor core first) → (event (l.running core h).now who, answer) ≡ whole_call core who call (take (payload_of call) source)
+    ends core h = runs_out core who call source start buffer buffer' l.trace.0 page page' (Some answer) enough l.long (l.running core h) d answer refl
+
+    ends_trail : (core : Core) → StandsFor core first → l.trace.0 ++ past (op_of page who) (value_taken (orders_of page) (words_of page) (op_of page who)) ∷ [] ≡ (side_of (called core who call (take (payload_of call) source)) who).trail
+    ends_trail core h =
+        sym (then_trail core who call source start buffer buffer' l.trace.0 page page' (Some answer) enough l.long (l.running core h) d)
+        ∙ ap (λ (p : Core × Answer). (side_of p.0 who).trail) (ends core h)
+
+    pub ends_trace : (events : List PastEvent) × Trace (standing (machine_of first who)) call events answer × (count + 1 ≡ length events) × ((core : Core) → StandsFor core first → events ≡ (side_of (called core who call (take (payload_of call) source)) who).trail)
     ends_trace =
         let value = value_taken (orders_of page) (words_of page) (op_of page who) in
         let more : PastEvent = past (op_of page who) value in
         let plan = plan_of (standing (machine_of first who)) call in
-        let led = Leads-more plan l.summary.0 (rest (machine_of page who)) value (GoesOn-machine (machine_of page who) d.busy) l.summary.1 in
-        (l.summary.0 ++ more ∷ [], subst (λ (p : Plan). Leads plan (l.summary.0 ++ more ∷ []) p) (sym d.leads) led, omega (arith, l.summary.2, length_push l.summary.0 more))
-
-    ends : (core : Core) (h : StandsFor core first) → (event (l.running core h).now who, answer) ≡ whole_call core who call (take (payload_of call) source)
-    ends core h = runs_out core who call source start buffer buffer' page page' (Some answer) enough l.long (l.running core h) d answer refl
+        let led = Leads-more plan l.trace.0 (rest (machine_of page who)) value (GoesOn-machine (machine_of page who) d.busy) l.trace.1 in
+        (l.trace.0 ++ more ∷ [], subst (λ (p : Plan). Leads plan (l.trace.0 ++ more ∷ []) p) (sym d.leads) led, omega (arith, l.trace.2, length_push l.trace.0 more), ends_trail)
 
     pub ends_stands : (core : Core) → StandsFor core first → StandsFor (called core who call (take (payload_of call) source)) page'
     ends_stands core h =
         subst (λ (k : Core). StandsFor k page') (ap (λ (p : Core × Answer). p.0) (ends core h))
-        (then_stands core who call source start buffer buffer' page page' (Some answer) enough l.long (l.running core h) d)
+        (then_stands core who call source start buffer buffer' l.trace.0 page page' (Some answer) enough l.long (l.running core h) d)
 
     pub ends_answer : (core : Core) → StandsFor core first → answer ≡ call_answer core who call (take (payload_of call) source)
     ends_answer core h = ap (λ (p : Core × Answer). p.1) (ends core h)
 
     pub ends_buffer : (core : Core) → StandsFor core first → buffer' ≡ filled start (bytes_loaded (side_of (called core who call (take (payload_of call) source)) who).trail)
     ends_buffer core h =
-        then_fills core who call source start buffer buffer' page page' (Some answer) enough l.long (l.running core h) d
+        then_fills core who call source start buffer buffer' l.trace.0 page page' (Some answer) enough l.long (l.running core h) d
         ∙ ap (λ (p : Core × Answer). filled start (bytes_loaded (side_of p.0 who).trail)) (ends core h)
 
 -- ---- pages between
@@ -223,8 +228,8 @@ stands_same Server page page' b machine words core h = record {
   words = words ∙ h.words;
   server = subst (λ (m : Machine). IsMachineOf core.server m) (sym machine) h.server;
   client = subst (λ (m : Machine). IsMachineOf core.client m) (sym b.other) h.client;
-  left = record { sent = ap (λ (w : Moved). w.sent) b.left ∙ h.left.sent; got = ap (λ (w : Moved). w.got) b.left ∙ h.left.got };
-  right = record { sent = ap (λ (w : Moved). w.sent) b.right ∙ h.right.sent; got = ap (λ (w : Moved). w.got) b.right ∙ h.right.got };
+  left = record { sent = ap (λ (w : Totals). w.sent) b.left ∙ h.left.sent; got = ap (λ (w : Totals). w.got) b.left ∙ h.left.got };
+  right = record { sent = ap (λ (w : Totals). w.sent) b.right ∙ h.right.sent; got = ap (λ (w : Totals). w.got) b.right ∙ h.right.got };
   server_turned = b.turned ∙ h.server_turned;
   client_turned = b.other_turned ∙ h.client_turned;
 }
@@ -233,8 +238,8 @@ stands_same Client page page' b machine words core h = record {
   words = words ∙ h.words;
   server = subst (λ (m : Machine). IsMachineOf core.server m) (sym b.other) h.server;
   client = subst (λ (m : Machine). IsMachineOf core.client m) (sym machine) h.client;
-  left = record { sent = ap (λ (w : Moved). w.sent) b.left ∙ h.left.sent; got = ap (λ (w : Moved). w.got) b.left ∙ h.left.got };
-  right = record { sent = ap (λ (w : Moved). w.sent) b.right ∙ h.right.sent; got = ap (λ (w : Moved). w.got) b.right ∙ h.right.got };
+  left = record { sent = ap (λ (w : Totals). w.sent) b.left ∙ h.left.sent; got = ap (λ (w : Totals). w.got) b.left ∙ h.left.got };
+  right = record { sent = ap (λ (w : Totals). w.sent) b.right ∙ h.right.sent; got = ap (λ (w : Totals). w.got) b.right ∙ h.right.got };
   server_turned = b.other_turned ∙ h.server_turned;
   client_turned = b.turned ∙ h.client_turned;
 }
@@ -243,11 +248,11 @@ loop_same : (first : Plain) (who : Role) (call : Call) (source start : List ℕ)
     IsBeside who page page' → machine_of page' who ≡ machine_of page who → words_of page' ≡ words_of page → buffer' ≡ buffer → InLoop first who call source start page' buffer' count
 loop_same first who call source start page page' buffer buffer' count l b machine words filled = record {
   busy = subst (λ (m : Machine). ¬ IsIdle m) (sym machine) l.busy;
-  out = subst (λ (m : Machine). out_of m ≤ length source) (sym machine) l.out;
-  into = subst (λ (m : Machine). into_of m ≤ length buffer') (sym machine) (omega (arith, l.into, ap (λ (b : List ℕ). length b) filled));
+  payload_left = subst (λ (m : Machine). payload_needed m ≤ length source) (sym machine) l.payload_left;
+  buffer_left = subst (λ (m : Machine). buffer_needed m ≤ length buffer') (sym machine) (omega (arith, l.buffer_left, ap (λ (b : List ℕ). length b) filled));
   long = ap (λ (b : List ℕ). length b) filled ∙ l.long;
   other = b.other ∙ l.other;
-  summary = subst (λ (m : Machine). (events : List PastEvent) × Stands (standing (machine_of first who)) call events m × (count ≡ length events)) (sym machine) l.summary;
+  trace = (l.trace.0, subst (λ (m : Machine). Stands (standing (machine_of first who)) call l.trace.0 m) (sym machine) l.trace.1, l.trace.2);
   running = λ core h. (let r = l.running core h in
       record {
         now = r.now;
@@ -255,6 +260,7 @@ loop_same first who call source start page page' buffer buffer' count l b machin
         pays = r.pays;
         on = subst (λ (m : Machine). alone r.now who (rest m) ≡ whole_call core who call (take (payload_of call) source)) (sym machine) r.on;
         fills = filled ∙ r.fills;
+        trail = r.trail;
       });
 }
 
@@ -290,46 +296,46 @@ busy_at : (who : Role) (page : Plain) (phase : Phase) → ¬ IsIdle (machine_of 
 busy_at Server page phase = λ idle. false≢true (sym idle)
 busy_at Client page phase = λ idle. false≢true (sym idle)
 
-out_of_at : (who : Role) (page : Plain) (phase : Phase) → out_of (machine_of (page_at page who phase) who) ≡ out_at phase
-out_of_at Server page phase = refl
-out_of_at Client page phase = refl
+payload_needed_at : (who : Role) (page : Plain) (phase : Phase) → payload_needed (machine_of (page_at page who phase) who) ≡ payload_at phase
+payload_needed_at Server page phase = refl
+payload_needed_at Client page phase = refl
 
-into_of_at : (who : Role) (page : Plain) (phase : Phase) → into_of (machine_of (page_at page who phase) who) ≡ into_at (read_size (standing (machine_of page who))) phase
-into_of_at Server page phase = refl
-into_of_at Client page phase = refl
+buffer_needed_at : (who : Role) (page : Plain) (phase : Phase) → buffer_needed (machine_of (page_at page who phase) who) ≡ buffer_at (read_size (standing (machine_of page who))) phase
+buffer_needed_at Server page phase = refl
+buffer_needed_at Client page phase = refl
 
 other_of_at : (who : Role) (page : Plain) (phase : Phase) → other_of (page_at page who phase) who ≡ other_of page who
 other_of_at Server page phase = refl
 other_of_at Client page phase = refl
 
-pub loop_out : (first : Plain) (who : Role) (call : Call) (source start : List ℕ) (page : Plain) (phase : Phase) (buffer : List ℕ) (count : ℕ) → InLoop first who call source start (page_at page who phase) buffer count → out_at phase ≤ length source
-loop_out first who call source start page phase buffer count l = subst (λ (n : ℕ). n ≤ length source) (out_of_at who page phase) l.out
+pub loop_payload : (first : Plain) (who : Role) (call : Call) (source start : List ℕ) (page : Plain) (phase : Phase) (buffer : List ℕ) (count : ℕ) → InLoop first who call source start (page_at page who phase) buffer count → payload_at phase ≤ length source
+loop_payload first who call source start page phase buffer count l = subst (λ (n : ℕ). n ≤ length source) (payload_needed_at who page phase) l.payload_left
 
-pub loop_into : (first : Plain) (who : Role) (call : Call) (source start : List ℕ) (page : Plain) (phase : Phase) (buffer : List ℕ) (count : ℕ) → InLoop first who call source start (page_at page who phase) buffer count → into_at (read_size (standing (machine_of page who))) phase ≤ length buffer
-loop_into first who call source start page phase buffer count l = subst (λ (n : ℕ). n ≤ length buffer) (into_of_at who page phase) l.into
+pub loop_buffer : (first : Plain) (who : Role) (call : Call) (source start : List ℕ) (page : Plain) (phase : Phase) (buffer : List ℕ) (count : ℕ) → InLoop first who call source start (page_at page who phase) buffer count → buffer_at (read_size (standing (machine_of page who))) phase ≤ length buffer
+loop_buffer first who call source start page phase buffer count l = subst (λ (n : ℕ). n ≤ length buffer) (buffer_needed_at who page phase) l.buffer_left
 
 -- a call has begun at its first phase
 pub loop_first : (first : Plain) (who : Role) (call : Call) (source start : List ℕ) (phase : Phase) → payload_of call ≤ length source → loaded_most (standing (machine_of first who)) call ≤ length start →
     ((core : Core) (payload : List ℕ) → StandsFor core first → length payload ≡ payload_of call → StandsFor (begun core who call payload) (page_at first who phase)) →
     rest_at (standing (machine_of first who)) phase ≡ plan_of (standing (machine_of first who)) call →
-    out_at phase ≤ payload_of call → into_at (read_size (standing (machine_of first who))) phase ≤ loaded_most (standing (machine_of first who)) call →
+    payload_at phase ≤ payload_of call → buffer_at (read_size (standing (machine_of first who))) phase ≤ loaded_most (standing (machine_of first who)) call →
     InLoop first who call source start (page_at first who phase) start 0
 loop_first first Server call source start phase enough room stands plan out into = record {
   busy = busy_at Server first phase;
-  out = omega (arith, out, enough);
-  into = omega (arith, into, room);
+  payload_left = omega (arith, out, enough);
+  buffer_left = omega (arith, into, room);
   long = refl;
   other = refl;
-  summary = ([], sym plan, refl);
+  trace = ([], sym plan, refl);
   running = λ core h. runs_begun core Server call (take (payload_of call) source) start first (page_at first Server phase) h (stands core (take (payload_of call) source) h (length-payload call source enough)) plan;
 }
 loop_first first Client call source start phase enough room stands plan out into = record {
   busy = busy_at Client first phase;
-  out = omega (arith, out, enough);
-  into = omega (arith, into, room);
+  payload_left = omega (arith, out, enough);
+  buffer_left = omega (arith, into, room);
   long = refl;
   other = refl;
-  summary = ([], sym plan, refl);
+  trace = ([], sym plan, refl);
   running = λ core h. runs_begun core Client call (take (payload_of call) source) start first (page_at first Client phase) h (stands core (take (payload_of call) source) h (length-payload call source enough)) plan;
 }
 
@@ -357,14 +363,14 @@ loop_seen first who call source start enough n page phase phase' buffer count l 
     (record { same = refl; orders = refl; other = refl; turned = refl; other_turned = refl; left = refl; right = refl }) refl d
 
 -- what the loop knows of the event at a phase
-pub record MovesAt (who : Role) (source : List ℕ) (page page' : Plain) (phase : Phase) (move : Move) (buffer buffer' : List ℕ) : Type 0 where
+pub record MovesAt (who : Role) (source : List ℕ) (page page' : Plain) (phase : Phase) (move : Next) (buffer buffer' : List ℕ) : Type 0 where
   pub stands : (core : Core) → StandsFor core (page_at page who phase) → HasPayload (side_of core who) source → StandsFor (event core who) (page_to page' who move)
   pub footprint : Fits (orders_of page) (length source) (length buffer) (next_op (rest_at (standing (machine_of page who)) phase))
   pub buffers : buffer' ≡ buffer_after (orders_of page) (words_of page) buffer (next_op (rest_at (standing (machine_of page who)) phase))
   pub leads : plan_at (standing (machine_of page' who)) move ≡ after (rest_at (standing (machine_of page who)) phase) (value_taken (orders_of page) (words_of page) (next_op (rest_at (standing (machine_of page who)) phase)))
   pub idle : IsIdle (machine_of page' who)
-  pub out : out_move move ≤ out_at phase
-  pub into : into_move (read_size (standing (machine_of page' who))) move ≤ into_at (read_size (standing (machine_of page who))) phase
+  pub payload_left : payload_next move ≤ payload_at phase
+  pub buffer_left : buffer_next (read_size (standing (machine_of page' who))) move ≤ buffer_at (read_size (standing (machine_of page who))) phase
   pub other : other_of page' who ≡ other_of page who
 
 step_to : (who : Role) (source : List ℕ) (page page' : Plain) (phase next : Phase) (buffer buffer' : List ℕ) → MovesAt who source page page' phase (To next) buffer buffer' →
@@ -410,13 +416,13 @@ pub loop_to : (first : Plain) (who : Role) (call : Call) (source start : List �
     InLoop first who call source start (page_at page who phase) buffer count → MovesAt who source page page' phase (To next) buffer buffer' →
     InLoop first who call source start (page_at page' who next) buffer' (count + 1)
 loop_to first Server call source start enough page page' phase next buffer buffer' count l d =
-    loop_step first Server call source start enough (page_at page Server phase) (page_at page' Server next) buffer buffer' count l (step_to Server source page page' phase next buffer buffer' d) d.out d.into d.other
+    loop_step first Server call source start enough (page_at page Server phase) (page_at page' Server next) buffer buffer' count l (step_to Server source page page' phase next buffer buffer' d) d.payload_left d.buffer_left d.other
 loop_to first Client call source start enough page page' phase next buffer buffer' count l d =
-    loop_step first Client call source start enough (page_at page Client phase) (page_at page' Client next) buffer buffer' count l (step_to Client source page page' phase next buffer buffer' d) d.out d.into d.other
+    loop_step first Client call source start enough (page_at page Client phase) (page_at page' Client next) buffer buffer' count l (step_to Client source page page' phase next buffer buffer' d) d.payload_left d.buffer_left d.other
 
 -- a call that has made so many events, the last of which gave this answer
 pub record IsEnded (first : Plain) (who : Role) (call : Call) (source start : List ℕ) (page : Plain) (buffer : List ℕ) (count : ℕ) (answer : Answer) : Type 0 where
-  pub trace : (events : List PastEvent) × Trace (standing (machine_of first who)) call events answer × (count ≡ length events)
+  pub trace : (events : List PastEvent) × Trace (standing (machine_of first who)) call events answer × (count ≡ length events) × ((core : Core) → StandsFor core first → events ≡ (side_of (called core who call (take (payload_of call) source)) who).trail)
   pub short : count ≤ most_events (standing (machine_of first who)) call
   pub stands : (core : Core) → StandsFor core first → StandsFor (called core who call (take (payload_of call) source)) page
   pub answers : (core : Core) → StandsFor core first → answer ≡ call_answer core who call (take (payload_of call) source)

@@ -20,7 +20,7 @@ use Rattle.vchan_protocol.specs.Table.Plan.{Plan, answers, does, next_op, after}
 use Rattle.vchan_protocol.specs.Table.Ends.{Standing, standing_after, written_ring, read_ring, write_order, read_order}
 use Rattle.vchan_protocol.specs.Table.Calls.{put_index, take_index}
 use Rattle.vchan_protocol.specs.Table.Apply.{Fits, words_after, value_taken, buffer_after}
-use Rattle.vchan_core.specs.Machine.Phases.{standing, rest, rest_at}
+use Rattle.vchan_core.specs.OneEnd.Phases.{standing, rest, rest_at}
 use Rattle.vchan_core.specs.WholeCall.EventsMade.{MakesEvent, MakesEvents}
 use Rattle.vchan_protocol.proofs.Table.PlanLaws.{put_bytes-more, take_bytes-more}
 
@@ -68,8 +68,8 @@ put_one m list source buffer i k answer h enough =
       words = sym (ap (λ (o : Op). words_after m.orders list source o) op);
       buffers = sym (ap (λ (o : Op). buffer_after m.orders list buffer o) op);
       fits = subst (λ (o : Op). Fits m.orders (length source) (length buffer) o) (sym op) (place_within (m.prod + i) (write_order (standing m)), omega arith);
-      out = omega arith;
-      into = omega arith;
+      payload_left = omega arith;
+      buffer_left = omega arith;
     }
 
 -- the payload from a byte on
@@ -134,8 +134,8 @@ take_one m list source buffer i k answer h enough =
       words = sym (set-get_or list (index_of m.orders (RingByte ring (take_place m i))) 0) ∙ sym (ap (λ (o : Op). words_after m.orders list source o) op);
       buffers = sym (ap (λ (o : Op). buffer_after m.orders list buffer o) op);
       fits = subst (λ (o : Op). Fits m.orders (length source) (length buffer) o) (sym op) (place_within (m.cons + i) (read_order (standing m)), omega arith);
-      out = omega arith;
-      into = omega arith;
+      payload_left = omega arith;
+      buffer_left = omega arith;
     }
 
 pub take_piece : (m : Machine) (list source buffer : List ℕ) (i k n at : ℕ) (answer : Answer) → i + n ≤ k → k ≤ length buffer →

@@ -7,13 +7,13 @@ use Rattle.ring_words.specs.declared.page.Ring.{Ring}
 use Rattle.ring_words.specs.declared.page.Ring.TheVariants.{Left, Right}
 use Rattle.vchan_core.specs.declared.machine.Machine.{Machine}
 use Rattle.vchan_core.specs.declared.plain.Plain.{Plain}
-use Rattle.vchan_core.specs.declared.moved.Moved.{Moved}
+use Rattle.vchan_core.specs.declared.totals.Totals.{Totals}
 use Rattle.vchan_protocol.specs.declared.op.Op.{Op}
 use Rattle.vchan_protocol.specs.declared.side.Side.{Side}
 use Rattle.vchan_protocol.specs.declared.side.Begun.{Begun}
 use Rattle.vchan_protocol.specs.Table.Plan.{Leads, next_op}
 use Rattle.vchan_protocol.specs.Table.Calls.{plan_of, payload_of}
-use Rattle.vchan_core.specs.Machine.Phases.{standing, rest, IsIdle}
+use Rattle.vchan_core.specs.OneEnd.Phases.{standing, rest, IsIdle}
 use Rattle.vchan_core.specs.Page.Counts.{capped}
 use Rattle.vchan_protocol.specs.History.Core.{Core, writer_of, reader_of, standing_of, begun_standing, standing_along}
 
@@ -41,10 +41,6 @@ abbrev pub other_turned_of : Plain → Role → Bool
 other_turned_of page Server = page.client_turned
 other_turned_of page Client = page.server_turned
 
-abbrev pub moved_of : Plain → Ring → Moved
-moved_of page Left = page.left
-moved_of page Right = page.right
-
 -- the event that comes next at an end
 abbrev pub op_of : Plain → Role → Op
 op_of page who = next_op (rest (machine_of page who))
@@ -63,7 +59,7 @@ pub record IsMachineOf (s : Side) (m : Machine) : Type 0 where
   pub in_call : IsInCall s s.call m
 
 -- the counts are the lengths of the ring's two lists
-pub record IsMovedOf (core : Core) (ring : Ring) (moved : Moved) : Type 0 where
+pub record AreTotalsOf (core : Core) (ring : Ring) (moved : Totals) : Type 0 where
   pub sent : moved.sent ≡ capped (length (writer_of core ring).sent)
   pub got : moved.got ≡ capped (length (reader_of core ring).got)
 
@@ -73,8 +69,8 @@ pub record StandsFor (core : Core) (page : Plain) : Type 0 where
   pub words : words_of page ≡ core.words
   pub server : IsMachineOf core.server page.server
   pub client : IsMachineOf core.client page.client
-  pub left : IsMovedOf core Left page.left
-  pub right : IsMovedOf core Right page.right
+  pub left : AreTotalsOf core Left page.left
+  pub right : AreTotalsOf core Right page.right
   pub server_turned : page.server_turned ≡ core.server.turned
   pub client_turned : page.client_turned ≡ core.client.turned
 

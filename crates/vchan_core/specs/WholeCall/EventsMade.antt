@@ -5,7 +5,7 @@ use Rattle.vchan_core.specs.declared.machine.Machine.{Machine}
 use Rattle.vchan_protocol.specs.Table.Plan.{next_op, after}
 use Rattle.vchan_protocol.specs.Table.Ends.{standing_after}
 use Rattle.vchan_protocol.specs.Table.Apply.{Fits, words_after, value_taken, buffer_after}
-use Rattle.vchan_core.specs.Machine.Phases.{standing, rest, IsIdle, out_of, into_of}
+use Rattle.vchan_core.specs.OneEnd.Phases.{standing, rest, IsIdle, payload_needed, buffer_needed}
 
 -- one event, which leaves the machine's own counts and its state as they are
 pub record MakesEvent (orders : Orders) (source : List ℕ) (m : Machine) (list buffer : List ℕ) (m' : Machine) (list' buffer' : List ℕ) : Type 0 where
@@ -17,8 +17,8 @@ pub record MakesEvent (orders : Orders) (source : List ℕ) (m : Machine) (list 
   pub words : list' ≡ words_after orders list source (next_op (rest m))
   pub buffers : buffer' ≡ buffer_after orders list buffer (next_op (rest m))
   pub fits : Fits orders (length source) (length buffer) (next_op (rest m))
-  pub out : out_of m' ≤ out_of m
-  pub into : into_of m' ≤ into_of m
+  pub payload_left : payload_needed m' ≤ payload_needed m
+  pub buffer_left : buffer_needed m' ≤ buffer_needed m
 
 -- so many such events
 abbrev pub MakesEvents : ℕ → Orders → List ℕ → Machine → List ℕ → List ℕ → Machine → List ℕ → List ℕ → Type 0

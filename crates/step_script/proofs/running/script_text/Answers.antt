@@ -1,14 +1,14 @@
 use Rattle.std.proofs.Common.{◌≡◌, ℕ, List, ap, sym, subst, arith}
 use Rattle.std.proofs.lemmas.Result.{err_from_is_err_and}
-use Rattle.step_script.specs.Grammar.{script_of_lines}
-use Rattle.step_script.specs.LinesLeft.{lines_left}
+use Rattle.step_script.specs.Language.Grammar.{script_of_lines}
+use Rattle.step_script.specs.Parts.LinesLeft.{lines_left}
 use Rattle.vchan_core.specs.Page.StandsFor.{orders_of}
-use Rattle.step_script.specs.Played.{line_done}
-use Rattle.step_script.specs.Players.{Plays}
-use Rattle.step_script.specs.Script.{LineFits}
-use Rattle.step_script.specs.ScriptLines.{line_with, payload_len}
-use Rattle.step_script.proofs.RunningLaws.{running_first, running_fits, running_next, running_refused, running_last}
-use Rattle.step_script.proofs.ScriptLaws.{next_line, next_end, refused_line, refused_next}
+use Rattle.step_script.specs.Meaning.Played.{line_done}
+use Rattle.step_script.specs.Parts.Players.{Plays}
+use Rattle.step_script.specs.Language.Script.{LineFits}
+use Rattle.step_script.specs.Parts.ScriptLines.{line_with, payload_len}
+use Rattle.step_script.proofs.Parts.RunningLaws.{running_first, running_fits, running_next, running_refused, running_last}
+use Rattle.step_script.proofs.Language.ScriptLaws.{next_line, next_end, refused_line, refused_next}
 use Rattle.step_script.proofs.running.script_text.Goals as goal
 
 pub loop-payload-init : goal.loop-payload-init

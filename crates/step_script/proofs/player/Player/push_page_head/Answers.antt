@@ -3,11 +3,11 @@ use Rattle.ring_words.specs.declared.order.Orders.{Orders}
 use Rattle.ring_words.specs.Image.{image_of}
 use Rattle.ring_words.specs.PageWords.{PageWords}
 use Rattle.step_script.specs.declared.player.Player.{Player}
-use Rattle.step_script.specs.Output.{heads}
-use Rattle.step_script.specs.Played.{line_done, prints}
-use Rattle.step_script.specs.Script.{head}
-use Rattle.step_script.proofs.DoesLaws.{on_ok_map}
-use Rattle.step_script.proofs.PlayerLaws.{plays_print}
+use Rattle.step_script.specs.Meaning.Output.{heads}
+use Rattle.step_script.specs.Meaning.Played.{line_done, prints}
+use Rattle.step_script.specs.Language.Script.{head}
+use Rattle.step_script.proofs.Parts.DoesLaws.{on_ok_map}
+use Rattle.step_script.proofs.Parts.PlayerLaws.{plays_print}
 use Rattle.step_script.proofs.player.Player.push_page_head.Goals as goal
 
 same_words : (page : PageWords) (orders : Orders) (words : List ℕ) → page.orders ≡ orders → page.list ≡ words → page ≡ record { orders = orders; list = words }
@@ -17,7 +17,7 @@ same_words page orders words laid held =
 pub returns : goal.returns
 returns c =
     let player = c.args.self.now in
-    let after : Player = record { page = player.page; server = player.server; client = player.client; text = c.push_head.new.out } in
+    let after : Player = record { page = player.page; server = player.server; client = player.client; text = c.push_head.new.payload_left } in
     on_ok_map c.push_head.result c.push_head.ensures
     (plays_print (line_done head) player after (heads (take 24 c.page_image-image.result))
     (λ core stands.
