@@ -1,3 +1,3 @@
-pub mod OneEnd
+pub mod OneMachine
 pub mod Page
 pub mod WholeCall

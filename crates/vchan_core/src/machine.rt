@@ -31,7 +31,7 @@ impl Machine {
     ghost use Rattle.vchan_protocol.specs.Table.Plan.{next_op, after, rest_after, past};
     ghost use Rattle.vchan_protocol.specs.Table.Ends.{Standing, written_ring, read_ring, ask_word, notify_word, peer_live, peer_pending as peer_pending_of, prod_word as prod_word_of, cons_word as cons_word_of, mask as mask_of, own_live, own_gone, own_pending, peer_gone, free_at, ready_at, read_size, standing_after};
     ghost use Rattle.vchan_protocol.specs.Table.Calls.{plan_of, payload_of, loaded_most, IsAllowed};
-    ghost use Rattle.vchan_core.specs.OneEnd.Phases.{standing, rest, rest_at, plan_at, rest_or_answer, IsIdle, Allows, payload_at, buffer_at, payload_needed, buffer_needed, payload_next, buffer_next, Stands, StandsOrAnswered};
+    ghost use Rattle.vchan_core.specs.OneMachine.Phases.{standing, rest, rest_at, plan_at, rest_or_answer, IsIdle, Allows, payload_at, buffer_at, payload_needed, buffer_needed, payload_next, buffer_next, Stands, StandsOrAnswered};
     ghost use Rattle.vchan_protocol.specs.declared.call.Call.{Call};
     ghost use Rattle.vchan_protocol.specs.declared.call.Answer.{Answer};
     ghost use Rattle.vchan_protocol.specs.declared.op.PastEvent.{PastEvent};
@@ -112,7 +112,7 @@ impl Machine {
     }
 
     /// The phase with which a call begins.
-    #[tactic(auto, unfolding(crate::specs::OneEnd::Phases::rest_at))]
+    #[tactic(auto, unfolding(crate::specs::OneMachine::Phases::rest_at))]
     #[inline(always)]
     pub(crate) fn first(&self, call: Call) -> Phase
         ensures plan { rest_at (standing self.now) result ≡ plan_of (standing self.now) call }
@@ -229,7 +229,7 @@ impl Machine {
 
     /// Takes the event of a phase into its own counts and its state: an own index that it stores is
     /// its count, and its own live byte makes its state.
-    #[tactic(auto, using(vchan_protocol::proofs::Table::PlanLaws::bytes_laws), unfolding(vchan_protocol::specs::Table::Ends::standing_after, crate::specs::OneEnd::Phases::rest_at, vchan_protocol::specs::Table::Calls::write, vchan_protocol::specs::Table::Calls::write_open, vchan_protocol::specs::Table::Calls::read, vchan_protocol::specs::Table::Calls::read_live, vchan_protocol::specs::Table::Calls::send, vchan_protocol::specs::Table::Calls::send_open, vchan_protocol::specs::Table::Calls::recv, vchan_protocol::specs::Table::Calls::recv_live, vchan_protocol::specs::Table::Calls::drain, vchan_protocol::specs::Table::Calls::drain_second, vchan_protocol::specs::Table::Calls::drain_live, vchan_protocol::specs::Table::Calls::drain_further, vchan_protocol::specs::Table::Calls::drain_gone, vchan_protocol::specs::Table::Calls::drain_last, vchan_protocol::specs::Table::Calls::connect, vchan_protocol::specs::Table::Calls::connect_right))]
+    #[tactic(auto, using(vchan_protocol::proofs::Table::PlanLaws::bytes_laws), unfolding(vchan_protocol::specs::Table::Ends::standing_after, crate::specs::OneMachine::Phases::rest_at, vchan_protocol::specs::Table::Calls::write, vchan_protocol::specs::Table::Calls::write_open, vchan_protocol::specs::Table::Calls::read, vchan_protocol::specs::Table::Calls::read_live, vchan_protocol::specs::Table::Calls::send, vchan_protocol::specs::Table::Calls::send_open, vchan_protocol::specs::Table::Calls::recv, vchan_protocol::specs::Table::Calls::recv_live, vchan_protocol::specs::Table::Calls::drain, vchan_protocol::specs::Table::Calls::drain_second, vchan_protocol::specs::Table::Calls::drain_live, vchan_protocol::specs::Table::Calls::drain_further, vchan_protocol::specs::Table::Calls::drain_gone, vchan_protocol::specs::Table::Calls::drain_last, vchan_protocol::specs::Table::Calls::connect, vchan_protocol::specs::Table::Calls::connect_right))]
     #[inline(always)]
     fn count(&mut self, phase: Phase)
         ensures standing { standing self.new ≡ standing_after (standing self.old) (next_op (rest_at (standing self.old) phase)) }
@@ -264,7 +264,7 @@ impl Machine {
 
     // ---- the events
 
-    #[tactic(auto, using(vchan_protocol::proofs::Table::PlanLaws::bytes_laws), unfolding(crate::specs::OneEnd::Phases::rest_at, vchan_protocol::specs::Table::Calls::write, vchan_protocol::specs::Table::Calls::write_open, vchan_protocol::specs::Table::Calls::read, vchan_protocol::specs::Table::Calls::read_live, vchan_protocol::specs::Table::Calls::send, vchan_protocol::specs::Table::Calls::send_open, vchan_protocol::specs::Table::Calls::recv, vchan_protocol::specs::Table::Calls::recv_live, vchan_protocol::specs::Table::Calls::drain, vchan_protocol::specs::Table::Calls::drain_second, vchan_protocol::specs::Table::Calls::drain_live, vchan_protocol::specs::Table::Calls::drain_further, vchan_protocol::specs::Table::Calls::drain_gone, vchan_protocol::specs::Table::Calls::drain_last, vchan_protocol::specs::Table::Calls::connect, vchan_protocol::specs::Table::Calls::connect_right))]
+    #[tactic(auto, using(vchan_protocol::proofs::Table::PlanLaws::bytes_laws), unfolding(crate::specs::OneMachine::Phases::rest_at, vchan_protocol::specs::Table::Calls::write, vchan_protocol::specs::Table::Calls::write_open, vchan_protocol::specs::Table::Calls::read, vchan_protocol::specs::Table::Calls::read_live, vchan_protocol::specs::Table::Calls::send, vchan_protocol::specs::Table::Calls::send_open, vchan_protocol::specs::Table::Calls::recv, vchan_protocol::specs::Table::Calls::recv_live, vchan_protocol::specs::Table::Calls::drain, vchan_protocol::specs::Table::Calls::drain_second, vchan_protocol::specs::Table::Calls::drain_live, vchan_protocol::specs::Table::Calls::drain_further, vchan_protocol::specs::Table::Calls::drain_gone, vchan_protocol::specs::Table::Calls::drain_last, vchan_protocol::specs::Table::Calls::connect, vchan_protocol::specs::Table::Calls::connect_right))]
     #[inline(always)]
     fn op_at(&self, phase: Phase) -> Op
         ensures op { result ≡ next_op (rest_at (standing self.now) phase) }
@@ -338,7 +338,7 @@ impl Machine {
 
     /// The event of a put of `count` bytes once `stored` of them are: the bytes come first, and
     /// then the index shows them all at once.
-    #[tactic(auto, using(vchan_protocol::proofs::Table::PlanLaws::bytes_laws), unfolding(crate::specs::OneEnd::Phases::rest_at))]
+    #[tactic(auto, using(vchan_protocol::proofs::Table::PlanLaws::bytes_laws), unfolding(crate::specs::OneMachine::Phases::rest_at))]
     fn put_event(&self, stored: u32, count: u32) -> Op
         ensures op { (answer : Answer) → result ≡ next_op (rest_at (standing self.now) (Phase.Put stored count answer)) }
         ensures some { result ≢ Op.Nothing }
@@ -359,7 +359,7 @@ impl Machine {
 
     /// The event of a take of `count` bytes once `loaded` of them are: the index releases their
     /// places only after all bytes were loaded.
-    #[tactic(auto, using(vchan_protocol::proofs::Table::PlanLaws::bytes_laws), unfolding(crate::specs::OneEnd::Phases::rest_at))]
+    #[tactic(auto, using(vchan_protocol::proofs::Table::PlanLaws::bytes_laws), unfolding(crate::specs::OneMachine::Phases::rest_at))]
     fn take_event(&self, loaded: u32, count: u32) -> Op
         ensures op { (answer : Answer) → result ≡ next_op (rest_at (standing self.now) (Phase.Take loaded count answer)) }
         ensures some { result ≢ Op.Nothing }

@@ -37,7 +37,7 @@ impl Plain {
     ghost use Rattle.vchan_protocol.specs.Table.Plan.{after, next_op, past};
     ghost use Rattle.vchan_protocol.specs.Table.Ends.{Standing, read_size, peer_pending as peer_pending_of};
     ghost use Rattle.vchan_protocol.specs.Table.Calls.{plan_of, payload_of, loaded_most, most_events, Trace};
-    ghost use Rattle.vchan_core.specs.OneEnd.Phases.{standing, at_phase, rest, rest_at, plan_at, rest_or_answer, IsIdle, Allows, payload_needed, buffer_needed, payload_at, buffer_at, payload_next, buffer_next, Stands, StandsOrAnswered};
+    ghost use Rattle.vchan_core.specs.OneMachine.Phases.{standing, at_phase, rest, rest_at, plan_at, rest_or_answer, IsIdle, Allows, payload_needed, buffer_needed, payload_at, buffer_at, payload_next, buffer_next, Stands, StandsOrAnswered};
     ghost use Rattle.vchan_protocol.specs.History.Core.{Core, opened, begun, event, side_of, writer_of, reader_of, plan_next, answer_in, bytes_loaded};
     ghost use Rattle.vchan_core.specs.Page.Counts.{capped};
     ghost use Rattle.ring_words.specs.Page.{index_of};

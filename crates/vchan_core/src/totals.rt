@@ -15,7 +15,7 @@ impl Totals {
     ghost use Rattle.ring_words.specs.Rings.{diff};
     ghost use Rattle.vchan_protocol.specs.Table.Plan.{after, next_op, past};
     ghost use Rattle.vchan_protocol.specs.Table.Ends.{standing_after, Standing};
-    ghost use Rattle.vchan_core.specs.OneEnd.Phases.{standing, rest, rest_or_answer, IsIdle, payload_needed, buffer_needed, Stands, StandsOrAnswered};
+    ghost use Rattle.vchan_core.specs.OneMachine.Phases.{standing, rest, rest_or_answer, IsIdle, payload_needed, buffer_needed, Stands, StandsOrAnswered};
     ghost use Rattle.vchan_core.specs.Page.Counts.{capped};
     ghost use Rattle.vchan_protocol.specs.declared.call.Call.{Call};
     ghost use Rattle.vchan_protocol.specs.declared.op.PastEvent.{PastEvent};

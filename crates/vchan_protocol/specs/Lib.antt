@@ -3,6 +3,8 @@ pub mod History
 pub mod Honest
 pub mod Signals
 pub mod Hostile
-pub mod Lists
 pub mod Always
+pub mod OneEnd
+pub mod Answering
+pub mod Lists
 pub mod Rows

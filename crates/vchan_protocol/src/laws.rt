@@ -1,9 +1,14 @@
 //! Laws of every call, whatever values its events take. A law is a function with no body, whose
 //! contract states it.
+pub mod answers;
+pub mod endings;
 pub mod invariant;
 pub mod lists;
+pub mod one_call;
+pub mod one_end;
 pub mod signals;
 pub mod turned;
+pub mod worked;
 
 ghost use Rattle.vchan_protocol.specs.Rows.WorkedRow.{RowIsAsWorked};
 ghost use Rattle.vchan_protocol.specs.Table.CallLaws.{EachCallEnds, EachCallFits, EachCallMovesAtMost};

@@ -16,10 +16,10 @@ use Rattle.vchan_protocol.specs.Table.Calls.{most_events, plan_of}
 use Rattle.vchan_protocol.specs.History.Core.{Core, side_of, with_side, event, begun_standing, carried_out, answered, plan_left, plan_next, answer_in, made}
 use Rattle.vchan_protocol.specs.Table.Ends.{Standing, read_order, write_order}
 use Rattle.vchan_core.specs.Page.StandsFor.{IsMachineOf}
-use Rattle.vchan_core.specs.OneEnd.Phases.{IsIdle}
+use Rattle.vchan_core.specs.OneMachine.Phases.{IsIdle}
 use Rattle.vchan_protocol.specs.Table.Plan.{EndsWithin, GoesOn, Plan, answers, does, next_op, after, rest_after, past}
 use Rattle.vchan_protocol.proofs.Table.Bounds.{ends_call, more_time}
-use Rattle.vchan_core.proofs.OneEnd.PhaseLaws.{GoesOn-machine}
+use Rattle.vchan_core.proofs.OneMachine.PhaseLaws.{GoesOn-machine}
 use Rattle.vchan_protocol.proofs.History.WholeCallLaws.{alone-after, alone-answers}
 use Rattle.vchan_protocol.proofs.History.EventLaws.{event_by-answers, event_by-on, side_of-with_side}
 use Rattle.vchan_core.proofs.Page.StepLaws.{InCall, in_call, plan_left-is}

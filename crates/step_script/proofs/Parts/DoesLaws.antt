@@ -18,7 +18,7 @@ use Rattle.vchan_protocol.specs.Table.Apply.{filled}
 use Rattle.vchan_protocol.specs.Table.Calls.{payload_of}
 use Rattle.vchan_protocol.specs.History.Core.{Core, side_of, bytes_loaded, begun, plan_left}
 use Rattle.vchan_core.specs.Page.StandsFor.{IsInCall, StandsFor, machine_of, other_of}
-use Rattle.vchan_core.specs.OneEnd.Phases.{IsIdle, payload_needed, buffer_needed, payload_at, buffer_at, standing}
+use Rattle.vchan_core.specs.OneMachine.Phases.{IsIdle, payload_needed, buffer_needed, payload_at, buffer_at, standing}
 use Rattle.vchan_protocol.specs.Table.Ends.{read_size}
 use Rattle.vchan_core.proofs.WholeCall.RunLaws.{machine_stands}
 use Rattle.vchan_protocol.proofs.History.EventLaws.{side_of-with_side}

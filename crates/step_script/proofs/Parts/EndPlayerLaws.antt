@@ -17,12 +17,12 @@ use Rattle.vchan_protocol.specs.Table.Apply.{Fits, value_taken, buffer_after, fi
 use Rattle.vchan_protocol.specs.Table.Calls.{plan_of}
 use Rattle.vchan_protocol.specs.History.Core.{Core, side_of, event, bytes_loaded, begun_standing, plan_next, answer_in, made, settled}
 use Rattle.vchan_core.specs.Page.StandsFor.{StandsFor, HasPayload, IsMachineOf, machine_of, orders_of, words_of, op_of}
-use Rattle.vchan_core.specs.OneEnd.Phases.{rest, rest_or_answer, IsIdle, payload_needed, buffer_needed}
+use Rattle.vchan_core.specs.OneMachine.Phases.{rest, rest_or_answer, IsIdle, payload_needed, buffer_needed}
 use Rattle.vchan_protocol.specs.Table.Plan.{Plan, answers, does, Leads, next_op, after, past}
-use Rattle.vchan_core.proofs.OneEnd.PhaseLaws.{GoesOn-machine}
+use Rattle.vchan_core.proofs.OneMachine.PhaseLaws.{GoesOn-machine}
 use Rattle.vchan_protocol.proofs.Table.PlanLaws.{Leads-more}
 use Rattle.vchan_protocol.proofs.History.WholeCallLaws.{FillsNext, fills_on}
-use Rattle.vchan_core.proofs.WholeCall.RunLaws.{fills_next, machine_stands, side_after}
+use Rattle.vchan_core.proofs.WholeCall.RunLaws.{fills_next, machine_stands, side_of-event}
 use Rattle.vchan_protocol.proofs.History.EventLaws.{settled-payload, settled-trail}
 use Rattle.vchan_core.proofs.Page.StepLaws.{InCall, in_call}
 use Rattle.step_script.specs.declared.player.end_player.EndPlayer.{EndPlayer}
@@ -113,7 +113,7 @@ module _ (core : Core) (who : Role) (page page' : Plain) (end_player end_player'
   then_stands = d.stands core h.stands (has_payload s end_player.payload.items (h.held.payload d.busy))
 
   then_side : side_of (event core who) who ≡ settled (made s op value) plan
-  then_side = side_after core who m here
+  then_side = side_of-event core who m here
 
   then_call : ¬ IsIdle (machine_of page' who) → call_of (side_of (event core who) who) ≡ Some end_player'.call
   then_call busy =
@@ -155,7 +155,7 @@ module _ (core : Core) (who : Role) (page page' : Plain) (end_player end_player'
   pub taken_at_answer : (answer : Answer) → result ≡ Some answer → IsTaken answer (side_of (event core who) who).trail end_player'.buffer.items
   taken_at_answer answer is =
       let b = here.begun in
-      let ended : plan ≡ answers answer = sym then_leads ∙ ap (λ (r : Option Answer). left r (machine_of page' who)) is in
+      let ended : plan ≡ answers answer = sym then_leads ∙ ap (λ (r : Option Answer). rest_or_answer r (machine_of page' who)) is in
       let trace : Leads (plan_of (begun_standing s b) b.call) (s.trail ++ past op value ∷ []) plan = Leads-more (plan_of (begun_standing s b) b.call) s.trail (rest m) value (GoesOn-machine m d.busy) here.led in
       is_taken answer (side_of (event core who) who).trail end_player'.buffer.items then_fills
       (λ k got.

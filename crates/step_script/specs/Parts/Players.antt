@@ -13,7 +13,7 @@ use Rattle.vchan_protocol.specs.declared.side.Side.{Side}
 use Rattle.vchan_protocol.specs.Table.Apply.{filled}
 use Rattle.vchan_protocol.specs.History.Core.{Core, side_of, bytes_loaded}
 use Rattle.vchan_core.specs.Page.StandsFor.{StandsFor, machine_of, other_of}
-use Rattle.vchan_core.specs.OneEnd.Phases.{IsIdle, payload_needed, buffer_needed}
+use Rattle.vchan_core.specs.OneMachine.Phases.{IsIdle, payload_needed, buffer_needed}
 use Rattle.step_script.specs.declared.player.end_player.EndPlayer.{EndPlayer}
 use Rattle.step_script.specs.declared.player.Player.{Player}
 use Rattle.step_script.specs.Meaning.Output.{text_of}

@@ -5,7 +5,7 @@ ghost use Rattle.vchan_protocol.specs.Table.Apply.{filled};
 ghost use Rattle.vchan_protocol.specs.Table.Calls.{IsAllowed, loaded_most, payload_of};
 ghost use Rattle.vchan_protocol.specs.History.Core.{Core, answer_in, bytes_loaded, event as event_of, plan_left, plan_next, side_of};
 ghost use Rattle.vchan_core.specs.Page.StandsFor.{StandsFor, machine_of, other_of, turned_of};
-ghost use Rattle.vchan_core.specs.OneEnd.Phases.{Allows, IsIdle, standing};
+ghost use Rattle.vchan_core.specs.OneMachine.Phases.{Allows, IsIdle, standing};
 ghost use Rattle.step_script.specs.Meaning.Played.{begins_call, call_refusal as call_refusal_of, finished, has_retired as has_retired_of, line_done, makes_call, state_refusal as state_refusal_of, step_refusal as step_refusal_of, stepped, unless_refused};
 ghost use Rattle.step_script.specs.Language.Script.{CallFits, CanSay, begins, calls, finishes, steps};
 ghost use Rattle.step_script.specs.Parts.ScriptLines.{call_with};

@@ -14,13 +14,13 @@ use Rattle.vchan_protocol.specs.Table.Ends.{Standing}
 use Rattle.vchan_protocol.specs.Table.Calls.{payload_of, IsAllowed}
 use Rattle.vchan_protocol.specs.History.Core.{Core, side_of, begun, event, plan_left}
 use Rattle.vchan_protocol.specs.History.WholeCall.{called}
-use Rattle.vchan_core.specs.OneEnd.Phases.{standing, IsIdle, Allows}
+use Rattle.vchan_core.specs.OneMachine.Phases.{standing, IsIdle, Allows}
 use Rattle.vchan_core.specs.Page.StandsFor.{IsInCall, IsMachineOf, StandsFor, machine_of, turned_of}
 use Rattle.vchan_protocol.specs.Honest.RingLaw.{AreBytes}
 use Rattle.vchan_protocol.specs.Honest.Reached.{MayBegin}
 use Rattle.vchan_protocol.specs.Hostile.TurnedLaw.{TurnedLawful}
 use Rattle.vchan_protocol.specs.Always.Invariant.{Invariant}
-use Rattle.vchan_core.proofs.OneEnd.PhaseLaws.{GoesOn-machine}
+use Rattle.vchan_core.proofs.OneMachine.PhaseLaws.{GoesOn-machine}
 use Rattle.vchan_core.proofs.Page.StepLaws.{in_call, plan_left-is}
 use Rattle.vchan_core.proofs.WholeCall.RunLaws.{machine_stands}
 use Rattle.vchan_protocol.proofs.History.WholeCallLaws.{length-payload}
@@ -29,7 +29,7 @@ use Rattle.vchan_protocol.proofs.History.WholeCallSteps.{invariant_called}
 use Rattle.std.proofs.Common.{◌≡◌, ℕ, ◌<◌, ◌≤◌, false, List, length, take, refl, subst, sym, ◌∙◌, arith}
 use Rattle.std.proofs.lemmas.List.{length-take}
 use Rattle.vchan_protocol.specs.Table.Calls.{payload_of, IsAllowed}
-use Rattle.vchan_core.specs.OneEnd.Phases.{standing, Allows}
+use Rattle.vchan_core.specs.OneMachine.Phases.{standing, Allows}
 use Rattle.vchan_core.specs.Page.StandsFor.{IsMachineOf, StandsFor, machine_of}
 use Rattle.vchan_protocol.specs.History.Core.{Core, side_of, standing_of, begun}
 use Rattle.vchan_protocol.specs.History.WholeCall.{called}

@@ -28,13 +28,13 @@ use Rattle.vchan_protocol.specs.Table.Plan.{Plan, answers, does, next_op, after,
 use Rattle.vchan_protocol.specs.Table.Ends.{Standing, standing_after, prod_stored, cons_stored, prod_after, cons_after}
 use Rattle.vchan_protocol.specs.Table.Calls.{plan_of, payload_of, stored_most, loaded_most}
 use Rattle.vchan_protocol.specs.Table.Apply.{words_after, value_taken}
-use Rattle.vchan_core.specs.OneEnd.Phases.{standing, at_phase, rest, rest_at, plan_at, rest_or_answer, IsIdle}
+use Rattle.vchan_core.specs.OneMachine.Phases.{standing, at_phase, rest, rest_at, plan_at, rest_or_answer, IsIdle}
 use Rattle.vchan_protocol.specs.History.Core.{Core, side_of, event, plan_next, begun_standing, standing_of, standing_along, plan_left, made, settled, answered, answer_in, count_stored, bytes_loaded, sent_stored, sent_after, got_stored, got_after}
 use Rattle.vchan_core.specs.Page.Counts.{capped}
 use Rattle.vchan_core.specs.WholeCall.AtPhase.{page_at, page_to}
 use Rattle.vchan_core.specs.Page.StandsFor.{IsInCall, IsMachineOf, HasPayload, StandsFor, orders_of, words_of}
 use Rattle.vchan_protocol.proofs.Table.PlanLaws.{Leads-more, rest_after-Leads}
-use Rattle.vchan_core.proofs.OneEnd.PhaseLaws.{GoesOn-machine}
+use Rattle.vchan_core.proofs.OneMachine.PhaseLaws.{GoesOn-machine}
 use Rattle.vchan_protocol.proofs.Table.Counted.{Counted, OwesIndex, counted_call, counts_within, Counted-Leads}
 use Rattle.vchan_protocol.proofs.History.EventLaws.{owes_next, stored_most-payload, most_small, OwesNext, settled-on, settled-sent, settled-got, settled-turned, standing_of-made, standing_along-push, prod-after, cons-after, diff-same, side_by, event_by}
 
@@ -311,7 +311,7 @@ stands_client core page page' source result h has d orders other server_turned c
     })
 
 -- the answer of a step is what is left of the end's call
-answer_in-rest : (m' : Machine) (result : Option Answer) → (IsSome result ↔ IsIdle m') → answer_in (rest_or_answer result m') ≡ result
+pub answer_in-rest : (m' : Machine) (result : Option Answer) → (IsSome result ↔ IsIdle m') → answer_in (rest_or_answer result m') ≡ result
 answer_in-rest m' (Some answer) idle = refl
 answer_in-rest m' None idle = quiet (rest m') (GoesOn-machine m' (λ q. false≢true (idle.1 q)))
   where

@@ -9,7 +9,7 @@ use Rattle.vchan_core.specs.declared.machine.Machine.{Machine}
 use Rattle.vchan_core.specs.declared.totals.Totals.{Totals}
 use Rattle.vchan_core.specs.declared.plain.Plain.{Plain}
 use Rattle.vchan_protocol.specs.Table.Apply.{words_after, value_taken}
-use Rattle.vchan_core.specs.OneEnd.Phases.{standing, IsIdle}
+use Rattle.vchan_core.specs.OneMachine.Phases.{standing, IsIdle}
 use Rattle.vchan_core.specs.Page.Counts.{capped}
 use Rattle.vchan_protocol.specs.History.Core.{Core, standing_of}
 use Rattle.vchan_core.specs.Page.StandsFor.{IsMachineOf, StandsFor, machine_of, other_of, turned_of, other_turned_of, words_of, orders_of}

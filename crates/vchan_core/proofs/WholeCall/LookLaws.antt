@@ -16,7 +16,7 @@ use Rattle.vchan_protocol.specs.Table.Calls.{write, write_open, write_looked, re
 use Rattle.vchan_protocol.specs.Table.Plan.{Plan, answers, does, next_op, after}
 use Rattle.vchan_protocol.specs.Table.Ends.{Standing, standing_after, read_size, peer_live, cons_word, prod_word, written_ring, read_ring, free_at, ready_at, low8, low32}
 use Rattle.vchan_protocol.specs.Table.Apply.{Fits, words_after, value_taken, buffer_after}
-use Rattle.vchan_core.specs.OneEnd.Phases.{standing, at_phase, rest, rest_at, payload_at, buffer_at}
+use Rattle.vchan_core.specs.OneMachine.Phases.{standing, at_phase, rest, rest_at, payload_at, buffer_at}
 use Rattle.vchan_core.specs.WholeCall.EventsMade.{MakesEvent, MakesEvents}
 
 -- a load leaves the end's standing

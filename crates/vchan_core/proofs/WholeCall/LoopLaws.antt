@@ -21,7 +21,7 @@ use Rattle.vchan_protocol.specs.Table.Plan.{Plan, past, Leads, next_op, after}
 use Rattle.vchan_protocol.specs.Table.Ends.{Standing, read_size}
 use Rattle.vchan_protocol.specs.Table.Calls.{plan_of, payload_of, loaded_most, most_events, Trace}
 use Rattle.vchan_protocol.specs.Table.Apply.{Fits, value_taken, buffer_after, filled}
-use Rattle.vchan_core.specs.OneEnd.Phases.{standing, at_phase, rest, rest_at, plan_at, IsIdle, payload_needed, buffer_needed, payload_at, buffer_at, payload_next, buffer_next, Stands}
+use Rattle.vchan_core.specs.OneMachine.Phases.{standing, at_phase, rest, rest_at, plan_at, IsIdle, payload_needed, buffer_needed, payload_at, buffer_at, payload_next, buffer_next, Stands}
 use Rattle.vchan_core.specs.Page.Counts.{capped}
 use Rattle.vchan_protocol.specs.History.Core.{Core, side_of, begun, event, bytes_loaded}
 use Rattle.vchan_protocol.specs.History.WholeCall.{alone, whole_call, called, call_answer}
@@ -29,13 +29,13 @@ use Rattle.vchan_core.specs.Page.StandsFor.{IsMachineOf, HasPayload, StandsFor, 
 use Rattle.vchan_core.specs.WholeCall.EventsMade.{MakesEvent, MakesEvents}
 use Rattle.vchan_core.specs.WholeCall.Beside.{IsBeside}
 use Rattle.vchan_core.specs.WholeCall.AtPhase.{page_at, page_to}
-use Rattle.vchan_core.proofs.OneEnd.PhaseLaws.{GoesOn-machine}
+use Rattle.vchan_core.proofs.OneMachine.PhaseLaws.{GoesOn-machine}
 use Rattle.vchan_protocol.proofs.Table.PlanLaws.{Leads-more}
 use Rattle.vchan_core.proofs.Page.StepLaws.{DoesEvent, stands_server, stands_client}
 use Rattle.vchan_protocol.proofs.History.EventLaws.{diff-same}
 use Rattle.vchan_core.proofs.WholeCall.RunLaws.{IsRunning, IsStep, runs_begun, runs_on, runs_out, then_stands, then_fills, then_trail}
 use Rattle.vchan_protocol.proofs.History.WholeCallLaws.{length-payload}
-use Rattle.vchan_core.proofs.OneEnd.PhaseLaws.{length-Stands}
+use Rattle.vchan_core.proofs.OneMachine.PhaseLaws.{length-Stands}
 
 -- ---- an event on a ring byte as a step
 

@@ -20,7 +20,7 @@ use Rattle.vchan_protocol.specs.Table.Plan.{Plan, answers, does, next_op, after}
 use Rattle.vchan_protocol.specs.Table.Ends.{Standing, standing_after, written_ring, read_ring, write_order, read_order}
 use Rattle.vchan_protocol.specs.Table.Calls.{put_index, take_index}
 use Rattle.vchan_protocol.specs.Table.Apply.{Fits, words_after, value_taken, buffer_after}
-use Rattle.vchan_core.specs.OneEnd.Phases.{standing, rest, rest_at}
+use Rattle.vchan_core.specs.OneMachine.Phases.{standing, rest, rest_at}
 use Rattle.vchan_core.specs.WholeCall.EventsMade.{MakesEvent, MakesEvents}
 use Rattle.vchan_protocol.proofs.Table.PlanLaws.{put_bytes-more, take_bytes-more}
 

@@ -16,11 +16,11 @@ use Rattle.vchan_protocol.specs.Table.Plan.{past, Plan, answers, next_op, after,
 use Rattle.vchan_protocol.specs.Table.Ends.{Standing}
 use Rattle.vchan_protocol.specs.Table.Calls.{plan_of, payload_of}
 use Rattle.vchan_protocol.specs.Table.Apply.{Fits, words_after, value_taken, buffer_after, filled}
-use Rattle.vchan_core.specs.OneEnd.Phases.{standing, rest, rest_or_answer, IsIdle}
+use Rattle.vchan_core.specs.OneMachine.Phases.{standing, rest, rest_or_answer, IsIdle}
 use Rattle.vchan_protocol.specs.History.Core.{Core, side_of, with_side, event, begun, made, answered, carried_out, bytes_loaded}
 use Rattle.vchan_protocol.specs.History.WholeCall.{alone, whole_call}
 use Rattle.vchan_core.specs.Page.StandsFor.{IsMachineOf, HasPayload, StandsFor, machine_of, orders_of, words_of, op_of}
-use Rattle.vchan_core.proofs.OneEnd.PhaseLaws.{GoesOn-machine}
+use Rattle.vchan_core.proofs.OneMachine.PhaseLaws.{GoesOn-machine}
 use Rattle.vchan_core.proofs.Page.StepLaws.{InCall, in_call, event-by, owed}
 use Rattle.vchan_protocol.proofs.History.EventLaws.{OwesNext, settled-payload, settled-trail, side_by, side_of-with_side, event_by-on, event_by-answers}
 use Rattle.vchan_protocol.proofs.History.WholeCallLaws.{alone-after, alone-answers, FillsNext, fills_on, length-payload}
@@ -81,8 +81,8 @@ fills_next s m c orders out into busy fits = go (next_op (rest m)) (owed s m c b
     go Nothing owes f = tt
 
 -- the end of a core state after its event
-pub side_after : (now : Core) (who : Role) (m : Machine) → InCall (side_of now who) m → side_of (event now who) who ≡ side_by now.orders now.words (side_of now who) (rest m)
-side_after now who m c = ap (λ (k : Core). side_of k who) (event-by now who m c) ∙ side_of-with_side (record now { words = words_after now.orders now.words (side_of now who).payload (next_op (rest m)) }) who _
+pub side_of-event : (now : Core) (who : Role) (m : Machine) → InCall (side_of now who) m → side_of (event now who) who ≡ side_by now.orders now.words (side_of now who) (rest m)
+side_of-event now who m c = ap (λ (k : Core). side_of k who) (event-by now who m c) ∙ side_of-with_side (record now { words = words_after now.orders now.words (side_of now who).payload (next_op (rest m)) }) who _
 
 -- one more event of the call, whether an answer came or not
 module _ (core : Core) (who : Role) (call : Call) (source start buffer buffer' : List ℕ) (events : List PastEvent) (page page' : Plain) (result : Option Answer) (enough : payload_of call ≤ length source) (long : length buffer ≡ length start)
@@ -98,7 +98,7 @@ module _ (core : Core) (who : Role) (call : Call) (source start buffer buffer' :
 
   then_pays : (side_of (event r.now who) who).payload ≡ take (payload_of call) source
   then_pays =
-      ap (λ (s : Side). s.payload) (side_after r.now who (machine_of page who) here) ∙ settled-payload (made (side_of r.now who) _ _) _ ∙ r.pays
+      ap (λ (s : Side). s.payload) (side_of-event r.now who (machine_of page who) here) ∙ settled-payload (made (side_of r.now who) _ _) _ ∙ r.pays
 
   then_leads : rest_or_answer result (machine_of page' who) ≡ after (rest (machine_of page who)) (value_taken r.now.orders r.now.words (next_op (rest (machine_of page who))))
   then_leads =
@@ -113,14 +113,14 @@ module _ (core : Core) (who : Role) (call : Call) (source start buffer buffer' :
       d.buffers ∙ ap (λ (o : Orders). buffer_after o (words_of page) buffer next) r.stands.orders ∙ ap (λ (w : List ℕ). buffer_after r.now.orders w buffer next) r.stands.words
       ∙ ap (λ (b : List ℕ). buffer_after r.now.orders r.now.words b next) r.fills
       ∙ fills_on r.now.orders r.now.words start (side_of r.now who).trail next fits
-      ∙ sym (ap (λ (s : Side). filled start (bytes_loaded s.trail)) (side_after r.now who (machine_of page who) here)
+      ∙ sym (ap (λ (s : Side). filled start (bytes_loaded s.trail)) (side_of-event r.now who (machine_of page who) here)
       ∙ ap (λ (t : List PastEvent). filled start (bytes_loaded t)) (settled-trail (made (side_of r.now who) next (value_taken r.now.orders r.now.words next)) (after (rest (machine_of page who)) (value_taken r.now.orders r.now.words next))))
 
   -- the event of the page, with the value that it took there, stands behind the events before
   pub then_trail : (side_of (event r.now who) who).trail ≡ events ++ past (op_of page who) (value_taken (orders_of page) (words_of page) (op_of page who)) ∷ []
   then_trail =
       let next = next_op (rest (machine_of page who)) in
-      ap (λ (s : Side). s.trail) (side_after r.now who (machine_of page who) here)
+      ap (λ (s : Side). s.trail) (side_of-event r.now who (machine_of page who) here)
       ∙ settled-trail (made (side_of r.now who) next (value_taken r.now.orders r.now.words next)) (after (rest (machine_of page who)) (value_taken r.now.orders r.now.words next))
       ∙ ap (λ (t : List PastEvent). t ++ past next (value_taken r.now.orders r.now.words next) ∷ []) r.trail
       ∙ sym (ap (λ (o : Orders). events ++ past next (value_taken o (words_of page) next) ∷ []) r.stands.orders

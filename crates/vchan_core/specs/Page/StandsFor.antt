@@ -13,7 +13,7 @@ use Rattle.vchan_protocol.specs.declared.side.Side.{Side}
 use Rattle.vchan_protocol.specs.declared.side.Begun.{Begun}
 use Rattle.vchan_protocol.specs.Table.Plan.{Leads, next_op}
 use Rattle.vchan_protocol.specs.Table.Calls.{plan_of, payload_of}
-use Rattle.vchan_core.specs.OneEnd.Phases.{standing, rest, IsIdle}
+use Rattle.vchan_core.specs.OneMachine.Phases.{standing, rest, IsIdle}
 use Rattle.vchan_core.specs.Page.Counts.{capped}
 use Rattle.vchan_protocol.specs.History.Core.{Core, writer_of, reader_of, standing_of, begun_standing, standing_along}
 

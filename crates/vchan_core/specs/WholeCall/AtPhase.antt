@@ -5,7 +5,7 @@ use Rattle.vchan_core.specs.declared.plain.Plain.{Plain}
 use Rattle.vchan_core.specs.declared.phase.Phase.{Phase}
 use Rattle.vchan_core.specs.declared.phase.Next.{Next}
 use Rattle.vchan_core.specs.declared.phase.Next.TheVariants.{To, Done}
-use Rattle.vchan_core.specs.OneEnd.Phases.{at_phase}
+use Rattle.vchan_core.specs.OneMachine.Phases.{at_phase}
 
 -- the page as it would be if the machine of this end had this phase
 abbrev pub page_at : Plain → Role → Phase → Plain

@@ -2,7 +2,7 @@
 use Rattle.std.specs.Prelude.{◌≡◌}
 use Rattle.ring_words.specs.declared.page.Role.{Role}
 use Rattle.vchan_core.specs.declared.plain.Plain.{Plain}
-use Rattle.vchan_core.specs.OneEnd.Phases.{standing}
+use Rattle.vchan_core.specs.OneMachine.Phases.{standing}
 use Rattle.vchan_core.specs.Page.StandsFor.{machine_of, other_of, orders_of, turned_of, other_turned_of}
 
 -- all of the page but its list of words, and where this end is inside its call, is the same

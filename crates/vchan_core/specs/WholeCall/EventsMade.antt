@@ -5,7 +5,7 @@ use Rattle.vchan_core.specs.declared.machine.Machine.{Machine}
 use Rattle.vchan_protocol.specs.Table.Plan.{next_op, after}
 use Rattle.vchan_protocol.specs.Table.Ends.{standing_after}
 use Rattle.vchan_protocol.specs.Table.Apply.{Fits, words_after, value_taken, buffer_after}
-use Rattle.vchan_core.specs.OneEnd.Phases.{standing, rest, IsIdle, payload_needed, buffer_needed}
+use Rattle.vchan_core.specs.OneMachine.Phases.{standing, rest, IsIdle, payload_needed, buffer_needed}
 
 -- one event, which leaves the machine's own counts and its state as they are
 pub record MakesEvent (orders : Orders) (source : List ℕ) (m : Machine) (list buffer : List ℕ) (m' : Machine) (list' buffer' : List ℕ) : Type 0 where

@@ -9,7 +9,7 @@ ghost use Rattle.vchan_protocol.specs.Table.Apply.{Fits, words_after, value_take
 ghost use Rattle.vchan_core.specs.Page.Counts.{capped};
 ghost use Rattle.vchan_protocol.specs.Table.Plan.{next_op, after};
 ghost use Rattle.vchan_protocol.specs.Table.Ends.{read_size, standing_after};
-ghost use Rattle.vchan_core.specs.OneEnd.Phases.{standing, rest_at, plan_at, payload_at, buffer_at, payload_next, buffer_next};
+ghost use Rattle.vchan_core.specs.OneMachine.Phases.{standing, rest_at, plan_at, payload_at, buffer_at, payload_next, buffer_next};
 
 use super::Machine;
 use super::moves::{notified, put_on, take_on};
@@ -74,7 +74,7 @@ impl Machine {
     }
 
     /// The event of a put once all its bytes are stored: the index that shows them all.
-    #[tactic(auto, using(vchan_protocol::proofs::Table::PlanLaws::bytes_laws), unfolding(vchan_protocol::specs::Table::Ends::standing_after, crate::specs::OneEnd::Phases::rest_at))]
+    #[tactic(auto, using(vchan_protocol::proofs::Table::PlanLaws::bytes_laws), unfolding(vchan_protocol::specs::Table::Ends::standing_after, crate::specs::OneMachine::Phases::rest_at))]
     #[inline(always)]
     fn show_bytes(
         &mut self,
@@ -110,7 +110,7 @@ impl Machine {
     }
 
     /// The event of a take once all its bytes are loaded: the index that releases their places.
-    #[tactic(auto, using(vchan_protocol::proofs::Table::PlanLaws::bytes_laws), unfolding(vchan_protocol::specs::Table::Ends::standing_after, crate::specs::OneEnd::Phases::rest_at))]
+    #[tactic(auto, using(vchan_protocol::proofs::Table::PlanLaws::bytes_laws), unfolding(vchan_protocol::specs::Table::Ends::standing_after, crate::specs::OneMachine::Phases::rest_at))]
     #[inline(always)]
     fn release_places(
         &mut self,
@@ -146,7 +146,7 @@ impl Machine {
     }
 
     /// The event after an index: the peer's bit is taken, and where it was set the peer is signalled.
-    #[tactic(auto, using(vchan_protocol::proofs::Table::PlanLaws::bytes_laws), unfolding(vchan_protocol::specs::Table::Ends::standing_after, crate::specs::OneEnd::Phases::rest_at))]
+    #[tactic(auto, using(vchan_protocol::proofs::Table::PlanLaws::bytes_laws), unfolding(vchan_protocol::specs::Table::Ends::standing_after, crate::specs::OneMachine::Phases::rest_at))]
     #[inline(always)]
     fn notify_peer(&self, role: Role, bit: Bit, answer: Answer, words: &mut Words) -> Next
         requires role { self.now.role ≡ role }

@@ -9,7 +9,7 @@ ghost use Rattle.vchan_protocol.specs.declared.op.Op.TheVariants.{Load};
 ghost use Rattle.vchan_core.specs.declared.phase.Phase.{Phase};
 ghost use Rattle.vchan_protocol.specs.Table.Plan.{Plan, does};
 ghost use Rattle.vchan_protocol.specs.Table.Ends.{peer_live, read_size};
-ghost use Rattle.vchan_core.specs.OneEnd.Phases.{standing, at_phase, rest_at, plan_at, payload_at, buffer_at, payload_next, buffer_next};
+ghost use Rattle.vchan_core.specs.OneMachine.Phases.{standing, at_phase, rest_at, plan_at, payload_at, buffer_at, payload_next, buffer_next};
 ghost use Rattle.vchan_core.specs.WholeCall.EventsMade.{MakesEvents};
 
 use super::Machine;

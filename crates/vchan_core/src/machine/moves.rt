@@ -3,7 +3,7 @@ ghost use Rattle.std.specs.Prelude.{◌≡◌, ◌<◌, ◌≤◌, ◌+◌, ◌=
 ghost use Rattle.vchan_protocol.specs.Table.Plan.{answers, next_op, after};
 ghost use Rattle.vchan_protocol.specs.Table.Ends.{read_size, standing_after, free_at, ready_at};
 ghost use Rattle.vchan_protocol.specs.Table.Calls.{ask, look_write, drain_second as drain_second_plan, drain_last as drain_last_plan, write_looked as write_looked_plan, read_looked as read_looked_plan, send_looked as send_looked_plan, recv_looked as recv_looked_plan, drain_found as drain_found_plan, connect_looked as connect_looked_plan};
-ghost use Rattle.vchan_core.specs.OneEnd.Phases.{standing, rest_at, plan_at, payload_at, buffer_at, payload_next, buffer_next};
+ghost use Rattle.vchan_core.specs.OneMachine.Phases.{standing, rest_at, plan_at, payload_at, buffer_at, payload_next, buffer_next};
 ghost use Rattle.std.specs.Prelude.{ℕ};
 ghost use Rattle.vchan_protocol.specs.Table.Ends.{Standing, low8 as low8_of, mask as mask_of};
 ghost use Rattle.vchan_protocol.specs.Table.Calls.{look_read, drain_further as drain_further_plan, drain_gone as drain_gone_plan, signal};
@@ -15,7 +15,7 @@ use vchan_protocol::{Answer, Bit};
 
 impl Machine {
     /// What comes of the next event where it takes this value.
-    #[tactic(auto, using(vchan_protocol::proofs::Table::PlanLaws::bytes_laws), unfolding(vchan_protocol::specs::Table::Ends::standing_after, crate::specs::OneEnd::Phases::rest_at, vchan_protocol::specs::Table::Calls::write, vchan_protocol::specs::Table::Calls::write_open, vchan_protocol::specs::Table::Calls::read, vchan_protocol::specs::Table::Calls::read_live, vchan_protocol::specs::Table::Calls::send, vchan_protocol::specs::Table::Calls::send_open, vchan_protocol::specs::Table::Calls::recv, vchan_protocol::specs::Table::Calls::recv_live, vchan_protocol::specs::Table::Calls::drain, vchan_protocol::specs::Table::Calls::drain_second, vchan_protocol::specs::Table::Calls::drain_live, vchan_protocol::specs::Table::Calls::drain_further, vchan_protocol::specs::Table::Calls::drain_gone, vchan_protocol::specs::Table::Calls::drain_last, vchan_protocol::specs::Table::Calls::connect, vchan_protocol::specs::Table::Calls::connect_right))]
+    #[tactic(auto, using(vchan_protocol::proofs::Table::PlanLaws::bytes_laws), unfolding(vchan_protocol::specs::Table::Ends::standing_after, crate::specs::OneMachine::Phases::rest_at, vchan_protocol::specs::Table::Calls::write, vchan_protocol::specs::Table::Calls::write_open, vchan_protocol::specs::Table::Calls::read, vchan_protocol::specs::Table::Calls::read_live, vchan_protocol::specs::Table::Calls::send, vchan_protocol::specs::Table::Calls::send_open, vchan_protocol::specs::Table::Calls::recv, vchan_protocol::specs::Table::Calls::recv_live, vchan_protocol::specs::Table::Calls::drain, vchan_protocol::specs::Table::Calls::drain_second, vchan_protocol::specs::Table::Calls::drain_live, vchan_protocol::specs::Table::Calls::drain_further, vchan_protocol::specs::Table::Calls::drain_gone, vchan_protocol::specs::Table::Calls::drain_last, vchan_protocol::specs::Table::Calls::connect, vchan_protocol::specs::Table::Calls::connect_right))]
     #[inline(always)]
     pub(super) fn next_of(&self, phase: Phase, value: u64) -> Next
         ensures plan { let e = standing self.now in plan_at (standing_after e (next_op (rest_at e phase))) result ≡ after (rest_at e phase) value }
@@ -80,7 +80,7 @@ impl Machine {
     }
 
     /// A write that has looked once: where there is too little room it asks, and looks again.
-    #[tactic(auto, unfolding(crate::specs::OneEnd::Phases::rest_at))]
+    #[tactic(auto, unfolding(crate::specs::OneMachine::Phases::rest_at))]
     #[inline(always)]
     pub(super) fn write_found(&self, len: u32, cons: u32) -> Next
         ensures plan { let e = standing self.now in plan_at e result ≡ (if nat_lt (free_at e cons) len then ask e Bit.Consumed (look_write e (write_looked_plan e len)) else write_looked_plan e len cons) }
@@ -94,7 +94,7 @@ impl Machine {
     }
 
     /// A send that has looked once.
-    #[tactic(auto, unfolding(crate::specs::OneEnd::Phases::rest_at))]
+    #[tactic(auto, unfolding(crate::specs::OneMachine::Phases::rest_at))]
     fn send_found(&self, len: u32, cons: u32) -> Next
         ensures plan { let e = standing self.now in plan_at e result ≡ (if nat_lt (free_at e cons) len then ask e Bit.Consumed (look_write e (send_looked_plan e len)) else send_looked_plan e len cons) }
         ensures payload_left { payload_next result ≤ len }
@@ -107,7 +107,7 @@ impl Machine {
     }
 
     /// A read that has looked once: where too few bytes wait it asks, and looks again.
-    #[tactic(auto, unfolding(crate::specs::OneEnd::Phases::rest_at))]
+    #[tactic(auto, unfolding(crate::specs::OneMachine::Phases::rest_at))]
     #[inline(always)]
     pub(super) fn read_found(&self, most: u32, prod: u32) -> Next
         ensures plan { let e = standing self.now in plan_at e result ≡ (if nat_lt (ready_at e prod) most then ask e Bit.Written (look_read e (read_looked_plan e most)) else read_looked_plan e most prod) }
@@ -121,7 +121,7 @@ impl Machine {
     }
 
     /// A recv that has looked once.
-    #[tactic(auto, unfolding(crate::specs::OneEnd::Phases::rest_at))]
+    #[tactic(auto, unfolding(crate::specs::OneMachine::Phases::rest_at))]
     fn recv_found(&self, len: u32, prod: u32) -> Next
         ensures plan { let e = standing self.now in plan_at e result ≡ (if nat_lt (ready_at e prod) len then ask e Bit.Written (look_read e (recv_looked_plan e len)) else recv_looked_plan e len prod) }
         ensures payload_left { payload_next result ≡ 0 }
@@ -134,7 +134,7 @@ impl Machine {
     }
 
     /// A write that has looked for the last time.
-    #[tactic(auto, unfolding(crate::specs::OneEnd::Phases::rest_at, vchan_protocol::specs::Table::Calls::write_looked))]
+    #[tactic(auto, unfolding(crate::specs::OneMachine::Phases::rest_at, vchan_protocol::specs::Table::Calls::write_looked))]
     fn write_looked(&self, len: u32, cons: u32) -> Next
         ensures plan { plan_at (standing self.now) result ≡ write_looked_plan (standing self.now) len cons }
         ensures payload_left { payload_next result ≤ len }
@@ -158,7 +158,7 @@ impl Machine {
         })
     }
 
-    #[tactic(auto, unfolding(crate::specs::OneEnd::Phases::rest_at, vchan_protocol::specs::Table::Calls::read_looked))]
+    #[tactic(auto, unfolding(crate::specs::OneMachine::Phases::rest_at, vchan_protocol::specs::Table::Calls::read_looked))]
     fn read_looked(&self, most: u32, prod: u32) -> Next
         ensures plan { plan_at (standing self.now) result ≡ read_looked_plan (standing self.now) most prod }
         ensures payload_left { payload_next result ≡ 0 }
@@ -176,7 +176,7 @@ impl Machine {
         })
     }
 
-    #[tactic(auto, unfolding(crate::specs::OneEnd::Phases::rest_at, vchan_protocol::specs::Table::Calls::send_looked))]
+    #[tactic(auto, unfolding(crate::specs::OneMachine::Phases::rest_at, vchan_protocol::specs::Table::Calls::send_looked))]
     fn send_looked(&self, len: u32, cons: u32) -> Next
         ensures plan { plan_at (standing self.now) result ≡ send_looked_plan (standing self.now) len cons }
         ensures payload_left { payload_next result ≤ len }
@@ -195,7 +195,7 @@ impl Machine {
         })
     }
 
-    #[tactic(auto, unfolding(crate::specs::OneEnd::Phases::rest_at, vchan_protocol::specs::Table::Calls::recv_looked))]
+    #[tactic(auto, unfolding(crate::specs::OneMachine::Phases::rest_at, vchan_protocol::specs::Table::Calls::recv_looked))]
     fn recv_looked(&self, len: u32, prod: u32) -> Next
         ensures plan { plan_at (standing self.now) result ≡ recv_looked_plan (standing self.now) len prod }
         ensures payload_left { payload_next result ≡ 0 }
@@ -211,7 +211,7 @@ impl Machine {
         })
     }
 
-    #[tactic(auto, unfolding(crate::specs::OneEnd::Phases::rest_at))]
+    #[tactic(auto, unfolding(crate::specs::OneMachine::Phases::rest_at))]
     fn drain_found(&self, most: u32, prod: u32, none: Next) -> Next
         ensures plan { plan_at (standing self.now) result ≡ drain_found_plan (standing self.now) most prod (plan_at (standing self.now) none) }
         ensures payload_left { payload_next result ≤ payload_next none }
@@ -229,7 +229,7 @@ impl Machine {
         })
     }
 
-    #[tactic(auto, unfolding(crate::specs::OneEnd::Phases::rest_at))]
+    #[tactic(auto, unfolding(crate::specs::OneMachine::Phases::rest_at))]
     fn connect_looked(&self, left: u16, right: u16) -> Next
         ensures plan { plan_at (standing self.now) result ≡ connect_looked_plan (standing self.now) left right }
         ensures payload_left { payload_next result ≡ 0 }
@@ -242,7 +242,7 @@ impl Machine {
     }
 
     /// A drain's second look: where still nothing waits, the live byte is next.
-    #[tactic(auto, unfolding(crate::specs::OneEnd::Phases::rest_at, vchan_protocol::specs::Table::Calls::drain_second))]
+    #[tactic(auto, unfolding(crate::specs::OneMachine::Phases::rest_at, vchan_protocol::specs::Table::Calls::drain_second))]
     fn drain_second(&self, most: u32, prod: u32) -> Next
         ensures plan { plan_at (standing self.now) result ≡ drain_second_plan (standing self.now) most prod }
         ensures payload_left { payload_next result ≡ 0 }
@@ -252,7 +252,7 @@ impl Machine {
     }
 
     /// A drain's look after it saw its peer closed: only now an equal index says that all was read.
-    #[tactic(auto, unfolding(crate::specs::OneEnd::Phases::rest_at, vchan_protocol::specs::Table::Calls::drain_further))]
+    #[tactic(auto, unfolding(crate::specs::OneMachine::Phases::rest_at, vchan_protocol::specs::Table::Calls::drain_further))]
     fn drain_further(&self, most: u32, prod: u32) -> Next
         ensures plan { plan_at (standing self.now) result ≡ drain_further_plan (standing self.now) most prod }
         ensures payload_left { payload_next result ≡ 0 }
@@ -265,7 +265,7 @@ impl Machine {
     }
 
     /// A drain that found nothing and loaded its peer's gone word.
-    #[tactic(auto, unfolding(crate::specs::OneEnd::Phases::rest_at))]
+    #[tactic(auto, unfolding(crate::specs::OneMachine::Phases::rest_at))]
     fn drain_gone(&self, most: u32, prod: u32, value: u64) -> Next
         ensures plan { let e = standing self.now in plan_at e result ≡ (if value == 0 then answers (Answer.NotYet prod e.cons) else look_read e (drain_last_plan e most)) }
         ensures payload_left { payload_next result ≡ 0 }
@@ -281,7 +281,7 @@ impl Machine {
     }
 
     /// A drain's last look, after it saw its peer gone.
-    #[tactic(auto, unfolding(crate::specs::OneEnd::Phases::rest_at, vchan_protocol::specs::Table::Calls::drain_last))]
+    #[tactic(auto, unfolding(crate::specs::OneMachine::Phases::rest_at, vchan_protocol::specs::Table::Calls::drain_last))]
     fn drain_last(&self, most: u32, prod: u32) -> Next
         ensures plan { plan_at (standing self.now) result ≡ drain_last_plan (standing self.now) most prod }
         ensures payload_left { payload_next result ≡ 0 }
@@ -308,7 +308,7 @@ pub(super) fn if_alive(value: u64, alive: Next) -> Next
 }
 
 /// A drain that found nothing twice and loaded its peer's live byte.
-#[tactic(auto, unfolding(crate::specs::OneEnd::Phases::rest_at))]
+#[tactic(auto, unfolding(crate::specs::OneMachine::Phases::rest_at))]
 fn drain_live(most: u32, prod: u32, value: u64) -> Next
     ensures plan { (e : Standing) → plan_at e result ≡ (if low8_of value == 0 then look_read e (drain_further_plan e most) else drain_gone_plan e most prod) }
     ensures payload_left { payload_next result ≡ 0 }
@@ -359,7 +359,7 @@ pub(super) fn take_on(at: u32, count: u32, answer: Answer) -> Next
 }
 
 /// A peer that had asked is signalled.
-#[tactic(auto, unfolding(crate::specs::OneEnd::Phases::rest_at))]
+#[tactic(auto, unfolding(crate::specs::OneMachine::Phases::rest_at))]
 #[inline(always)]
 pub(super) fn notified(bit: Bit, answer: Answer, value: u64) -> Next
     ensures plan { (e : Standing) → plan_at e result ≡ (if bit_and value (mask_of bit) == 0 then answers answer else signal e (answers answer)) }

@@ -4,7 +4,7 @@
 //! thread sees, can't tell the difference.
 ghost use Rattle.std.specs.Prelude.{◌≡◌, ◌<◌, ◌≤◌, ◌+◌, ◌^◌, ℕ, List, length};
 ghost use Rattle.vchan_protocol.specs.Table.Ends.{read_size};
-ghost use Rattle.vchan_core.specs.OneEnd.Phases.{standing, at_phase, payload_at, buffer_at};
+ghost use Rattle.vchan_core.specs.OneMachine.Phases.{standing, at_phase, payload_at, buffer_at};
 ghost use Rattle.vchan_protocol.specs.declared.call.Answer.{Answer};
 ghost use Rattle.vchan_core.specs.declared.phase.Phase.{Phase};
 ghost use Rattle.vchan_core.specs.WholeCall.EventsMade.{MakesEvents};

@@ -15,21 +15,22 @@ use Rattle.vchan_protocol.specs.declared.call.Call.{Call}
 use Rattle.vchan_protocol.specs.declared.side.Side.{Side}
 use Rattle.vchan_protocol.specs.declared.side.Begun.{Begun}
 use Rattle.vchan_protocol.specs.Table.Plan.{Plan, answers, does, GoesOn, next_op, after}
-use Rattle.vchan_protocol.specs.Table.Ends.{Standing, prod_after, cons_after, prod_stored, cons_stored, written_ring, read_ring}
+use Rattle.vchan_protocol.specs.Table.Ends.{prod_after, cons_after, prod_stored, cons_stored, written_ring, read_ring}
 use Rattle.vchan_protocol.specs.Table.Calls.{payload_of, IsAllowed}
 use Rattle.vchan_protocol.specs.Table.Apply.{words_after, word_of, leaves, value_taken}
-use Rattle.vchan_protocol.specs.History.Core.{Core, side_of, with_side, event, begun, begins, plan_left, op_next, taken_next, plan_next, begun_standing, standing_of, made, settled, sent_after, sent_stored, got_after, got_stored, bytes_loaded, count_stored}
+use Rattle.vchan_protocol.specs.History.Core.{Core, side_of, with_side, event, begun, begins, plan_left, op_next, taken_next, plan_next, begun_standing, standing_of, made, settled, side_after, sent_after, sent_stored, got_after, got_stored, bytes_loaded, count_stored}
 use Rattle.vchan_protocol.specs.Hostile.Turned.{turns, turned_side, strays, strayed}
 use Rattle.vchan_protocol.specs.Honest.RingLaw.{index_at, IsPrefixOf, CallLawful, AreBytes}
 use Rattle.vchan_protocol.specs.Honest.Lawful.{Lawful, Honest, IsEnd}
 use Rattle.vchan_protocol.specs.History.Peer.{peer}
-use Rattle.vchan_protocol.specs.History.TrailSummary.{TrailSummary, summary}
-use Rattle.vchan_protocol.specs.Hostile.TurnedLaw.{TurnedLawful, KeepsCounts, ConsumedLawful, ListsStand, ListsGrow, LiesAtCount, OwnCount, turned_core}
+use Rattle.vchan_protocol.specs.History.TrailSummary.{summary}
+use Rattle.vchan_protocol.specs.Hostile.TurnedLaw.{TurnedLawful, KeepsCounts, ConsumedLawful, ListsStand, ListsGrow, LiesAtCount, turned_core}
 use Rattle.vchan_protocol.proofs.Table.Counted.{OwesIndex, counts_within}
 use Rattle.vchan_protocol.proofs.History.EventLaws.{OwesNext, stored_most-payload}
-use Rattle.vchan_protocol.proofs.Table.Sound.{OwesSound, OwesStored}
+use Rattle.vchan_protocol.proofs.Table.Sound.{OwesSound}
 use Rattle.vchan_protocol.proofs.Honest.EndSteps.{InLawful, in_lawful, owes_now, counts_now, call_begins, call_goes_on}
 use Rattle.vchan_protocol.proofs.Honest.LifeSteps.{got_grows}
+use Rattle.vchan_protocol.proofs.OneEnd.IndexLaws.{stores_own}
 
 -- ---- the own counts of an end
 
@@ -62,16 +63,12 @@ few_stored s i =
     let e = begun_standing s i.begun in
     omega (arith, (counts_within e i.begun.call s.trail (plan_left s) i.led).0, i.lawful.pays, stored_most-payload e i.begun.call)
 
--- an end after its next event, with the value that it takes
-abbrev next_side : Side → ℕ → Side
-next_side s taken = settled (made s (next_op (plan_left s)) taken) (after (plan_left s) taken)
-
 settled_counts : (start : ℕ) (s : Side) (plan : Plan) → s.prod ≡ index_at start (length s.sent) → s.cons ≡ index_at start (length s.got) → CallLawful (settled s plan) → KeepsCounts start (settled s plan)
 settled_counts start s (answers answer) prod cons call = record { prod = prod; cons = cons; call = call }
 settled_counts start s (does op next) prod cons call = record { prod = prod; cons = cons; call = call }
 
 -- an honest end keeps its counts, whatever value it takes
-counts_go_on : (start : ℕ) (s : Side) (taken : ℕ) → KeepsCounts start s → GoesOn (plan_left s) → KeepsCounts start (next_side s taken)
+pub counts_go_on : (start : ℕ) (s : Side) (taken : ℕ) → KeepsCounts start s → GoesOn (plan_left s) → KeepsCounts start (side_after s taken)
 counts_go_on start s taken h more =
     let i = in_lawful s h.call more in
     settled_counts start (made s (next_op (plan_left s)) taken) (after (plan_left s) taken)
@@ -81,13 +78,13 @@ counts_go_on start s taken h more =
 
 -- ---- what an event leaves of an end
 
-record Stays (before after_event : Side) : Type 0 where
-  role : after_event.role ≡ before.role
-  orders : after_event.orders ≡ before.orders
-  turned : after_event.turned ≡ before.turned
-  consumed : after_event.consumed ≡ before.consumed
-  sent : IsPrefixOf before.sent after_event.sent
-  got : IsPrefixOf before.got after_event.got
+pub record Stays (before after_event : Side) : Type 0 where
+  pub role : after_event.role ≡ before.role
+  pub orders : after_event.orders ≡ before.orders
+  pub turned : after_event.turned ≡ before.turned
+  pub consumed : after_event.consumed ≡ before.consumed
+  pub sent : IsPrefixOf before.sent after_event.sent
+  pub got : IsPrefixOf before.got after_event.got
 
 sent_grows : (op : Op) (s : Side) → IsPrefixOf s.sent (sent_after op s)
 sent_grows (Store word value) s = go word s.role
@@ -98,7 +95,7 @@ sent_grows (Store word value) s = go word s.role
     go _ role = ([], append-nil s.sent)
 sent_grows _ s = ([], append-nil s.sent)
 
-stays_next : (s : Side) (op : Op) (taken : ℕ) (plan : Plan) → Stays s (settled (made s op taken) plan)
+pub stays_next : (s : Side) (op : Op) (taken : ℕ) (plan : Plan) → Stays s (settled (made s op taken) plan)
 stays_next s op taken (answers answer) = record { role = refl; orders = refl; turned = refl; consumed = refl; sent = sent_grows op s; got = got_grows op s }
 stays_next s op taken (does next_does next) = record { role = refl; orders = refl; turned = refl; consumed = refl; sent = sent_grows op s; got = got_grows op s }
 
@@ -197,10 +194,10 @@ turned-turned_side s consumed = go s.turned refl
     go true is = is
     go false is = refl
 
-turned_side-honest : (s : Side) (consumed : ℕ) → s.turned ≡ false → turned_side s consumed ≡ turns s consumed
+pub turned_side-honest : (s : Side) (consumed : ℕ) → s.turned ≡ false → turned_side s consumed ≡ turns s consumed
 turned_side-honest s consumed honest = ap (λ (b : Bool). cond b s (turns s consumed)) honest
 
-turned_side-given : (s : Side) (consumed : ℕ) → s.turned ≡ true → turned_side s consumed ≡ s
+pub turned_side-given : (s : Side) (consumed : ℕ) → s.turned ≡ true → turned_side s consumed ≡ s
 turned_side-given s consumed given = ap (λ (b : Bool). cond b s (turns s consumed)) given
 
 -- the ring of a writer that is turned now
@@ -308,20 +305,6 @@ stray_keeps core Client op = (refl, turned-turned_side core.client (length core.
 unmoved : (flag : Bool) (moved_to before now : ℕ) → flag ≡ false → now ≡ cond flag moved_to before → now ≡ before
 unmoved flag moved_to before now still is = is ∙ ap (λ (b : Bool). cond b moved_to before) still
 
-stored_count : (word : WordName) (s : Side) (e : Standing) (n : TrailSummary) (value : ℕ) → OwesStored word s.role e n value → OwnCount word s value
-stored_count word s e n value owes = go word s.role owes
-  where
-    go : (word : WordName) (role : Role) → OwesStored word role e n value → OwnCount word (record s { role = role }) value
-    go LeftProd Client owes = omega (arith, owes.is)
-    go RightProd Server owes = omega (arith, owes.is)
-    go LeftCons Server owes = omega (arith, owes.is)
-    go RightCons Client owes = omega (arith, owes.is)
-    go LeftProd Server owes = absurd owes
-    go RightProd Client owes = absurd owes
-    go LeftCons Client owes = absurd owes
-    go RightCons Server owes = absurd owes
-    go _ role owes = tt
-
 pub lies_at_count : (s : Side) → CallLawful s → GoesOn (plan_left s) → LiesAtCount s (op_next s)
 lies_at_count s lawful more = go (op_next s) (owes_now s i more) (counts_now s i more)
   where
@@ -333,7 +316,7 @@ lies_at_count s lawful more = go (op_next s) (owes_now s i more) (counts_now s i
         (counts.0, owes.word_is ∙ ap (λ (n : ℕ). RingByte (written_ring s.role) (place (n + at) (order_of s.orders (written_ring s.role)))) (sym (unmoved (summary s.role s.trail).shown _ i.begun.prod s.prod owes.not_shown i.lawful.prod)))
     go (LoadByte word at) owes counts =
         (counts.0, owes.word_is ∙ ap (λ (n : ℕ). RingByte (read_ring s.role) (place (n + at) (order_of s.orders (read_ring s.role)))) (sym (unmoved (summary s.role s.trail).released _ i.begun.cons s.cons owes.not_released i.lawful.cons)))
-    go (Store word value) owes counts = stored_count word s (begun_standing s i.begun) (summary s.role s.trail) value owes
+    go (Store word value) owes counts = stores_own s i word value owes
     go (Load word) owes counts = tt
     go (Or word bits) owes counts = tt
     go (And word bits) owes counts = tt

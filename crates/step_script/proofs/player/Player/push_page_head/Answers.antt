@@ -17,7 +17,7 @@ same_words page orders words laid held =
 pub returns : goal.returns
 returns c =
     let player = c.args.self.now in
-    let after : Player = record { page = player.page; server = player.server; client = player.client; text = c.push_head.new.payload_left } in
+    let after : Player = record { page = player.page; server = player.server; client = player.client; text = c.push_head.new.out } in
     on_ok_map c.push_head.result c.push_head.ensures
     (plays_print (line_done head) player after (heads (take 24 c.page_image-image.result))
     (λ core stands.

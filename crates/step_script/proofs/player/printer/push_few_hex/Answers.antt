@@ -6,11 +6,11 @@ use Rattle.step_script.proofs.Parts.HexLaws.{encode_more, encode_none}
 use Rattle.step_script.proofs.player.printer.push_few_hex.Goals as goal
 
 pub loop-byte-init : goal.loop-byte-init
-loop-byte-init c = sym (ap (λ (l : List ℕ). c.args.payload_left.now.items ++ l) (encode_none lower_digits []) ∙ append-nil c.args.payload_left.now.items)
+loop-byte-init c = sym (ap (λ (l : List ℕ). c.args.out.now.items ++ l) (encode_none lower_digits []) ∙ append-nil c.args.out.now.items)
 
 pub loop-byte-preserved : goal.loop-byte-preserved
 loop-byte-preserved c =
-    let old : List ℕ = c.args.payload_left.now.items in
+    let old : List ℕ = c.args.out.now.items in
     let byte : ℕ = get_or c.args.bytes.now c.loop-byte.byte-index 0 in
     let pair : List ℕ = slice_index lower_digits (byte / 16) ∷ slice_index lower_digits (byte % 16) ∷ [] in
     c.in_ok-extend_from_slice.ensures.items

@@ -3,4 +3,4 @@ use Rattle.hex.specs.Hex.{encode_lower}
 use Rattle.step_script.proofs.player.printer.push_few_hex.Given as goal
 
 abbrev pub invariant-loop-byte : goal.invariant-loop-byte
-invariant-loop-byte l = l.payload_left.items ≡ l.fn.payload_left.items ++ encode_lower (take l.byte-index l.bytes)
+invariant-loop-byte l = l.out.items ≡ l.fn.out.items ++ encode_lower (take l.byte-index l.bytes)

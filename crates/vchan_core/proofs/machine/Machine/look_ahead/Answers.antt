@@ -1,4 +1,4 @@
-use Rattle.vchan_core.specs.OneEnd.Phases.{at_phase}
+use Rattle.vchan_core.specs.OneMachine.Phases.{at_phase}
 use Rattle.vchan_core.proofs.WholeCall.LookLaws.{makes_all}
 use Rattle.vchan_core.proofs.machine.Machine.look_ahead.Goals as goal
 

@@ -4,7 +4,7 @@ use Rattle.ring_words.specs.declared.order.Orders.{Orders}
 use Rattle.ring_words.specs.declared.page.Ring.{Ring}
 use Rattle.ring_words.specs.declared.page.WordName.{WordName}
 use Rattle.vchan_protocol.specs.Table.Ends.{prod_word, read_ring, low32}
-use Rattle.vchan_core.specs.OneEnd.Phases.{standing}
+use Rattle.vchan_core.specs.OneMachine.Phases.{standing}
 use Rattle.vchan_protocol.proofs.Table.Counted.{has_look_read}
 use Rattle.vchan_core.proofs.WholeCall.LookLaws.{read_next, read_is}
 use Rattle.vchan_core.proofs.machine.Machine.read_look.Goals as goal

@@ -2,7 +2,7 @@ use Rattle.std.proofs.Common.{◌≡◌, ◌≤◌, refl, subst, slice_index}
 use Rattle.ring_words.specs.Page.{index_of}
 use Rattle.vchan_core.specs.declared.phase.Next.{Next}
 use Rattle.vchan_protocol.specs.Table.Ends.{read_size}
-use Rattle.vchan_core.specs.OneEnd.Phases.{standing, plan_at, payload_at, buffer_at, payload_next, buffer_next}
+use Rattle.vchan_core.specs.OneMachine.Phases.{standing, plan_at, payload_at, buffer_at, payload_next, buffer_next}
 use Rattle.vchan_core.proofs.WholeCall.LookLaws.{look_one}
 use Rattle.vchan_core.proofs.machine.Machine.seen.Goals as goal
 

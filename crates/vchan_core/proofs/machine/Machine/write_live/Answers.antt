@@ -3,7 +3,7 @@ use Rattle.ring_words.specs.Page.{index_of}
 use Rattle.ring_words.specs.declared.order.Orders.{Orders}
 use Rattle.ring_words.specs.declared.page.WordName.{WordName}
 use Rattle.vchan_protocol.specs.Table.Ends.{peer_live, read_size}
-use Rattle.vchan_core.specs.OneEnd.Phases.{standing}
+use Rattle.vchan_core.specs.OneMachine.Phases.{standing}
 use Rattle.vchan_protocol.proofs.Table.Counted.{has_peer_live}
 use Rattle.vchan_core.proofs.WholeCall.LookLaws.{live_next, live_is, alive_is}
 use Rattle.vchan_core.proofs.machine.Machine.write_live.Goals as goal

@@ -1,6 +1,6 @@
 use Rattle.std.proofs.Common.{◌≡◌, ℕ, ◌+◌, ◌-◌}
 use Rattle.vchan_protocol.specs.Table.Calls.{most_events}
-use Rattle.vchan_core.specs.OneEnd.Phases.{standing, IsIdle}
+use Rattle.vchan_core.specs.OneMachine.Phases.{standing, IsIdle}
 use Rattle.vchan_core.specs.Page.StandsFor.{machine_of}
 use Rattle.vchan_core.specs.WholeCall.AtPhase.{page_at}
 use Rattle.vchan_core.proofs.WholeCall.LoopLaws.{InLoop}

@@ -8,7 +8,7 @@ use Rattle.vchan_protocol.specs.Table.Plan.{next_op, after}
 use Rattle.vchan_protocol.specs.Table.Apply.{Fits, words_after, value_taken}
 use Rattle.vchan_protocol.specs.History.Core.{Core, answer_in, plan_next}
 use Rattle.vchan_core.specs.Page.StandsFor.{machine_of, orders_of, words_of, StandsFor}
-use Rattle.vchan_core.specs.OneEnd.Phases.{rest, IsIdle, payload_needed, buffer_needed}
+use Rattle.vchan_core.specs.OneMachine.Phases.{rest, IsIdle, payload_needed, buffer_needed}
 use Rattle.vchan_protocol.proofs.History.EventLaws.{Fits-more}
 use Rattle.vchan_core.proofs.Page.StepLaws.{DoesEvent, stands_server, stands_client, answer_is, keeps_orders, keeps_role}
 use Rattle.vchan_core.proofs.Page.PlainLaws.{invariant_step}

@@ -1,7 +1,7 @@
 use Rattle.std.proofs.Common.{◌≡◌, ◌-◌}
 use Rattle.vchan_protocol.specs.History.Core.{Core}
 use Rattle.vchan_core.specs.Page.StandsFor.{machine_of, other_of}
-use Rattle.vchan_core.specs.OneEnd.Phases.{IsIdle}
+use Rattle.vchan_core.specs.OneMachine.Phases.{IsIdle}
 use Rattle.step_script.specs.Parts.Players.{IsAt}
 use Rattle.step_script.proofs.Parts.EndPlayerLaws.{IsAdvancing}
 use Rattle.step_script.proofs.player.end_player.EndPlayer.advance.Given as goal

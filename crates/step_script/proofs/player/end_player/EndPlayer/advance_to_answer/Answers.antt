@@ -5,7 +5,7 @@ use Rattle.vchan_core.specs.declared.plain.Plain.{Plain}
 use Rattle.vchan_protocol.specs.History.Core.{Core, plan_left, side_of}
 use Rattle.vchan_protocol.specs.History.WholeCall.{alone}
 use Rattle.vchan_core.specs.Page.StandsFor.{machine_of}
-use Rattle.vchan_core.specs.OneEnd.Phases.{IsIdle}
+use Rattle.vchan_core.specs.OneMachine.Phases.{IsIdle}
 use Rattle.vchan_core.proofs.WholeCall.RunLaws.{machine_stands}
 use Rattle.step_script.specs.declared.player.end_player.EndPlayer.{EndPlayer}
 use Rattle.step_script.specs.Meaning.Played.{stepped}

@@ -7,7 +7,7 @@ use Rattle.step_script.proofs.player.end_player.EndPlayer.finish.Goals as goal
 pub returns-in-Some : goal.returns-in-Some
 returns-in-Some c =
     on_ok_map c.push_refusal.result c.push_refusal.ensures
-    (does_refused c.args.who (λ (core : Core). step_refusal (side_of core c.args.who)) (finished c.args.who) c.args.page.now c.args.self.now c.args.text.now.items c.push_refusal.new.payload_left.items c.in-Some.why
+    (does_refused c.args.who (λ (core : Core). step_refusal (side_of core c.args.who)) (finished c.args.who) c.args.page.now c.args.self.now c.args.text.now.items c.push_refusal.new.out.items c.in-Some.why
     (λ core stands. sym c.in-Some.is ∙ c.step_refusal.ensures.refusal core stands))
 
 pub returns : goal.returns

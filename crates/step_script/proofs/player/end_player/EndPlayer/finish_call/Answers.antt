@@ -3,7 +3,7 @@ use Rattle.std.proofs.lemmas.Bool.{false≢true}
 use Rattle.vchan_core.specs.declared.machine.Machine.{Machine}
 use Rattle.vchan_protocol.specs.declared.side.Begun.{Begun}
 use Rattle.vchan_core.specs.Page.StandsFor.{machine_of}
-use Rattle.vchan_core.specs.OneEnd.Phases.{IsIdle}
+use Rattle.vchan_core.specs.OneMachine.Phases.{IsIdle}
 use Rattle.std.proofs.Common.{Option}
 use Rattle.step_script.specs.Meaning.Output.{answered, line_text}
 use Rattle.step_script.specs.Meaning.Played.{finished, finishes_call}
@@ -21,7 +21,7 @@ returns-clause-does c =
     let busy : ¬ IsIdle (machine_of c.args.page.now c.args.who) =
     λ idle. false≢true (sym c.if-idle.false ∙ c.idle.ensures.1 (subst (λ (m : Machine). IsIdle m) (sym c.machine.ensures) idle)) in
     on_ok_map c.push_answer.result c.push_answer.ensures (λ printed.
-    does_finish c.args.who c.args.page.now call.new.page c.args.self.now call.new.self c.args.text.now.items c.push_answer.new.payload_left.items call.result busy call.ensures.at call.ensures.answer call.ensures.taken call.ensures.other call.ensures.call
+    does_finish c.args.who c.args.page.now call.new.page c.args.self.now call.new.self c.args.text.now.items c.push_answer.new.out.items call.result busy call.ensures.at call.ensures.answer call.ensures.taken call.ensures.other call.ensures.call
     (printed ∙ ap (λ (l : List ℕ). c.args.text.now.items ++ line_text (answered c.args.who call.new.self.call call.result (got_front call.result l))) c.as_slice.ensures.value))
 
 pub returns-clause-idle : goal.returns-clause-idle

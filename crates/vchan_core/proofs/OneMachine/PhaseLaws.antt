@@ -7,7 +7,7 @@ use Rattle.vchan_core.specs.declared.phase.Phase.TheVariants.{Put, Take}
 use Rattle.vchan_protocol.specs.Table.Plan.{answers, GoesOn}
 use Rattle.vchan_protocol.specs.Table.Ends.{Standing}
 use Rattle.vchan_protocol.specs.Table.Calls.{write, write_open, read, read_live, send, send_open, recv, recv_live, drain, drain_second, drain_live, drain_further, drain_gone, drain_last, connect, connect_right, plan_of, most_events}
-use Rattle.vchan_core.specs.OneEnd.Phases.{rest_at, rest, standing, IsIdle, Stands}
+use Rattle.vchan_core.specs.OneMachine.Phases.{rest_at, rest, standing, IsIdle, Stands}
 use Rattle.vchan_protocol.specs.declared.op.PastEvent.{PastEvent}
 use Rattle.vchan_protocol.specs.declared.call.Call.{Call}
 use Rattle.vchan_protocol.proofs.Table.PlanLaws.{GoesOn-put_bytes, GoesOn-take_bytes}
