@@ -1,5 +1,5 @@
 -- Each step of a page, by honest ends and by hostile users, keeps what holds of it, and what stands at its end.
-use Rattle.std.proofs.Common.{◌≡◌, ◌≢◌, ℕ, ◌^◌, ◌<◌, Bool, true, false, List, length, refl, subst, sym, ap, ◌∙◌, arith}
+use Rattle.std.proofs.Common.{◌≡◌, ◌≢◌, ℕ, ◌^◌, ◌<◌, Bool, true, false, cond, List, length, refl, subst, sym, ap, ◌∙◌, arith}
 use Rattle.std.proofs.lemmas.Bool.{false≢true}
 use Rattle.ring_words.specs.declared.order.Orders.{Orders}
 use Rattle.ring_words.specs.declared.page.Role.{Role}
@@ -9,15 +9,15 @@ use Rattle.vchan_core.specs.declared.call.Call.{Call}
 use Rattle.vchan_core.specs.declared.call.EndState.{EndState}
 use Rattle.vchan_core.specs.declared.call.EndState.TheVariants.{Shut}
 use Rattle.vchan_core.specs.declared.side.Side.{Side}
-use Rattle.vchan_core.specs.Plan.{GoesOn}
-use Rattle.vchan_core.specs.Core.{Core, opened, begun, event, side_of, plan_left}
-use Rattle.vchan_core.specs.Turned.{strayed}
+use Rattle.vchan_core.specs.Plan.{Plan, answers, does, GoesOn}
+use Rattle.vchan_core.specs.Core.{Core, opened, begun, event, side_of, plan_left, plan_next, op_next, taken_next, made, settled}
+use Rattle.vchan_core.specs.Turned.{strayed, turns, given_up}
 use Rattle.vchan_core.specs.Lawful.{Lawful, Honest}
 use Rattle.vchan_core.specs.Reached.{MayBegin, opens as reaches}
 use Rattle.vchan_core.specs.Peer.{peer}
 use Rattle.vchan_core.specs.SignalLaw.{HasEnds}
 use Rattle.vchan_core.specs.TurnedLaw.{TurnedLawful, turning}
-use Rattle.vchan_core.specs.Kept.{Kept, MayCome, opens, begins_call, makes_event, is_given_up, strays, PageSettled}
+use Rattle.vchan_core.specs.Kept.{Kept, RetiredIsSetOnce, MayCome, opens, begins_call, makes_event, is_given_up, strays, PageSettled}
 use Rattle.vchan_core.proofs.LawfulSteps.{lawful_opened, lawful_event, lawful_begun}
 use Rattle.vchan_core.proofs.SignalLaws.{event_keeps, begin_keeps, no_signal_lost}
 use Rattle.vchan_core.proofs.TurnedSteps.{turned_event, turned_begin, first_turn, second_turn, stray, event_grows, turned-given_up, turning_again}
@@ -116,6 +116,35 @@ kept_strayed core who op h = record {
   lawful = λ both. absurd (not_honest (strayed core who op) who (strayed_given core who op) both);
   signals = λ both. absurd (not_honest (strayed core who op) who (strayed_given core who op) both);
   turned = stray core who op (turned_turning core who h);
+}
+
+-- ---- retirement
+
+retired_settled : (s : Side) (plan : Plan) → (settled s plan).retired ≡ s.retired
+retired_settled s (answers answer) = refl
+retired_settled s (does op next) = refl
+
+retired-given_up : (s : Side) (consumed : ℕ) → (given_up s consumed).retired ≡ s.retired
+retired-given_up s consumed = go s.turned
+  where
+    go : (b : Bool) → (cond b s (turns s consumed)).retired ≡ s.retired
+    go true = refl
+    go false = refl
+
+-- an end is retired by its own store to its gone word, and by nothing else
+pub retires_once : (core : Core) (who : Role) → RetiredIsSetOnce core who
+unfolding event
+retires_once core Server = record {
+  event = retired_settled (made core.server (op_next core.server) (taken_next core Server)) (plan_next core Server);
+  begin = λ call payload. refl;
+  turn = retired-given_up core.server (length core.client.got);
+  stray = λ op. retired-given_up core.server (length core.client.got);
+}
+retires_once core Client = record {
+  event = retired_settled (made core.client (op_next core.client) (taken_next core Client)) (plan_next core Client);
+  begin = λ call payload. refl;
+  turn = retired-given_up core.client (length core.server.got);
+  stray = λ op. retired-given_up core.client (length core.server.got);
 }
 
 -- ---- all that may happen

@@ -81,6 +81,7 @@ new_side role orders start state = record {
   ended = None;
   misled = false;
   drained = false;
+  retired = false;
   turned = false;
   consumed = 0;
   notes = nothing_noted;
@@ -184,6 +185,20 @@ abbrev pub saw_after : Op → ℕ → Side → Bool
 saw_after (Load word) taken s = s.saw || (not (is_shut s.state) && sees_end word s.role taken)
 saw_after _ taken s = s.saw
 
+-- the event stores to the gone word of this end
+abbrev pub sets_gone_word : WordName → Role → Bool
+sets_gone_word SrvGone Server = true
+sets_gone_word CliGone Client = true
+sets_gone_word _ role = false
+
+abbrev pub sets_gone : Op → Role → Bool
+sets_gone (Store word value) role = sets_gone_word word role
+sets_gone _ role = false
+
+-- an end is retired from its store to its own gone word on
+abbrev pub retired_after : Op → Side → Bool
+retired_after op s = sets_gone op s.role || s.retired
+
 -- ---- what an event adds to the notes of its end
 
 -- the peer's index is loaded: it counts where the end has asked
@@ -220,6 +235,7 @@ made s op taken = record s {
   sent = sent_after op s;
   got = got_after op s;
   saw = saw_after op taken s;
+  retired = retired_after op s;
   notes = noted op s.role taken s.notes;
 }
 

@@ -11,11 +11,11 @@ use Rattle.vchan_core.specs.declared.call.EndState.TheVariants.{Shut}
 use Rattle.vchan_core.specs.declared.side.Side.{Side}
 use Rattle.vchan_core.specs.Plan.{GoesOn}
 use Rattle.vchan_core.specs.Ends.{own_gone}
-use Rattle.vchan_core.specs.Core.{Core, opened, begun, event, side_of, plan_left, op_next}
+use Rattle.vchan_core.specs.Core.{Core, opened, begun, event, side_of, plan_left, op_next, sets_gone, retired_after}
 use Rattle.vchan_core.specs.Alone.{called}
 use Rattle.vchan_core.specs.Turned.{strayed}
 use Rattle.vchan_core.specs.RingLaw.{IsPrefixOf}
-use Rattle.vchan_core.specs.LifeLaw.{SaysOrders, sets_gone}
+use Rattle.vchan_core.specs.LifeLaw.{SaysOrders, TellsGone}
 use Rattle.vchan_core.specs.Lawful.{Lawful, Honest}
 use Rattle.vchan_core.specs.Peer.{held}
 use Rattle.vchan_core.specs.Reached.{MayBegin}
@@ -72,6 +72,21 @@ abbrev pub GoneIsSetOnce : Type 0
 GoneIsSetOnce =
     (core : Core) (who whose : Role) → Kept core → Honest core → GoesOn (plan_left (side_of core who)) →
     held (event core who) (own_gone whose) ≡ (if sets_gone (op_next (side_of core who)) whose then 1 else held core (own_gone whose))
+
+-- between honest ends a gone word is 1 exactly where its end is retired, and else 0; a retired end is shut
+abbrev pub GoneTellsRetired : Type 0
+GoneTellsRetired = (core : Core) (who : Role) → Kept core → Honest core → TellsGone (held core (own_gone who)) (side_of core who).retired (side_of core who).state
+
+-- an end is retired by its own store to its gone word, and by nothing else that may come: a begin of a call, its being given up and a hostile user's
+-- events leave it retired or not
+pub record RetiredIsSetOnce (core : Core) (who : Role) : Type 0 where
+  pub event : (side_of (event core who) who).retired ≡ retired_after (op_next (side_of core who)) (side_of core who)
+  pub begin : (call : Call) (payload : List ℕ) → (side_of (begun core who call payload) who).retired ≡ (side_of core who).retired
+  pub turn : (side_of (turning core who) who).retired ≡ (side_of core who).retired
+  pub stray : (op : Op) → (side_of (strayed core who op) who).retired ≡ (side_of core who).retired
+
+abbrev pub EachRetiresOnce : Type 0
+EachRetiresOnce = (core : Core) (who : Role) → RetiredIsSetOnce core who
 
 -- so it holds whatever happens
 abbrev pub EachIsKept : Type 0
