@@ -20,7 +20,7 @@ use Rattle.vchan_core.specs.Past.{StandsFor, HasPayload, IsMachineOf, machine_of
 use Rattle.vchan_core.specs.Phases.{rest, left, IsIdle, out_of, into_of}
 use Rattle.vchan_core.specs.Plan.{Plan, answers, does, Leads, next_op, after, past}
 use Rattle.vchan_core.proofs.PlanLaws.{GoesOn-machine, Leads-more}
-use Rattle.vchan_core.proofs.RunLaws.{FillsNext, fills_next, fills_on, machine_stands, settled-payload, settled-trail, side_after}
+use Rattle.vchan_core.proofs.RunLaws.{FillsNext, fills_next, fills_on, machine_stands, settled-payload, settled-trail, side_of-event}
 use Rattle.vchan_core.proofs.StepLaws.{InCall, in_call}
 use Rattle.step_script.specs.declared.hand.Hand.{Hand}
 use Rattle.step_script.specs.Played.{bytes_got, stepped, unless_answered}
@@ -110,7 +110,7 @@ module _ (core : Core) (who : Role) (page page' : Plain) (hand hand' : Hand) (re
   then_stands = d.stands core h.stands (has_payload s hand.payload.items (h.held.payload d.busy))
 
   then_side : side_of (event core who) who ≡ settled (made s op value) plan
-  then_side = side_after core who m here
+  then_side = side_of-event core who m here
 
   then_call : ¬ IsIdle (machine_of page' who) → call_of (side_of (event core who) who) ≡ Some hand'.call
   then_call busy =

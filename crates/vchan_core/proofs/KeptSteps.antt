@@ -158,7 +158,7 @@ each_kept core (strays before who op there) = kept_strayed before who op (each_k
 
 -- ---- the end of a page
 
-pub page_settles : (core : Core) → Kept core → PageSettled core
+pub page_settles : (core : Core) → Kept core → PageSettled core.orders core.said core.server core.client
 page_settles core h = record {
   left = record {
     prefix = λ w r. (h.lawful (r, w)).left.lawful.prefix;
@@ -174,6 +174,6 @@ page_settles core h = record {
     ended = λ w r. (h.lawful (w, r)).lives.right.ended;
     consumed = h.turned.right;
   };
-  not_both_saw = λ both. (h.lawful both).lives.not_both_saw;
-  none_misled = λ both. (h.lawful both).lives.none_misled;
+  not_both_saw = λ s c. (h.lawful (s, c)).lives.not_both_saw;
+  none_misled = λ s c. (h.lawful (s, c)).lives.none_misled;
 }

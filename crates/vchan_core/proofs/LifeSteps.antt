@@ -29,7 +29,7 @@ use Rattle.vchan_core.specs.Ends.{Standing, state_after, cons_after, own_live, o
 use Rattle.vchan_core.specs.Calls.{plan_of}
 use Rattle.vchan_core.specs.Apply.{words_after, value_taken}
 use Rattle.vchan_core.specs.Page.{live_word}
-use Rattle.vchan_core.specs.Core.{Core, opened, side_of, event, begun, begins, plan_left, plan_next, op_next, taken_next, begun_standing, made, settled, answered, saw_after, sent_after, sent_stored, got_after, got_stored, bytes_loaded, is_shut, sees_end, sets_gone, ending, drains, misleads, first_ended}
+use Rattle.vchan_core.specs.Core.{Core, opened, side_of, event, begun, begins, plan_left, plan_next, op_next, taken_next, begun_standing, made, settled, side_after, answered, saw_after, sent_after, sent_stored, got_after, got_stored, bytes_loaded, is_shut, sees_end, sets_gone, ending, drains, misleads, first_ended}
 use Rattle.vchan_core.specs.RingLaw.{index_at, word_at, IsPrefixOf, RingLawful, CallLawful, IsLawfulIn, IsLawfulCall}
 use Rattle.vchan_core.specs.LifeLaw.{LifeLawful, SightLawful, StreamLawful, TellsGone, SaysOrders, OrdersGive, OrderGives, LooksGive, LookGives, LoadGives, shows_end, has_seen}
 use Rattle.vchan_core.specs.Peer.{peer, held}
@@ -498,7 +498,7 @@ ReadsOn : ℕ → Order → List ℕ → ℕ → List ℕ → Type 0
 ReadsOn start order sent cons got = (cons ≡ index_at start (length got)) × IsPrefixOf got sent × (length sent ≤ length got + size order)
 
 side_then : Orders → List ℕ → Side → Side
-side_then orders words s = settled (made s (op_next s) (value_taken orders words (op_next s))) (after (plan_left s) (value_taken orders words (op_next s)))
+side_then orders words s = side_after s (value_taken orders words (op_next s))
 
 acts_between : (role : Role) (start : ℕ) (said : ℕ × ℕ) (orders : Orders) (words : List ℕ) (mine theirs : Side) → CallLawful mine → GoesOn (plan_left mine) → 14 ≤ length words → mine.role ≡ role → mine.orders ≡ orders →
     Between role start said orders words mine theirs → word_at orders words (prod_word (read_ring role)) ≡ index_at start (length theirs.sent) →

@@ -78,7 +78,7 @@ bytes_loaded-push [] op taken = append-nil (loaded_by op taken)
 bytes_loaded-push (event ∷ events) op taken =
     ap (λ (xs : List ℕ). loaded_by event.op event.taken ++ xs) (bytes_loaded-push events op taken) ∙ sym (append_assoc (loaded_by event.op event.taken) (bytes_loaded events) (loaded_by op taken))
 
-set_next : (bytes buffer : List ℕ) (value : ℕ) → length bytes < length buffer → slice_set (bytes ++ drop (length bytes) buffer) (length bytes) value ≡ filled buffer (bytes ++ value ∷ [])
+pub set_next : (bytes buffer : List ℕ) (value : ℕ) → length bytes < length buffer → slice_set (bytes ++ drop (length bytes) buffer) (length bytes) value ≡ filled buffer (bytes ++ value ∷ [])
 set_next bytes buffer value within =
     let n = length bytes in
     let more : suc n ≡ length (bytes ++ value ∷ []) = omega (arith, length-append bytes (value ∷ [])) in
@@ -167,8 +167,8 @@ settled-trail s (answers answer) = refl
 settled-trail s (does op next) = refl
 
 -- the end of a core state after its event
-pub side_after : (now : Core) (who : Role) (m : Machine) → InCall (side_of now who) m → side_of (event now who) who ≡ side_by now.orders now.words (side_of now who) (rest m)
-side_after now who m c = ap (λ (k : Core). side_of k who) (event-by now who m c) ∙ side_of-with_side (record now { words = words_after now.orders now.words (side_of now who).payload (next_op (rest m)) }) who _
+pub side_of-event : (now : Core) (who : Role) (m : Machine) → InCall (side_of now who) m → side_of (event now who) who ≡ side_by now.orders now.words (side_of now who) (rest m)
+side_of-event now who m c = ap (λ (k : Core). side_of k who) (event-by now who m c) ∙ side_of-with_side (record now { words = words_after now.orders now.words (side_of now who).payload (next_op (rest m)) }) who _
 
 -- one more event of the call, whether an answer came or not
 module _ (core : Core) (who : Role) (call : Call) (source start buffer buffer' : List ℕ) (page page' : Plain) (result : Option Answer) (enough : payload_of call ≤ length source) (long : length buffer ≡ length start)
@@ -184,7 +184,7 @@ module _ (core : Core) (who : Role) (call : Call) (source start buffer buffer' :
 
   then_pays : (side_of (event r.now who) who).payload ≡ take (payload_of call) source
   then_pays =
-      ap (λ (s : Side). s.payload) (side_after r.now who (machine_of page who) here) ∙ settled-payload (made (side_of r.now who) _ _) _ ∙ r.pays
+      ap (λ (s : Side). s.payload) (side_of-event r.now who (machine_of page who) here) ∙ settled-payload (made (side_of r.now who) _ _) _ ∙ r.pays
 
   then_leads : left result (machine_of page' who) ≡ after (rest (machine_of page who)) (value_taken r.now.orders r.now.words (next_op (rest (machine_of page who))))
   then_leads =
@@ -199,7 +199,7 @@ module _ (core : Core) (who : Role) (call : Call) (source start buffer buffer' :
       d.buffers ∙ ap (λ (o : Orders). buffer_after o (words_of page) buffer next) r.stands.orders ∙ ap (λ (w : List ℕ). buffer_after r.now.orders w buffer next) r.stands.words
       ∙ ap (λ (b : List ℕ). buffer_after r.now.orders r.now.words b next) r.fills
       ∙ fills_on r.now.orders r.now.words start (side_of r.now who).trail next fits
-      ∙ sym (ap (λ (s : Side). filled start (bytes_loaded s.trail)) (side_after r.now who (machine_of page who) here)
+      ∙ sym (ap (λ (s : Side). filled start (bytes_loaded s.trail)) (side_of-event r.now who (machine_of page who) here)
       ∙ ap (λ (t : List PastEvent). filled start (bytes_loaded t)) (settled-trail (made (side_of r.now who) next (value_taken r.now.orders r.now.words next)) (after (rest (machine_of page who)) (value_taken r.now.orders r.now.words next))))
 
   pub runs_on : result ≡ None → IsRunning core who call (take (payload_of call) source) start page' buffer'

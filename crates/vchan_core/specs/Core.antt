@@ -289,6 +289,10 @@ abbrev pub settled : Side → Plan → Side
 settled s (answers answer) = answered s answer
 settled s (does op next) = s
 
+-- an end after the next event of its call, which took this value, and after its answer where that was the last event
+abbrev pub side_after : Side → ℕ → Side
+side_after s taken = settled (made s (op_next s) taken) (after (plan_left s) taken)
+
 -- the event that an end makes next, the value that it takes, and what is left of its call then
 abbrev pub taken_next : Core → Role → ℕ
 taken_next core who = value_taken core.orders core.words (op_next (side_of core who))
@@ -300,4 +304,4 @@ plan_next core who = after (plan_left (side_of core who)) (taken_next core who)
 unfoldable pub event : Core → Role → Core
 event core who =
     with_side (record core { words = words_after core.orders core.words (side_of core who).payload (op_next (side_of core who)) }) who
-    (settled (made (side_of core who) (op_next (side_of core who)) (taken_next core who)) (plan_next core who))
+    (side_after (side_of core who) (taken_next core who))

@@ -105,12 +105,12 @@ pub record StreamSettled (size : ℕ) (writer reader : Side) : Type 0 where
 
 -- what stands of a page: of its rings, and of two honest ends that not each saw the other shut, and that none was misled where the order words
 -- of the start were the page's orders
-pub record PageSettled (core : Core) : Type 0 where
-  pub left : StreamSettled (size core.orders.left) core.client core.server
-  pub right : StreamSettled (size core.orders.right) core.server core.client
-  pub not_both_saw : Honest core → ¬ ((core.server.saw ≡ true) × (core.client.saw ≡ true))
-  pub none_misled : Honest core → SaysOrders core.said core.orders → (core.server.misled ≡ false) × (core.client.misled ≡ false)
+pub record PageSettled (orders : Orders) (said : ℕ × ℕ) (server client : Side) : Type 0 where
+  pub left : StreamSettled (size orders.left) client server
+  pub right : StreamSettled (size orders.right) server client
+  pub not_both_saw : server.turned ≡ false → client.turned ≡ false → ¬ ((server.saw ≡ true) × (client.saw ≡ true))
+  pub none_misled : server.turned ≡ false → client.turned ≡ false → SaysOrders said orders → (server.misled ≡ false) × (client.misled ≡ false)
 
 -- it stands at each moment, and so at the end of a page, when both ends are retired
 abbrev pub KeptSettles : Type 0
-KeptSettles = (core : Core) → Kept core → PageSettled core
+KeptSettles = (core : Core) → Kept core → PageSettled core.orders core.said core.server core.client
