@@ -30,3 +30,4 @@ pub mod ListWhole
 pub mod PieceLaws
 pub mod LoopLaws
 pub mod LookLaws
+pub mod OneEndSteps

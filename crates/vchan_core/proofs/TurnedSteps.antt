@@ -193,10 +193,10 @@ turned-given_up s consumed = go s.turned refl
     go true is = is
     go false is = refl
 
-given_up-honest : (s : Side) (consumed : ℕ) → s.turned ≡ false → given_up s consumed ≡ turns s consumed
+pub given_up-honest : (s : Side) (consumed : ℕ) → s.turned ≡ false → given_up s consumed ≡ turns s consumed
 given_up-honest s consumed honest = ap (λ (b : Bool). cond b s (turns s consumed)) honest
 
-given_up-given : (s : Side) (consumed : ℕ) → s.turned ≡ true → given_up s consumed ≡ s
+pub given_up-given : (s : Side) (consumed : ℕ) → s.turned ≡ true → given_up s consumed ≡ s
 given_up-given s consumed given = ap (λ (b : Bool). cond b s (turns s consumed)) given
 
 -- the ring of a writer that is given up now

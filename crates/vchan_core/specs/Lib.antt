@@ -27,3 +27,4 @@ pub mod WorkedEnd
 pub mod Pieces
 pub mod Beside
 pub mod Midway
+pub mod OneEnd
