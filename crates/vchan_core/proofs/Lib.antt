@@ -31,3 +31,5 @@ pub mod PieceLaws
 pub mod LoopLaws
 pub mod LookLaws
 pub mod OneEndSteps
+pub mod OneCallBytes
+pub mod OneCallWay

@@ -28,3 +28,4 @@ pub mod Pieces
 pub mod Beside
 pub mod Midway
 pub mod OneEnd
+pub mod OneCall

@@ -2,6 +2,7 @@
 //! contract states it.
 pub mod kept;
 pub mod lists;
+pub mod one_call;
 pub mod one_end;
 pub mod signals;
 pub mod turned;
