@@ -6,21 +6,22 @@ use Rattle.std.proofs.Math.Seq.{take-length}
 use Rattle.std.proofs.lemmas.Bool.{false≢true}
 use Rattle.std.proofs.lemmas.Grind.{flat_map-append}
 use Rattle.ring_words.specs.declared.page.Role.{Role}
-use Rattle.vchan_core.specs.declared.call.Answer.{Answer}
-use Rattle.vchan_core.specs.declared.call.Call.{Call}
+use Rattle.vchan_protocol.specs.declared.call.Answer.{Answer}
+use Rattle.vchan_protocol.specs.declared.call.Call.{Call}
 use Rattle.vchan_core.specs.declared.phase.Phase.{Phase}
-use Rattle.vchan_core.specs.declared.side.Begun.{Begun}
-use Rattle.vchan_core.specs.declared.side.Side.{Side}
+use Rattle.vchan_protocol.specs.declared.side.Begun.{Begun}
+use Rattle.vchan_protocol.specs.declared.side.Side.{Side}
 use Rattle.vchan_core.specs.declared.machine.Machine.{Machine}
 use Rattle.vchan_core.specs.declared.plain.Plain.{Plain}
-use Rattle.vchan_core.specs.Alone.{alone, called, call_answer, whole_call}
-use Rattle.vchan_core.specs.Apply.{filled}
-use Rattle.vchan_core.specs.Calls.{payload_of}
-use Rattle.vchan_core.specs.Core.{Core, side_of, bytes_loaded, begun, plan_left}
+use Rattle.vchan_protocol.specs.Alone.{alone, called, call_answer, whole_call}
+use Rattle.vchan_protocol.specs.Apply.{filled}
+use Rattle.vchan_protocol.specs.Calls.{payload_of}
+use Rattle.vchan_protocol.specs.Core.{Core, side_of, bytes_loaded, begun, plan_left}
 use Rattle.vchan_core.specs.Past.{IsInCall, StandsFor, machine_of, other_of}
 use Rattle.vchan_core.specs.Phases.{IsIdle, out_of, into_of, out_at, into_at, standing}
-use Rattle.vchan_core.specs.Ends.{read_size}
-use Rattle.vchan_core.proofs.RunLaws.{machine_stands, side_of-with_side}
+use Rattle.vchan_protocol.specs.Ends.{read_size}
+use Rattle.vchan_core.proofs.RunLaws.{machine_stands}
+use Rattle.vchan_protocol.proofs.EventLaws.{side_of-with_side}
 use Rattle.step_script.specs.declared.hand.Hand.{Hand}
 use Rattle.step_script.specs.declared.refusal.Refusal.{Refusal}
 use Rattle.step_script.specs.Output.{TextLine, answered as line_answered, refused, line_text, text_of}

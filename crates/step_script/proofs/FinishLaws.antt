@@ -2,26 +2,28 @@
 use Rattle.std.proofs.Common.{◌≡◌, ℕ, suc, zero, ◌≤◌, Option, Some, None, List, [], ◌∷◌, ◌++◌, refl, subst, sym, ap, ◌∙◌, arith}
 use Rattle.ring_words.specs.declared.page.Role.{Role}
 use Rattle.ring_words.proofs.RingLaws.{size-within}
-use Rattle.vchan_core.specs.declared.op.PastEvent.{PastEvent}
-use Rattle.vchan_core.specs.declared.call.Answer.{Answer}
-use Rattle.vchan_core.specs.declared.call.Answer.TheVariants.{Done}
-use Rattle.vchan_core.specs.declared.call.Call.{Call}
-use Rattle.vchan_core.specs.declared.call.Call.TheVariants.{Write, Send, Read, Recv, Drain, DataReady, BufferSpace, Connect, Close, TakeEvent, PeerGone, Retire}
-use Rattle.vchan_core.specs.declared.side.Begun.{Begun}
-use Rattle.vchan_core.specs.declared.side.Side.{Side}
+use Rattle.vchan_protocol.specs.declared.op.PastEvent.{PastEvent}
+use Rattle.vchan_protocol.specs.declared.call.Answer.{Answer}
+use Rattle.vchan_protocol.specs.declared.call.Answer.TheVariants.{Done}
+use Rattle.vchan_protocol.specs.declared.call.Call.{Call}
+use Rattle.vchan_protocol.specs.declared.call.Call.TheVariants.{Write, Send, Read, Recv, Drain, DataReady, BufferSpace, Connect, Close, TakeEvent, PeerGone, Retire}
+use Rattle.vchan_protocol.specs.declared.side.Begun.{Begun}
+use Rattle.vchan_protocol.specs.declared.side.Side.{Side}
 use Rattle.vchan_core.specs.declared.machine.Machine.{Machine}
-use Rattle.vchan_core.specs.Alone.{alone}
-use Rattle.vchan_core.specs.Apply.{value_taken}
-use Rattle.vchan_core.specs.Calls.{most_events, plan_of}
-use Rattle.vchan_core.specs.Core.{Core, side_of, with_side, event, begun_standing, carried_out, answered, plan_left, plan_next, answer_in, made}
-use Rattle.vchan_core.specs.Ends.{Standing, read_order, write_order}
+use Rattle.vchan_protocol.specs.Alone.{alone}
+use Rattle.vchan_protocol.specs.Apply.{value_taken}
+use Rattle.vchan_protocol.specs.Calls.{most_events, plan_of}
+use Rattle.vchan_protocol.specs.Core.{Core, side_of, with_side, event, begun_standing, carried_out, answered, plan_left, plan_next, answer_in, made}
+use Rattle.vchan_protocol.specs.Ends.{Standing, read_order, write_order}
 use Rattle.vchan_core.specs.Past.{IsMachineOf}
 use Rattle.vchan_core.specs.Phases.{IsIdle}
-use Rattle.vchan_core.specs.Plan.{EndsWithin, GoesOn, Plan, answers, does, next_op, after, left_after, past}
-use Rattle.vchan_core.proofs.Bounds.{ends_call, more_time}
-use Rattle.vchan_core.proofs.PlanLaws.{GoesOn-machine}
-use Rattle.vchan_core.proofs.RunLaws.{alone-after, alone-answers, event_by-answers, event_by-on, side_of-with_side}
-use Rattle.vchan_core.proofs.StepLaws.{InCall, event_by, in_call, plan_left-is}
+use Rattle.vchan_protocol.specs.Plan.{EndsWithin, GoesOn, Plan, answers, does, next_op, after, left_after, past}
+use Rattle.vchan_protocol.proofs.Bounds.{ends_call, more_time}
+use Rattle.vchan_core.proofs.PhaseLaws.{GoesOn-machine}
+use Rattle.vchan_protocol.proofs.AloneLaws.{alone-after, alone-answers}
+use Rattle.vchan_protocol.proofs.EventLaws.{event_by-answers, event_by-on, side_of-with_side}
+use Rattle.vchan_core.proofs.StepLaws.{InCall, in_call, plan_left-is}
+use Rattle.vchan_protocol.proofs.EventLaws.{event_by}
 use Rattle.step_script.specs.Played.{stepped, unless_answered}
 
 -- ---- how many events are left

@@ -3,24 +3,24 @@ use Rattle.std.proofs.Common.{◌≡◌, ℕ, suc, zero, ◌+◌, min, nat_lt, �
 use Rattle.ring_words.specs.declared.page.Role.{Role}
 use Rattle.ring_words.specs.declared.page.Role.TheVariants.{Server, Client}
 use Rattle.ring_words.specs.declared.page.WordName.TheVariants.{CliLive}
-use Rattle.vchan_core.specs.declared.call.Answer.{Answer}
-use Rattle.vchan_core.specs.declared.call.Answer.TheVariants.{Wrote, Full, Sent, NoRoom, Got, Empty, Short, PeerClosed, Ready, Space, Connected, BadOrders, Done, Event, NotYet, AllRead, PeerGone, Gone}
-use Rattle.vchan_core.specs.declared.call.Bit.{Bit}
-use Rattle.vchan_core.specs.declared.call.Bit.TheVariants.{Written, Consumed}
-use Rattle.vchan_core.specs.declared.call.Call.{Call}
-use Rattle.vchan_core.specs.declared.call.Call.TheVariants as call
-use Rattle.vchan_core.specs.declared.call.EndState.{EndState}
-use Rattle.vchan_core.specs.declared.call.EndState.TheVariants.{Fresh, Open, Shut}
-use Rattle.vchan_core.specs.declared.op.Op.{Op}
-use Rattle.vchan_core.specs.declared.op.Op.TheVariants.{Load, LoadByte, Store, StoreByte, Or, And, Swap, Nothing}
-use Rattle.vchan_core.specs.declared.op.PastEvent.{PastEvent}
-use Rattle.vchan_core.specs.declared.side.Side.{Side}
-use Rattle.vchan_core.specs.Alone.{alone, called, call_answer}
-use Rattle.vchan_core.specs.Apply.{value_taken}
-use Rattle.vchan_core.specs.Calls.{put_bytes, take_bytes, put_index, take_index, put, take, notify, signal, ask, look_read, look_write, write, write_open, write_looked, read, read_live, read_looked, send, send_open, send_looked, recv, recv_live, recv_looked, drain, drain_found, drain_second, drain_live, drain_further, drain_gone, drain_last, connect, connect_right, close, retire, retire_shut, plan_of, Trace}
-use Rattle.vchan_core.specs.Core.{Core, side_of, with_side, standing_of, begun, begins, made, carried_out, answered, bytes_loaded, loaded_by}
-use Rattle.vchan_core.specs.Ends.{Standing, ready_at, free_at, low16, low32}
-use Rattle.vchan_core.specs.Plan.{Plan, answers, does, past, Leads}
+use Rattle.vchan_protocol.specs.declared.call.Answer.{Answer}
+use Rattle.vchan_protocol.specs.declared.call.Answer.TheVariants.{Wrote, Full, Sent, NoRoom, Got, Empty, Short, PeerClosed, Ready, Space, Connected, BadOrders, Done, Event, NotYet, AllRead, PeerGone, Gone}
+use Rattle.vchan_protocol.specs.declared.call.Bit.{Bit}
+use Rattle.vchan_protocol.specs.declared.call.Bit.TheVariants.{Written, Consumed}
+use Rattle.vchan_protocol.specs.declared.call.Call.{Call}
+use Rattle.vchan_protocol.specs.declared.call.Call.TheVariants as call
+use Rattle.vchan_protocol.specs.declared.call.EndState.{EndState}
+use Rattle.vchan_protocol.specs.declared.call.EndState.TheVariants.{Fresh, Open, Shut}
+use Rattle.vchan_protocol.specs.declared.op.Op.{Op}
+use Rattle.vchan_protocol.specs.declared.op.Op.TheVariants.{Load, LoadByte, Store, StoreByte, Or, And, Swap, Nothing}
+use Rattle.vchan_protocol.specs.declared.op.PastEvent.{PastEvent}
+use Rattle.vchan_protocol.specs.declared.side.Side.{Side}
+use Rattle.vchan_protocol.specs.Alone.{alone, called, call_answer}
+use Rattle.vchan_protocol.specs.Apply.{value_taken}
+use Rattle.vchan_protocol.specs.Calls.{put_bytes, take_bytes, put_index, take_index, put, take, notify, signal, ask, look_read, look_write, write, write_open, write_looked, read, read_live, read_looked, send, send_open, send_looked, recv, recv_live, recv_looked, drain, drain_found, drain_second, drain_live, drain_further, drain_gone, drain_last, connect, connect_right, close, retire, retire_shut, plan_of, Trace}
+use Rattle.vchan_protocol.specs.Core.{Core, side_of, with_side, standing_of, begun, begins, made, carried_out, answered, bytes_loaded, loaded_by}
+use Rattle.vchan_protocol.specs.Ends.{Standing, ready_at, free_at, low16, low32}
+use Rattle.vchan_protocol.specs.Plan.{Plan, answers, does, past, Leads}
 
 -- the bytes loaded after an event
 abbrev pub loaded_then : Op → ℕ → ℕ

@@ -4,23 +4,26 @@ use Rattle.std.proofs.Math.Seq.{take-length, drop-append_seam}
 use Rattle.std.proofs.lemmas.List.{take-append-le}
 use Rattle.ring_words.specs.declared.order.Orders.{Orders}
 use Rattle.ring_words.specs.declared.page.Role.{Role}
-use Rattle.vchan_core.specs.declared.op.Op.{Op}
-use Rattle.vchan_core.specs.declared.op.PastEvent.{PastEvent}
-use Rattle.vchan_core.specs.declared.call.Answer.{Answer}
-use Rattle.vchan_core.specs.declared.call.Answer.TheVariants.{Got}
-use Rattle.vchan_core.specs.declared.call.Call.{Call}
-use Rattle.vchan_core.specs.declared.side.Begun.{Begun}
-use Rattle.vchan_core.specs.declared.side.Side.{Side}
+use Rattle.vchan_protocol.specs.declared.op.Op.{Op}
+use Rattle.vchan_protocol.specs.declared.op.PastEvent.{PastEvent}
+use Rattle.vchan_protocol.specs.declared.call.Answer.{Answer}
+use Rattle.vchan_protocol.specs.declared.call.Answer.TheVariants.{Got}
+use Rattle.vchan_protocol.specs.declared.call.Call.{Call}
+use Rattle.vchan_protocol.specs.declared.side.Begun.{Begun}
+use Rattle.vchan_protocol.specs.declared.side.Side.{Side}
 use Rattle.vchan_core.specs.declared.machine.Machine.{Machine}
 use Rattle.vchan_core.specs.declared.plain.Plain.{Plain}
-use Rattle.vchan_core.specs.Apply.{Fits, value_taken, buffer_after, filled}
-use Rattle.vchan_core.specs.Calls.{plan_of}
-use Rattle.vchan_core.specs.Core.{Core, side_of, event, bytes_loaded, begun_standing, plan_next, answer_in, made, settled}
+use Rattle.vchan_protocol.specs.Apply.{Fits, value_taken, buffer_after, filled}
+use Rattle.vchan_protocol.specs.Calls.{plan_of}
+use Rattle.vchan_protocol.specs.Core.{Core, side_of, event, bytes_loaded, begun_standing, plan_next, answer_in, made, settled}
 use Rattle.vchan_core.specs.Past.{StandsFor, HasPayload, IsMachineOf, machine_of, orders_of, words_of, op_of}
 use Rattle.vchan_core.specs.Phases.{rest, left, IsIdle, out_of, into_of}
-use Rattle.vchan_core.specs.Plan.{Plan, answers, does, Leads, next_op, after, past}
-use Rattle.vchan_core.proofs.PlanLaws.{GoesOn-machine, Leads-more}
-use Rattle.vchan_core.proofs.RunLaws.{FillsNext, fills_next, fills_on, machine_stands, settled-payload, settled-trail, side_of-event}
+use Rattle.vchan_protocol.specs.Plan.{Plan, answers, does, Leads, next_op, after, past}
+use Rattle.vchan_core.proofs.PhaseLaws.{GoesOn-machine}
+use Rattle.vchan_protocol.proofs.PlanLaws.{Leads-more}
+use Rattle.vchan_protocol.proofs.AloneLaws.{FillsNext, fills_on}
+use Rattle.vchan_core.proofs.RunLaws.{fills_next, machine_stands, side_of-event}
+use Rattle.vchan_protocol.proofs.EventLaws.{settled-payload, settled-trail}
 use Rattle.vchan_core.proofs.StepLaws.{InCall, in_call}
 use Rattle.step_script.specs.declared.hand.Hand.{Hand}
 use Rattle.step_script.specs.Played.{bytes_got, stepped, unless_answered}

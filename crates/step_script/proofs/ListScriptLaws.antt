@@ -5,29 +5,29 @@ use Rattle.std.proofs.lemmas.List.Elements.{filter-append, All-tail}
 use Rattle.ring_words.specs.declared.order.Orders.{Orders}
 use Rattle.ring_words.specs.declared.page.Role.{Role}
 use Rattle.ring_words.specs.declared.page.Role.TheVariants.{Server, Client}
-use Rattle.vchan_core.specs.declared.call.Answer.{Answer}
-use Rattle.vchan_core.specs.declared.call.Answer.TheVariants.{Wrote, Full, Sent, NoRoom, Got, Empty, Short, PeerClosed, Ready, Space, Connected, BadOrders, Done, Event, NotYet, AllRead, PeerGone as GonePeer, Gone}
-use Rattle.vchan_core.specs.declared.call.Call.{Call}
-use Rattle.vchan_core.specs.declared.call.Call.TheVariants.{Write, Send, Read, Recv, Drain, DataReady, BufferSpace, Connect, Close, TakeEvent, Retire, PeerGone}
-use Rattle.vchan_core.specs.declared.call.EndState.{EndState}
-use Rattle.vchan_core.specs.declared.call.EndState.TheVariants.{Fresh, Open, Shut}
-use Rattle.vchan_core.specs.declared.op.PastEvent.{PastEvent}
-use Rattle.vchan_core.specs.declared.side.Begun.{Begun}
-use Rattle.vchan_core.specs.declared.side.Side.{Side}
-use Rattle.vchan_core.specs.Alone.{alone, called, call_answer}
-use Rattle.vchan_core.specs.Apply.{value_taken}
-use Rattle.vchan_core.specs.Calls.{plan_of, IsAllowed}
-use Rattle.vchan_core.specs.Core.{Core, opened, side_of, standing_of, begun, bytes_loaded, carried_out}
-use Rattle.vchan_core.specs.Lawful.{Lawful}
-use Rattle.vchan_core.specs.LifeLaw.{TellsGone}
-use Rattle.vchan_core.specs.ListCall.{ChannelLists, Outcome as ListOutcome, end_of, waiting, lists_of, list_call, free, avail, peer_is_shut}
-use Rattle.vchan_core.specs.ListLaw.{IsTold, FollowsLists, count_got}
-use Rattle.vchan_core.specs.Peer.{peer}
-use Rattle.vchan_core.specs.Plan.{Plan, answers, does}
-use Rattle.vchan_core.specs.Reached.{MayBegin}
-use Rattle.vchan_core.proofs.LawfulSteps.{lawful_opened}
-use Rattle.vchan_core.proofs.ListWhole.{tells_lists, follows_lists, may_there}
-use Rattle.vchan_core.proofs.WholeCalls.{lawful_called}
+use Rattle.vchan_protocol.specs.declared.call.Answer.{Answer}
+use Rattle.vchan_protocol.specs.declared.call.Answer.TheVariants.{Wrote, Full, Sent, NoRoom, Got, Empty, Short, PeerClosed, Ready, Space, Connected, BadOrders, Done, Event, NotYet, AllRead, PeerGone as GonePeer, Gone}
+use Rattle.vchan_protocol.specs.declared.call.Call.{Call}
+use Rattle.vchan_protocol.specs.declared.call.Call.TheVariants.{Write, Send, Read, Recv, Drain, DataReady, BufferSpace, Connect, Close, TakeEvent, Retire, PeerGone}
+use Rattle.vchan_protocol.specs.declared.call.EndState.{EndState}
+use Rattle.vchan_protocol.specs.declared.call.EndState.TheVariants.{Fresh, Open, Shut}
+use Rattle.vchan_protocol.specs.declared.op.PastEvent.{PastEvent}
+use Rattle.vchan_protocol.specs.declared.side.Begun.{Begun}
+use Rattle.vchan_protocol.specs.declared.side.Side.{Side}
+use Rattle.vchan_protocol.specs.Alone.{alone, called, call_answer}
+use Rattle.vchan_protocol.specs.Apply.{value_taken}
+use Rattle.vchan_protocol.specs.Calls.{plan_of, IsAllowed}
+use Rattle.vchan_protocol.specs.Core.{Core, opened, side_of, standing_of, begun, bytes_loaded, carried_out}
+use Rattle.vchan_protocol.specs.Lawful.{Lawful}
+use Rattle.vchan_protocol.specs.LifeLaw.{TellsGone}
+use Rattle.vchan_protocol.specs.ListCall.{ChannelLists, Outcome as ListOutcome, end_of, waiting, lists_of, list_call, free, avail, peer_is_shut}
+use Rattle.vchan_protocol.specs.ListLaw.{IsTold, FollowsLists, count_got}
+use Rattle.vchan_protocol.specs.Peer.{peer}
+use Rattle.vchan_protocol.specs.Plan.{Plan, answers, does}
+use Rattle.vchan_protocol.specs.Reached.{MayBegin}
+use Rattle.vchan_protocol.proofs.LawfulSteps.{lawful_opened}
+use Rattle.vchan_protocol.proofs.ListWhole.{tells_lists, follows_lists, may_there}
+use Rattle.vchan_protocol.proofs.WholeCalls.{lawful_called}
 use Rattle.step_script.specs.declared.refusal.Refusal.{Refusal}
 use Rattle.step_script.specs.declared.refusal.Refusal.TheVariants.{Turned}
 use Rattle.step_script.specs.declared.script.Opening.{Opening}

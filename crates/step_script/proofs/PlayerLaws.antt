@@ -8,24 +8,25 @@ use Rattle.std.specs.List.{All}
 use Rattle.ring_words.specs.declared.page.Ring.TheVariants.{Left, Right}
 use Rattle.ring_words.specs.declared.page.Role.TheVariants.{Server, Client}
 use Rattle.ring_words.specs.declared.page.WordName.{WordName}
-use Rattle.vchan_core.specs.declared.call.Answer.{Answer}
-use Rattle.vchan_core.specs.declared.op.Op.{Op}
-use Rattle.vchan_core.specs.declared.op.Op.TheVariants.{Store}
-use Rattle.vchan_core.specs.declared.op.PastEvent.{PastEvent}
-use Rattle.vchan_core.specs.declared.call.Call.{Call}
-use Rattle.vchan_core.specs.declared.side.Begun.{Begun}
-use Rattle.vchan_core.specs.declared.side.Side.{Side}
+use Rattle.vchan_protocol.specs.declared.call.Answer.{Answer}
+use Rattle.vchan_protocol.specs.declared.op.Op.{Op}
+use Rattle.vchan_protocol.specs.declared.op.Op.TheVariants.{Store}
+use Rattle.vchan_protocol.specs.declared.op.PastEvent.{PastEvent}
+use Rattle.vchan_protocol.specs.declared.call.Call.{Call}
+use Rattle.vchan_protocol.specs.declared.side.Begun.{Begun}
+use Rattle.vchan_protocol.specs.declared.side.Side.{Side}
 use Rattle.vchan_core.specs.declared.machine.Machine.{Machine}
 use Rattle.vchan_core.specs.declared.plain.Plain.{Plain}
-use Rattle.vchan_core.specs.Alone.{alone}
-use Rattle.vchan_core.specs.Apply.{filled, value_taken}
-use Rattle.vchan_core.specs.Calls.{plan_of}
-use Rattle.vchan_core.specs.Core.{Core, side_of, with_side, event, begun, bytes_loaded, loaded_by, plan_left, plan_next, answer_in, carried_out, standing_of, reader_of, opened}
+use Rattle.vchan_protocol.specs.Alone.{alone}
+use Rattle.vchan_protocol.specs.Apply.{filled, value_taken}
+use Rattle.vchan_protocol.specs.Calls.{plan_of}
+use Rattle.vchan_protocol.specs.Core.{Core, side_of, with_side, event, begun, bytes_loaded, loaded_by, plan_left, plan_next, answer_in, carried_out, standing_of, reader_of, opened}
 use Rattle.vchan_core.specs.Past.{IsMachineOf, StandsFor, machine_of, other_of, orders_of}
-use Rattle.vchan_core.specs.Plan.{Plan, answers, does, past}
-use Rattle.vchan_core.specs.Ends.{peer_pending, written_ring}
-use Rattle.vchan_core.specs.Turned.{given_up, strays, turns, strayed}
-use Rattle.vchan_core.proofs.RunLaws.{machine_stands, side_of-with_side}
+use Rattle.vchan_protocol.specs.Plan.{Plan, answers, does, past}
+use Rattle.vchan_protocol.specs.Ends.{peer_pending, written_ring}
+use Rattle.vchan_protocol.specs.Turned.{given_up, strays, turns, strayed}
+use Rattle.vchan_core.proofs.RunLaws.{machine_stands}
+use Rattle.vchan_protocol.proofs.EventLaws.{side_of-with_side}
 use Rattle.step_script.specs.declared.hand.Hand.{Hand}
 use Rattle.step_script.specs.declared.player.Player.{Player}
 use Rattle.step_script.specs.declared.script.Opening.{Opening}

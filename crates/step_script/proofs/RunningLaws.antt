@@ -4,7 +4,7 @@ use denote.Ref.{Bor}
 use Rattle.std.specs.List.{All}
 use Rattle.std.proofs.lemmas.List.Elements.{All-append}
 use Rattle.ring_words.specs.declared.order.Orders.{Orders}
-use Rattle.vchan_core.specs.Core.{Core, opened}
+use Rattle.vchan_protocol.specs.Core.{Core, opened}
 use Rattle.vchan_core.specs.Past.{orders_of}
 use Rattle.script_words.specs.Words.{words_of}
 use Rattle.step_script.specs.declared.error.ScriptKind.{ScriptKind}

@@ -4,7 +4,7 @@ use Rattle.script_words.specs.declared.words.Words.{Words}
 use Rattle.script_words.specs.WordsLeft.{words_left}
 use Rattle.ring_words.specs.declared.order.Orders.{Orders}
 use Rattle.ring_words.specs.declared.page.Role.{Role}
-use Rattle.vchan_core.specs.declared.call.Call.{Call}
+use Rattle.vchan_protocol.specs.declared.call.Call.{Call}
 use Rattle.step_script.specs.declared.forms.CallForm.{CallForm}
 use Rattle.step_script.specs.declared.forms.CallForm.TheVariants.{Bare}
 use Rattle.step_script.specs.Script.{StepCall, StepLine, CallFits, LineFits}

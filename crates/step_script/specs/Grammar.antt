@@ -3,9 +3,9 @@
 use Rattle.std.specs.Prelude.{ℕ, ◌-◌, List, [], ◌∷◌, length, if◌then◌else◌, ok_or, Option, None, Some, Result, Ok, Err, codes, bytes_eq}
 use Rattle.ring_words.specs.declared.order.Orders.{Orders}
 use Rattle.ring_words.specs.declared.page.Role.{Role}
-use Rattle.vchan_core.specs.declared.call.Call.TheVariants as call
-use Rattle.vchan_core.specs.declared.call.EndState.{EndState}
-use Rattle.vchan_core.specs.declared.call.EndState.TheVariants.{Fresh, Open}
+use Rattle.vchan_protocol.specs.declared.call.Call.TheVariants as call
+use Rattle.vchan_protocol.specs.declared.call.EndState.{EndState}
+use Rattle.vchan_protocol.specs.declared.call.EndState.TheVariants.{Fresh, Open}
 use Rattle.step_script.specs.declared.error.ScriptKind.{ScriptKind}
 use Rattle.step_script.specs.declared.error.ScriptKind.TheVariants.{BadHeader, BadLine, BadOrders, TooManyLines}
 use Rattle.step_script.specs.declared.forms.CallForm.{CallForm}

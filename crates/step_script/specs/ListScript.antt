@@ -5,14 +5,14 @@ use Rattle.std.specs.List.{filter, All}
 use Rattle.ring_words.specs.declared.page.Ring.{Ring}
 use Rattle.ring_words.specs.declared.page.Ring.TheVariants.{Left, Right}
 use Rattle.ring_words.specs.declared.page.Role.{Role}
-use Rattle.vchan_core.specs.declared.call.Answer.{Answer}
-use Rattle.vchan_core.specs.declared.call.Answer.TheVariants.{Got}
-use Rattle.vchan_core.specs.declared.call.Call.{Call}
-use Rattle.vchan_core.specs.declared.call.Call.TheVariants.{TakeEvent}
-use Rattle.vchan_core.specs.declared.call.EndState.{EndState}
-use Rattle.vchan_core.specs.declared.call.EndState.TheVariants.{Open, Shut}
+use Rattle.vchan_protocol.specs.declared.call.Answer.{Answer}
+use Rattle.vchan_protocol.specs.declared.call.Answer.TheVariants.{Got}
+use Rattle.vchan_protocol.specs.declared.call.Call.{Call}
+use Rattle.vchan_protocol.specs.declared.call.Call.TheVariants.{TakeEvent}
+use Rattle.vchan_protocol.specs.declared.call.EndState.{EndState}
+use Rattle.vchan_protocol.specs.declared.call.EndState.TheVariants.{Open, Shut}
 use Rattle.vchan_core.specs.Counts.{capped}
-use Rattle.vchan_core.specs.ListCall.{ListEnd, ChannelLists, end_of, waiting, list_call}
+use Rattle.vchan_protocol.specs.ListCall.{ListEnd, ChannelLists, end_of, waiting, list_call}
 use Rattle.step_script.specs.declared.refusal.Refusal.{Refusal}
 use Rattle.step_script.specs.declared.script.Opening.{Opening}
 use Rattle.step_script.specs.Output.{TextLine, answered, lengths, text_of}

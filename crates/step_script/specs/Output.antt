@@ -7,10 +7,10 @@ use Rattle.ring_words.specs.declared.page.Ring.{Ring}
 use Rattle.ring_words.specs.declared.page.Ring.TheVariants.{Left, Right}
 use Rattle.ring_words.specs.declared.page.Role.{Role}
 use Rattle.ring_words.specs.declared.page.Role.TheVariants.{Server, Client}
-use Rattle.vchan_core.specs.declared.call.Call.{Call}
-use Rattle.vchan_core.specs.declared.call.Call.TheVariants as call
-use Rattle.vchan_core.specs.declared.call.Answer.{Answer}
-use Rattle.vchan_core.specs.declared.call.Answer.TheVariants.{Wrote, Full, Sent, NoRoom, Got, Empty, Short, PeerClosed, Ready, Space, Connected, BadOrders, Done, Event, NotYet, AllRead, PeerGone, Gone}
+use Rattle.vchan_protocol.specs.declared.call.Call.{Call}
+use Rattle.vchan_protocol.specs.declared.call.Call.TheVariants as call
+use Rattle.vchan_protocol.specs.declared.call.Answer.{Answer}
+use Rattle.vchan_protocol.specs.declared.call.Answer.TheVariants.{Wrote, Full, Sent, NoRoom, Got, Empty, Short, PeerClosed, Ready, Space, Connected, BadOrders, Done, Event, NotYet, AllRead, PeerGone, Gone}
 use Rattle.step_script.specs.declared.refusal.Refusal.{Refusal}
 use Rattle.step_script.specs.declared.refusal.Refusal.TheVariants.{Turned, Idle, Shut, Unconnected}
 

@@ -6,20 +6,20 @@ use Rattle.ring_words.specs.Page.{index_of}
 use Rattle.ring_words.specs.declared.page.Ring.{Ring}
 use Rattle.ring_words.specs.declared.page.Ring.TheVariants.{Left, Right}
 use Rattle.ring_words.specs.declared.page.Role.{Role}
-use Rattle.vchan_core.specs.declared.call.Answer.{Answer}
-use Rattle.vchan_core.specs.declared.call.Answer.TheVariants.{Got}
-use Rattle.vchan_core.specs.declared.call.Call.{Call}
-use Rattle.vchan_core.specs.declared.call.Call.TheVariants.{Connect, Close, Retire}
-use Rattle.vchan_core.specs.declared.call.EndState.{EndState}
-use Rattle.vchan_core.specs.declared.call.EndState.TheVariants.{Fresh, Open, Shut}
-use Rattle.vchan_core.specs.declared.op.PastEvent.{PastEvent}
-use Rattle.vchan_core.specs.declared.side.Begun.{Begun}
-use Rattle.vchan_core.specs.declared.side.Side.{Side}
-use Rattle.vchan_core.specs.Alone.{alone, whole_call}
-use Rattle.vchan_core.specs.Core.{Core, opened, side_of, writer_of, reader_of, bytes_loaded, begun, event, plan_left, plan_next, answer_in}
+use Rattle.vchan_protocol.specs.declared.call.Answer.{Answer}
+use Rattle.vchan_protocol.specs.declared.call.Answer.TheVariants.{Got}
+use Rattle.vchan_protocol.specs.declared.call.Call.{Call}
+use Rattle.vchan_protocol.specs.declared.call.Call.TheVariants.{Connect, Close, Retire}
+use Rattle.vchan_protocol.specs.declared.call.EndState.{EndState}
+use Rattle.vchan_protocol.specs.declared.call.EndState.TheVariants.{Fresh, Open, Shut}
+use Rattle.vchan_protocol.specs.declared.op.PastEvent.{PastEvent}
+use Rattle.vchan_protocol.specs.declared.side.Begun.{Begun}
+use Rattle.vchan_protocol.specs.declared.side.Side.{Side}
+use Rattle.vchan_protocol.specs.Alone.{alone, whole_call}
+use Rattle.vchan_protocol.specs.Core.{Core, opened, side_of, writer_of, reader_of, bytes_loaded, begun, event, plan_left, plan_next, answer_in}
 use Rattle.vchan_core.specs.Counts.{capped}
-use Rattle.vchan_core.specs.Ends.{own_gone}
-use Rattle.vchan_core.specs.Turned.{poked, signalled}
+use Rattle.vchan_protocol.specs.Ends.{own_gone}
+use Rattle.vchan_protocol.specs.Turned.{poked, signalled}
 use Rattle.step_script.specs.declared.refusal.Refusal.{Refusal}
 use Rattle.step_script.specs.declared.refusal.Refusal.TheVariants.{Turned, Idle, Shut as IsShut, Unconnected}
 use Rattle.step_script.specs.Output.{TextLine, answered, refused, heads, images, lengths, text_of}

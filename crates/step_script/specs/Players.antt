@@ -3,15 +3,15 @@ use Rattle.std.specs.Prelude.{◌≡◌, ℕ, ◌≤◌, List, [], ◌++◌, len
 use Rattle.std.specs.Option.{option_map}
 use Rattle.ring_words.specs.declared.page.Role.{Role}
 use Rattle.ring_words.specs.declared.page.Role.TheVariants.{Server, Client}
-use Rattle.vchan_core.specs.declared.call.Answer.{Answer}
-use Rattle.vchan_core.specs.declared.call.Answer.TheVariants.{Got}
-use Rattle.vchan_core.specs.declared.call.Call.{Call}
+use Rattle.vchan_protocol.specs.declared.call.Answer.{Answer}
+use Rattle.vchan_protocol.specs.declared.call.Answer.TheVariants.{Got}
+use Rattle.vchan_protocol.specs.declared.call.Call.{Call}
 use Rattle.vchan_core.specs.declared.machine.Machine.{Machine}
-use Rattle.vchan_core.specs.declared.op.PastEvent.{PastEvent}
+use Rattle.vchan_protocol.specs.declared.op.PastEvent.{PastEvent}
 use Rattle.vchan_core.specs.declared.plain.Plain.{Plain}
-use Rattle.vchan_core.specs.declared.side.Side.{Side}
-use Rattle.vchan_core.specs.Apply.{filled}
-use Rattle.vchan_core.specs.Core.{Core, side_of, bytes_loaded}
+use Rattle.vchan_protocol.specs.declared.side.Side.{Side}
+use Rattle.vchan_protocol.specs.Apply.{filled}
+use Rattle.vchan_protocol.specs.Core.{Core, side_of, bytes_loaded}
 use Rattle.vchan_core.specs.Past.{StandsFor, machine_of, other_of}
 use Rattle.vchan_core.specs.Phases.{IsIdle, out_of, into_of}
 use Rattle.step_script.specs.declared.hand.Hand.{Hand}

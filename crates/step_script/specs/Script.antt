@@ -5,11 +5,11 @@ use Rattle.ring_words.specs.declared.order.Orders.{Orders}
 use Rattle.ring_words.specs.declared.page.Role.{Role}
 use Rattle.ring_words.specs.declared.page.Role.TheVariants.{Client}
 use Rattle.ring_words.specs.declared.page.WordName.{WordName}
-use Rattle.vchan_core.specs.declared.call.Call.{Call}
-use Rattle.vchan_core.specs.declared.call.Call.TheVariants.{Drain, Connect}
-use Rattle.vchan_core.specs.Calls.{payload_of}
-use Rattle.vchan_core.specs.RingLaw.{AreBytes}
-use Rattle.vchan_core.specs.Turned.{MayPoke}
+use Rattle.vchan_protocol.specs.declared.call.Call.{Call}
+use Rattle.vchan_protocol.specs.declared.call.Call.TheVariants.{Drain, Connect}
+use Rattle.vchan_protocol.specs.Calls.{payload_of}
+use Rattle.vchan_protocol.specs.RingLaw.{AreBytes}
+use Rattle.vchan_protocol.specs.Turned.{MayPoke}
 use Rattle.step_script.specs.declared.script.Opening.{Opening}
 
 -- a call, with the bytes that it writes or sends

@@ -1,8 +1,8 @@
 -- A script of the program as the lines that contracts see.
 use Rattle.std.specs.Prelude.{◌≢◌, ◌≤◌, ℕ, List, sum_by, map, length}
 use Rattle.std.specs.List.{All}
-use Rattle.vchan_core.specs.declared.call.Call.{Call}
-use Rattle.vchan_core.specs.declared.call.EndState.TheVariants.{Shut}
+use Rattle.vchan_protocol.specs.declared.call.Call.{Call}
+use Rattle.vchan_protocol.specs.declared.call.EndState.TheVariants.{Shut}
 use Rattle.step_script.specs.declared.script.Opening.{Opening}
 use Rattle.step_script.specs.declared.script.Line.{Line}
 use Rattle.step_script.specs.declared.script.Line.TheVariants as line

@@ -8,7 +8,7 @@ use Rattle.ring_words.specs.declared.page.Role.{Role}
 use Rattle.ring_words.specs.declared.page.Role.TheVariants.{Server, Client}
 use Rattle.ring_words.specs.declared.page.WordName.{WordName}
 use Rattle.ring_words.specs.declared.page.WordName.TheVariants.{LeftCons, LeftProd, RightCons, RightProd, LeftOrder, RightOrder, CliLive, SrvLive, CliNotify, SrvNotify}
-use Rattle.vchan_core.specs.declared.call.Call.TheVariants.{DataReady, BufferSpace, Connect, Close, TakeEvent, PeerGone, Retire}
+use Rattle.vchan_protocol.specs.declared.call.Call.TheVariants.{DataReady, BufferSpace, Connect, Close, TakeEvent, PeerGone, Retire}
 use Rattle.step_script.specs.declared.forms.CallForm.{CallForm}
 use Rattle.step_script.specs.declared.forms.CallForm.TheVariants.{Write, Send, Read, Recv, Drain, Bare}
 use Rattle.step_script.specs.Script.{StepLine, head, image}

@@ -1,9 +1,9 @@
 //! One end as a script plays it: its calls, whole or event by event.
 ghost use Rattle.std.specs.Prelude.{◌≡◌, ◌<◌, ◌≤◌, ◌↔◌, [], length, IfSome, IsSome, OnOk, None, false, take};
-ghost use Rattle.vchan_core.specs.Alone.{alone, call_answer, called};
-ghost use Rattle.vchan_core.specs.Apply.{filled};
-ghost use Rattle.vchan_core.specs.Calls.{IsAllowed, loaded_most, payload_of};
-ghost use Rattle.vchan_core.specs.Core.{Core, answer_in, bytes_loaded, event as event_of, plan_left, plan_next, side_of};
+ghost use Rattle.vchan_protocol.specs.Alone.{alone, call_answer, called};
+ghost use Rattle.vchan_protocol.specs.Apply.{filled};
+ghost use Rattle.vchan_protocol.specs.Calls.{IsAllowed, loaded_most, payload_of};
+ghost use Rattle.vchan_protocol.specs.Core.{Core, answer_in, bytes_loaded, event as event_of, plan_left, plan_next, side_of};
 ghost use Rattle.vchan_core.specs.Past.{StandsFor, machine_of, other_of, turned_of};
 ghost use Rattle.vchan_core.specs.Phases.{Allows, IsIdle, standing};
 ghost use Rattle.step_script.specs.Played.{begins_call, call_refusal as call_refusal_of, finished, has_retired as has_retired_of, line_done, makes_call, state_refusal as state_refusal_of, step_refusal as step_refusal_of, stepped, unless_refused};

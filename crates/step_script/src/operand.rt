@@ -1,7 +1,7 @@
 //! The words behind a verb.
 ghost use Rattle.std.specs.Prelude.{◌≡◌, ◌≤◌, nat_lt, [], length, IfOk};
 ghost use Rattle.script_words.specs.WordsLeft.{words_left};
-ghost use Rattle.vchan_core.specs.RingLaw.{AreBytes};
+ghost use Rattle.vchan_protocol.specs.RingLaw.{AreBytes};
 ghost use Rattle.step_script.specs.Operands.{given, operand_of, alone, number_between, count_of, payload_of};
 ghost use Rattle.step_script.specs.Readings.{Gives};
 

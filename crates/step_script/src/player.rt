@@ -49,9 +49,9 @@ pub(crate) struct Player {
 
 impl Player {
     ghost use Rattle.std.specs.Prelude.{◌≢◌, [], take, List};
-    ghost use Rattle.vchan_core.specs.Core.{Core, opened};
+    ghost use Rattle.vchan_protocol.specs.Core.{Core, opened};
     ghost use Rattle.vchan_core.specs.Past.{StandsFor, orders_of};
-    ghost use Rattle.vchan_core.specs.declared.call.EndState.TheVariants.{Shut};
+    ghost use Rattle.vchan_protocol.specs.declared.call.EndState.TheVariants.{Shut};
     ghost use Rattle.step_script.specs.Output.{line_text, text_of};
     ghost use Rattle.step_script.specs.Played.{line_done, plays, ring_line};
     ghost use Rattle.step_script.specs.ListScript.{CanOpen};

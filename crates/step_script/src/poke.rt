@@ -4,7 +4,7 @@ ghost use Rattle.std.specs.Str.{all_ascii_digits};
 ghost use Rattle.script_words.specs.Numbers.{is_number};
 ghost use Rattle.step_script.specs.Pokes.{place_in, ring_byte, poked_word};
 ghost use Rattle.step_script.specs.Readings.{Gives};
-ghost use Rattle.vchan_core.specs.Turned.{MayPoke};
+ghost use Rattle.vchan_protocol.specs.Turned.{MayPoke};
 
 use crate::error::LineError;
 use crate::forms::field_named;

@@ -1,7 +1,7 @@
 //! Reading a script.
 ghost use Rattle.std.specs.Prelude.{◌≡◌, ◌≢◌, ◌≤◌, IfErr, IfOk, length, sum_by};
 ghost use Rattle.std.specs.List.{All};
-ghost use Rattle.vchan_core.specs.declared.call.EndState.TheVariants.{Shut};
+ghost use Rattle.vchan_protocol.specs.declared.call.EndState.TheVariants.{Shut};
 ghost use Rattle.step_script.specs.Grammar.{at_number, front_from, opening_of, opening_from, start_from, line_of, lines_from, script_of};
 ghost use Rattle.step_script.specs.Forms.{LineKeeps};
 ghost use Rattle.step_script.specs.LinesLeft.{lines_left};

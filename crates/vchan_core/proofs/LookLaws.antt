@@ -5,17 +5,17 @@ use Rattle.std.proofs.lemmas.Bool.{false≢true}
 use Rattle.ring_words.specs.Page.{Has, index_of}
 use Rattle.ring_words.specs.declared.order.Orders.{Orders}
 use Rattle.ring_words.specs.declared.page.WordName.{WordName}
-use Rattle.vchan_core.specs.declared.op.Op.{Op}
-use Rattle.vchan_core.specs.declared.op.Op.TheVariants.{Load}
+use Rattle.vchan_protocol.specs.declared.op.Op.{Op}
+use Rattle.vchan_protocol.specs.declared.op.Op.TheVariants.{Load}
 use Rattle.vchan_core.specs.declared.machine.Machine.{Machine}
 use Rattle.vchan_core.specs.declared.phase.Phase.{Phase}
 use Rattle.vchan_core.specs.declared.phase.Phase.TheVariants.{WriteLive, WriteLook, ReadLook}
-use Rattle.vchan_core.specs.declared.call.Answer.TheVariants.{PeerClosed}
-use Rattle.vchan_core.specs.declared.call.Bit.TheVariants.{Written, Consumed}
-use Rattle.vchan_core.specs.Calls.{write, write_open, write_looked, read, read_looked, ask, look_write, look_read}
-use Rattle.vchan_core.specs.Plan.{Plan, answers, does, next_op, after}
-use Rattle.vchan_core.specs.Ends.{Standing, standing_after, read_size, peer_live, cons_word, prod_word, written_ring, read_ring, free_at, ready_at, low8, low32}
-use Rattle.vchan_core.specs.Apply.{Fits, words_after, value_taken, buffer_after}
+use Rattle.vchan_protocol.specs.declared.call.Answer.TheVariants.{PeerClosed}
+use Rattle.vchan_protocol.specs.declared.call.Bit.TheVariants.{Written, Consumed}
+use Rattle.vchan_protocol.specs.Calls.{write, write_open, write_looked, read, read_looked, ask, look_write, look_read}
+use Rattle.vchan_protocol.specs.Plan.{Plan, answers, does, next_op, after}
+use Rattle.vchan_protocol.specs.Ends.{Standing, standing_after, read_size, peer_live, cons_word, prod_word, written_ring, read_ring, free_at, ready_at, low8, low32}
+use Rattle.vchan_protocol.specs.Apply.{Fits, words_after, value_taken, buffer_after}
 use Rattle.vchan_core.specs.Phases.{standing, at_phase, rest, rest_at, out_at, into_at}
 use Rattle.vchan_core.specs.Pieces.{MakesEvent, MakesEvents}
 

@@ -6,33 +6,36 @@ use Rattle.ring_words.specs.Rings.{diff}
 use Rattle.ring_words.specs.declared.order.Orders.{Orders}
 use Rattle.ring_words.specs.declared.page.Role.{Role}
 use Rattle.ring_words.specs.declared.page.Role.TheVariants.{Server, Client}
-use Rattle.vchan_core.specs.declared.op.Op.{Op}
-use Rattle.vchan_core.specs.declared.op.Op.TheVariants.{Load, LoadByte, Store, StoreByte, Or, And, Swap, Nothing}
-use Rattle.vchan_core.specs.declared.op.PastEvent.{PastEvent}
-use Rattle.vchan_core.specs.declared.call.Answer.{Answer}
-use Rattle.vchan_core.specs.declared.call.Call.{Call}
+use Rattle.vchan_protocol.specs.declared.op.Op.{Op}
+use Rattle.vchan_protocol.specs.declared.op.Op.TheVariants.{Load, LoadByte, Store, StoreByte, Or, And, Swap, Nothing}
+use Rattle.vchan_protocol.specs.declared.op.PastEvent.{PastEvent}
+use Rattle.vchan_protocol.specs.declared.call.Answer.{Answer}
+use Rattle.vchan_protocol.specs.declared.call.Call.{Call}
 use Rattle.vchan_core.specs.declared.machine.Machine.{Machine}
 use Rattle.vchan_core.specs.declared.moved.Moved.{Moved}
 use Rattle.vchan_core.specs.declared.plain.Plain.{Plain}
 use Rattle.vchan_core.specs.declared.phase.Phase.{Phase}
 use Rattle.vchan_core.specs.declared.phase.Move.{Move}
 use Rattle.vchan_core.specs.declared.phase.Move.TheVariants.{To, Done}
-use Rattle.vchan_core.specs.Plan.{Plan, past, Leads, next_op, after}
-use Rattle.vchan_core.specs.Ends.{Standing, read_size}
-use Rattle.vchan_core.specs.Calls.{plan_of, payload_of, loaded_most, most_events, Trace}
-use Rattle.vchan_core.specs.Apply.{Fits, value_taken, buffer_after, filled}
+use Rattle.vchan_protocol.specs.Plan.{Plan, past, Leads, next_op, after}
+use Rattle.vchan_protocol.specs.Ends.{Standing, read_size}
+use Rattle.vchan_protocol.specs.Calls.{plan_of, payload_of, loaded_most, most_events, Trace}
+use Rattle.vchan_protocol.specs.Apply.{Fits, value_taken, buffer_after, filled}
 use Rattle.vchan_core.specs.Phases.{standing, at_phase, rest, rest_at, plan_at, IsIdle, out_of, into_of, out_at, into_at, out_move, into_move, Stands}
 use Rattle.vchan_core.specs.Counts.{capped}
-use Rattle.vchan_core.specs.Core.{Core, side_of, begun, event, bytes_loaded}
-use Rattle.vchan_core.specs.Alone.{alone, whole_call, called, call_answer}
+use Rattle.vchan_protocol.specs.Core.{Core, side_of, begun, event, bytes_loaded}
+use Rattle.vchan_protocol.specs.Alone.{alone, whole_call, called, call_answer}
 use Rattle.vchan_core.specs.Past.{IsMachineOf, HasPayload, StandsFor, machine_of, other_of, words_of, orders_of, op_of}
 use Rattle.vchan_core.specs.Pieces.{MakesEvent, MakesEvents}
 use Rattle.vchan_core.specs.Beside.{IsBeside}
 use Rattle.vchan_core.specs.Midway.{page_at, page_to}
-use Rattle.vchan_core.proofs.PlanLaws.{GoesOn-machine, Leads-more}
-use Rattle.vchan_core.proofs.StepLaws.{DoesEvent, stands_server, stands_client, diff-same}
-use Rattle.vchan_core.proofs.RunLaws.{IsRunning, IsStep, length-payload, runs_begun, runs_on, runs_out, then_stands, then_fills}
-use Rattle.vchan_core.proofs.Bounds.{length-Stands}
+use Rattle.vchan_core.proofs.PhaseLaws.{GoesOn-machine}
+use Rattle.vchan_protocol.proofs.PlanLaws.{Leads-more}
+use Rattle.vchan_core.proofs.StepLaws.{DoesEvent, stands_server, stands_client}
+use Rattle.vchan_protocol.proofs.EventLaws.{diff-same}
+use Rattle.vchan_core.proofs.RunLaws.{IsRunning, IsStep, runs_begun, runs_on, runs_out, then_stands, then_fills}
+use Rattle.vchan_protocol.proofs.AloneLaws.{length-payload}
+use Rattle.vchan_core.proofs.PhaseLaws.{length-Stands}
 
 -- ---- an event on a ring byte as a step
 

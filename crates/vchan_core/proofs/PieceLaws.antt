@@ -11,18 +11,18 @@ use Rattle.ring_words.specs.declared.page.Ring.{Ring}
 use Rattle.ring_words.specs.declared.page.Ring.TheVariants.{Left, Right}
 use Rattle.ring_words.specs.declared.page.WordName.TheVariants.{RingByte}
 use Rattle.ring_words.proofs.RingLaws.{place_within}
-use Rattle.vchan_core.specs.declared.op.Op.{Op}
-use Rattle.vchan_core.specs.declared.op.Op.TheVariants.{StoreByte, LoadByte}
-use Rattle.vchan_core.specs.declared.call.Answer.{Answer}
+use Rattle.vchan_protocol.specs.declared.op.Op.{Op}
+use Rattle.vchan_protocol.specs.declared.op.Op.TheVariants.{StoreByte, LoadByte}
+use Rattle.vchan_protocol.specs.declared.call.Answer.{Answer}
 use Rattle.vchan_core.specs.declared.machine.Machine.{Machine}
 use Rattle.vchan_core.specs.declared.phase.Phase.TheVariants.{Put, Take}
-use Rattle.vchan_core.specs.Plan.{Plan, answers, does, next_op, after}
-use Rattle.vchan_core.specs.Ends.{Standing, standing_after, written_ring, read_ring, write_order, read_order}
-use Rattle.vchan_core.specs.Calls.{put_index, take_index}
-use Rattle.vchan_core.specs.Apply.{Fits, words_after, value_taken, buffer_after}
+use Rattle.vchan_protocol.specs.Plan.{Plan, answers, does, next_op, after}
+use Rattle.vchan_protocol.specs.Ends.{Standing, standing_after, written_ring, read_ring, write_order, read_order}
+use Rattle.vchan_protocol.specs.Calls.{put_index, take_index}
+use Rattle.vchan_protocol.specs.Apply.{Fits, words_after, value_taken, buffer_after}
 use Rattle.vchan_core.specs.Phases.{standing, rest, rest_at}
 use Rattle.vchan_core.specs.Pieces.{MakesEvent, MakesEvents}
-use Rattle.vchan_core.proofs.PlanLaws.{put_bytes-more, take_bytes-more}
+use Rattle.vchan_protocol.proofs.PlanLaws.{put_bytes-more, take_bytes-more}
 
 index_on : (orders : Orders) (ring : Ring) (at : ℕ) → index_of orders (RingByte ring (at + 1)) ≡ index_of orders (RingByte ring at) + 1
 index_on orders Left at = omega arith

@@ -4,27 +4,39 @@ use Rattle.std.proofs.lemmas.List.{get_or_default}
 use Rattle.std.proofs.lemmas.List.Elements.{All-take}
 use Rattle.ring_words.specs.declared.page.Role.{Role}
 use Rattle.ring_words.specs.declared.page.Role.TheVariants.{Server, Client}
-use Rattle.vchan_core.specs.declared.call.Call.{Call}
-use Rattle.vchan_core.specs.declared.side.Side.{Side}
-use Rattle.vchan_core.specs.declared.side.Begun.{Begun}
+use Rattle.vchan_protocol.specs.declared.call.Call.{Call}
+use Rattle.vchan_protocol.specs.declared.side.Side.{Side}
+use Rattle.vchan_protocol.specs.declared.side.Begun.{Begun}
 use Rattle.vchan_core.specs.declared.machine.Machine.{Machine}
 use Rattle.vchan_core.specs.declared.plain.Plain.{Plain}
-use Rattle.vchan_core.specs.Plan.{GoesOn}
-use Rattle.vchan_core.specs.Ends.{Standing}
-use Rattle.vchan_core.specs.Calls.{payload_of, IsAllowed}
-use Rattle.vchan_core.specs.Core.{Core, side_of, begun, event, plan_left}
-use Rattle.vchan_core.specs.Alone.{called}
+use Rattle.vchan_protocol.specs.Plan.{GoesOn}
+use Rattle.vchan_protocol.specs.Ends.{Standing}
+use Rattle.vchan_protocol.specs.Calls.{payload_of, IsAllowed}
+use Rattle.vchan_protocol.specs.Core.{Core, side_of, begun, event, plan_left}
+use Rattle.vchan_protocol.specs.Alone.{called}
 use Rattle.vchan_core.specs.Phases.{standing, IsIdle, Allows}
 use Rattle.vchan_core.specs.Past.{IsInCall, IsMachineOf, StandsFor, machine_of, turned_of}
-use Rattle.vchan_core.specs.RingLaw.{AreBytes}
-use Rattle.vchan_core.specs.Reached.{MayBegin}
-use Rattle.vchan_core.specs.TurnedLaw.{TurnedLawful}
-use Rattle.vchan_core.specs.Kept.{Kept}
-use Rattle.vchan_core.proofs.PlanLaws.{GoesOn-machine}
+use Rattle.vchan_protocol.specs.RingLaw.{AreBytes}
+use Rattle.vchan_protocol.specs.Reached.{MayBegin}
+use Rattle.vchan_protocol.specs.TurnedLaw.{TurnedLawful}
+use Rattle.vchan_protocol.specs.Kept.{Kept}
+use Rattle.vchan_core.proofs.PhaseLaws.{GoesOn-machine}
 use Rattle.vchan_core.proofs.StepLaws.{in_call, plan_left-is}
-use Rattle.vchan_core.proofs.RunLaws.{machine_stands, length-payload}
-use Rattle.vchan_core.proofs.KeptSteps.{kept_begun, kept_event}
-use Rattle.vchan_core.proofs.WholeCalls.{kept_called}
+use Rattle.vchan_core.proofs.RunLaws.{machine_stands}
+use Rattle.vchan_protocol.proofs.AloneLaws.{length-payload}
+use Rattle.vchan_protocol.proofs.KeptSteps.{kept_begun, kept_event}
+use Rattle.vchan_protocol.proofs.WholeCalls.{kept_called}
+use Rattle.std.proofs.Common.{◌≡◌, ℕ, ◌<◌, ◌≤◌, false, List, length, take, refl, subst, sym, ◌∙◌, arith}
+use Rattle.std.proofs.lemmas.List.{length-take}
+use Rattle.vchan_protocol.specs.Calls.{payload_of, IsAllowed}
+use Rattle.vchan_core.specs.Phases.{standing, Allows}
+use Rattle.vchan_core.specs.Past.{IsMachineOf, StandsFor, machine_of}
+use Rattle.vchan_protocol.specs.Core.{Core, side_of, standing_of, begun}
+use Rattle.vchan_protocol.specs.Alone.{called}
+use Rattle.vchan_protocol.specs.RingLaw.{AreBytes}
+use Rattle.vchan_protocol.specs.Lawful.{Lawful, IsEnd}
+use Rattle.vchan_protocol.specs.ListLaw.{FollowsLists}
+use Rattle.vchan_protocol.proofs.ListWhole.{tells_lists, follows_lists}
 
 -- the end was given up exactly where the page says so
 turned_stands : (core : Core) (page : Plain) (who : Role) → StandsFor core page → turned_of page who ≡ false → (side_of core who).turned ≡ false
@@ -76,3 +88,22 @@ pub kept_call : (core : Core) (page : Plain) (who : Role) (call : Call) (source 
 kept_call core page who call source h honest allows enough bytes kept =
     kept_called core who call (take (payload_of call) source) kept (turned_stands core page who h honest)
     (may_begin core page who call (take (payload_of call) source) h kept allows (length-payload call source enough) (All-take (λ (byte : ℕ). byte < 256) (payload_of call) source (λ k d below. subst (λ (byte : ℕ). byte < 256) (get_or_default source k 0 d below) (bytes k))))
+
+-- ---- whole calls are calls on lists
+
+-- a call that the machine of a page allows is one that its end may begin
+may_call : (core : Core) (page : Plain) (who : Role) (call : Call) (source : List ℕ) → IsMachineOf (side_of core who) (machine_of page who) → IsEnd who core.orders (side_of core who) → Allows (machine_of page who) call →
+    payload_of call ≤ length source → AreBytes source → IsAllowed who (side_of core who).state call × (length (take (payload_of call) source) ≡ payload_of call) × AreBytes (take (payload_of call) source)
+may_call core page who call source h is allows enough bytes =
+    let e : standing (machine_of page who) ≡ standing_of (side_of core who) = h.standing_is in (
+      subst (λ (r : Role). IsAllowed r (side_of core who).state call) is.role_is (subst (λ (s : Standing). IsAllowed s.role s.state call) e allows.1),
+      omega (arith, length-take (payload_of call) source, enough),
+      All-take (λ (byte : ℕ). byte < 256) (payload_of call) source bytes,
+    )
+
+pub page_follows_lists : (core : Core) (page : Plain) (who : Role) (call : Call) (source : List ℕ) → Allows (machine_of page who) call → payload_of call ≤ length source → AreBytes source →
+    StandsFor core page → Lawful core → FollowsLists core who call (take (payload_of call) source)
+page_follows_lists core page Server call source allows enough bytes h lawful =
+    follows_lists core Server call (take (payload_of call) source) (tells_lists core lawful) (may_call core page Server call source h.server lawful.server_end allows enough bytes)
+page_follows_lists core page Client call source allows enough bytes h lawful =
+    follows_lists core Client call (take (payload_of call) source) (tells_lists core lawful) (may_call core page Client call source h.client lawful.client_end allows enough bytes)

@@ -1,112 +1,35 @@
 -- A call that an end makes while the other makes no event: the loop over its events.
-use Rattle.std.proofs.Common.{◌≡◌, ℕ, suc, ◌%◌, ◌<◌, ◌≤◌, ◌↔◌, Option, Some, None, IsSome, is_some, true, List, [], ◌∷◌, ◌++◌, length, take, drop, slice_index, slice_set, get_or, refl, subst, sym, ap, ◌∙◌, arith, append_assoc, append-nil}
-use Rattle.std.proofs.lemmas.List.{length-take, length-append}
+use Rattle.std.proofs.Common.{◌≡◌, ℕ, ◌≤◌, ◌↔◌, Option, Some, None, IsSome, is_some, true, List, length, take, subst, sym, ap, ◌∙◌}
 use Rattle.std.proofs.lemmas.Bool.{false≢true}
-use Rattle.std.proofs.Math.Seq.{drop-cons, set-append_seam}
 use Rattle.ring_words.specs.declared.order.Orders.{Orders}
 use Rattle.ring_words.specs.declared.page.Role.{Role}
 use Rattle.ring_words.specs.declared.page.Role.TheVariants.{Server, Client}
-use Rattle.ring_words.specs.Page.{index_of}
-use Rattle.vchan_core.specs.declared.op.Op.{Op}
-use Rattle.vchan_core.specs.declared.op.Op.TheVariants.{Load, LoadByte, Store, StoreByte, Or, And, Swap, Nothing}
-use Rattle.vchan_core.specs.declared.op.PastEvent.{PastEvent}
-use Rattle.vchan_core.specs.declared.call.Answer.{Answer}
-use Rattle.vchan_core.specs.declared.call.Call.{Call}
-use Rattle.vchan_core.specs.declared.side.Side.{Side}
+use Rattle.vchan_protocol.specs.declared.op.Op.{Op}
+use Rattle.vchan_protocol.specs.declared.op.Op.TheVariants.{Load, LoadByte, Store, StoreByte, Or, And, Swap, Nothing}
+use Rattle.vchan_protocol.specs.declared.op.PastEvent.{PastEvent}
+use Rattle.vchan_protocol.specs.declared.call.Answer.{Answer}
+use Rattle.vchan_protocol.specs.declared.call.Call.{Call}
+use Rattle.vchan_protocol.specs.declared.side.Side.{Side}
 use Rattle.vchan_core.specs.declared.machine.Machine.{Machine}
 use Rattle.vchan_core.specs.declared.plain.Plain.{Plain}
-use Rattle.vchan_core.specs.Plan.{Plan, answers, does, next_op, after, past, GoesOn}
-use Rattle.vchan_core.specs.Ends.{Standing}
-use Rattle.vchan_core.specs.Calls.{plan_of, payload_of}
-use Rattle.vchan_core.specs.Apply.{Fits, words_after, value_taken, buffer_after, filled}
+use Rattle.vchan_protocol.specs.Plan.{Plan, answers, next_op, after, GoesOn}
+use Rattle.vchan_protocol.specs.Ends.{Standing}
+use Rattle.vchan_protocol.specs.Calls.{plan_of, payload_of}
+use Rattle.vchan_protocol.specs.Apply.{Fits, words_after, value_taken, buffer_after, filled}
 use Rattle.vchan_core.specs.Phases.{standing, rest, left, IsIdle}
-use Rattle.vchan_core.specs.Core.{Core, side_of, with_side, event, begun, made, settled, answered, carried_out, loaded_by, bytes_loaded}
-use Rattle.vchan_core.specs.Alone.{alone, whole_call}
+use Rattle.vchan_protocol.specs.Core.{Core, side_of, with_side, event, begun, made, answered, carried_out, bytes_loaded}
+use Rattle.vchan_protocol.specs.Alone.{alone, whole_call}
 use Rattle.vchan_core.specs.Past.{IsMachineOf, HasPayload, StandsFor, machine_of, orders_of, words_of, op_of}
-use Rattle.vchan_core.proofs.PlanLaws.{GoesOn-machine}
-use Rattle.vchan_core.proofs.StepLaws.{InCall, OwesNext, in_call, event_by, event-by, side_by, settled-on, owed}
+use Rattle.vchan_core.proofs.PhaseLaws.{GoesOn-machine}
+use Rattle.vchan_core.proofs.StepLaws.{InCall, in_call, event-by, owed}
+use Rattle.vchan_protocol.proofs.EventLaws.{OwesNext, settled-payload, settled-trail, side_by, side_of-with_side, event_by-on, event_by-answers}
+use Rattle.vchan_protocol.proofs.AloneLaws.{alone-after, alone-answers, FillsNext, fills_on, length-payload}
 
 -- ---- one end of a core state
 
 pub machine_stands : (core : Core) (page : Plain) (who : Role) → StandsFor core page → IsMachineOf (side_of core who) (machine_of page who)
 machine_stands core page Server h = h.server
 machine_stands core page Client h = h.client
-
-pub side_of-with_side : (core : Core) (who : Role) (s : Side) → side_of (with_side core who s) who ≡ s
-side_of-with_side core Server s = refl
-side_of-with_side core Client s = refl
-
-with_side-twice : (core : Core) (who : Role) (s t : Side) → with_side (with_side core who s) who t ≡ with_side core who t
-with_side-twice core Server s t = refl
-with_side-twice core Client s t = refl
-
--- ---- the plan, one event at a time
-
-pub alone-after : (core : Core) (who : Role) (plan : Plan) → GoesOn plan →
-    alone (carried_out core who (next_op plan)) who (after plan (value_taken core.orders core.words (next_op plan))) ≡ alone core who plan
-unfolding alone
-alone-after core who (answers answer) more = absurd more
-alone-after core who (does op next) more = refl
-
-pub alone-answers : (core : Core) (who : Role) (answer : Answer) → alone core who (answers answer) ≡ (with_side core who (answered (side_of core who) answer), answer)
-unfolding alone
-alone-answers core who answer = refl
-
-pub event_by-on : (core : Core) (who : Role) (plan : Plan) → GoesOn (after plan (value_taken core.orders core.words (next_op plan))) → event_by core who plan ≡ carried_out core who (next_op plan)
-event_by-on core who plan on =
-    ap (λ (s : Side). with_side (record core { words = words_after core.orders core.words (side_of core who).payload (next_op plan) }) who s)
-    (settled-on (made (side_of core who) (next_op plan) (value_taken core.orders core.words (next_op plan))) (after plan (value_taken core.orders core.words (next_op plan))) on)
-
-pub event_by-answers : (core : Core) (who : Role) (plan : Plan) (answer : Answer) → after plan (value_taken core.orders core.words (next_op plan)) ≡ answers answer →
-    event_by core who plan ≡ with_side (carried_out core who (next_op plan)) who (answered (side_of (carried_out core who (next_op plan)) who) answer)
-event_by-answers core who plan answer is =
-    let value = value_taken core.orders core.words (next_op plan) in
-    let s = made (side_of core who) (next_op plan) value in
-    let new = record core { words = words_after core.orders core.words (side_of core who).payload (next_op plan) } in
-    ap (λ (p : Plan). with_side new who (settled s p)) is ∙ sym (with_side-twice new who s (answered s answer))
-    ∙ ap (λ (t : Side). with_side (with_side new who s) who (answered t answer)) (sym (side_of-with_side new who s))
-
--- ---- the bytes that are loaded
-
--- the next byte goes to the next place of the buffer
-abbrev pub FillsNext : List PastEvent → ℕ → Op → Type 0
-FillsNext events most (LoadByte word at) = (at ≡ length (bytes_loaded events)) × (at < most)
-FillsNext events most _ = Unit {0}
-
-pub bytes_loaded-push : (events : List PastEvent) (op : Op) (taken : ℕ) → bytes_loaded (events ++ past op taken ∷ []) ≡ bytes_loaded events ++ loaded_by op taken
-bytes_loaded-push [] op taken = append-nil (loaded_by op taken)
-bytes_loaded-push (event ∷ events) op taken =
-    ap (λ (xs : List ℕ). loaded_by event.op event.taken ++ xs) (bytes_loaded-push events op taken) ∙ sym (append_assoc (loaded_by event.op event.taken) (bytes_loaded events) (loaded_by op taken))
-
-pub set_next : (bytes buffer : List ℕ) (value : ℕ) → length bytes < length buffer → slice_set (bytes ++ drop (length bytes) buffer) (length bytes) value ≡ filled buffer (bytes ++ value ∷ [])
-set_next bytes buffer value within =
-    let n = length bytes in
-    let more : suc n ≡ length (bytes ++ value ∷ []) = omega (arith, length-append bytes (value ∷ [])) in
-    ap (λ (l : List ℕ). slice_set (bytes ++ l) n value) (drop-cons buffer n 0 within) ∙ set-append_seam bytes (get_or buffer n 0) (drop (suc n) buffer) value
-    ∙ ap (λ (k : ℕ). bytes ++ value ∷ drop k buffer) more ∙ sym (append_assoc bytes (value ∷ []) (drop (length (bytes ++ value ∷ [])) buffer))
-
--- the buffer goes on being filled
-pub fills_on : (orders : Orders) (words start : List ℕ) (events : List PastEvent) (op : Op) → FillsNext events (length start) op →
-    buffer_after orders words (filled start (bytes_loaded events)) op ≡ filled start (bytes_loaded (events ++ past op (value_taken orders words op) ∷ []))
-fills_on orders words start events op fills = go op fills ∙ ap (λ (xs : List ℕ). filled start xs) (sym (bytes_loaded-push events op (value_taken orders words op)))
-  where
-    bytes : List ℕ
-    bytes = bytes_loaded events
-
-    same : bytes_loaded events ≡ bytes_loaded events ++ []
-    same = sym (append-nil (bytes_loaded events))
-
-    go : (op : Op) → FillsNext events (length start) op → buffer_after orders words (filled start (bytes_loaded events)) op ≡ filled start (bytes_loaded events ++ loaded_by op (value_taken orders words op))
-    go (LoadByte word at) f =
-        ap (λ (n : ℕ). slice_set (filled start (bytes_loaded events)) n (slice_index words (index_of orders word) % 256)) f.0
-        ∙ set_next (bytes_loaded events) start (slice_index words (index_of orders word) % 256) (subst (λ (n : ℕ). n < length start) f.0 f.1)
-    go (Load word) f = ap (λ (xs : List ℕ). filled start xs) same
-    go (Store word value) f = ap (λ (xs : List ℕ). filled start xs) same
-    go (StoreByte word at) f = ap (λ (xs : List ℕ). filled start xs) same
-    go (Or word bits) f = ap (λ (xs : List ℕ). filled start xs) same
-    go (And word bits) f = ap (λ (xs : List ℕ). filled start xs) same
-    go (Swap word value) f = ap (λ (xs : List ℕ). filled start xs) same
-    go Nothing f = ap (λ (xs : List ℕ). filled start xs) same
 
 -- ---- the loop
 
@@ -117,9 +40,6 @@ pub record IsRunning (core : Core) (who : Role) (call : Call) (payload start : L
   pub pays : (side_of now who).payload ≡ payload
   pub on : alone now who (rest (machine_of page who)) ≡ whole_call core who call payload
   pub fills : buffer ≡ filled start (bytes_loaded (side_of now who).trail)
-
-pub length-payload : (call : Call) (source : List ℕ) → payload_of call ≤ length source → length (take (payload_of call) source) ≡ payload_of call
-length-payload call source enough = omega (arith, length-take (payload_of call) source)
 
 has_payload : (s : Side) (call : Call) (source : List ℕ) → payload_of call ≤ length source → s.payload ≡ take (payload_of call) source → HasPayload s source
 has_payload s call source enough pays =
@@ -157,14 +77,6 @@ fills_next s m c orders out into busy fits = go (next_op (rest m)) (owed s m c b
     go (And word bits) owes f = tt
     go (Swap word value) owes f = tt
     go Nothing owes f = tt
-
-pub settled-payload : (s : Side) (plan : Plan) → (settled s plan).payload ≡ s.payload
-settled-payload s (answers answer) = refl
-settled-payload s (does op next) = refl
-
-pub settled-trail : (s : Side) (plan : Plan) → (settled s plan).trail ≡ s.trail
-settled-trail s (answers answer) = refl
-settled-trail s (does op next) = refl
 
 -- the end of a core state after its event
 pub side_of-event : (now : Core) (who : Role) (m : Machine) → InCall (side_of now who) m → side_of (event now who) who ≡ side_by now.orders now.words (side_of now who) (rest m)

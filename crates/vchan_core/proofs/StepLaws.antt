@@ -4,39 +4,39 @@ use Rattle.std.proofs.lemmas.List.{get_or-take, length-take, length-append}
 use Rattle.std.proofs.lemmas.Bool.{false≢true}
 use Rattle.std.proofs.lemmas.Bool.Decides.{nat_tests}
 use Rattle.ring_words.specs.Rings.{diff}
-use Rattle.ring_words.proofs.RingLaws.{size-within, diff-wraps}
+use Rattle.ring_words.proofs.RingLaws.{diff-wraps}
 use Rattle.ring_words.specs.declared.order.Orders.{Orders}
 use Rattle.ring_words.specs.declared.page.Role.{Role}
 use Rattle.ring_words.specs.declared.page.Role.TheVariants.{Server, Client}
 use Rattle.ring_words.specs.declared.page.WordName.{WordName}
 use Rattle.ring_words.specs.declared.page.WordName.TheVariants.{LeftCons, LeftProd, RightCons, RightProd}
 use Rattle.ring_words.specs.Page.{index_of}
-use Rattle.vchan_core.specs.declared.op.Op.{Op}
-use Rattle.vchan_core.specs.declared.op.Op.TheVariants.{Load, LoadByte, Store, StoreByte, Or, And, Swap, Nothing}
-use Rattle.vchan_core.specs.declared.op.PastEvent.{PastEvent}
-use Rattle.vchan_core.specs.declared.call.Answer.{Answer}
-use Rattle.vchan_core.specs.declared.call.Answer.TheVariants.{Done}
-use Rattle.vchan_core.specs.declared.call.Call.{Call}
-use Rattle.vchan_core.specs.declared.call.Call.TheVariants.{Write, Send, Read, Recv, Drain, DataReady, BufferSpace, Connect, Close, TakeEvent, Retire, PeerGone}
-use Rattle.vchan_core.specs.declared.side.Side.{Side}
-use Rattle.vchan_core.specs.declared.side.Begun.{Begun}
+use Rattle.vchan_protocol.specs.declared.op.Op.{Op}
+use Rattle.vchan_protocol.specs.declared.op.Op.TheVariants.{Load, LoadByte, Store, StoreByte, Or, And, Swap, Nothing}
+use Rattle.vchan_protocol.specs.declared.op.PastEvent.{PastEvent}
+use Rattle.vchan_protocol.specs.declared.call.Answer.{Answer}
+use Rattle.vchan_protocol.specs.declared.call.Answer.TheVariants.{Done}
+use Rattle.vchan_protocol.specs.declared.side.Side.{Side}
+use Rattle.vchan_protocol.specs.declared.side.Begun.{Begun}
 use Rattle.vchan_core.specs.declared.machine.Machine.{Machine}
 use Rattle.vchan_core.specs.declared.moved.Moved.{Moved}
 use Rattle.vchan_core.specs.declared.phase.Phase.{Phase}
 use Rattle.vchan_core.specs.declared.phase.Move.{Move}
 use Rattle.vchan_core.specs.declared.phase.Move.TheVariants.{To, Done as Ended}
 use Rattle.vchan_core.specs.declared.plain.Plain.{Plain}
-use Rattle.vchan_core.specs.Plan.{Plan, answers, does, next_op, after, left_after, past, Leads, GoesOn}
-use Rattle.vchan_core.specs.Ends.{Standing, read_order, write_order, standing_after, prod_stored, cons_stored, prod_after, cons_after}
-use Rattle.vchan_core.specs.Calls.{plan_of, payload_of, stored_most, loaded_most}
-use Rattle.vchan_core.specs.Apply.{Fits, words_after, value_taken}
+use Rattle.vchan_protocol.specs.Plan.{Plan, answers, does, next_op, after, left_after, past, Leads, GoesOn}
+use Rattle.vchan_protocol.specs.Ends.{Standing, standing_after, prod_stored, cons_stored, prod_after, cons_after}
+use Rattle.vchan_protocol.specs.Calls.{plan_of, payload_of, stored_most, loaded_most}
+use Rattle.vchan_protocol.specs.Apply.{words_after, value_taken}
 use Rattle.vchan_core.specs.Phases.{standing, at_phase, rest, rest_at, plan_at, left, IsIdle}
-use Rattle.vchan_core.specs.Core.{Core, side_of, with_side, event, plan_next, begun_standing, standing_of, standing_along, plan_left, made, settled, answered, answer_in, count_stored, bytes_loaded, sent_stored, sent_after, got_stored, got_after}
+use Rattle.vchan_protocol.specs.Core.{Core, side_of, event, plan_next, begun_standing, standing_of, standing_along, plan_left, made, settled, answered, answer_in, count_stored, bytes_loaded, sent_stored, sent_after, got_stored, got_after}
 use Rattle.vchan_core.specs.Counts.{capped}
 use Rattle.vchan_core.specs.Midway.{page_at, page_to}
 use Rattle.vchan_core.specs.Past.{IsInCall, IsMachineOf, HasPayload, StandsFor, orders_of, words_of}
-use Rattle.vchan_core.proofs.PlanLaws.{Leads-more, GoesOn-machine, left_after-Leads}
-use Rattle.vchan_core.proofs.Counted.{Counted, Owes, OwesIndex, counted_call, counts_within, Counted-Leads}
+use Rattle.vchan_protocol.proofs.PlanLaws.{Leads-more, left_after-Leads}
+use Rattle.vchan_core.proofs.PhaseLaws.{GoesOn-machine}
+use Rattle.vchan_protocol.proofs.Counted.{Counted, OwesIndex, counted_call, counts_within, Counted-Leads}
+use Rattle.vchan_protocol.proofs.EventLaws.{owes_next, stored_most-payload, most_small, OwesNext, settled-on, settled-sent, settled-got, settled-turned, standing_of-made, standing_along-push, prod-after, cons-after, diff-same, side_by, event_by}
 
 -- the call that a busy machine is in, as a record
 pub record InCall (s : Side) (m : Machine) : Type 0 where
@@ -60,30 +60,6 @@ plan_left-is s m c =
     (left_after-Leads (plan_of (begun_standing s c.begun) c.begun.call) s.trail (rest m) c.led)
 
 -- ---- the next event, counted
-
-pub owes_next : (e : Standing) (out into : ℕ) (now : Standing) (s l : ℕ) (plan : Plan) → Counted e out into now s l plan → GoesOn plan → Owes e out into now s l (next_op plan)
-unfolding Counted
-owes_next e out into now s l (answers answer) w more = absurd more
-owes_next e out into now s l (does op next) w more = w.0
-
-pub stored_most-payload : (e : Standing) (call : Call) → stored_most e call ≤ payload_of call
-stored_most-payload e (Write n) = omega arith
-stored_most-payload e (Send n) = omega arith
-stored_most-payload e (Read n) = omega arith
-stored_most-payload e (Recv n) = omega arith
-stored_most-payload e (Drain n) = omega arith
-stored_most-payload e DataReady = omega arith
-stored_most-payload e BufferSpace = omega arith
-stored_most-payload e Connect = omega arith
-stored_most-payload e Close = omega arith
-stored_most-payload e TakeEvent = omega arith
-stored_most-payload e PeerGone = omega arith
-stored_most-payload e Retire = omega arith
-
--- what the next event owes, with the end's own standing now and what its trail has moved
-abbrev pub OwesNext : (s : Side) (b : Begun) → Op → Type 0
-OwesNext s b op =
-    Owes (begun_standing s b) (stored_most (begun_standing s b) b.call) (loaded_most (begun_standing s b) b.call) (standing_of s) (count_stored s.trail) (length (bytes_loaded s.trail)) op
 
 pub owed : (s : Side) (m : Machine) (c : InCall s m) → ¬ IsIdle m → OwesNext s c.begun (next_op (rest m))
 owed s m c busy =
@@ -116,18 +92,6 @@ words_same s b orders words source (Swap word value) pays has owes = refl
 words_same s b orders words source Nothing pays has owes = refl
 
 -- ---- the machine and its end
-
-pub settled-on : (s : Side) (plan : Plan) → GoesOn plan → settled s plan ≡ s
-settled-on s (answers answer) more = absurd more
-settled-on s (does op next) more = refl
-
-pub standing_of-made : (s : Side) (op : Op) (taken : ℕ) → standing_of (made s op taken) ≡ standing_after (standing_of s) op
-unfolding standing_after
-standing_of-made s op taken = refl
-
-pub standing_along-push : (e : Standing) (events : List PastEvent) (event : PastEvent) → standing_along e (events ++ event ∷ []) ≡ standing_after (standing_along e events) event.op
-standing_along-push e [] event = refl
-standing_along-push e (first ∷ events) event = standing_along-push (standing_after e first.op) events event
 
 -- the machine's event is one of the end: it stands for the end with that event, and with the answer that came
 pub made_stands : (s : Side) (m m' : Machine) (result : Option Answer) (taken : ℕ) → IsMachineOf s m → ¬ IsIdle m →
@@ -166,10 +130,6 @@ made_stands s m m' result taken h busy leads idle stands = go result leads idle
         subst (λ (p : Plan). IsMachineOf (settled (made s (next_op (rest m)) taken) p) m') same there
 
 -- ---- the counts
-
-pub diff-same : (count : ℕ) → diff count count ≡ 0
-unfolding diff
-diff-same count = grind (arith, nat_tests)
 
 capped_twice : (count more : ℕ) → capped (capped count + more) ≡ capped (count + more)
 capped_twice count more = omega arith
@@ -219,37 +179,6 @@ pub record DoesEvent (orders : Orders) (words source : List ℕ) (m m' : Machine
   pub reads_are : reads' ≡ record reads { got = capped (reads.got + diff (standing m').cons (standing m).cons) }
   pub low : ((standing m).prod < 2 ^ 32) × ((standing m).cons < 2 ^ 32)
 
--- the end after an event by what is left of its call
-abbrev pub side_by : Orders → List ℕ → Side → Plan → Side
-side_by orders words s plan = settled (made s (next_op plan) (value_taken orders words (next_op plan))) (after plan (value_taken orders words (next_op plan)))
-
-settled-sent : (s : Side) (plan : Plan) → (settled s plan).sent ≡ s.sent
-settled-sent s (answers answer) = refl
-settled-sent s (does op next) = refl
-
-settled-got : (s : Side) (plan : Plan) → (settled s plan).got ≡ s.got
-settled-got s (answers answer) = refl
-settled-got s (does op next) = refl
-
-settled-turned : (s : Side) (plan : Plan) → (settled s plan).turned ≡ s.turned
-settled-turned s (answers answer) = refl
-settled-turned s (does op next) = refl
-
--- a call moves no more than a ring holds
-most_small : (e : Standing) (call : Call) → (stored_most e call < 2 ^ 32) × (loaded_most e call < 2 ^ 32)
-most_small e (Write n) = let fits = size-within (write_order e) in (omega (arith, fits.1), omega arith)
-most_small e (Send n) = let fits = size-within (write_order e) in (omega (arith, fits.1), omega arith)
-most_small e (Read n) = let fits = size-within (read_order e) in (omega arith, omega (arith, fits.1))
-most_small e (Recv n) = let fits = size-within (read_order e) in (omega arith, omega (arith, fits.1))
-most_small e (Drain n) = let fits = size-within (read_order e) in (omega arith, omega (arith, fits.1))
-most_small e DataReady = (omega arith, omega arith)
-most_small e BufferSpace = (omega arith, omega arith)
-most_small e Connect = (omega arith, omega arith)
-most_small e Close = (omega arith, omega arith)
-most_small e TakeEvent = (omega arith, omega arith)
-most_small e PeerGone = (omega arith, omega arith)
-most_small e Retire = (omega arith, omega arith)
-
 -- what is moved is few, and within the payload
 few_moved : (s : Side) (m : Machine) (c : InCall s m) → (count_stored s.trail ≤ length s.payload) × (count_stored s.trail < 2 ^ 32) × (length (bytes_loaded s.trail) < 2 ^ 32)
 few_moved s m c =
@@ -291,15 +220,6 @@ got_of s b (And word bits) owes low few = stays s.got s.cons
 got_of s b (Swap word value) owes low few = stays s.got s.cons
 got_of s b Nothing owes low few = stays s.got s.cons
 
--- the own counts, by the machine's event
-prod-after : (e : Standing) (op : Op) → (standing_after e op).prod ≡ prod_after op e.role e.prod
-unfolding standing_after
-prod-after e op = refl
-
-cons-after : (e : Standing) (op : Op) → (standing_after e op).cons ≡ cons_after op e.role e.cons
-unfolding standing_after
-cons-after e op = refl
-
 pub sent_step : (orders : Orders) (words source : List ℕ) (s : Side) (m m' : Machine) (result : Option Answer) (words' : List ℕ) (writes reads writes' reads' : Moved) →
     IsMachineOf s m → DoesEvent orders words source m m' result words' writes reads writes' reads' → writes.sent ≡ capped (length s.sent) →
     writes'.sent ≡ capped (length (side_by orders words s (rest m)).sent)
@@ -335,10 +255,6 @@ got_step orders words source s m m' result words' writes reads writes' reads' h 
     ∙ ap (λ (xs : List ℕ). capped (length xs)) (sym (settled-got (made s op (value_taken orders words op)) (after (rest m) (value_taken orders words op))))
 
 -- ---- the page after an event of its server, and of its client
-
-abbrev pub event_by : Core → Role → Plan → Core
-event_by core who plan =
-    with_side (record core { words = words_after core.orders core.words (side_of core who).payload (next_op plan) }) who (side_by core.orders core.words (side_of core who) plan)
 
 pub event-by : (core : Core) (who : Role) (m : Machine) → InCall (side_of core who) m → event core who ≡ event_by core who (rest m)
 unfolding event
@@ -484,14 +400,3 @@ keeps_orders m m' op is = ap (λ (e : Standing). e.orders) is
 pub keeps_role : (m m' : Machine) (op : Op) → standing m' ≡ standing_after (standing m) op → m'.role ≡ m.role
 unfolding standing_after
 keeps_role m m' op is = ap (λ (e : Standing). e.role) is
-
--- more payload and more buffer fit as well
-pub Fits-more : (orders : Orders) (out into out' into' : ℕ) (op : Op) → out ≤ out' → into ≤ into' → Fits orders out into op → Fits orders out' into' op
-Fits-more orders out into out' into' (Load word) a b f = f
-Fits-more orders out into out' into' (LoadByte word at) a b f = (f.0, omega (arith, f.1))
-Fits-more orders out into out' into' (Store word value) a b f = f
-Fits-more orders out into out' into' (StoreByte word at) a b f = (f.0, omega (arith, f.1))
-Fits-more orders out into out' into' (Or word bits) a b f = f
-Fits-more orders out into out' into' (And word bits) a b f = f
-Fits-more orders out into out' into' (Swap word value) a b f = f
-Fits-more orders out into out' into' Nothing a b f = f

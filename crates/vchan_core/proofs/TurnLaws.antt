@@ -3,17 +3,17 @@ use Rattle.std.proofs.Common.{◌≡◌, ℕ, Bool, true, false, cond, List, [],
 use Rattle.ring_words.specs.declared.order.Orders.{Orders}
 use Rattle.ring_words.specs.declared.page.Role.{Role}
 use Rattle.ring_words.specs.declared.page.Role.TheVariants.{Server, Client}
-use Rattle.vchan_core.specs.declared.op.Op.{Op}
-use Rattle.vchan_core.specs.declared.side.Side.{Side}
+use Rattle.vchan_protocol.specs.declared.op.Op.{Op}
+use Rattle.vchan_protocol.specs.declared.side.Side.{Side}
 use Rattle.vchan_core.specs.declared.machine.Machine.{Machine}
 use Rattle.vchan_core.specs.declared.moved.Moved.{Moved}
 use Rattle.vchan_core.specs.declared.plain.Plain.{Plain}
-use Rattle.vchan_core.specs.Apply.{words_after, value_taken}
+use Rattle.vchan_protocol.specs.Apply.{words_after, value_taken}
 use Rattle.vchan_core.specs.Phases.{standing, IsIdle}
 use Rattle.vchan_core.specs.Counts.{capped}
-use Rattle.vchan_core.specs.Core.{Core, standing_of}
+use Rattle.vchan_protocol.specs.Core.{Core, standing_of}
 use Rattle.vchan_core.specs.Past.{IsMachineOf, StandsFor, machine_of, other_of, turned_of, other_turned_of, words_of, orders_of}
-use Rattle.vchan_core.specs.Turned.{turns, given_up, strays, strayed}
+use Rattle.vchan_protocol.specs.Turned.{turns, given_up, strays, strayed}
 
 -- what the code of a hostile event does: it gives the end up, and then stores to the words
 pub record DoesStray (who : Role) (op : Op) (page given page' : Plain) : Type 0 where

@@ -8,14 +8,14 @@ use Rattle.ring_words.specs.declared.page.Ring.TheVariants.{Left, Right}
 use Rattle.vchan_core.specs.declared.machine.Machine.{Machine}
 use Rattle.vchan_core.specs.declared.plain.Plain.{Plain}
 use Rattle.vchan_core.specs.declared.moved.Moved.{Moved}
-use Rattle.vchan_core.specs.declared.op.Op.{Op}
-use Rattle.vchan_core.specs.declared.side.Side.{Side}
-use Rattle.vchan_core.specs.declared.side.Begun.{Begun}
-use Rattle.vchan_core.specs.Plan.{Leads, next_op}
-use Rattle.vchan_core.specs.Calls.{plan_of, payload_of}
+use Rattle.vchan_protocol.specs.declared.op.Op.{Op}
+use Rattle.vchan_protocol.specs.declared.side.Side.{Side}
+use Rattle.vchan_protocol.specs.declared.side.Begun.{Begun}
+use Rattle.vchan_protocol.specs.Plan.{Leads, next_op}
+use Rattle.vchan_protocol.specs.Calls.{plan_of, payload_of}
 use Rattle.vchan_core.specs.Phases.{standing, rest, IsIdle}
 use Rattle.vchan_core.specs.Counts.{capped}
-use Rattle.vchan_core.specs.Core.{Core, writer_of, reader_of, standing_of, begun_standing, standing_along}
+use Rattle.vchan_protocol.specs.Core.{Core, writer_of, reader_of, standing_of, begun_standing, standing_along}
 
 -- ---- the parts of a plain page
 

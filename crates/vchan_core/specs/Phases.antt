@@ -1,21 +1,21 @@
 -- What a machine still does of its call, and the pasts that it stands for.
 use Rattle.std.specs.Prelude.{ℕ, ◌-◌, min, IsNone, Option, Some, None, List}
-use Rattle.vchan_core.specs.declared.op.Op.TheVariants.{Store}
+use Rattle.vchan_protocol.specs.declared.op.Op.TheVariants.{Store}
 use Rattle.ring_words.specs.declared.page.WordName.TheVariants.{CliLive}
-use Rattle.vchan_core.specs.declared.op.PastEvent.{PastEvent}
-use Rattle.vchan_core.specs.declared.call.Answer.{Answer}
-use Rattle.vchan_core.specs.declared.call.Answer.TheVariants.{PeerClosed, Ready, Space, Connected}
-use Rattle.vchan_core.specs.declared.call.Call.{Call}
-use Rattle.vchan_core.specs.declared.call.Call.TheVariants.{DataReady, BufferSpace, Close, TakeEvent, PeerGone as AskGone}
-use Rattle.vchan_core.specs.declared.call.Bit.TheVariants.{Written, Consumed}
+use Rattle.vchan_protocol.specs.declared.op.PastEvent.{PastEvent}
+use Rattle.vchan_protocol.specs.declared.call.Answer.{Answer}
+use Rattle.vchan_protocol.specs.declared.call.Answer.TheVariants.{PeerClosed, Ready, Space, Connected}
+use Rattle.vchan_protocol.specs.declared.call.Call.{Call}
+use Rattle.vchan_protocol.specs.declared.call.Call.TheVariants.{DataReady, BufferSpace, Close, TakeEvent, PeerGone as AskGone}
+use Rattle.vchan_protocol.specs.declared.call.Bit.TheVariants.{Written, Consumed}
 use Rattle.vchan_core.specs.declared.machine.Machine.{Machine}
 use Rattle.vchan_core.specs.declared.phase.Phase.{Phase}
 use Rattle.vchan_core.specs.declared.phase.Phase.TheVariants.{WriteLive, WriteLook, WriteAsk, WriteLookAgain, SendLive, SendLook, SendAsk, SendLookAgain, Put, ReadLook, ReadAsk, ReadLookAgain, ReadLive, RecvLook, RecvAsk, RecvLookAgain, RecvLive, DrainLook, DrainAsk, DrainSecond, DrainLive, DrainFurther, DrainGone, DrainLast, Take, Notify, Signal, ReadyAsk, ReadyLook, SpaceAsk, SpaceLook, ConnectLeft, ConnectRight, ConnectStore, CloseStore, TakePending, LoadGone, RetireStore, RetireSignal, GoneStore}
 use Rattle.vchan_core.specs.declared.phase.Move.{Move}
 use Rattle.vchan_core.specs.declared.phase.Move.TheVariants.{To, Done}
-use Rattle.vchan_core.specs.Plan.{Plan, answers, does, Leads}
-use Rattle.vchan_core.specs.Ends.{Standing, read_size, free_at, ready_at}
-use Rattle.vchan_core.specs.Calls.{write, write_open, write_looked, look_write, ask, read, read_looked, read_live, look_read, put_bytes, put_index, take_bytes, take_index, notify, signal, plan_of, send, send_open, send_looked, recv, recv_looked, recv_live, drain, drain_second, drain_live, drain_further, drain_gone, drain_last, connect, connect_right, close, retire_shut, IsAllowed}
+use Rattle.vchan_protocol.specs.Plan.{Plan, answers, does, Leads}
+use Rattle.vchan_protocol.specs.Ends.{Standing, read_size, free_at, ready_at}
+use Rattle.vchan_protocol.specs.Calls.{write, write_open, write_looked, look_write, ask, read, read_looked, read_live, look_read, put_bytes, put_index, take_bytes, take_index, notify, signal, plan_of, send, send_open, send_looked, recv, recv_looked, recv_live, drain, drain_second, drain_live, drain_further, drain_gone, drain_last, connect, connect_right, close, retire_shut, IsAllowed}
 
 -- what is left of a call at a phase
 unfoldable pub rest_at : Standing → Phase → Plan

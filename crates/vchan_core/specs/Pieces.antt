@@ -2,9 +2,9 @@
 use Rattle.std.specs.Prelude.{◌≡◌, ℕ, suc, zero, ◌≤◌, List, length}
 use Rattle.ring_words.specs.declared.order.Orders.{Orders}
 use Rattle.vchan_core.specs.declared.machine.Machine.{Machine}
-use Rattle.vchan_core.specs.Plan.{next_op, after}
-use Rattle.vchan_core.specs.Ends.{standing_after}
-use Rattle.vchan_core.specs.Apply.{Fits, words_after, value_taken, buffer_after}
+use Rattle.vchan_protocol.specs.Plan.{next_op, after}
+use Rattle.vchan_protocol.specs.Ends.{standing_after}
+use Rattle.vchan_protocol.specs.Apply.{Fits, words_after, value_taken, buffer_after}
 use Rattle.vchan_core.specs.Phases.{standing, rest, IsIdle, out_of, into_of}
 
 -- one event, which leaves the machine's own counts and its state as they are

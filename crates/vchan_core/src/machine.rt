@@ -1,8 +1,7 @@
-use crate::call::{Answer, Bit, Call, EndState};
-use crate::op::Op;
 use crate::phase::{Move, Phase};
 use crate::words::{cons_word, low8, low16, low32, mask, peer_pending, prod_word};
 use ring_words::{Orders, Ring, Role, WordName, place, ready, room};
+use vchan_protocol::{Answer, Bit, Call, EndState, Op};
 
 mod events;
 mod looks;
@@ -28,14 +27,14 @@ impl Machine {
     ghost use Rattle.std.specs.Prelude.{◌≡◌, ◌↔◌, ◌+◌, ◌-◌, ◌++◌, ◌∷◌, [], List, IsTrue, IsSome, ◌≢◌, ◌≤◌, ℕ};
     ghost use Rattle.ring_words.specs.Page.{order_of, Has};
     ghost use Rattle.ring_words.specs.Rings.{place as place_of};
-    ghost use Rattle.vchan_core.specs.Apply.{Fits};
-    ghost use Rattle.vchan_core.specs.Plan.{next_op, after, left_after, past};
-    ghost use Rattle.vchan_core.specs.Ends.{Standing, written_ring, read_ring, ask_word, notify_word, peer_live, peer_pending as peer_pending_of, prod_word as prod_word_of, cons_word as cons_word_of, mask as mask_of, own_live, own_gone, own_pending, peer_gone, free_at, ready_at, read_size, standing_after};
-    ghost use Rattle.vchan_core.specs.Calls.{plan_of, payload_of, loaded_most, IsAllowed};
+    ghost use Rattle.vchan_protocol.specs.Apply.{Fits};
+    ghost use Rattle.vchan_protocol.specs.Plan.{next_op, after, left_after, past};
+    ghost use Rattle.vchan_protocol.specs.Ends.{Standing, written_ring, read_ring, ask_word, notify_word, peer_live, peer_pending as peer_pending_of, prod_word as prod_word_of, cons_word as cons_word_of, mask as mask_of, own_live, own_gone, own_pending, peer_gone, free_at, ready_at, read_size, standing_after};
+    ghost use Rattle.vchan_protocol.specs.Calls.{plan_of, payload_of, loaded_most, IsAllowed};
     ghost use Rattle.vchan_core.specs.Phases.{standing, rest, rest_at, plan_at, left, IsIdle, Allows, out_at, into_at, out_of, into_of, out_move, into_move, Stands, StandsOrAnswered};
-    ghost use Rattle.vchan_core.specs.declared.call.Call.{Call};
-    ghost use Rattle.vchan_core.specs.declared.call.Answer.{Answer};
-    ghost use Rattle.vchan_core.specs.declared.op.PastEvent.{PastEvent};
+    ghost use Rattle.vchan_protocol.specs.declared.call.Call.{Call};
+    ghost use Rattle.vchan_protocol.specs.declared.call.Answer.{Answer};
+    ghost use Rattle.vchan_protocol.specs.declared.op.PastEvent.{PastEvent};
 
     /// An end between two calls, in this state, both of whose counts are `start`. A server is
     /// never fresh.
@@ -230,7 +229,7 @@ impl Machine {
 
     /// Takes the event of a phase into its own counts and its state: an own index that it stores is
     /// its count, and its own live byte makes its state.
-    #[tactic(auto, using(crate::proofs::PlanLaws::bytes_laws), unfolding(crate::specs::Ends::standing_after, crate::specs::Phases::rest_at, crate::specs::Calls::write, crate::specs::Calls::write_open, crate::specs::Calls::read, crate::specs::Calls::read_live, crate::specs::Calls::send, crate::specs::Calls::send_open, crate::specs::Calls::recv, crate::specs::Calls::recv_live, crate::specs::Calls::drain, crate::specs::Calls::drain_second, crate::specs::Calls::drain_live, crate::specs::Calls::drain_further, crate::specs::Calls::drain_gone, crate::specs::Calls::drain_last, crate::specs::Calls::connect, crate::specs::Calls::connect_right))]
+    #[tactic(auto, using(vchan_protocol::proofs::PlanLaws::bytes_laws), unfolding(vchan_protocol::specs::Ends::standing_after, crate::specs::Phases::rest_at, vchan_protocol::specs::Calls::write, vchan_protocol::specs::Calls::write_open, vchan_protocol::specs::Calls::read, vchan_protocol::specs::Calls::read_live, vchan_protocol::specs::Calls::send, vchan_protocol::specs::Calls::send_open, vchan_protocol::specs::Calls::recv, vchan_protocol::specs::Calls::recv_live, vchan_protocol::specs::Calls::drain, vchan_protocol::specs::Calls::drain_second, vchan_protocol::specs::Calls::drain_live, vchan_protocol::specs::Calls::drain_further, vchan_protocol::specs::Calls::drain_gone, vchan_protocol::specs::Calls::drain_last, vchan_protocol::specs::Calls::connect, vchan_protocol::specs::Calls::connect_right))]
     #[inline(always)]
     fn count(&mut self, phase: Phase)
         ensures standing { standing self.new ≡ standing_after (standing self.old) (next_op (rest_at (standing self.old) phase)) }
@@ -265,7 +264,7 @@ impl Machine {
 
     // ---- the events
 
-    #[tactic(auto, using(crate::proofs::PlanLaws::bytes_laws), unfolding(crate::specs::Phases::rest_at, crate::specs::Calls::write, crate::specs::Calls::write_open, crate::specs::Calls::read, crate::specs::Calls::read_live, crate::specs::Calls::send, crate::specs::Calls::send_open, crate::specs::Calls::recv, crate::specs::Calls::recv_live, crate::specs::Calls::drain, crate::specs::Calls::drain_second, crate::specs::Calls::drain_live, crate::specs::Calls::drain_further, crate::specs::Calls::drain_gone, crate::specs::Calls::drain_last, crate::specs::Calls::connect, crate::specs::Calls::connect_right))]
+    #[tactic(auto, using(vchan_protocol::proofs::PlanLaws::bytes_laws), unfolding(crate::specs::Phases::rest_at, vchan_protocol::specs::Calls::write, vchan_protocol::specs::Calls::write_open, vchan_protocol::specs::Calls::read, vchan_protocol::specs::Calls::read_live, vchan_protocol::specs::Calls::send, vchan_protocol::specs::Calls::send_open, vchan_protocol::specs::Calls::recv, vchan_protocol::specs::Calls::recv_live, vchan_protocol::specs::Calls::drain, vchan_protocol::specs::Calls::drain_second, vchan_protocol::specs::Calls::drain_live, vchan_protocol::specs::Calls::drain_further, vchan_protocol::specs::Calls::drain_gone, vchan_protocol::specs::Calls::drain_last, vchan_protocol::specs::Calls::connect, vchan_protocol::specs::Calls::connect_right))]
     #[inline(always)]
     fn op_at(&self, phase: Phase) -> Op
         ensures op { result ≡ next_op (rest_at (standing self.now) phase) }
@@ -339,7 +338,7 @@ impl Machine {
 
     /// The event of a put of `count` bytes once `stored` of them are: the bytes come first, and
     /// then the index shows them all at once.
-    #[tactic(auto, using(crate::proofs::PlanLaws::bytes_laws), unfolding(crate::specs::Phases::rest_at))]
+    #[tactic(auto, using(vchan_protocol::proofs::PlanLaws::bytes_laws), unfolding(crate::specs::Phases::rest_at))]
     fn put_event(&self, stored: u32, count: u32) -> Op
         ensures op { (answer : Answer) → result ≡ next_op (rest_at (standing self.now) (Phase.Put stored count answer)) }
         ensures some { result ≢ Op.Nothing }
@@ -360,7 +359,7 @@ impl Machine {
 
     /// The event of a take of `count` bytes once `loaded` of them are: the index gives up their
     /// places only after all bytes were loaded.
-    #[tactic(auto, using(crate::proofs::PlanLaws::bytes_laws), unfolding(crate::specs::Phases::rest_at))]
+    #[tactic(auto, using(vchan_protocol::proofs::PlanLaws::bytes_laws), unfolding(crate::specs::Phases::rest_at))]
     fn take_event(&self, loaded: u32, count: u32) -> Op
         ensures op { (answer : Answer) → result ≡ next_op (rest_at (standing self.now) (Phase.Take loaded count answer)) }
         ensures some { result ≢ Op.Nothing }

@@ -1,7 +1,7 @@
 ghost use Rattle.std.specs.Prelude.{◌≡◌, ◌<◌, ◌≤◌, ◌^◌, ℕ, ◌+◌, ◌∷◌, ◌++◌, [], List, ◌↔◌, IsSome};
 
-use crate::call::Answer;
 use crate::machine::Machine;
+use vchan_protocol::Answer;
 
 /// How many bytes a ring's two ends have moved. Each count stays at its greatest number once it
 /// reaches it.
@@ -13,12 +13,12 @@ pub struct Moved {
 
 impl Moved {
     ghost use Rattle.ring_words.specs.Rings.{diff};
-    ghost use Rattle.vchan_core.specs.Plan.{after, next_op, past};
-    ghost use Rattle.vchan_core.specs.Ends.{standing_after, Standing};
+    ghost use Rattle.vchan_protocol.specs.Plan.{after, next_op, past};
+    ghost use Rattle.vchan_protocol.specs.Ends.{standing_after, Standing};
     ghost use Rattle.vchan_core.specs.Phases.{standing, rest, left as left_of, IsIdle, out_of, into_of, Stands, StandsOrAnswered};
     ghost use Rattle.vchan_core.specs.Counts.{capped};
-    ghost use Rattle.vchan_core.specs.declared.call.Call.{Call};
-    ghost use Rattle.vchan_core.specs.declared.op.PastEvent.{PastEvent};
+    ghost use Rattle.vchan_protocol.specs.declared.call.Call.{Call};
+    ghost use Rattle.vchan_protocol.specs.declared.op.PastEvent.{PastEvent};
 
     pub(crate) const NONE: Moved = Moved { sent: 0, got: 0 };
 

@@ -1,4 +1,4 @@
-use crate::call::{Answer, Bit};
+use vchan_protocol::{Answer, Bit};
 
 /// Where an end is inside its call.
 #[derive(Clone, Copy, Debug)]

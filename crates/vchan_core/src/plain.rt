@@ -1,7 +1,6 @@
 ghost use Rattle.std.specs.Prelude.{◌≡◌, ◌≢◌, ℕ, ◌<◌, ◌≤◌, ◌+◌, ◌^◌, ◌∷◌, ◌++◌, [], List, length, take, ◌↔◌, IsSome, IfOk, IsTrue, true, false, slice_set};
 ghost use Rattle.ring_words.specs.declared.page.Role.TheVariants.{Server, Client};
 
-use crate::call::{Answer, Call, EndState};
 use crate::carry::carry_out;
 use crate::machine::Machine;
 use crate::moved::Moved;
@@ -12,6 +11,7 @@ use ring_words::{Layout, Orders, Ring, Role, WordName, Words};
 use std::alloc::Global;
 use std::sync::ledger::Ledger;
 use vchan_io::Memory;
+use vchan_protocol::{Answer, Call, EndState};
 
 /// One page in memory, with its two ends, for a single thread to step as it likes.
 ///
@@ -33,26 +33,26 @@ pub struct Plain {
 }
 
 impl Plain {
-    ghost use Rattle.vchan_core.specs.Apply.{Fits, words_after, value_taken, buffer_after, filled};
-    ghost use Rattle.vchan_core.specs.Plan.{after, next_op, past};
-    ghost use Rattle.vchan_core.specs.Ends.{Standing, read_size, peer_pending as peer_pending_of};
-    ghost use Rattle.vchan_core.specs.Calls.{plan_of, payload_of, loaded_most, most_events, Trace};
+    ghost use Rattle.vchan_protocol.specs.Apply.{Fits, words_after, value_taken, buffer_after, filled};
+    ghost use Rattle.vchan_protocol.specs.Plan.{after, next_op, past};
+    ghost use Rattle.vchan_protocol.specs.Ends.{Standing, read_size, peer_pending as peer_pending_of};
+    ghost use Rattle.vchan_protocol.specs.Calls.{plan_of, payload_of, loaded_most, most_events, Trace};
     ghost use Rattle.vchan_core.specs.Phases.{standing, at_phase, rest, rest_at, plan_at, left as left_of, IsIdle, Allows, out_of, into_of, out_at, into_at, out_move, into_move, Stands, StandsOrAnswered};
-    ghost use Rattle.vchan_core.specs.Core.{Core, opened, begun, event, side_of, writer_of, reader_of, plan_next, answer_in, bytes_loaded};
+    ghost use Rattle.vchan_protocol.specs.Core.{Core, opened, begun, event, side_of, writer_of, reader_of, plan_next, answer_in, bytes_loaded};
     ghost use Rattle.vchan_core.specs.Counts.{capped};
     ghost use Rattle.ring_words.specs.Page.{index_of};
-    ghost use Rattle.vchan_core.specs.Turned.{MayPoke, poked, signalled};
-    ghost use Rattle.vchan_core.specs.Alone.{called, call_answer};
-    ghost use Rattle.vchan_core.specs.RingLaw.{AreBytes};
-    ghost use Rattle.vchan_core.specs.Kept.{Kept};
-    ghost use Rattle.vchan_core.specs.Lawful.{Lawful};
-    ghost use Rattle.vchan_core.specs.ListLaw.{FollowsLists};
+    ghost use Rattle.vchan_protocol.specs.Turned.{MayPoke, poked, signalled};
+    ghost use Rattle.vchan_protocol.specs.Alone.{called, call_answer};
+    ghost use Rattle.vchan_protocol.specs.RingLaw.{AreBytes};
+    ghost use Rattle.vchan_protocol.specs.Kept.{Kept};
+    ghost use Rattle.vchan_protocol.specs.Lawful.{Lawful};
+    ghost use Rattle.vchan_protocol.specs.ListLaw.{FollowsLists};
     ghost use Rattle.vchan_core.specs.Pieces.{MakesEvents};
     ghost use Rattle.vchan_core.specs.Beside.{IsBeside};
     ghost use Rattle.vchan_core.specs.Midway.{page_at, page_to};
     ghost use Rattle.vchan_core.specs.Past.{machine_of, other_of, words_of, orders_of, turned_of, other_turned_of, op_of, StandsFor, HasPayload};
-    ghost use Rattle.vchan_core.specs.declared.call.Call.{Call};
-    ghost use Rattle.vchan_core.specs.declared.op.PastEvent.{PastEvent};
+    ghost use Rattle.vchan_protocol.specs.declared.call.Call.{Call};
+    ghost use Rattle.vchan_protocol.specs.declared.op.PastEvent.{PastEvent};
 
     /// A page on which nothing has happened yet: all indices at `start`, the order words as `said`
     /// (the left ring's first), the client in this state, fresh or open.

@@ -5,20 +5,20 @@
 //! counts and its state alone, and its own phase stays as it is.
 ghost use Rattle.std.specs.Prelude.{◌≡◌, ◌≤◌, ◌<◌, ◌+◌, ◌^◌, ℕ, List, length};
 ghost use Rattle.ring_words.specs.Rings.{diff};
-ghost use Rattle.vchan_core.specs.Apply.{Fits, words_after, value_taken, buffer_after};
+ghost use Rattle.vchan_protocol.specs.Apply.{Fits, words_after, value_taken, buffer_after};
 ghost use Rattle.vchan_core.specs.Counts.{capped};
-ghost use Rattle.vchan_core.specs.Plan.{next_op, after};
-ghost use Rattle.vchan_core.specs.Ends.{read_size, standing_after};
+ghost use Rattle.vchan_protocol.specs.Plan.{next_op, after};
+ghost use Rattle.vchan_protocol.specs.Ends.{read_size, standing_after};
 ghost use Rattle.vchan_core.specs.Phases.{standing, rest_at, plan_at, out_at, into_at, out_move, into_move};
 
 use super::Machine;
 use super::moves::{notified, put_on, take_on};
-use crate::call::{Answer, Bit};
 use crate::carry::carry_out;
 use crate::moved::Moved;
 use crate::phase::{Move, Phase};
 use crate::words::{cons_word, mask, prod_word};
 use ring_words::{Role, WordName, Words};
+use vchan_protocol::{Answer, Bit};
 
 impl Machine {
     /// The event of a phase, on these words, with what it shows or gives up counted.
@@ -74,7 +74,7 @@ impl Machine {
     }
 
     /// The event of a put once all its bytes are stored: the index that shows them all.
-    #[tactic(auto, using(crate::proofs::PlanLaws::bytes_laws), unfolding(crate::specs::Ends::standing_after, crate::specs::Phases::rest_at))]
+    #[tactic(auto, using(vchan_protocol::proofs::PlanLaws::bytes_laws), unfolding(vchan_protocol::specs::Ends::standing_after, crate::specs::Phases::rest_at))]
     #[inline(always)]
     fn show(
         &mut self,
@@ -110,7 +110,7 @@ impl Machine {
     }
 
     /// The event of a take once all its bytes are loaded: the index that gives up their places.
-    #[tactic(auto, using(crate::proofs::PlanLaws::bytes_laws), unfolding(crate::specs::Ends::standing_after, crate::specs::Phases::rest_at))]
+    #[tactic(auto, using(vchan_protocol::proofs::PlanLaws::bytes_laws), unfolding(vchan_protocol::specs::Ends::standing_after, crate::specs::Phases::rest_at))]
     #[inline(always)]
     fn give_up(
         &mut self,
@@ -146,7 +146,7 @@ impl Machine {
     }
 
     /// The event after an index: the peer's bit is taken, and where it was set the peer is signalled.
-    #[tactic(auto, using(crate::proofs::PlanLaws::bytes_laws), unfolding(crate::specs::Ends::standing_after, crate::specs::Phases::rest_at))]
+    #[tactic(auto, using(vchan_protocol::proofs::PlanLaws::bytes_laws), unfolding(vchan_protocol::specs::Ends::standing_after, crate::specs::Phases::rest_at))]
     #[inline(always)]
     fn notify_peer(&self, role: Role, bit: Bit, answer: Answer, words: &mut Words) -> Move
         requires role { self.now.role ≡ role }

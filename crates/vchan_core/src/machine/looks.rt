@@ -5,10 +5,10 @@
 ghost use Rattle.std.specs.Prelude.{◌≡◌, ◌<◌, ◌≤◌, ◌^◌, ℕ, List, slice_index};
 ghost use Rattle.ring_words.specs.Page.{Has, index_of};
 ghost use Rattle.ring_words.specs.declared.page.WordName.{WordName};
-ghost use Rattle.vchan_core.specs.declared.op.Op.TheVariants.{Load};
+ghost use Rattle.vchan_protocol.specs.declared.op.Op.TheVariants.{Load};
 ghost use Rattle.vchan_core.specs.declared.phase.Phase.{Phase};
-ghost use Rattle.vchan_core.specs.Plan.{Plan, does};
-ghost use Rattle.vchan_core.specs.Ends.{peer_live, read_size};
+ghost use Rattle.vchan_protocol.specs.Plan.{Plan, does};
+ghost use Rattle.vchan_protocol.specs.Ends.{peer_live, read_size};
 ghost use Rattle.vchan_core.specs.Phases.{standing, at_phase, rest_at, plan_at, out_at, into_at, out_move, into_move};
 ghost use Rattle.vchan_core.specs.Pieces.{MakesEvents};
 

@@ -1,21 +1,21 @@
 //! What comes of each event of a call, by the value that it took.
 ghost use Rattle.std.specs.Prelude.{◌≡◌, ◌<◌, ◌≤◌, ◌+◌, ◌==◌, min, nat_lt, bit_and, if◌then◌else◌};
-ghost use Rattle.vchan_core.specs.Plan.{answers, next_op, after};
-ghost use Rattle.vchan_core.specs.Ends.{read_size, standing_after, free_at, ready_at};
-ghost use Rattle.vchan_core.specs.Calls.{ask, look_write, drain_second as drain_second_plan, drain_last as drain_last_plan, write_looked as write_looked_plan, read_looked as read_looked_plan, send_looked as send_looked_plan, recv_looked as recv_looked_plan, drain_found as drain_found_plan, connect_looked as connect_looked_plan};
+ghost use Rattle.vchan_protocol.specs.Plan.{answers, next_op, after};
+ghost use Rattle.vchan_protocol.specs.Ends.{read_size, standing_after, free_at, ready_at};
+ghost use Rattle.vchan_protocol.specs.Calls.{ask, look_write, drain_second as drain_second_plan, drain_last as drain_last_plan, write_looked as write_looked_plan, read_looked as read_looked_plan, send_looked as send_looked_plan, recv_looked as recv_looked_plan, drain_found as drain_found_plan, connect_looked as connect_looked_plan};
 ghost use Rattle.vchan_core.specs.Phases.{standing, rest_at, plan_at, out_at, into_at, out_move, into_move};
 ghost use Rattle.std.specs.Prelude.{ℕ};
-ghost use Rattle.vchan_core.specs.Ends.{Standing, low8 as low8_of, mask as mask_of};
-ghost use Rattle.vchan_core.specs.Calls.{look_read, drain_further as drain_further_plan, drain_gone as drain_gone_plan, signal};
+ghost use Rattle.vchan_protocol.specs.Ends.{Standing, low8 as low8_of, mask as mask_of};
+ghost use Rattle.vchan_protocol.specs.Calls.{look_read, drain_further as drain_further_plan, drain_gone as drain_gone_plan, signal};
 
 use super::Machine;
-use crate::call::{Answer, Bit};
 use crate::phase::{Move, Phase};
 use crate::words::{low8, low16, low32, mask};
+use vchan_protocol::{Answer, Bit};
 
 impl Machine {
     /// What comes of the next event where it takes this value.
-    #[tactic(auto, using(crate::proofs::PlanLaws::bytes_laws), unfolding(crate::specs::Ends::standing_after, crate::specs::Phases::rest_at, crate::specs::Calls::write, crate::specs::Calls::write_open, crate::specs::Calls::read, crate::specs::Calls::read_live, crate::specs::Calls::send, crate::specs::Calls::send_open, crate::specs::Calls::recv, crate::specs::Calls::recv_live, crate::specs::Calls::drain, crate::specs::Calls::drain_second, crate::specs::Calls::drain_live, crate::specs::Calls::drain_further, crate::specs::Calls::drain_gone, crate::specs::Calls::drain_last, crate::specs::Calls::connect, crate::specs::Calls::connect_right))]
+    #[tactic(auto, using(vchan_protocol::proofs::PlanLaws::bytes_laws), unfolding(vchan_protocol::specs::Ends::standing_after, crate::specs::Phases::rest_at, vchan_protocol::specs::Calls::write, vchan_protocol::specs::Calls::write_open, vchan_protocol::specs::Calls::read, vchan_protocol::specs::Calls::read_live, vchan_protocol::specs::Calls::send, vchan_protocol::specs::Calls::send_open, vchan_protocol::specs::Calls::recv, vchan_protocol::specs::Calls::recv_live, vchan_protocol::specs::Calls::drain, vchan_protocol::specs::Calls::drain_second, vchan_protocol::specs::Calls::drain_live, vchan_protocol::specs::Calls::drain_further, vchan_protocol::specs::Calls::drain_gone, vchan_protocol::specs::Calls::drain_last, vchan_protocol::specs::Calls::connect, vchan_protocol::specs::Calls::connect_right))]
     #[inline(always)]
     pub(super) fn moved(&self, phase: Phase, value: u64) -> Move
         ensures plan { let e = standing self.now in plan_at (standing_after e (next_op (rest_at e phase))) result ≡ after (rest_at e phase) value }
@@ -134,7 +134,7 @@ impl Machine {
     }
 
     /// A write that has looked for the last time.
-    #[tactic(auto, unfolding(crate::specs::Phases::rest_at, crate::specs::Calls::write_looked))]
+    #[tactic(auto, unfolding(crate::specs::Phases::rest_at, vchan_protocol::specs::Calls::write_looked))]
     fn write_looked(&self, len: u32, cons: u32) -> Move
         ensures plan { plan_at (standing self.now) result ≡ write_looked_plan (standing self.now) len cons }
         ensures out { out_move result ≤ len }
@@ -158,7 +158,7 @@ impl Machine {
         })
     }
 
-    #[tactic(auto, unfolding(crate::specs::Phases::rest_at, crate::specs::Calls::read_looked))]
+    #[tactic(auto, unfolding(crate::specs::Phases::rest_at, vchan_protocol::specs::Calls::read_looked))]
     fn read_looked(&self, most: u32, prod: u32) -> Move
         ensures plan { plan_at (standing self.now) result ≡ read_looked_plan (standing self.now) most prod }
         ensures out { out_move result ≡ 0 }
@@ -176,7 +176,7 @@ impl Machine {
         })
     }
 
-    #[tactic(auto, unfolding(crate::specs::Phases::rest_at, crate::specs::Calls::send_looked))]
+    #[tactic(auto, unfolding(crate::specs::Phases::rest_at, vchan_protocol::specs::Calls::send_looked))]
     fn send_looked(&self, len: u32, cons: u32) -> Move
         ensures plan { plan_at (standing self.now) result ≡ send_looked_plan (standing self.now) len cons }
         ensures out { out_move result ≤ len }
@@ -195,7 +195,7 @@ impl Machine {
         })
     }
 
-    #[tactic(auto, unfolding(crate::specs::Phases::rest_at, crate::specs::Calls::recv_looked))]
+    #[tactic(auto, unfolding(crate::specs::Phases::rest_at, vchan_protocol::specs::Calls::recv_looked))]
     fn recv_looked(&self, len: u32, prod: u32) -> Move
         ensures plan { plan_at (standing self.now) result ≡ recv_looked_plan (standing self.now) len prod }
         ensures out { out_move result ≡ 0 }
@@ -242,7 +242,7 @@ impl Machine {
     }
 
     /// A drain's second look: where still nothing waits, the live byte is next.
-    #[tactic(auto, unfolding(crate::specs::Phases::rest_at, crate::specs::Calls::drain_second))]
+    #[tactic(auto, unfolding(crate::specs::Phases::rest_at, vchan_protocol::specs::Calls::drain_second))]
     fn drain_second(&self, most: u32, prod: u32) -> Move
         ensures plan { plan_at (standing self.now) result ≡ drain_second_plan (standing self.now) most prod }
         ensures out { out_move result ≡ 0 }
@@ -252,7 +252,7 @@ impl Machine {
     }
 
     /// A drain's look after it saw its peer closed: only now an equal index says that all was read.
-    #[tactic(auto, unfolding(crate::specs::Phases::rest_at, crate::specs::Calls::drain_further))]
+    #[tactic(auto, unfolding(crate::specs::Phases::rest_at, vchan_protocol::specs::Calls::drain_further))]
     fn drain_further(&self, most: u32, prod: u32) -> Move
         ensures plan { plan_at (standing self.now) result ≡ drain_further_plan (standing self.now) most prod }
         ensures out { out_move result ≡ 0 }
@@ -281,7 +281,7 @@ impl Machine {
     }
 
     /// A drain's last look, after it saw its peer gone.
-    #[tactic(auto, unfolding(crate::specs::Phases::rest_at, crate::specs::Calls::drain_last))]
+    #[tactic(auto, unfolding(crate::specs::Phases::rest_at, vchan_protocol::specs::Calls::drain_last))]
     fn drain_last(&self, most: u32, prod: u32) -> Move
         ensures plan { plan_at (standing self.now) result ≡ drain_last_plan (standing self.now) most prod }
         ensures out { out_move result ≡ 0 }

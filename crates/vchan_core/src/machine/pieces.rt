@@ -3,9 +3,9 @@
 //! They are the events that the machine would make one by one; a page in memory, which no other
 //! thread sees, can't tell the difference.
 ghost use Rattle.std.specs.Prelude.{◌≡◌, ◌<◌, ◌≤◌, ◌+◌, ◌^◌, ℕ, List, length};
-ghost use Rattle.vchan_core.specs.Ends.{read_size};
+ghost use Rattle.vchan_protocol.specs.Ends.{read_size};
 ghost use Rattle.vchan_core.specs.Phases.{standing, at_phase, out_at, into_at};
-ghost use Rattle.vchan_core.specs.declared.call.Answer.{Answer};
+ghost use Rattle.vchan_protocol.specs.declared.call.Answer.{Answer};
 ghost use Rattle.vchan_core.specs.declared.phase.Phase.{Phase};
 ghost use Rattle.vchan_core.specs.Pieces.{MakesEvents};
 

@@ -1,7 +1,7 @@
 use Rattle.std.proofs.Common.{◌≡◌, ℕ, ◌+◌, ◌-◌, Option, Some, is_some, refl, sym, ◌∙◌, ap, subst, arith}
 use Rattle.std.proofs.lemmas.Bool.{false≢true}
-use Rattle.vchan_core.specs.declared.call.Answer.{Answer}
-use Rattle.vchan_core.specs.Core.{Core, event, side_of}
+use Rattle.vchan_protocol.specs.declared.call.Answer.{Answer}
+use Rattle.vchan_protocol.specs.Core.{Core, event, side_of}
 use Rattle.step_script.specs.Played.{stepped}
 use Rattle.step_script.specs.Players.{IsAt, IsTaken}
 use Rattle.step_script.proofs.HandLaws.{IsAdvancing, advance_on, advance_out, advance_over}

@@ -1,5 +1,5 @@
 use Rattle.std.proofs.Common.{◌≡◌, ◌-◌}
-use Rattle.vchan_core.specs.Core.{Core}
+use Rattle.vchan_protocol.specs.Core.{Core}
 use Rattle.vchan_core.specs.Past.{machine_of, other_of}
 use Rattle.vchan_core.specs.Phases.{IsIdle}
 use Rattle.step_script.specs.Players.{IsAt}

@@ -1,9 +1,9 @@
 use Rattle.std.proofs.Common.{◌≡◌, Option, Some, None, sym, ◌∙◌, ap, subst}
 use Rattle.ring_words.specs.declared.page.Role.{Role}
-use Rattle.vchan_core.specs.declared.call.Answer.{Answer}
+use Rattle.vchan_protocol.specs.declared.call.Answer.{Answer}
 use Rattle.vchan_core.specs.declared.plain.Plain.{Plain}
-use Rattle.vchan_core.specs.Core.{Core, plan_left, side_of}
-use Rattle.vchan_core.specs.Alone.{alone}
+use Rattle.vchan_protocol.specs.Core.{Core, plan_left, side_of}
+use Rattle.vchan_protocol.specs.Alone.{alone}
 use Rattle.vchan_core.specs.Past.{machine_of}
 use Rattle.vchan_core.specs.Phases.{IsIdle}
 use Rattle.vchan_core.proofs.RunLaws.{machine_stands}

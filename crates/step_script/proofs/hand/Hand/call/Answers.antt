@@ -1,4 +1,4 @@
-use Rattle.vchan_core.specs.Core.{Core}
+use Rattle.vchan_protocol.specs.Core.{Core}
 use Rattle.step_script.specs.Played.{makes_call, call_refusal, finished, unless_refused}
 use Rattle.step_script.specs.ScriptLines.{call_with}
 use Rattle.step_script.proofs.DoesLaws.{does_then, known_on, on_ok_map}

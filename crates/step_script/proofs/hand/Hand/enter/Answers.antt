@@ -1,5 +1,5 @@
 use Rattle.std.proofs.Common.{◌≡◌, ℕ, List, ◌++◌, length, refl, ap, sym, ◌∙◌, arith}
-use Rattle.vchan_core.specs.Core.{Core}
+use Rattle.vchan_protocol.specs.Core.{Core}
 use Rattle.step_script.specs.declared.hand.Hand.{Hand}
 use Rattle.step_script.specs.Played.{begins_call, call_refusal}
 use Rattle.step_script.specs.ScriptLines.{call_with}

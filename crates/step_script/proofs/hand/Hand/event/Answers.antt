@@ -1,7 +1,7 @@
 use Rattle.std.proofs.Common.{◌≡◌, ℕ, List, length, refl, ◌∙◌, ap, subst, sym}
 use Rattle.std.specs.Vec.{with_items}
-use Rattle.vchan_core.specs.Apply.{Fits, buffer_after}
-use Rattle.vchan_core.specs.Core.{side_of}
+use Rattle.vchan_protocol.specs.Apply.{Fits, buffer_after}
+use Rattle.vchan_protocol.specs.Core.{side_of}
 use Rattle.vchan_core.specs.Past.{HasPayload, op_of, orders_of, words_of}
 use Rattle.step_script.specs.declared.hand.Hand.{Hand}
 use Rattle.step_script.proofs.HandLaws.{IsStep, at_event, if_some, taken_at_answer, written_through}

@@ -1,5 +1,5 @@
 use Rattle.std.proofs.Common.{sym, ◌∙◌}
-use Rattle.vchan_core.specs.Core.{Core, side_of}
+use Rattle.vchan_protocol.specs.Core.{Core, side_of}
 use Rattle.step_script.specs.Played.{finished, step_refusal}
 use Rattle.step_script.proofs.DoesLaws.{does_allowed, does_refused, on_ok_map}
 use Rattle.step_script.proofs.hand.Hand.finish.Goals as goal

@@ -1,7 +1,7 @@
 use Rattle.std.proofs.Common.{ℕ, ◌++◌, ◌≤◌, List, length, take, ap, subst, sym, ◌∙◌}
 use Rattle.std.specs.Vec.{with_items}
-use Rattle.vchan_core.specs.Calls.{payload_of}
-use Rattle.vchan_core.specs.Core.{Core}
+use Rattle.vchan_protocol.specs.Calls.{payload_of}
+use Rattle.vchan_protocol.specs.Core.{Core}
 use Rattle.step_script.specs.declared.hand.Hand.{Hand}
 use Rattle.step_script.specs.Output.{answered, line_text}
 use Rattle.step_script.specs.Played.{call_refusal, makes_call}

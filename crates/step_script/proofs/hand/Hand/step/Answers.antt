@@ -1,5 +1,5 @@
 use Rattle.std.proofs.Common.{ℕ, ◌++◌, ◌≤◌, List, length, ap, subst, sym, ◌∙◌}
-use Rattle.vchan_core.specs.Core.{Core, side_of}
+use Rattle.vchan_protocol.specs.Core.{Core, side_of}
 use Rattle.step_script.specs.Output.{answered, line_text}
 use Rattle.step_script.specs.Played.{step_refusal, steps_on}
 use Rattle.step_script.specs.Players.{got_front, got_len}

@@ -1,5 +1,5 @@
 use Rattle.std.proofs.Common.{sym, subst}
-use Rattle.vchan_core.specs.Ends.{peer_pending}
+use Rattle.vchan_protocol.specs.Ends.{peer_pending}
 use Rattle.step_script.specs.declared.player.Player.{Player}
 use Rattle.step_script.specs.declared.script.Line.{Line}
 use Rattle.step_script.specs.Played.{line_done}

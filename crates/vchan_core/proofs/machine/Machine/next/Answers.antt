@@ -1,6 +1,6 @@
 use Rattle.std.proofs.Common.{◌∙◌, ap, sym}
-use Rattle.vchan_core.specs.Plan.{next_op}
-use Rattle.vchan_core.proofs.PlanLaws.{left_after-Leads}
+use Rattle.vchan_protocol.specs.Plan.{next_op}
+use Rattle.vchan_protocol.proofs.PlanLaws.{left_after-Leads}
 use Rattle.vchan_core.proofs.machine.Machine.next.Goals as goal
 
 pub returns-clause-trail : goal.returns-clause-trail

@@ -8,7 +8,7 @@ use Rattle.ring_words.specs.declared.order.Orders.{Orders}
 use Rattle.ring_words.specs.declared.page.Ring.{Ring}
 use Rattle.ring_words.specs.declared.page.WordName.TheVariants.{RingByte}
 use Rattle.ring_words.proofs.RingLaws.{place_wraps, place_on}
-use Rattle.vchan_core.specs.Ends.{write_order, written_ring}
+use Rattle.vchan_protocol.specs.Ends.{write_order, written_ring}
 use Rattle.vchan_core.specs.Phases.{standing}
 use Rattle.vchan_core.specs.Pieces.{MakesEvents}
 use Rattle.vchan_core.proofs.PieceLaws.{put_piece, at_put, put_place}

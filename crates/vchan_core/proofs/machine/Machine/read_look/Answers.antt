@@ -3,9 +3,9 @@ use Rattle.ring_words.specs.Page.{index_of}
 use Rattle.ring_words.specs.declared.order.Orders.{Orders}
 use Rattle.ring_words.specs.declared.page.Ring.{Ring}
 use Rattle.ring_words.specs.declared.page.WordName.{WordName}
-use Rattle.vchan_core.specs.Ends.{prod_word, read_ring, low32}
+use Rattle.vchan_protocol.specs.Ends.{prod_word, read_ring, low32}
 use Rattle.vchan_core.specs.Phases.{standing}
-use Rattle.vchan_core.proofs.Counted.{has_look_read}
+use Rattle.vchan_protocol.proofs.Counted.{has_look_read}
 use Rattle.vchan_core.proofs.LookLaws.{read_next, read_is}
 use Rattle.vchan_core.proofs.machine.Machine.read_look.Goals as goal
 

@@ -1,7 +1,7 @@
 use Rattle.std.proofs.Common.{◌≡◌, ◌≤◌, refl, subst, slice_index}
 use Rattle.ring_words.specs.Page.{index_of}
 use Rattle.vchan_core.specs.declared.phase.Move.{Move}
-use Rattle.vchan_core.specs.Ends.{read_size}
+use Rattle.vchan_protocol.specs.Ends.{read_size}
 use Rattle.vchan_core.specs.Phases.{standing, plan_at, out_at, into_at, out_move, into_move}
 use Rattle.vchan_core.proofs.LookLaws.{look_one}
 use Rattle.vchan_core.proofs.machine.Machine.seen.Goals as goal

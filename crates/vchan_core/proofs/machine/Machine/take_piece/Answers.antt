@@ -9,7 +9,7 @@ use Rattle.ring_words.specs.declared.page.Ring.{Ring}
 use Rattle.ring_words.specs.declared.page.WordName.TheVariants.{RingByte}
 use Rattle.ring_words.proofs.RingLaws.{place_wraps, place_on}
 use Rattle.ring_words.proofs.LaidLaws.{laid_is, length-low_bytes}
-use Rattle.vchan_core.specs.Ends.{read_order, read_ring}
+use Rattle.vchan_protocol.specs.Ends.{read_order, read_ring}
 use Rattle.vchan_core.specs.Phases.{standing}
 use Rattle.vchan_core.specs.Pieces.{MakesEvents}
 use Rattle.vchan_core.proofs.PieceLaws.{take_piece, at_take, take_place}

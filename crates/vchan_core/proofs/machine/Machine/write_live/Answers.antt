@@ -2,9 +2,9 @@ use Rattle.std.proofs.Common.{◌≡◌, ℕ, ap, ◌∙◌, slice_index}
 use Rattle.ring_words.specs.Page.{index_of}
 use Rattle.ring_words.specs.declared.order.Orders.{Orders}
 use Rattle.ring_words.specs.declared.page.WordName.{WordName}
-use Rattle.vchan_core.specs.Ends.{peer_live, read_size}
+use Rattle.vchan_protocol.specs.Ends.{peer_live, read_size}
 use Rattle.vchan_core.specs.Phases.{standing}
-use Rattle.vchan_core.proofs.Counted.{has_peer_live}
+use Rattle.vchan_protocol.proofs.Counted.{has_peer_live}
 use Rattle.vchan_core.proofs.LookLaws.{live_next, live_is, alive_is}
 use Rattle.vchan_core.proofs.machine.Machine.write_live.Goals as goal
 

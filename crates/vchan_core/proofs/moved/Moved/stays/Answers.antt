@@ -1,5 +1,5 @@
 use Rattle.std.proofs.Common.{ℕ, ap, arith}
-use Rattle.vchan_core.proofs.StepLaws.{diff-same}
+use Rattle.vchan_protocol.proofs.EventLaws.{diff-same}
 use Rattle.vchan_core.proofs.moved.Moved.stays.Goals as goal
 
 pub returns-clause-sent : goal.returns-clause-sent

@@ -1,5 +1,5 @@
 use Rattle.std.proofs.Common.{arith}
-use Rattle.vchan_core.proofs.KeptSteps.{kept_opened}
+use Rattle.vchan_protocol.proofs.KeptSteps.{kept_opened}
 use Rattle.vchan_core.proofs.plain.Plain.open.Goals as goal
 
 pub returns-clause-kept : goal.returns-clause-kept

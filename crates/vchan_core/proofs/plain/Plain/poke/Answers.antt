@@ -2,9 +2,9 @@ use Rattle.std.proofs.Common.{ℕ, List, ap, refl, ◌∙◌, slice_set}
 use Rattle.ring_words.specs.Page.{index_of}
 use Rattle.ring_words.specs.PageWords.{PageWords}
 use Rattle.ring_words.specs.declared.order.Orders.{Orders}
-use Rattle.vchan_core.specs.declared.op.Op.TheVariants.{Store}
+use Rattle.vchan_protocol.specs.declared.op.Op.TheVariants.{Store}
 use Rattle.vchan_core.proofs.TurnLaws.{stands_strayed}
-use Rattle.vchan_core.proofs.KeptSteps.{kept_strayed}
+use Rattle.vchan_protocol.proofs.KeptSteps.{kept_strayed}
 use Rattle.vchan_core.proofs.plain.Plain.poke.Goals as goal
 
 pub returns-clause-stands : goal.returns-clause-stands

@@ -6,7 +6,7 @@ use Rattle.vchan_core.specs.declared.phase.Phase.TheVariants.{Notify}
 use Rattle.vchan_core.specs.Midway.{page_at}
 use Rattle.vchan_core.proofs.LoopLaws.{InLoop, MovesAt, IsEnded, loop_first, loop_seen, loop_moved, loop_out, loop_into, loop_to, loop_done, loop_short}
 use Rattle.vchan_core.proofs.PlainLaws.{kept_call}
-use Rattle.vchan_core.proofs.ListWhole.{page_follows_lists}
+use Rattle.vchan_core.proofs.PlainLaws.{page_follows_lists}
 use Rattle.vchan_core.proofs.plain.Plain.run_call.Given.{Over}
 use Rattle.vchan_core.proofs.plain.Plain.run_call.Goals as goal
 

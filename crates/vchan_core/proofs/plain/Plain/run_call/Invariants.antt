@@ -1,5 +1,5 @@
 use Rattle.std.proofs.Common.{◌≡◌, ℕ, ◌+◌, ◌-◌}
-use Rattle.vchan_core.specs.Calls.{most_events}
+use Rattle.vchan_protocol.specs.Calls.{most_events}
 use Rattle.vchan_core.specs.Phases.{standing, IsIdle}
 use Rattle.vchan_core.specs.Past.{machine_of}
 use Rattle.vchan_core.specs.Midway.{page_at}

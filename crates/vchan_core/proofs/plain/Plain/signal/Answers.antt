@@ -3,10 +3,10 @@ use Rattle.ring_words.specs.Page.{index_of}
 use Rattle.ring_words.specs.declared.page.WordName.{WordName}
 use Rattle.ring_words.specs.PageWords.{PageWords}
 use Rattle.ring_words.specs.declared.order.Orders.{Orders}
-use Rattle.vchan_core.specs.declared.op.Op.TheVariants.{Store}
-use Rattle.vchan_core.specs.Ends.{peer_pending}
+use Rattle.vchan_protocol.specs.declared.op.Op.TheVariants.{Store}
+use Rattle.vchan_protocol.specs.Ends.{peer_pending}
 use Rattle.vchan_core.proofs.TurnLaws.{stands_strayed}
-use Rattle.vchan_core.proofs.KeptSteps.{kept_strayed}
+use Rattle.vchan_protocol.proofs.KeptSteps.{kept_strayed}
 use Rattle.vchan_core.proofs.plain.Plain.signal.Goals as goal
 
 pub returns-clause-stands : goal.returns-clause-stands

@@ -2,14 +2,15 @@ use Rattle.std.proofs.Common.{◌≡◌, ◌≤◌, ℕ, length, ◌∙◌, sym,
 use Rattle.ring_words.specs.declared.order.Orders.{Orders}
 use Rattle.ring_words.specs.declared.page.Role.{Role}
 use Rattle.ring_words.specs.declared.page.Role.TheVariants.{Server, Client}
-use Rattle.vchan_core.specs.declared.op.Op.{Op}
+use Rattle.vchan_protocol.specs.declared.op.Op.{Op}
 use Rattle.vchan_core.specs.declared.machine.Machine.{Machine}
-use Rattle.vchan_core.specs.Plan.{next_op, after}
-use Rattle.vchan_core.specs.Apply.{Fits, words_after, value_taken}
-use Rattle.vchan_core.specs.Core.{Core, answer_in, plan_next}
+use Rattle.vchan_protocol.specs.Plan.{next_op, after}
+use Rattle.vchan_protocol.specs.Apply.{Fits, words_after, value_taken}
+use Rattle.vchan_protocol.specs.Core.{Core, answer_in, plan_next}
 use Rattle.vchan_core.specs.Past.{machine_of, orders_of, words_of, StandsFor}
 use Rattle.vchan_core.specs.Phases.{rest, IsIdle, out_of, into_of}
-use Rattle.vchan_core.proofs.StepLaws.{Fits-more, DoesEvent, stands_server, stands_client, answer_is, keeps_orders, keeps_role}
+use Rattle.vchan_protocol.proofs.EventLaws.{Fits-more}
+use Rattle.vchan_core.proofs.StepLaws.{DoesEvent, stands_server, stands_client, answer_is, keeps_orders, keeps_role}
 use Rattle.vchan_core.proofs.PlainLaws.{kept_step}
 use Rattle.vchan_core.proofs.plain.Plain.step.Goals as goal
 

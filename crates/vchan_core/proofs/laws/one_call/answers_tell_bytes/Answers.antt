@@ -1,5 +1,0 @@
-use Rattle.vchan_core.proofs.OneCallBytes.{answers_tell}
-use Rattle.vchan_core.proofs.laws.one_call.answers_tell_bytes.Goals as goal
-
-pub returns : goal.returns
-returns c = answers_tell

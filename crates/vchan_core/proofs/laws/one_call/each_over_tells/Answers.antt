@@ -1,5 +1,0 @@
-use Rattle.vchan_core.proofs.OneCallWay.{over_tells}
-use Rattle.vchan_core.proofs.laws.one_call.each_over_tells.Goals as goal
-
-pub returns : goal.returns
-returns c = over_tells

@@ -1,5 +1,0 @@
-use Rattle.vchan_core.proofs.OneCallWay.{way_goes_on}
-use Rattle.vchan_core.proofs.laws.one_call.each_way_goes_on.Goals as goal
-
-pub returns : goal.returns
-returns c = way_goes_on

@@ -1,5 +1,0 @@
-use Rattle.vchan_core.proofs.OneCallWay.{way_begins}
-use Rattle.vchan_core.proofs.laws.one_call.way_begins.Goals as goal
-
-pub returns : goal.returns
-returns c = way_begins

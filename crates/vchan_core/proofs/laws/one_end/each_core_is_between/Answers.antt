@@ -1,5 +1,0 @@
-use Rattle.vchan_core.proofs.OneEndSteps.{core_is}
-use Rattle.vchan_core.proofs.laws.one_end.each_core_is_between.Goals as goal
-
-pub returns : goal.returns
-returns c = core_is

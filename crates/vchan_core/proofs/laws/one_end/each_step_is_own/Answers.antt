@@ -1,5 +1,0 @@
-use Rattle.vchan_core.proofs.OneEndSteps.{steps_are_own}
-use Rattle.vchan_core.proofs.laws.one_end.each_step_is_own.Goals as goal
-
-pub returns : goal.returns
-returns c = steps_are_own

@@ -1,5 +1,0 @@
-use Rattle.vchan_core.proofs.OneEndSteps.{steps_keep}
-use Rattle.vchan_core.proofs.laws.one_end.each_step_keeps.Goals as goal
-
-pub returns : goal.returns
-returns c = steps_keep
