@@ -29,3 +29,4 @@ pub mod OneEndSteps
 pub mod OneCallBytes
 pub mod OneCallWay
 pub mod EachEvent
+pub mod OneEndLaws

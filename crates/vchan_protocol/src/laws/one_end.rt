@@ -1,6 +1,7 @@
 //! What one end can know of a page that others write: each of its steps changes its own part by
 //! that part and one value taken, and keeps what holds of the page, whatever its peer is.
 ghost use Rattle.vchan_protocol.specs.OneEnd.{EachCoreIsBetween, EachStepIsOwn, EachStepKeeps};
+ghost use Rattle.vchan_protocol.specs.OneEndLaw.{OwnAtOpening, BeginKeepsOwn, StepKeepsOwn};
 
 /// Each core state is the words, one of its ends and that end's peer.
 pub fn each_core_is_between()
@@ -17,4 +18,19 @@ pub fn each_step_is_own()
 /// Each of these steps keeps what holds of the page.
 pub fn each_step_keeps()
     ensures { EachStepKeeps }
+{}
+
+/// An end that has done nothing yet can say of itself what an honest end can.
+pub fn own_at_opening()
+    ensures { OwnAtOpening }
+{}
+
+/// It can say so still once it begins a call.
+pub fn begin_keeps_own()
+    ensures { BeginKeepsOwn }
+{}
+
+/// It can say so still after the next event of its call, whatever value that takes.
+pub fn step_keeps_own()
+    ensures { StepKeepsOwn }
 {}
