@@ -21,3 +21,9 @@ pub mod Reached
 pub mod SignalLaw
 pub mod Worked
 pub mod WorkedEnd
+pub mod Loads
+pub mod Causes
+pub mod AnswerLaw
+pub mod IndexLaw
+pub mod EndingLaw
+pub mod EndingLaws

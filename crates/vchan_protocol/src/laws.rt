@@ -1,5 +1,7 @@
 //! Laws of every call, whatever values its events take. A law is a function with no body, whose
 //! contract states it.
+pub mod answers;
+pub mod endings;
 pub mod kept;
 pub mod lists;
 pub mod signals;
