@@ -31,3 +31,4 @@ pub mod AnswerLaws
 pub mod IndexLaws
 pub mod EndingSteps
 pub mod SideSteps
+pub mod WorkedMore

@@ -27,3 +27,6 @@ pub mod AnswerLaw
 pub mod IndexLaw
 pub mod EndingLaw
 pub mod EndingLaws
+pub mod WorkedSignals
+pub mod WorkedTurn
+pub mod WorkedAnswers

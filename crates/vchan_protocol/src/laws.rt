@@ -6,6 +6,7 @@ pub mod kept;
 pub mod lists;
 pub mod signals;
 pub mod turned;
+pub mod worked;
 
 ghost use Rattle.vchan_protocol.specs.Worked.{RowIsAsWorked};
 ghost use Rattle.vchan_protocol.specs.Laws.{EachCallEnds, EachCallFits, EachCallMovesAtMost, OpeningIsLawful, BeginIsLawful, EventIsLawful, CallIsLawful, ReachedIsLawful, CallIsReached};
