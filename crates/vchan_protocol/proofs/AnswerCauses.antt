@@ -19,10 +19,12 @@ use Rattle.vchan_protocol.proofs.AnswerTrails.{Deeds, Comes, comes_answers, come
 
 -- ---- what an answer owes
 
--- an answer that ends a stream comes where the end has noticed its peer's end
+-- an answer that tells the peer's end comes where the end has noticed it
 abbrev pub NoticesEnd : EndState → Bool → Answer → Type 0
+NoticesEnd state noticed PeerClosed = is_shut state ≡ false → noticed ≡ true
 NoticesEnd state noticed AllRead = is_shut state ≡ false → noticed ≡ true
 NoticesEnd state noticed (IsGone prod cons) = is_shut state ≡ false → noticed ≡ true
+NoticesEnd state noticed (Gone is) = is ≡ true → is_shut state ≡ false → noticed ≡ true
 NoticesEnd state noticed _ = Unit {0}
 
 pub record Answers (e : Standing) (call : Call) (n : Deeds) (answer : Answer) : Type 0 where
@@ -78,7 +80,7 @@ module _ (e : Standing) (n : ℕ) where
   unfolding write write_open
   write_answers =
       comes_live (Answers e (Write n)) e nothing_done _ _
-      (λ seen noticed. comes_answers (Answers e (Write n)) e e _ PeerClosed (record { cause = write_closed refl refl; transfer = refl; notices = tt }))
+      (λ seen noticed. comes_answers (Answers e (Write n)) e e _ PeerClosed (record { cause = write_closed refl refl; transfer = refl; notices = noticed }))
       (λ live seen alive. comes_look_write (Answers e (Write n)) e _ _ (λ cons more. comes_if (Answers e (Write n)) e e _ (nat_lt (free_at e cons) n) _ _
       (λ less. comes_ask (Answers e (Write n)) e _ Consumed _ (comes_look_write (Answers e (Write n)) e _ _ (λ again last. write_looked_answers _ _ again refl alive)))
       (λ enough. write_looked_answers _ _ cons refl alive)))
@@ -97,7 +99,7 @@ module _ (e : Standing) (n : ℕ) where
   unfolding send send_open
   send_answers =
       comes_live (Answers e (Send n)) e nothing_done _ _
-      (λ seen noticed. comes_answers (Answers e (Send n)) e e _ PeerClosed (record { cause = send_closed refl refl; transfer = refl; notices = tt }))
+      (λ seen noticed. comes_answers (Answers e (Send n)) e e _ PeerClosed (record { cause = send_closed refl refl; transfer = refl; notices = noticed }))
       (λ live seen alive. comes_look_write (Answers e (Send n)) e _ _ (λ cons more. comes_if (Answers e (Send n)) e e _ (nat_lt (free_at e cons) n) _ _
       (λ less. comes_ask (Answers e (Send n)) e _ Consumed _ (comes_look_write (Answers e (Send n)) e _ _ (λ again last. send_looked_answers _ _ again refl alive)))
       (λ enough. send_looked_answers _ _ cons refl alive)))
@@ -109,7 +111,7 @@ module _ (e : Standing) (n : ℕ) where
       comes_if (Answers e (Read n)) e e (only_loaded l seen) (ready_at e prod == 0) _ _
       (λ none. comes_live (Answers e (Read n)) e (only_loaded l seen) _ _
       (λ more noticed. comes_answers (Answers e (Read n)) e e _ PeerClosed
-      (record { cause = read_closed (record { prod = prod; cons = e.cons }) last (eqb-true _ _ none) refl refl; transfer = refl; notices = tt }))
+      (record { cause = read_closed (record { prod = prod; cons = e.cons }) last (eqb-true _ _ none) refl refl; transfer = refl; notices = λ unshut. or_second seen more (noticed unshut) }))
       (λ live more alive. comes_answers (Answers e (Read n)) e e _ (Empty prod e.cons)
       (record { cause = read_empty (record { prod = prod; cons = e.cons }) last (eqb-true _ _ none) alive refl; transfer = refl; notices = tt })))
       (λ some. comes_take (Answers e (Read n)) e (min n (ready_at e prod)) (only_loaded l seen) (Got (min n (ready_at e prod))) refl refl
@@ -129,7 +131,7 @@ module _ (e : Standing) (n : ℕ) where
       comes_if (Answers e (Recv n)) e e (only_loaded l seen) (nat_lt (ready_at e prod) n) _ _
       (λ less. comes_live (Answers e (Recv n)) e (only_loaded l seen) _ _
       (λ more noticed. comes_answers (Answers e (Recv n)) e e _ PeerClosed
-      (record { cause = recv_closed (record { prod = prod; cons = e.cons }) last (ltb-true _ _ less) refl refl; transfer = refl; notices = tt }))
+      (record { cause = recv_closed (record { prod = prod; cons = e.cons }) last (ltb-true _ _ less) refl refl; transfer = refl; notices = λ unshut. or_second seen more (noticed unshut) }))
       (λ live more alive. comes_answers (Answers e (Recv n)) e e _ (Short prod e.cons)
       (record { cause = recv_short (record { prod = prod; cons = e.cons }) last (ltb-true _ _ less) alive refl; transfer = refl; notices = tt })))
       (λ enough. comes_take (Answers e (Recv n)) e n (only_loaded l seen) (Got n) refl refl
@@ -250,5 +252,5 @@ call_answers e Close = close_answers e Close refl e _ (done_answers e Close refl
 call_answers e TakeEvent =
     comes_swap (Answers e TakeEvent) e nothing_done _ (λ old. comes_answers (Answers e TakeEvent) e e _ (Event (not (old == 0))) (record { cause = refl; transfer = refl; notices = tt }))
 call_answers e PeerGone =
-    comes_gone_told (Answers e PeerGone) e nothing_done _ (λ gone seen. comes_answers (Answers e PeerGone) e e _ (Gone (not (gone == 0))) (record { cause = refl; transfer = refl; notices = tt }))
+    comes_gone_told (Answers e PeerGone) e nothing_done _ (λ gone seen noticed. comes_answers (Answers e PeerGone) e e _ (Gone (not (gone == 0))) (record { cause = refl; transfer = refl; notices = noticed }))
 call_answers e Retire = retire_answers e Retire refl e.state

@@ -285,11 +285,12 @@ module _ (Fit : Deeds → Answer → Type 0) (e : Standing) where
           gone taken _ (eqb-false taken 0 is)
           (λ unshut. ap (λ (b : Bool). not (is_shut e.state) && b) (gone_shows e.role taken ∙ ap not is) ∙ ap (λ (b : Bool). not b && true) unshut)
 
-  pub comes_gone_told : (n : Deeds) (next : ℕ → Plan) → ((taken : ℕ) (seen : Bool) → Comes Fit e (record n { loads = record n.loads { gone = Some taken }; noticed = n.noticed || seen }) (next taken)) →
+  pub comes_gone_told : (n : Deeds) (next : ℕ → Plan) → ((taken : ℕ) (seen : Bool) → (not (taken == 0) ≡ true → is_shut e.state ≡ false → seen ≡ true) → Comes Fit e (record n { loads = record n.loads { gone = Some taken }; noticed = n.noticed || seen }) (next taken)) →
       Comes Fit e n (does (Load (peer_gone e.role)) next)
   comes_gone_told n next c = comes_load n _ _ (λ taken.
       subst (λ (l : Loads). Comes Fit e (record n { loads = l; noticed = n.noticed || notices e (Load (peer_gone e.role)) taken }) (next taken))
-      (sym (gone-loaded e.role e.prod e.cons taken n.loads)) (c taken _))
+      (sym (gone-loaded e.role e.prod e.cons taken n.loads))
+      (c taken _ (λ is unshut. ap (λ (b : Bool). not (is_shut e.state) && b) (gone_shows e.role taken ∙ is) ∙ ap (λ (b : Bool). not b && true) unshut)))
 
   -- an order word is loaded
   pub comes_left_order : (n : Deeds) (next : ℕ → Plan) → ((taken : ℕ) (seen : Bool) → Comes Fit e (record n { loads = record n.loads { left_order = Some (low16 taken) }; noticed = n.noticed || seen }) (next taken)) →

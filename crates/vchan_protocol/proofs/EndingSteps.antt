@@ -7,7 +7,7 @@ use Rattle.vchan_protocol.specs.declared.op.Op.{Op}
 use Rattle.vchan_protocol.specs.declared.op.Op.TheVariants.{Load, LoadByte, Store, StoreByte, Or, And, Swap, Nothing}
 use Rattle.vchan_protocol.specs.declared.op.PastEvent.{PastEvent}
 use Rattle.vchan_protocol.specs.declared.call.Answer.{Answer}
-use Rattle.vchan_protocol.specs.declared.call.Answer.TheVariants.{AllRead, PeerGone as IsGone}
+use Rattle.vchan_protocol.specs.declared.call.Answer.TheVariants.{PeerClosed, AllRead, Gone, PeerGone as IsGone}
 use Rattle.vchan_protocol.specs.declared.call.Call.{Call}
 use Rattle.vchan_protocol.specs.declared.call.Call.TheVariants.{Write, Send, Read, Recv, Drain, DataReady, BufferSpace, Connect, Close, TakeEvent, Retire, PeerGone}
 use Rattle.vchan_protocol.specs.declared.call.EndState.{EndState}
@@ -23,7 +23,7 @@ use Rattle.vchan_protocol.specs.Core.{made, answered, settled, ending, drains, f
 use Rattle.vchan_protocol.specs.RingLaw.{CallLawful}
 use Rattle.vchan_protocol.specs.Loads.{loads_of}
 use Rattle.vchan_protocol.specs.Causes.{Cause}
-use Rattle.vchan_protocol.specs.EndingLaw.{EndingNoted, notices, has_noticed}
+use Rattle.vchan_protocol.specs.EndingLaw.{EndingNoted, notices, has_noticed, tells_end}
 use Rattle.vchan_protocol.specs.EndingLaws.{stepped, EndingAnswered}
 use Rattle.vchan_protocol.proofs.EndSteps.{InLawful, in_lawful}
 use Rattle.vchan_protocol.proofs.AnswerCauses.{NoticesEnd}
@@ -104,9 +104,9 @@ shut_retires role Close allowed = absurd allowed
 shut_retires role TakeEvent allowed = absurd allowed
 shut_retires role PeerGone allowed = absurd allowed
 
--- no answer of a shut end ends a stream
-unshut_ends : (e : Standing) (call : Call) (events : List PastEvent) (answer : Answer) → IsAllowed e.role e.state call → Trace e call events answer → IsSome (ending answer) → is_shut e.state ≡ false
-unshut_ends e call events answer allowed led ends = go e.state refl
+-- no answer of a shut end tells its peer's end
+unshut_ends : (e : Standing) (call : Call) (events : List PastEvent) (answer : Answer) → IsAllowed e.role e.state call → Trace e call events answer → tells_end answer ≡ true → is_shut e.state ≡ false
+unshut_ends e call events answer allowed led tells = go e.state refl
   where
     go : (state : EndState) → e.state ≡ state → is_shut state ≡ false
     go Fresh is = refl
@@ -114,12 +114,19 @@ unshut_ends e call events answer allowed led ends = go e.state refl
     go Shut is =
         let retires : call ≡ Retire = shut_retires e.role call (subst (λ (state : EndState). IsAllowed e.role state call) is allowed) in
         let done = subst (λ (c : Call). Cause e c (loads_of e events) answer) retires (has_cause e call events answer led) in
-        absurd (false≢true (subst (λ (a : Answer). IsSome (ending a)) done ends))
+        absurd (false≢true (subst (λ (a : Answer). tells_end a ≡ true) done tells))
 
-end_noticed : (state : EndState) (noticed : Bool) (answer : Answer) → IsSome (ending answer) → NoticesEnd state noticed answer → is_shut state ≡ false → noticed ≡ true
-end_noticed state noticed AllRead ends owes unshut = owes unshut
-end_noticed state noticed (IsGone prod cons) ends owes unshut = owes unshut
-end_noticed state noticed _ ends owes unshut = absurd (false≢true ends)
+end_noticed : (state : EndState) (noticed : Bool) (answer : Answer) → tells_end answer ≡ true → NoticesEnd state noticed answer → is_shut state ≡ false → noticed ≡ true
+end_noticed state noticed PeerClosed tells owes unshut = owes unshut
+end_noticed state noticed AllRead tells owes unshut = owes unshut
+end_noticed state noticed (Gone is) tells owes unshut = owes tells unshut
+end_noticed state noticed (IsGone prod cons) tells owes unshut = owes unshut
+end_noticed state noticed _ tells owes unshut = absurd (false≢true tells)
+
+ending_tells : (answer : Answer) → IsSome (ending answer) → tells_end answer ≡ true
+ending_tells AllRead ends = refl
+ending_tells (IsGone prod cons) ends = refl
+ending_tells _ ends = absurd (false≢true ends)
 
 drain_ends : (answer : Answer) → drains answer ≡ true → IsSome (ending answer)
 drain_ends AllRead is = refl
@@ -131,14 +138,14 @@ all_read_drains AllRead is = refl
 all_read_drains (IsGone prod cons) is = cc
 all_read_drains _ is = cc
 
--- an end whose answer ends a stream has seen its peer's end
-saw_end : (s : Side) (i : InLawful s) (taken : ℕ) (answer : Answer) → CallLawful s → GoesOn (plan_left s) → EndingNoted s → after (plan_left s) taken ≡ answers answer → IsSome (ending answer) →
+-- an end has seen what its answer tells of its peer's end
+saw_end : (s : Side) (i : InLawful s) (taken : ℕ) (answer : Answer) → CallLawful s → GoesOn (plan_left s) → EndingNoted s → after (plan_left s) taken ≡ answers answer → tells_end answer ≡ true →
     (made s (op_next s) taken).saw ≡ true
-saw_end s i taken answer lawful more h is ends =
+saw_end s i taken answer lawful more h is tells =
     let e = begun_standing s i.begun in
     let trail = (made s (op_next s) taken).trail in
     let led : Trace e i.begun.call trail answer = each_trace s i.begun taken answer lawful i.is more is in
-    saw_noticed s i taken h (end_noticed e.state (has_noticed e trail) answer ends (notices_end e i.begun.call trail answer led) (unshut_ends e i.begun.call trail answer i.lawful.allowed led ends))
+    saw_noticed s i taken h (end_noticed e.state (has_noticed e trail) answer tells (notices_end e i.begun.call trail answer led) (unshut_ends e i.begun.call trail answer i.lawful.allowed led tells))
 
 -- ---- an event of the end
 
@@ -186,7 +193,7 @@ step_keeps_notes s taken lawful more h = go (after (plan_left s) taken) refl
 
     go : (rest : Plan) → after (plan_left s) taken ≡ rest → EndingNoted (settled (made s (op_next s) taken) rest)
     go (answers answer) is =
-        answered_notes s (made s (op_next s) taken) answer h refl refl (saw_stays s (op_next s) taken) (saw_end s i taken answer lawful more h is)
+        answered_notes s (made s (op_next s) taken) answer h refl refl (saw_stays s (op_next s) taken) (λ ends. saw_end s i taken answer lawful more h is (ending_tells answer ends))
     go (does op next) is = record {
       noticed = λ b call noticed. saw_noticed s i taken h (subst (λ (c : Begun). has_noticed (begun_standing s c) (made s (op_next s) taken).trail ≡ true) (one_begun s.call b i.begun call i.is) noticed);
       ended_saw = λ there. saw_stays s (op_next s) taken (h.ended_saw there);
@@ -198,8 +205,9 @@ step_keeps_notes s taken lawful more h = go (after (plan_left s) taken) refl
 pub answer_noted : (s : Side) (taken : ℕ) (answer : Answer) → CallLawful s → GoesOn (plan_left s) → EndingNoted s → after (plan_left s) taken ≡ answers answer →
     EndingAnswered s (answered (made s (op_next s) taken) answer) answer
 answer_noted s taken answer lawful more h is = record {
-  all_read = λ all. (saw (subst (λ (a : Answer). IsSome (ending a)) (sym all) refl), or_second s.drained (drains answer) (ap drains all), λ none. first_of_none s.ended (ending answer) none ∙ ap ending all);
-  gone = λ prod cons gone. (saw (subst (λ (a : Answer). IsSome (ending a)) (sym gone) refl), λ none. first_of_none s.ended (ending answer) none ∙ ap ending gone);
+  seen = saw_end s i taken answer lawful more h is;
+  all_read = λ all. (or_second s.drained (drains answer) (ap drains all), λ none. first_of_none s.ended (ending answer) none ∙ ap ending all);
+  gone = λ prod cons gone none. first_of_none s.ended (ending answer) none ∙ ap ending gone;
   gone_drained = λ prod cons gone same. or_second s.drained (drains answer) (ap drains gone ∙ eq-eqb prod cons same);
   saw = saw_stays s (op_next s) taken;
   drained = or_first s.drained (drains answer);
@@ -208,9 +216,6 @@ answer_noted s taken answer lawful more h is = record {
   where
     i : InLawful s
     i = in_lawful s lawful more
-
-    saw : IsSome (ending answer) → (made s (op_next s) taken).saw ≡ true
-    saw = saw_end s i taken answer lawful more h is
 
     first_of_none : (first second : Option EndedBy) → first ≡ None → first_ended first second ≡ second
     first_of_none first second none = ap (λ (o : Option EndedBy). first_ended o second) none

@@ -3,6 +3,8 @@
 use Rattle.std.specs.Prelude.{◌≡◌, ℕ, Bool, true, false, not, ◌&&◌, ◌||◌, Some, IsSome, List, [], ◌∷◌}
 use Rattle.vchan_protocol.specs.declared.op.Op.{Op}
 use Rattle.vchan_protocol.specs.declared.op.PastEvent.{PastEvent}
+use Rattle.vchan_protocol.specs.declared.call.Answer.{Answer}
+use Rattle.vchan_protocol.specs.declared.call.Answer.TheVariants.{PeerClosed, AllRead as AnswerAllRead, PeerGone, Gone}
 use Rattle.vchan_protocol.specs.declared.side.Side.{Side}
 use Rattle.vchan_protocol.specs.declared.side.Begun.{Begun}
 use Rattle.vchan_protocol.specs.declared.side.EndedBy.TheVariants.{AllRead}
@@ -14,10 +16,18 @@ use Rattle.vchan_protocol.specs.LifeLaw.{shows_end}
 abbrev pub notices : Standing → Op → ℕ → Bool
 notices now op taken = not (is_shut now.state) && shows_end op now.role taken
 
--- one of the events does
+-- one of these events does
 abbrev pub has_noticed : Standing → List PastEvent → Bool
 has_noticed now [] = false
 has_noticed now (event ∷ events) = notices now event.op event.taken || has_noticed (standing_after now event.op) events
+
+-- an answer says that the peer is shut, or gone
+abbrev pub tells_end : Answer → Bool
+tells_end PeerClosed = true
+tells_end AnswerAllRead = true
+tells_end (PeerGone prod cons) = true
+tells_end (Gone is) = is
+tells_end _ = false
 
 -- what an end has noted of its peer's end
 pub record EndingNoted (s : Side) : Type 0 where

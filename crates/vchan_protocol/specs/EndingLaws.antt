@@ -11,7 +11,7 @@ use Rattle.vchan_protocol.specs.Core.{Core, side_of, plan_left, op_next, made, s
 use Rattle.vchan_protocol.specs.RingLaw.{CallLawful}
 use Rattle.vchan_protocol.specs.Kept.{MayCome}
 use Rattle.vchan_protocol.specs.IndexLaw.{StoresTakeNothing}
-use Rattle.vchan_protocol.specs.EndingLaw.{EndingNoted}
+use Rattle.vchan_protocol.specs.EndingLaw.{EndingNoted, tells_end}
 
 -- the end after its next event, by the value that it takes
 abbrev pub stepped : Side → ℕ → Side
@@ -21,10 +21,13 @@ stepped s taken = settled (made s (op_next s) taken) (after (plan_left s) taken)
 abbrev pub StepKeepsNotes : Type 0
 StepKeepsNotes = (s : Side) (taken : ℕ) → CallLawful s → GoesOn (plan_left s) → EndingNoted s → EndingNoted (stepped s taken)
 
--- what an answer that ends a stream leaves noted
+-- what an answer leaves noted of the peer's end
 pub record EndingAnswered (before now : Side) (answer : Answer) : Type 0 where
-  pub all_read : answer ≡ AllRead → (now.saw ≡ true) × (now.drained ≡ true) × (before.ended ≡ None → now.ended ≡ Some ByAllRead)
-  pub gone : (prod cons : ℕ) → answer ≡ PeerGone prod cons → (now.saw ≡ true) × (before.ended ≡ None → now.ended ≡ Some ByPeerGone)
+  -- the end has seen what the answer tells of its peer's end
+  pub seen : tells_end answer ≡ true → now.saw ≡ true
+  -- the stream has ended, and is drained where nothing is left
+  pub all_read : answer ≡ AllRead → (now.drained ≡ true) × (before.ended ≡ None → now.ended ≡ Some ByAllRead)
+  pub gone : (prod cons : ℕ) → answer ≡ PeerGone prod cons → before.ended ≡ None → now.ended ≡ Some ByPeerGone
   pub gone_drained : (prod cons : ℕ) → answer ≡ PeerGone prod cons → prod ≡ cons → now.drained ≡ true
   -- what was noted before stays
   pub saw : before.saw ≡ true → now.saw ≡ true
