@@ -22,7 +22,7 @@ use Rattle.vchan_protocol.specs.Plan.{Plan, answers, does, Leads, next_op, after
 use Rattle.vchan_core.proofs.PhaseLaws.{GoesOn-machine}
 use Rattle.vchan_protocol.proofs.PlanLaws.{Leads-more}
 use Rattle.vchan_protocol.proofs.AloneLaws.{FillsNext, fills_on}
-use Rattle.vchan_core.proofs.RunLaws.{fills_next, machine_stands, side_after}
+use Rattle.vchan_core.proofs.RunLaws.{fills_next, machine_stands, side_of-event}
 use Rattle.vchan_protocol.proofs.EventLaws.{settled-payload, settled-trail}
 use Rattle.vchan_core.proofs.StepLaws.{InCall, in_call}
 use Rattle.step_script.specs.declared.hand.Hand.{Hand}
@@ -113,7 +113,7 @@ module _ (core : Core) (who : Role) (page page' : Plain) (hand hand' : Hand) (re
   then_stands = d.stands core h.stands (has_payload s hand.payload.items (h.held.payload d.busy))
 
   then_side : side_of (event core who) who ≡ settled (made s op value) plan
-  then_side = side_after core who m here
+  then_side = side_of-event core who m here
 
   then_call : ¬ IsIdle (machine_of page' who) → call_of (side_of (event core who) who) ≡ Some hand'.call
   then_call busy =

@@ -1,5 +1,5 @@
 -- Of what a script of whole calls prints, the lists tell their part.
-use Rattle.std.proofs.Common.{◌≡◌, ℕ, ◌==◌, ◌&&◌, nat_lt, inl, inr, Bool, true, false, not, cond, Option, Some, None, List, [], ◌∷◌, ◌++◌, take, refl, subst, sym, ap, ◌∙◌, arith}
+use Rattle.std.proofs.Common.{◌≡◌, ℕ, ◌==◌, ◌&&◌, nat_lt, Bool, true, false, not, cond, Option, Some, None, List, [], ◌∷◌, ◌++◌, take, refl, subst, sym, ap, ◌∙◌, arith}
 use Rattle.std.specs.List.{filter, All}
 use Rattle.std.proofs.lemmas.List.Elements.{filter-append, All-tail}
 use Rattle.ring_words.specs.declared.order.Orders.{Orders}
@@ -34,7 +34,7 @@ use Rattle.step_script.specs.declared.script.Opening.{Opening}
 use Rattle.step_script.specs.Output.{TextLine, answered, text_of}
 use Rattle.step_script.specs.Played.{Outcome, bytes_got, call_refusal, finishes_call, followed_by, has_retired, line_done, makes_call, plays, state_refusal, step_lines, unless_refused}
 use Rattle.step_script.specs.Script.{StepCall, StepLine, opens, calls, begins, steps, finishes, pokes, signals, head, image, CanSay, CallFits, LineFits}
-use Rattle.step_script.specs.ListScript.{IsWhole, CanBe, CanOpen, Told, ToldByLists, WholeScriptsFollowLists, bytes_told, is_told, is_told_call, list_refusal, opened_lists, told_call, told_from, told_line, told_lines, unless_untold}
+use Rattle.step_script.specs.ListScript.{IsWhole, CanBe, CanOpen, Told, ToldByLists, WholeScriptsFollowLists, bytes_told, is_told, is_told_call, list_refusal, told_call, told_from, told_line, told_lines, unless_untold}
 
 -- ---- two honest ends between calls
 
@@ -159,19 +159,19 @@ may_begin : (core : Core) (who : Role) (c : StepCall) → IsCalm core → CallFi
 may_begin core Server c calm fits is = record { idle = calm.idle Server; allowed = state_allows Server core.server.state _ c.call fits.said is; pays = fits.payload; bytes = fits.bytes }
 may_begin core Client c calm fits is = record { idle = calm.idle Client; allowed = state_allows Client core.client.state _ c.call fits.said is; pays = fits.payload; bytes = fits.bytes }
 
--- a gone word other than 0 is 1
-retired_is : (gone : ℕ) (state : EndState) → TellsGone gone state → not (gone == 0) ≡ (gone == 1)
-retired_is gone state (inl zero_gone) = ap (λ (n : ℕ). not (n == 0)) zero_gone ∙ sym (ap (λ (n : ℕ). n == 1) zero_gone)
-retired_is gone state (inr g) = ap (λ (n : ℕ). not (n == 0)) g.0 ∙ sym (ap (λ (n : ℕ). n == 1) g.0)
+-- the gone word of a retired end is set
+retired_is : (gone : ℕ) (retired : Bool) (state : EndState) → TellsGone gone retired state → not (gone == 0) ≡ retired
+retired_is gone true state tells = ap (λ (n : ℕ). not (n == 0)) tells.word
+retired_is gone false state tells = ap (λ (n : ℕ). not (n == 0)) tells.word
 
 -- the lists refuse a call for the same reason
 refusal_is : (core : Core) (who : Role) (call : Call) → IsCalm core → call_refusal core who call ≡ list_refusal (end_of (lists_of core) who) call
 refusal_is core Server call calm =
     ap (λ (b : Bool). cond b (Some Turned) (state_refusal core.server.state (has_retired core Server) call)) (calm.honest Server)
-    ∙ ap (λ (b : Bool). state_refusal core.server.state b call) (retired_is _ _ calm.lawful.lives.server_words.gone)
+    ∙ ap (λ (b : Bool). state_refusal core.server.state b call) (retired_is _ _ _ calm.lawful.lives.server_words.gone)
 refusal_is core Client call calm =
     ap (λ (b : Bool). cond b (Some Turned) (state_refusal core.client.state (has_retired core Client) call)) (calm.honest Client)
-    ∙ ap (λ (b : Bool). state_refusal core.client.state b call) (retired_is _ _ calm.lawful.lives.client_words.gone)
+    ∙ ap (λ (b : Bool). state_refusal core.client.state b call) (retired_is _ _ _ calm.lawful.lives.client_words.gone)
 
 -- ---- the line of an answer
 
@@ -294,14 +294,6 @@ lines_agree orders (line ∷ more) core calm fit whole =
     ∙ ap (λ (l : List TextLine). l ++ filter is_told (plays more behind)) agrees.lines
     ∙ ap (λ (l : List TextLine). (told_line line (lists_of core)).1 ++ l) (others ∙ ap (told_from more) agrees.lists)
 
--- the gone word of an end that isn't shut is not 1
-not_retired : (gone : ℕ) (state : EndState) → (state ≡ Shut → ⊥) → TellsGone gone state → (gone == 1) ≡ false
-not_retired gone state apart (inl zero_gone) = ap (λ (n : ℕ). n == 1) zero_gone
-not_retired gone state apart (inr g) = absurd (apart g.1)
-
-open-apart : ◌≡◌ {A = EndState} Open Shut → ⊥
-open-apart is = cc
-
 calm_opened : (o : Opening) → CanOpen o → IsCalm (opened o.orders o.start o.said o.state)
 calm_opened o can =
     let core : Core = opened o.orders o.start o.said o.state in
@@ -311,22 +303,9 @@ calm_opened o can =
       honest = of_each (λ (s : Side). s.turned ≡ false) core Server refl refl;
     }
 
-lists_opened : (o : Opening) → CanOpen o → lists_of (opened o.orders o.start o.said o.state) ≡ opened_lists o
-lists_opened o can =
-    let lawful = lawful_opened o.orders o.start o.said o.state can.start can.said.0 can.said.1 can.state in
-    let server = not_retired _ _ open-apart lawful.lives.server_words.gone in
-    let client = not_retired _ _ can.state lawful.lives.client_words.gone in
-    λ i. record {
-      start = o.start;
-      said = o.said;
-      orders = o.orders;
-      server = record { state = Open; retired = server i; sent = []; got = [] };
-      client = record { state = o.state; retired = client i; sent = []; got = [] };
-    }
-
 pub whole_scripts : WholeScriptsFollowLists
 whole_scripts (opens o ∷ more) can whole =
-    lines_agree o.orders more (opened o.orders o.start o.said o.state) (calm_opened o can.0) can.1 whole ∙ ap (told_from more) (lists_opened o can.0)
+    lines_agree o.orders more (opened o.orders o.start o.said o.state) (calm_opened o can.0) can.1 whole
 whole_scripts [] can whole = absurd can
 whole_scripts (calls who c ∷ more) can whole = absurd can
 whole_scripts (begins who c ∷ more) can whole = absurd can

@@ -79,8 +79,8 @@ fills_next s m c orders out into busy fits = go (next_op (rest m)) (owed s m c b
     go Nothing owes f = tt
 
 -- the end of a core state after its event
-pub side_after : (now : Core) (who : Role) (m : Machine) → InCall (side_of now who) m → side_of (event now who) who ≡ side_by now.orders now.words (side_of now who) (rest m)
-side_after now who m c = ap (λ (k : Core). side_of k who) (event-by now who m c) ∙ side_of-with_side (record now { words = words_after now.orders now.words (side_of now who).payload (next_op (rest m)) }) who _
+pub side_of-event : (now : Core) (who : Role) (m : Machine) → InCall (side_of now who) m → side_of (event now who) who ≡ side_by now.orders now.words (side_of now who) (rest m)
+side_of-event now who m c = ap (λ (k : Core). side_of k who) (event-by now who m c) ∙ side_of-with_side (record now { words = words_after now.orders now.words (side_of now who).payload (next_op (rest m)) }) who _
 
 -- one more event of the call, whether an answer came or not
 module _ (core : Core) (who : Role) (call : Call) (source start buffer buffer' : List ℕ) (page page' : Plain) (result : Option Answer) (enough : payload_of call ≤ length source) (long : length buffer ≡ length start)
@@ -96,7 +96,7 @@ module _ (core : Core) (who : Role) (call : Call) (source start buffer buffer' :
 
   then_pays : (side_of (event r.now who) who).payload ≡ take (payload_of call) source
   then_pays =
-      ap (λ (s : Side). s.payload) (side_after r.now who (machine_of page who) here) ∙ settled-payload (made (side_of r.now who) _ _) _ ∙ r.pays
+      ap (λ (s : Side). s.payload) (side_of-event r.now who (machine_of page who) here) ∙ settled-payload (made (side_of r.now who) _ _) _ ∙ r.pays
 
   then_leads : left result (machine_of page' who) ≡ after (rest (machine_of page who)) (value_taken r.now.orders r.now.words (next_op (rest (machine_of page who))))
   then_leads =
@@ -111,7 +111,7 @@ module _ (core : Core) (who : Role) (call : Call) (source start buffer buffer' :
       d.buffers ∙ ap (λ (o : Orders). buffer_after o (words_of page) buffer next) r.stands.orders ∙ ap (λ (w : List ℕ). buffer_after r.now.orders w buffer next) r.stands.words
       ∙ ap (λ (b : List ℕ). buffer_after r.now.orders r.now.words b next) r.fills
       ∙ fills_on r.now.orders r.now.words start (side_of r.now who).trail next fits
-      ∙ sym (ap (λ (s : Side). filled start (bytes_loaded s.trail)) (side_after r.now who (machine_of page who) here)
+      ∙ sym (ap (λ (s : Side). filled start (bytes_loaded s.trail)) (side_of-event r.now who (machine_of page who) here)
       ∙ ap (λ (t : List PastEvent). filled start (bytes_loaded t)) (settled-trail (made (side_of r.now who) next (value_taken r.now.orders r.now.words next)) (after (rest (machine_of page who)) (value_taken r.now.orders r.now.words next))))
 
   pub runs_on : result ≡ None → IsRunning core who call (take (payload_of call) source) start page' buffer'

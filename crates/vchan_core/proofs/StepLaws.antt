@@ -311,7 +311,7 @@ stands_client core page page' source result h has d orders other server_turned c
     })
 
 -- the answer of a step is what is left of the end's call
-answer_in-left : (m' : Machine) (result : Option Answer) → (IsSome result ↔ IsIdle m') → answer_in (left result m') ≡ result
+pub answer_in-left : (m' : Machine) (result : Option Answer) → (IsSome result ↔ IsIdle m') → answer_in (left result m') ≡ result
 answer_in-left m' (Some answer) idle = refl
 answer_in-left m' None idle = quiet (rest m') (GoesOn-machine m' (λ q. false≢true (idle.1 q)))
   where

@@ -40,7 +40,7 @@ bytes_loaded-push [] op taken = append-nil (loaded_by op taken)
 bytes_loaded-push (event ∷ events) op taken =
     ap (λ (xs : List ℕ). loaded_by event.op event.taken ++ xs) (bytes_loaded-push events op taken) ∙ sym (append_assoc (loaded_by event.op event.taken) (bytes_loaded events) (loaded_by op taken))
 
-set_next : (bytes buffer : List ℕ) (value : ℕ) → length bytes < length buffer → slice_set (bytes ++ drop (length bytes) buffer) (length bytes) value ≡ filled buffer (bytes ++ value ∷ [])
+pub set_next : (bytes buffer : List ℕ) (value : ℕ) → length bytes < length buffer → slice_set (bytes ++ drop (length bytes) buffer) (length bytes) value ≡ filled buffer (bytes ++ value ∷ [])
 set_next bytes buffer value within =
     let n = length bytes in
     let more : suc n ≡ length (bytes ++ value ∷ []) = omega (arith, length-append bytes (value ∷ [])) in

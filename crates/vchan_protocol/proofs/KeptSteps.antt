@@ -1,5 +1,5 @@
 -- Each step of a page, by honest ends and by hostile users, keeps what holds of it, and what stands at its end.
-use Rattle.std.proofs.Common.{◌≡◌, ◌≢◌, ℕ, ◌^◌, ◌<◌, Bool, true, false, List, length, refl, subst, sym, ap, ◌∙◌, arith}
+use Rattle.std.proofs.Common.{◌≡◌, ◌≢◌, ℕ, ◌^◌, ◌<◌, Bool, true, false, cond, List, length, refl, subst, sym, ap, ◌∙◌, arith}
 use Rattle.std.proofs.lemmas.Bool.{false≢true}
 use Rattle.ring_words.specs.declared.order.Orders.{Orders}
 use Rattle.ring_words.specs.declared.page.Role.{Role}
@@ -9,15 +9,15 @@ use Rattle.vchan_protocol.specs.declared.call.Call.{Call}
 use Rattle.vchan_protocol.specs.declared.call.EndState.{EndState}
 use Rattle.vchan_protocol.specs.declared.call.EndState.TheVariants.{Shut}
 use Rattle.vchan_protocol.specs.declared.side.Side.{Side}
-use Rattle.vchan_protocol.specs.Plan.{GoesOn}
-use Rattle.vchan_protocol.specs.Core.{Core, opened, begun, event, side_of, plan_left}
-use Rattle.vchan_protocol.specs.Turned.{strayed}
+use Rattle.vchan_protocol.specs.Plan.{Plan, answers, does, GoesOn}
+use Rattle.vchan_protocol.specs.Core.{Core, opened, begun, event, side_of, plan_left, plan_next, op_next, taken_next, made, settled}
+use Rattle.vchan_protocol.specs.Turned.{strayed, turns, given_up}
 use Rattle.vchan_protocol.specs.Lawful.{Lawful, Honest}
 use Rattle.vchan_protocol.specs.Reached.{MayBegin, opens as reaches}
 use Rattle.vchan_protocol.specs.Peer.{peer}
 use Rattle.vchan_protocol.specs.SignalLaw.{HasEnds}
 use Rattle.vchan_protocol.specs.TurnedLaw.{TurnedLawful, turning}
-use Rattle.vchan_protocol.specs.Kept.{Kept, MayCome, opens, begins_call, makes_event, is_given_up, strays, PageSettled}
+use Rattle.vchan_protocol.specs.Kept.{Kept, RetiredIsSetOnce, MayCome, opens, begins_call, makes_event, is_given_up, strays, PageSettled}
 use Rattle.vchan_protocol.proofs.LawfulSteps.{lawful_opened, lawful_event, lawful_begun}
 use Rattle.vchan_protocol.proofs.SignalLaws.{event_keeps, begin_keeps, no_signal_lost}
 use Rattle.vchan_protocol.proofs.TurnedSteps.{turned_event, turned_begin, first_turn, second_turn, stray, event_grows, turned-given_up, turning_again}
@@ -118,6 +118,35 @@ kept_strayed core who op h = record {
   turned = stray core who op (turned_turning core who h);
 }
 
+-- ---- retirement
+
+retired_settled : (s : Side) (plan : Plan) → (settled s plan).retired ≡ s.retired
+retired_settled s (answers answer) = refl
+retired_settled s (does op next) = refl
+
+retired-given_up : (s : Side) (consumed : ℕ) → (given_up s consumed).retired ≡ s.retired
+retired-given_up s consumed = go s.turned
+  where
+    go : (b : Bool) → (cond b s (turns s consumed)).retired ≡ s.retired
+    go true = refl
+    go false = refl
+
+-- an end is retired by its own store to its gone word, and by nothing else
+pub retires_once : (core : Core) (who : Role) → RetiredIsSetOnce core who
+unfolding event
+retires_once core Server = record {
+  event = retired_settled (made core.server (op_next core.server) (taken_next core Server)) (plan_next core Server);
+  begin = λ call payload. refl;
+  turn = retired-given_up core.server (length core.client.got);
+  stray = λ op. retired-given_up core.server (length core.client.got);
+}
+retires_once core Client = record {
+  event = retired_settled (made core.client (op_next core.client) (taken_next core Client)) (plan_next core Client);
+  begin = λ call payload. refl;
+  turn = retired-given_up core.client (length core.server.got);
+  stray = λ op. retired-given_up core.client (length core.server.got);
+}
+
 -- ---- all that may happen
 
 pub each_kept : (core : Core) → MayCome core → Kept core
@@ -129,7 +158,7 @@ each_kept core (strays before who op there) = kept_strayed before who op (each_k
 
 -- ---- the end of a page
 
-pub page_settles : (core : Core) → Kept core → PageSettled core
+pub page_settles : (core : Core) → Kept core → PageSettled core.orders core.said core.server core.client
 page_settles core h = record {
   left = record {
     prefix = λ w r. (h.lawful (r, w)).left.lawful.prefix;
@@ -145,6 +174,6 @@ page_settles core h = record {
     ended = λ w r. (h.lawful (w, r)).lives.right.ended;
     consumed = h.turned.right;
   };
-  not_both_saw = λ both. (h.lawful both).lives.not_both_saw;
-  none_misled = λ both. (h.lawful both).lives.none_misled;
+  not_both_saw = λ s c. (h.lawful (s, c)).lives.not_both_saw;
+  none_misled = λ s c. (h.lawful (s, c)).lives.none_misled;
 }

@@ -32,3 +32,7 @@ pub mod IndexLaws
 pub mod EndingSteps
 pub mod SideSteps
 pub mod WorkedMore
+pub mod OneEndSteps
+pub mod OneCallBytes
+pub mod OneCallWay
+pub mod EachEvent

@@ -29,9 +29,9 @@ use Rattle.vchan_protocol.specs.Ends.{Standing, state_after, cons_after, own_liv
 use Rattle.vchan_protocol.specs.Calls.{plan_of}
 use Rattle.vchan_protocol.specs.Apply.{words_after, value_taken}
 use Rattle.vchan_protocol.specs.Page.{live_word}
-use Rattle.vchan_protocol.specs.Core.{Core, opened, side_of, event, begun, begins, plan_left, plan_next, op_next, taken_next, begun_standing, made, settled, answered, saw_after, sent_after, sent_stored, got_after, got_stored, bytes_loaded, is_shut, sees_end, ending, drains, misleads, first_ended}
+use Rattle.vchan_protocol.specs.Core.{Core, opened, side_of, event, begun, begins, plan_left, plan_next, op_next, taken_next, begun_standing, made, settled, side_after, answered, saw_after, sent_after, sent_stored, got_after, got_stored, bytes_loaded, is_shut, sees_end, sets_gone, ending, drains, misleads, first_ended}
 use Rattle.vchan_protocol.specs.RingLaw.{index_at, word_at, IsPrefixOf, RingLawful, CallLawful, IsLawfulIn, IsLawfulCall}
-use Rattle.vchan_protocol.specs.LifeLaw.{LifeLawful, SightLawful, StreamLawful, TellsGone, SaysOrders, OrdersGive, OrderGives, LooksGive, LookGives, LoadGives, shows_end, has_seen, sets_gone}
+use Rattle.vchan_protocol.specs.LifeLaw.{LifeLawful, SightLawful, StreamLawful, TellsGone, SaysOrders, OrdersGive, OrderGives, LooksGive, LookGives, LoadGives, shows_end, has_seen}
 use Rattle.vchan_protocol.specs.Peer.{peer, held}
 use Rattle.vchan_protocol.specs.Lawful.{Lawful}
 use Rattle.vchan_protocol.proofs.LifeTrails.{Lives, OwesLife, OwesStore, OwesAnswer, or_false, or_assoc, lives_call, Lives-Leads}
@@ -44,8 +44,8 @@ open_fresh e = cc
 
 pub life_opened : (orders : Orders) (start : ℕ) (said : ℕ × ℕ) (state : EndState) → state ≢ Shut → LifeLawful (opened orders start said state)
 life_opened orders start said state fresh = record {
-  server_words = record { live = refl; gone = inl refl };
-  client_words = record { live = refl; gone = inl refl };
+  server_words = record { live = refl; gone = record { word = refl; shut = λ e. absurd (false≢true e) } };
+  client_words = record { live = refl; gone = record { word = refl; shut = λ e. absurd (false≢true e) } };
   server_opened = open_fresh;
   left_order = refl;
   right_order = refl;
@@ -64,9 +64,9 @@ life_opened orders start said state fresh = record {
 -- the laws on lives, as one end sees them
 record Between (role : Role) (start : ℕ) (said : ℕ × ℕ) (orders : Orders) (words : List ℕ) (mine theirs : Side) : Type 0 where
   my_live : word_at orders words (own_live role) ≡ live_word mine.state
-  my_gone : TellsGone (word_at orders words (own_gone role)) mine.state
+  my_gone : TellsGone (word_at orders words (own_gone role)) mine.retired mine.state
   their_live : word_at orders words (peer_live role) ≡ live_word theirs.state
-  their_gone : TellsGone (word_at orders words (peer_gone role)) theirs.state
+  their_gone : TellsGone (word_at orders words (peer_gone role)) theirs.retired theirs.state
   left_order : word_at orders words LeftOrder ≡ said.0
   right_order : word_at orders words RightOrder ≡ said.1
   my_sight : SightLawful start mine theirs
@@ -351,7 +351,7 @@ module _ (start : ℕ) (said : ℕ × ℕ) (orders : Orders) (words : List ℕ) 
   owes_next = owes_now said (index_at start (length theirs.sent)) mine.role mine.orders mine.state mine.cons (has_seen mine.role mine.trail) (plan_left mine) lives more
 
   shows : shows_end (op_next mine) mine.role (value_taken orders words (op_next mine)) ≡ true → theirs.state ≡ Shut
-  shows = shown_shut orders words (op_next mine) mine.role theirs.state b.their_live b.their_gone
+  shows = shown_shut orders words (op_next mine) mine.role theirs.retired theirs.state b.their_live b.their_gone
 
   seen_after : has_seen mine.role (mine.trail ++ past (op_next mine) (value_taken orders words (op_next mine)) ∷ []) ≡ (has_seen mine.role mine.trail || shows_end (op_next mine) mine.role (value_taken orders words (op_next mine)))
   seen_after = has_seen-push mine.role mine.trail (past (op_next mine) (value_taken orders words (op_next mine)))
@@ -368,9 +368,9 @@ module _ (start : ℕ) (said : ℕ × ℕ) (orders : Orders) (words : List ℕ) 
   made_between : IsPrefixOf (got_after (op_next mine) mine) theirs.sent → Between mine.role start said orders (words_after orders words mine.payload (op_next mine)) (made mine (op_next mine) (value_taken orders words (op_next mine))) theirs
   made_between begins = record {
     my_live = live_tells orders words mine.payload long (op_next mine) mine.role mine.state owes_next b.my_live;
-    my_gone = gone_tells orders words mine.payload long (op_next mine) mine.role mine.state owes_next b.my_gone;
+    my_gone = gone_tells orders words mine.payload long (op_next mine) mine.role mine.retired mine.state owes_next b.my_gone;
     their_live = spared_stays orders words mine.payload (op_next mine) mine.role mine.state _ (peer_live_spared orders mine.role) owes_next ∙ b.their_live;
-    their_gone = subst (λ (n : ℕ). TellsGone n theirs.state) (sym (spared_stays orders words mine.payload (op_next mine) mine.role mine.state _ (peer_gone_spared orders mine.role) owes_next)) b.their_gone;
+    their_gone = subst (λ (n : ℕ). TellsGone n theirs.retired theirs.state) (sym (spared_stays orders words mine.payload (op_next mine) mine.role mine.state _ (peer_gone_spared orders mine.role) owes_next)) b.their_gone;
     left_order = spared_stays orders words mine.payload (op_next mine) mine.role mine.state _ (left_order_spared orders mine.role) owes_next ∙ b.left_order;
     right_order = spared_stays orders words mine.payload (op_next mine) mine.role mine.state _ (right_order_spared orders mine.role) owes_next ∙ b.right_order;
     my_sight = record {
@@ -498,7 +498,7 @@ ReadsOn : ℕ → Order → List ℕ → ℕ → List ℕ → Type 0
 ReadsOn start order sent cons got = (cons ≡ index_at start (length got)) × IsPrefixOf got sent × (length sent ≤ length got + size order)
 
 side_then : Orders → List ℕ → Side → Side
-side_then orders words s = settled (made s (op_next s) (value_taken orders words (op_next s))) (after (plan_left s) (value_taken orders words (op_next s)))
+side_then orders words s = side_after s (value_taken orders words (op_next s))
 
 acts_between : (role : Role) (start : ℕ) (said : ℕ × ℕ) (orders : Orders) (words : List ℕ) (mine theirs : Side) → CallLawful mine → GoesOn (plan_left mine) → 14 ≤ length words → mine.role ≡ role → mine.orders ≡ orders →
     Between role start said orders words mine theirs → word_at orders words (prod_word (read_ring role)) ≡ index_at start (length theirs.sent) →
@@ -578,3 +578,8 @@ gone_set core Server Server h more = gone_own core Server core.server.payload h 
 gone_set core Client Client h more = gone_own core Client core.client.payload h more
 gone_set core Server Client h more = gone_peer core Server core.server.payload h more
 gone_set core Client Server h more = gone_peer core Client core.client.payload h more
+
+-- it is 1 exactly where its end is retired
+pub gone_tells_retired : (core : Core) (who : Role) → LifeLawful core → TellsGone (held core (own_gone who)) (side_of core who).retired (side_of core who).state
+gone_tells_retired core Server h = h.server_words.gone
+gone_tells_retired core Client h = h.client_words.gone

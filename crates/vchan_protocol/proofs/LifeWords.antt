@@ -1,5 +1,5 @@
 -- What an event of an honest end leaves in the live bytes, the gone words and the order words.
-use Rattle.std.proofs.Common.{◌≡◌, ◌≢◌, ℕ, suc, zero, ◌<◌, ◌≤◌, ◌==◌, inl, inr, Bool, true, false, not, cond, List, length, slice_index, slice_set, get_or-set_same, get_or-set_other, refl, subst, ap, ◌∙◌, arith}
+use Rattle.std.proofs.Common.{◌≡◌, ◌≢◌, ℕ, suc, zero, ◌<◌, ◌≤◌, ◌==◌, ◌||◌, Bool, true, false, not, cond, List, length, slice_index, slice_set, get_or-set_same, get_or-set_other, refl, subst, ap, ◌∙◌, arith}
 use Rattle.std.proofs.lemmas.List.{set-get_or}
 use Rattle.std.proofs.lemmas.Bool.{false≢true}
 use Rattle.ring_words.specs.Page.{index_of}
@@ -16,8 +16,8 @@ use Rattle.vchan_protocol.specs.declared.call.EndState.TheVariants.{Fresh, Open,
 use Rattle.vchan_protocol.specs.Ends.{state_after, live_stored, own_live, own_gone, peer_live, peer_gone, low8}
 use Rattle.vchan_protocol.specs.Apply.{words_after, value_taken}
 use Rattle.vchan_protocol.specs.Page.{live_word}
-use Rattle.vchan_protocol.specs.Core.{sees_end}
-use Rattle.vchan_protocol.specs.LifeLaw.{TellsGone, OrderGives, SaidGives, shows_end, sets_gone, sets_gone_word}
+use Rattle.vchan_protocol.specs.Core.{sees_end, sets_gone, sets_gone_word}
+use Rattle.vchan_protocol.specs.LifeLaw.{TellsGone, OrderGives, SaidGives, shows_end}
 use Rattle.vchan_protocol.specs.Peer.{peer}
 use Rattle.vchan_protocol.proofs.LifeTrails.{OwesLife, OwesStore, IsFlag, IsRingByte}
 
@@ -209,16 +209,21 @@ module _ (orders : Orders) (words payload : List ℕ) (long : 14 ≤ length word
   gone_is (Swap word value) role state owes = stays _ _ _ (λ is. omega (arith, is, (gone_range role).0, (flag_number orders word owes).1))
   gone_is Nothing role state owes = absurd owes
 
-  -- so it tells of a shut end after an event too
-  pub gone_tells : (op : Op) (role : Role) (state : EndState) → OwesLife op role state → TellsGone (slice_index words (index_of orders (own_gone role))) state →
-      TellsGone (slice_index (words_after orders words payload op) (index_of orders (own_gone role))) (state_after op role state)
-  gone_tells op role state owes tells = go (sets_gone op role) refl tells
+  -- so it tells of a retired end after an event too
+  pub gone_tells : (op : Op) (role : Role) (retired : Bool) (state : EndState) → OwesLife op role state → TellsGone (slice_index words (index_of orders (own_gone role))) retired state →
+      TellsGone (slice_index (words_after orders words payload op) (index_of orders (own_gone role))) (sets_gone op role || retired) (state_after op role state)
+  gone_tells op role retired state owes tells = record {
+    word = gone_is op role state owes ∙ ap (λ (n : ℕ). cond (sets_gone op role) 1 n) tells.word ∙ either (sets_gone op role) retired;
+    shut = λ is. shut_stays op role state owes (shut (sets_gone op role) refl is);
+  }
     where
-      go : (sets : Bool) → sets_gone op role ≡ sets → TellsGone (slice_index words (index_of orders (own_gone role))) state →
-          TellsGone (slice_index (words_after orders words payload op) (index_of orders (own_gone role))) (state_after op role state)
-      go true sets tells = inr (gone_is op role state owes ∙ ap (λ (b : Bool). cond b 1 (slice_index words (index_of orders (own_gone role)))) sets, shut_stays op role state owes (gone_of_shut op role state owes sets))
-      go false sets (inl none) = inl (gone_is op role state owes ∙ ap (λ (b : Bool). cond b 1 (slice_index words (index_of orders (own_gone role)))) sets ∙ none)
-      go false sets (inr gone) = inr (gone_is op role state owes ∙ ap (λ (b : Bool). cond b 1 (slice_index words (index_of orders (own_gone role)))) sets ∙ gone.0, shut_stays op role state owes gone.1)
+      either : (a b : Bool) → ◌≡◌ {A = ℕ} (cond a 1 (cond b 1 0)) (cond (a || b) 1 0)
+      either true b = refl
+      either false b = refl
+
+      shut : (sets : Bool) → sets_gone op role ≡ sets → (sets || retired) ≡ true → state ≡ Shut
+      shut true sets is = gone_of_shut op role state owes sets
+      shut false sets is = tells.shut is
 
 -- ---- what a load takes
 
@@ -229,23 +234,23 @@ shut_live Open is = absurd (false≢true is)
 shut_live Shut is = refl
 
 -- a gone word that isn't 0 is that of a shut end
-shut_gone : (gone : ℕ) (state : EndState) → TellsGone gone state → not (gone == 0) ≡ true → state ≡ Shut
-shut_gone gone state (inl none) is = absurd (false≢true (subst (λ (n : ℕ). not (n == 0) ≡ true) none is))
-shut_gone gone state (inr set) is = set.1
+shut_gone : (gone : ℕ) (retired : Bool) (state : EndState) → TellsGone gone retired state → not (gone == 0) ≡ true → state ≡ Shut
+shut_gone gone true state tells is = tells.shut refl
+shut_gone gone false state tells is = absurd (false≢true (subst (λ (n : ℕ). not (n == 0) ≡ true) tells.word is))
 
 -- an end that sees its peer's end has a shut peer
-pub shown_shut : (orders : Orders) (words : List ℕ) (op : Op) (role : Role) (state : EndState) → slice_index words (index_of orders (peer_live role)) ≡ live_word state → TellsGone (slice_index words (index_of orders (peer_gone role))) state →
+pub shown_shut : (orders : Orders) (words : List ℕ) (op : Op) (role : Role) (retired : Bool) (state : EndState) → slice_index words (index_of orders (peer_live role)) ≡ live_word state → TellsGone (slice_index words (index_of orders (peer_gone role))) retired state →
     shows_end op role (value_taken orders words op) ≡ true → state ≡ Shut
-shown_shut orders words (Load word) role state live gone shows = go word role live gone shows
+shown_shut orders words (Load word) role retired state live gone shows = go word role live gone shows
   where
-    go : (word : WordName) (role : Role) → slice_index words (index_of orders (peer_live role)) ≡ live_word state → TellsGone (slice_index words (index_of orders (peer_gone role))) state →
+    go : (word : WordName) (role : Role) → slice_index words (index_of orders (peer_live role)) ≡ live_word state → TellsGone (slice_index words (index_of orders (peer_gone role))) retired state →
         sees_end word role (slice_index words (index_of orders word)) ≡ true → state ≡ Shut
     go CliLive Server live gone shows = shut_live state (subst (λ (n : ℕ). (low8 n == 0) ≡ true) live shows)
     go SrvLive Client live gone shows = shut_live state (subst (λ (n : ℕ). (low8 n == 0) ≡ true) live shows)
-    go CliGone Server live gone shows = shut_gone _ state gone shows
-    go SrvGone Client live gone shows = shut_gone _ state gone shows
+    go CliGone Server live gone shows = shut_gone _ retired state gone shows
+    go SrvGone Client live gone shows = shut_gone _ retired state gone shows
     go _ role live gone shows = absurd (false≢true shows)
-shown_shut orders words _ role state live gone shows = absurd (false≢true shows)
+shown_shut orders words _ role retired state live gone shows = absurd (false≢true shows)
 
 -- an order word that is loaded is that of the start
 pub order_given : (orders : Orders) (words : List ℕ) (said : ℕ × ℕ) (op : Op) → slice_index words (index_of orders LeftOrder) ≡ said.0 → slice_index words (index_of orders RightOrder) ≡ said.1 → OrderGives said op (value_taken orders words op)

@@ -1,5 +1,5 @@
 -- The pieces of a whole call, on a page that tells its lists: what each leaves of the lists, and with which answer it ends.
-use Rattle.std.proofs.Common.{◌≡◌, ◌≢◌, ℕ, suc, zero, ◌+◌, ◌-◌, ◌%◌, ◌^◌, ◌<◌, ◌≤◌, ◌==◌, ◌⊎◌, inl, inr, Bool, true, false, cond, if◌then◌else◌, List, [], ◌∷◌, ◌++◌, length, take, drop, get_or, set, slice_index, refl, subst, sym, ap, ◌∙◌, arith, append-nil}
+use Rattle.std.proofs.Common.{◌≡◌, ◌≢◌, ℕ, suc, zero, ◌+◌, ◌-◌, ◌%◌, ◌^◌, ◌<◌, ◌≤◌, ◌==◌, ◌⊎◌, ◌||◌, inl, inr, Bool, true, false, cond, if◌then◌else◌, List, [], ◌∷◌, ◌++◌, length, take, drop, get_or, set, slice_index, refl, subst, sym, ap, ◌∙◌, arith, append-nil}
 use Rattle.std.proofs.lemmas.Bool.{cases_lt}
 use Rattle.std.proofs.lemmas.Bool.Decides.{nat_tests}
 use Rattle.std.proofs.lemmas.List.{get_or-set_same, get_or-set_other, length-append, length-take, length-drop, set-get_or, get_or-drop, get_or-take, take_more, take-append-drop}
@@ -30,7 +30,7 @@ use Rattle.vchan_protocol.specs.Ends.{Standing, written_ring, read_ring, prod_wo
 use Rattle.vchan_protocol.specs.Calls.{look_read, look_write, ask, signal, notify, put_bytes, take_bytes, put_index, take_index, put, take as take_plan, close, retire_shut}
 use Rattle.vchan_protocol.specs.Apply.{words_after, value_taken}
 use Rattle.vchan_protocol.specs.Page.{live_word}
-use Rattle.vchan_protocol.specs.Core.{Core, made, answered, count_stored, bytes_loaded, stored_by, loaded_by, sent_stored, got_stored, is_shut}
+use Rattle.vchan_protocol.specs.Core.{Core, made, answered, count_stored, bytes_loaded, stored_by, loaded_by, sent_stored, got_stored, is_shut, sets_gone_word}
 use Rattle.vchan_protocol.specs.Alone.{alone}
 use Rattle.vchan_protocol.specs.RingLaw.{AreBytes}
 use Rattle.vchan_protocol.specs.Peer.{peer}
@@ -147,9 +147,9 @@ told-shut Client s x is = ap (λ (r : Role). record (told s) { state = live_stor
 told-open : (s : Side) (x : ℕ) → s.role ≡ Client → told (made s (Store (own_live Client) 1) x) ≡ record (told s) { state = Open }
 told-open s x is = ap (λ (r : Role). record (told s) { state = live_stored (own_live Client) r 1 s.state }) is
 
-told-gone : (who : Role) (s : Side) (v x : ℕ) → told (made s (Store (own_gone who) v) x) ≡ told s
-told-gone Server s v x = refl
-told-gone Client s v x = refl
+told-gone : (who : Role) (s : Side) (v x : ℕ) → s.role ≡ who → told (made s (Store (own_gone who) v) x) ≡ record (told s) { retired = true }
+told-gone Server s v x is = ap (λ (r : Role). record (told s) { retired = sets_gone_word (own_gone Server) r || s.retired }) is
+told-gone Client s v x is = ap (λ (r : Role). record (told s) { retired = sets_gone_word (own_gone Client) r || s.retired }) is
 
 -- ---- a call on its way
 
@@ -523,7 +523,7 @@ module _ (who : Role) (channel : ChannelLists) (theirs : Told) (payload : List �
   after_gone : (it : ListEnd) (count : ℕ) (words : List ℕ) (mine : Side) → it.state ≡ Shut → After it count words mine →
       After (record it { retired = true }) count (words_after channel.orders words mine.payload (Store (own_gone who) 1)) (made mine (Store (own_gone who) 1) 0)
   after_gone it count words mine shut a = record {
-    tells = subst (λ (m : Told). Tells who channel (record it { retired = true }) (set words (index_of channel.orders (own_gone who)) 1) m theirs) (sym (told-gone who mine 1 0))
+    tells = subst (λ (m : Told). Tells who channel (record it { retired = true }) (set words (index_of channel.orders (own_gone who)) 1) m theirs) (sym (told-gone who mine 1 0 a.tells.mine_is.role_is))
         (tells_gone who channel it words (told mine) theirs shut a.tells);
     loaded = nothing_loaded mine.trail (Store (own_gone who) 1) 0 _ refl a.loaded;
   }

@@ -1,5 +1,5 @@
 -- What the words of a page and the counts of its two honest ends tell of the lists, kept by each event.
-use Rattle.std.proofs.Common.{◌≡◌, ◌≢◌, ℕ, ◌+◌, ◌-◌, ◌^◌, ◌<◌, ◌≤◌, ◌==◌, ◌⊎◌, inl, inr, true, false, if◌then◌else◌, List, ◌++◌, length, get_or, set, slice_index, refl, sym, ap, ◌∙◌, arith, append_assoc}
+use Rattle.std.proofs.Common.{◌≡◌, ◌≢◌, ℕ, ◌+◌, ◌-◌, ◌^◌, ◌<◌, ◌≤◌, ◌==◌, ◌⊎◌, inl, inr, Bool, true, false, if◌then◌else◌, List, ◌++◌, length, get_or, set, slice_index, refl, sym, ap, ◌∙◌, arith, append_assoc}
 use Rattle.std.proofs.lemmas.Bool.{cases_lt, eqb-false}
 use Rattle.std.proofs.lemmas.List.{get_or-set_same, get_or-set_other, length-set, length-append, get_or_append_left, get_or-append_right}
 use Rattle.std.proofs.lemmas.List.Elements.{All-append}
@@ -32,9 +32,10 @@ pub record Told : Type 0 where
   pub cons : ℕ
   pub sent : List ℕ
   pub got : List ℕ
+  pub retired : Bool
 
 abbrev pub told : Side → Told
-told s = record { role = s.role; orders = s.orders; state = s.state; prod = s.prod; cons = s.cons; sent = s.sent; got = s.got }
+told s = record { role = s.role; orders = s.orders; state = s.state; prod = s.prod; cons = s.cons; sent = s.sent; got = s.got; retired = s.retired }
 
 abbrev pub at : Orders → List ℕ → WordName → ℕ
 at orders words name = slice_index words (index_of orders name)
@@ -46,6 +47,7 @@ pub record EndIs (role : Role) (orders : Orders) (it : ListEnd) (s : Told) : Typ
   pub state_is : s.state ≡ it.state
   pub sent_is : s.sent ≡ it.sent
   pub got_is : s.got ≡ it.got
+  pub retired_is : s.retired ≡ it.retired
 
 -- a ring's indices, its two counts and its bytes are as the lists say
 pub record RingTells (order : Order) (start : ℕ) (sent got : List ℕ) (prod cons own_prod own_cons : ℕ) (bytes : ℕ → ℕ) : Type 0 where
@@ -242,10 +244,10 @@ tells_byte Client channel it words mine theirs k v low apart t =
 
 -- an end's lists grow
 more_sent : (role : Role) (orders : Orders) (it : ListEnd) (s : Told) (more : List ℕ) (prod : ℕ) → EndIs role orders it s → EndIs role orders (record it { sent = it.sent ++ more }) (record s { prod = prod; sent = s.sent ++ more })
-more_sent role orders it s more prod h = record { role_is = h.role_is; orders_are = h.orders_are; state_is = h.state_is; sent_is = ap (λ (xs : List ℕ). xs ++ more) h.sent_is; got_is = h.got_is }
+more_sent role orders it s more prod h = record { role_is = h.role_is; orders_are = h.orders_are; state_is = h.state_is; sent_is = ap (λ (xs : List ℕ). xs ++ more) h.sent_is; got_is = h.got_is; retired_is = h.retired_is }
 
 more_got : (role : Role) (orders : Orders) (it : ListEnd) (s : Told) (more : List ℕ) (cons : ℕ) → EndIs role orders it s → EndIs role orders (record it { got = it.got ++ more }) (record s { cons = cons; got = s.got ++ more })
-more_got role orders it s more cons h = record { role_is = h.role_is; orders_are = h.orders_are; state_is = h.state_is; sent_is = h.sent_is; got_is = ap (λ (xs : List ℕ). xs ++ more) h.got_is }
+more_got role orders it s more cons h = record { role_is = h.role_is; orders_are = h.orders_are; state_is = h.state_is; sent_is = h.sent_is; got_is = ap (λ (xs : List ℕ). xs ++ more) h.got_is; retired_is = h.retired_is }
 
 other_lists : (live gone : ℕ) (it : ListEnd) (sent got : List ℕ) → EndTells live gone it → EndTells live gone (record it { sent = sent; got = got })
 other_lists live gone it sent got h = record { live_is = h.live_is; gone_is = h.gone_is; retired_shut = h.retired_shut }
@@ -324,7 +326,7 @@ tells_got Client channel it words mine theirs more rest v cons is own split t =
 
 -- an end comes to a state, by its live byte
 came : (role : Role) (orders : Orders) (it : ListEnd) (s : Told) (state : EndState) → EndIs role orders it s → EndIs role orders (record it { state = state }) (record s { state = state })
-came role orders it s state h = record { role_is = h.role_is; orders_are = h.orders_are; state_is = refl; sent_is = h.sent_is; got_is = h.got_is }
+came role orders it s state h = record { role_is = h.role_is; orders_are = h.orders_are; state_is = refl; sent_is = h.sent_is; got_is = h.got_is; retired_is = h.retired_is }
 
 pub tells_state : (who : Role) (channel : ChannelLists) (it : ListEnd) (words : List ℕ) (mine theirs : Told) (state : EndState) → (it.retired ≡ true → state ≡ Shut) → Tells who channel it words mine theirs →
     Tells who channel (record it { state = state }) (set words (index_of channel.orders (own_live who)) (live_word state)) (record mine { state = state }) theirs
@@ -362,11 +364,11 @@ tells_state Client channel it words mine theirs state shut t =
     }
 
 -- an end that is shut retires, by its gone word
-gone_too : (role : Role) (orders : Orders) (it : ListEnd) (s : Told) → EndIs role orders it s → EndIs role orders (record it { retired = true }) s
-gone_too role orders it s h = record { role_is = h.role_is; orders_are = h.orders_are; state_is = h.state_is; sent_is = h.sent_is; got_is = h.got_is }
+gone_too : (role : Role) (orders : Orders) (it : ListEnd) (s : Told) → EndIs role orders it s → EndIs role orders (record it { retired = true }) (record s { retired = true })
+gone_too role orders it s h = record { role_is = h.role_is; orders_are = h.orders_are; state_is = h.state_is; sent_is = h.sent_is; got_is = h.got_is; retired_is = refl }
 
 pub tells_gone : (who : Role) (channel : ChannelLists) (it : ListEnd) (words : List ℕ) (mine theirs : Told) → it.state ≡ Shut → Tells who channel it words mine theirs →
-    Tells who channel (record it { retired = true }) (set words (index_of channel.orders (own_gone who)) 1) mine theirs
+    Tells who channel (record it { retired = true }) (set words (index_of channel.orders (own_gone who)) 1) (record mine { retired = true }) theirs
 tells_gone Server channel it words mine theirs shut t =
     let long : 12 < length words = omega (arith, t.sized) in
     let o : (m : ℕ) → (m == 12) ≡ false → get_or (set words 12 1) m 0 ≡ get_or words m 0 = kept words 12 1 in

@@ -1,6 +1,5 @@
 -- From a lawful core state whole calls are calls on lists.
-use Rattle.std.proofs.Common.{◌≡◌, ℕ, ◌==◌, inl, inr, Bool, true, false, if◌then◌else◌, List, [], ◌∷◌, ◌++◌, length, take, drop, refl, subst, sym, ap, ◌∙◌}
-use Rattle.std.proofs.lemmas.Bool.{false≢true}
+use Rattle.std.proofs.Common.{◌≡◌, ℕ, Bool, List, [], ◌∷◌, ◌++◌, length, take, drop, refl, subst, sym, ap, ◌∙◌}
 use Rattle.std.proofs.lemmas.List.{drop_at}
 use Rattle.ring_words.specs.declared.page.Role.{Role}
 use Rattle.ring_words.specs.declared.page.Role.TheVariants.{Server, Client}
@@ -18,7 +17,7 @@ use Rattle.vchan_protocol.specs.Reached.{MayBegin}
 use Rattle.vchan_protocol.specs.Lawful.{Lawful}
 use Rattle.vchan_protocol.specs.LifeLaw.{TellsGone}
 use Rattle.vchan_protocol.specs.Peer.{peer}
-use Rattle.vchan_protocol.specs.ListCall.{ListEnd, ChannelLists, WholeCall, end_of, with_end, waiting, lists_of, list_call, list_calls}
+use Rattle.vchan_protocol.specs.ListCall.{ListEnd, ChannelLists, WholeCall, end_of, with_end, waiting, list_end, lists_of, list_call, list_calls}
 use Rattle.vchan_protocol.specs.ListLaw.{AllFollowLists, IsTold, FollowsLists, MayCall, MayCallAll, AreTold, called_all, count_got}
 use Rattle.vchan_protocol.proofs.ListTells.{Told, told, Tells, EndIs, EndTells, prefix_fits}
 use Rattle.vchan_protocol.proofs.ListPieces.{run, core_by, alone-run, standing_by, Begins}
@@ -31,39 +30,30 @@ use Rattle.vchan_protocol.proofs.ListCalls.{each_row}
 abbrev pub TellsLists : Core → Type 0
 TellsLists core = (who : Role) → Tells who (lists_of core) (end_of (lists_of core) who) core.words (told (side_of core who)) (told (side_of core (peer who)))
 
-end_told : (live gone : ℕ) (state : EndState) (sent got : List ℕ) → live ≡ live_word state → TellsGone gone state → EndTells live gone (record { state = state; retired = gone == 1; sent = sent; got = got })
-end_told live gone state sent got l (inl zero_gone) = record {
-  live_is = l;
-  gone_is = zero_gone ∙ sym (ap (λ (n : ℕ). if n == 1 then 1 else 0) zero_gone);
-  retired_shut = λ is. absurd (false≢true (sym (ap (λ (n : ℕ). n == 1) zero_gone) ∙ is));
-}
-end_told live gone state sent got l (inr g) = record {
-  live_is = l;
-  gone_is = g.0 ∙ sym (ap (λ (n : ℕ). if n == 1 then 1 else 0) g.0);
-  retired_shut = λ _. g.1;
-}
+end_told : (live gone : ℕ) (state : EndState) (retired : Bool) (sent got : List ℕ) → live ≡ live_word state → TellsGone gone retired state → EndTells live gone (record { state = state; retired = retired; sent = sent; got = got })
+end_told live gone state retired sent got l g = record { live_is = l; gone_is = g.word; retired_shut = g.shut }
 
 pub tells_lists : (core : Core) → Lawful core → TellsLists core
 tells_lists core l Server = record {
   sized = l.sized;
-  mine_is = record { role_is = l.server_end.role_is; orders_are = l.server_end.orders_are; state_is = refl; sent_is = refl; got_is = refl };
-  theirs_is = record { role_is = l.client_end.role_is; orders_are = l.client_end.orders_are; state_is = refl; sent_is = refl; got_is = refl };
+  mine_is = record { role_is = l.server_end.role_is; orders_are = l.server_end.orders_are; state_is = refl; sent_is = refl; got_is = refl; retired_is = refl };
+  theirs_is = record { role_is = l.client_end.role_is; orders_are = l.client_end.orders_are; state_is = refl; sent_is = refl; got_is = refl; retired_is = refl };
   written = record { prod_is = l.right.lawful.prod; cons_is = l.right.lawful.cons; own_prod_is = l.right.lawful.own_prod; own_cons_is = l.right.lawful.own_cons; prefix = l.right.lawful.prefix; fits = l.right.lawful.fits; bytes_sent = l.right.lawful.bytes_sent; waits = l.right.lawful.waiting };
   reading = record { prod_is = l.left.lawful.prod; cons_is = l.left.lawful.cons; own_prod_is = l.left.lawful.own_prod; own_cons_is = l.left.lawful.own_cons; prefix = l.left.lawful.prefix; fits = l.left.lawful.fits; bytes_sent = l.left.lawful.bytes_sent; waits = l.left.lawful.waiting };
-  mine_words = end_told _ _ _ _ _ l.lives.server_words.live l.lives.server_words.gone;
-  theirs_words = end_told _ _ _ _ _ l.lives.client_words.live l.lives.client_words.gone;
+  mine_words = end_told _ _ _ _ _ _ l.lives.server_words.live l.lives.server_words.gone;
+  theirs_words = end_told _ _ _ _ _ _ l.lives.client_words.live l.lives.client_words.gone;
   left_order = l.lives.left_order;
   right_order = l.lives.right_order;
   said_fits = l.said_fits;
 }
 tells_lists core l Client = record {
   sized = l.sized;
-  mine_is = record { role_is = l.client_end.role_is; orders_are = l.client_end.orders_are; state_is = refl; sent_is = refl; got_is = refl };
-  theirs_is = record { role_is = l.server_end.role_is; orders_are = l.server_end.orders_are; state_is = refl; sent_is = refl; got_is = refl };
+  mine_is = record { role_is = l.client_end.role_is; orders_are = l.client_end.orders_are; state_is = refl; sent_is = refl; got_is = refl; retired_is = refl };
+  theirs_is = record { role_is = l.server_end.role_is; orders_are = l.server_end.orders_are; state_is = refl; sent_is = refl; got_is = refl; retired_is = refl };
   written = record { prod_is = l.left.lawful.prod; cons_is = l.left.lawful.cons; own_prod_is = l.left.lawful.own_prod; own_cons_is = l.left.lawful.own_cons; prefix = l.left.lawful.prefix; fits = l.left.lawful.fits; bytes_sent = l.left.lawful.bytes_sent; waits = l.left.lawful.waiting };
   reading = record { prod_is = l.right.lawful.prod; cons_is = l.right.lawful.cons; own_prod_is = l.right.lawful.own_prod; own_cons_is = l.right.lawful.own_cons; prefix = l.right.lawful.prefix; fits = l.right.lawful.fits; bytes_sent = l.right.lawful.bytes_sent; waits = l.right.lawful.waiting };
-  mine_words = end_told _ _ _ _ _ l.lives.client_words.live l.lives.client_words.gone;
-  theirs_words = end_told _ _ _ _ _ l.lives.server_words.live l.lives.server_words.gone;
+  mine_words = end_told _ _ _ _ _ _ l.lives.client_words.live l.lives.client_words.gone;
+  theirs_words = end_told _ _ _ _ _ _ l.lives.server_words.live l.lives.server_words.gone;
   left_order = l.lives.left_order;
   right_order = l.lives.right_order;
   said_fits = l.said_fits;
@@ -98,14 +88,10 @@ begun-by core Client call payload = refl
 
 -- ---- where a call ends
 
-was_retired : (gone : ℕ) (retired : Bool) → gone ≡ (if retired then 1 else 0) → (gone == 1) ≡ retired
-was_retired gone true is = ap (λ (n : ℕ). n == 1) is
-was_retired gone false is = ap (λ (n : ℕ). n == 1) is
-
-list_end-is : (role : Role) (channel : ChannelLists) (it : ListEnd) (s : Side) (live gone : ℕ) → EndIs role channel.orders it (told s) → EndTells live gone it → record { state = s.state; retired = gone == 1; sent = s.sent; got = s.got } ≡ it
-list_end-is role channel it s live gone is tells = λ i. record {
+list_end-is : (role : Role) (channel : ChannelLists) (it : ListEnd) (s : Side) → EndIs role channel.orders it (told s) → list_end s ≡ it
+list_end-is role channel it s is = λ i. record {
   state = is.state_is i;
-  retired = was_retired gone it.retired tells.gone_is i;
+  retired = is.retired_is i;
   sent = is.sent_is i;
   got = is.got_is i;
 }
@@ -113,12 +99,12 @@ list_end-is role channel it s live gone is tells = λ i. record {
 -- the lists of a core state are those that its page tells
 lists_there : (who : Role) (channel : ChannelLists) (it : ListEnd) (words : List ℕ) (mine theirs : Side) → Tells who channel it words (told mine) (told theirs) → lists_of (core_by who channel words mine theirs) ≡ with_end channel who it
 lists_there Server channel it words mine theirs t =
-    let own = list_end-is Server channel it mine _ _ t.mine_is t.mine_words in
-    let other = list_end-is Client channel channel.client theirs _ _ t.theirs_is t.theirs_words in
+    let own = list_end-is Server channel it mine t.mine_is in
+    let other = list_end-is Client channel channel.client theirs t.theirs_is in
     λ i. record { start = channel.start; said = channel.said; orders = channel.orders; server = own i; client = other i }
 lists_there Client channel it words mine theirs t =
-    let own = list_end-is Client channel it mine _ _ t.mine_is t.mine_words in
-    let other = list_end-is Server channel channel.server theirs _ _ t.theirs_is t.theirs_words in
+    let own = list_end-is Client channel it mine t.mine_is in
+    let other = list_end-is Server channel channel.server theirs t.theirs_is in
     λ i. record { start = channel.start; said = channel.said; orders = channel.orders; server = other i; client = own i }
 
 side-by : (who : Role) (channel : ChannelLists) (words : List ℕ) (mine theirs : Side) → side_of (core_by who channel words mine theirs) who ≡ mine

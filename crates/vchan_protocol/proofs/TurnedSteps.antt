@@ -18,7 +18,7 @@ use Rattle.vchan_protocol.specs.Plan.{Plan, answers, does, GoesOn, next_op, afte
 use Rattle.vchan_protocol.specs.Ends.{Standing, prod_after, cons_after, prod_stored, cons_stored, written_ring, read_ring}
 use Rattle.vchan_protocol.specs.Calls.{payload_of, IsAllowed}
 use Rattle.vchan_protocol.specs.Apply.{words_after, word_of, leaves, value_taken}
-use Rattle.vchan_protocol.specs.Core.{Core, side_of, with_side, event, begun, begins, plan_left, op_next, taken_next, plan_next, begun_standing, standing_of, made, settled, sent_after, sent_stored, got_after, got_stored, bytes_loaded, count_stored}
+use Rattle.vchan_protocol.specs.Core.{Core, side_of, with_side, event, begun, begins, plan_left, op_next, taken_next, plan_next, begun_standing, standing_of, made, settled, side_after, sent_after, sent_stored, got_after, got_stored, bytes_loaded, count_stored}
 use Rattle.vchan_protocol.specs.Turned.{turns, given_up, strays, strayed}
 use Rattle.vchan_protocol.specs.RingLaw.{index_at, IsPrefixOf, CallLawful, AreBytes}
 use Rattle.vchan_protocol.specs.Lawful.{Lawful, Honest, IsEnd}
@@ -62,16 +62,12 @@ few_stored s i =
     let e = begun_standing s i.begun in
     omega (arith, (counts_within e i.begun.call s.trail (plan_left s) i.led).0, i.lawful.pays, stored_most-payload e i.begun.call)
 
--- an end after its next event, with the value that it takes
-abbrev next_side : Side → ℕ → Side
-next_side s taken = settled (made s (next_op (plan_left s)) taken) (after (plan_left s) taken)
-
 settled_counts : (start : ℕ) (s : Side) (plan : Plan) → s.prod ≡ index_at start (length s.sent) → s.cons ≡ index_at start (length s.got) → CallLawful (settled s plan) → KeepsCounts start (settled s plan)
 settled_counts start s (answers answer) prod cons call = record { prod = prod; cons = cons; call = call }
 settled_counts start s (does op next) prod cons call = record { prod = prod; cons = cons; call = call }
 
 -- an honest end keeps its counts, whatever value it takes
-counts_go_on : (start : ℕ) (s : Side) (taken : ℕ) → KeepsCounts start s → GoesOn (plan_left s) → KeepsCounts start (next_side s taken)
+pub counts_go_on : (start : ℕ) (s : Side) (taken : ℕ) → KeepsCounts start s → GoesOn (plan_left s) → KeepsCounts start (side_after s taken)
 counts_go_on start s taken h more =
     let i = in_lawful s h.call more in
     settled_counts start (made s (next_op (plan_left s)) taken) (after (plan_left s) taken)
@@ -81,13 +77,13 @@ counts_go_on start s taken h more =
 
 -- ---- what an event leaves of an end
 
-record Stays (before after_event : Side) : Type 0 where
-  role : after_event.role ≡ before.role
-  orders : after_event.orders ≡ before.orders
-  turned : after_event.turned ≡ before.turned
-  consumed : after_event.consumed ≡ before.consumed
-  sent : IsPrefixOf before.sent after_event.sent
-  got : IsPrefixOf before.got after_event.got
+pub record Stays (before after_event : Side) : Type 0 where
+  pub role : after_event.role ≡ before.role
+  pub orders : after_event.orders ≡ before.orders
+  pub turned : after_event.turned ≡ before.turned
+  pub consumed : after_event.consumed ≡ before.consumed
+  pub sent : IsPrefixOf before.sent after_event.sent
+  pub got : IsPrefixOf before.got after_event.got
 
 sent_grows : (op : Op) (s : Side) → IsPrefixOf s.sent (sent_after op s)
 sent_grows (Store word value) s = go word s.role
@@ -98,7 +94,7 @@ sent_grows (Store word value) s = go word s.role
     go _ role = ([], append-nil s.sent)
 sent_grows _ s = ([], append-nil s.sent)
 
-stays_next : (s : Side) (op : Op) (taken : ℕ) (plan : Plan) → Stays s (settled (made s op taken) plan)
+pub stays_next : (s : Side) (op : Op) (taken : ℕ) (plan : Plan) → Stays s (settled (made s op taken) plan)
 stays_next s op taken (answers answer) = record { role = refl; orders = refl; turned = refl; consumed = refl; sent = sent_grows op s; got = got_grows op s }
 stays_next s op taken (does next_does next) = record { role = refl; orders = refl; turned = refl; consumed = refl; sent = sent_grows op s; got = got_grows op s }
 
@@ -197,10 +193,10 @@ turned-given_up s consumed = go s.turned refl
     go true is = is
     go false is = refl
 
-given_up-honest : (s : Side) (consumed : ℕ) → s.turned ≡ false → given_up s consumed ≡ turns s consumed
+pub given_up-honest : (s : Side) (consumed : ℕ) → s.turned ≡ false → given_up s consumed ≡ turns s consumed
 given_up-honest s consumed honest = ap (λ (b : Bool). cond b s (turns s consumed)) honest
 
-given_up-given : (s : Side) (consumed : ℕ) → s.turned ≡ true → given_up s consumed ≡ s
+pub given_up-given : (s : Side) (consumed : ℕ) → s.turned ≡ true → given_up s consumed ≡ s
 given_up-given s consumed given = ap (λ (b : Bool). cond b s (turns s consumed)) given
 
 -- the ring of a writer that is given up now

@@ -26,5 +26,10 @@ worked_end = (
     ended = refl;
     here = refl;
     gone = refl;
+    stays = refl;
+    retires = refl;
+    peer_stays = refl;
+    once = refl;
+    for_good = refl;
   },
 )

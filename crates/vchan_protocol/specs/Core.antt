@@ -81,6 +81,7 @@ new_side role orders start state = record {
   ended = None;
   misled = false;
   drained = false;
+  retired = false;
   turned = false;
   consumed = 0;
   notes = nothing_noted;
@@ -184,6 +185,20 @@ abbrev pub saw_after : Op → ℕ → Side → Bool
 saw_after (Load word) taken s = s.saw || (not (is_shut s.state) && sees_end word s.role taken)
 saw_after _ taken s = s.saw
 
+-- the event stores to the gone word of this end
+abbrev pub sets_gone_word : WordName → Role → Bool
+sets_gone_word SrvGone Server = true
+sets_gone_word CliGone Client = true
+sets_gone_word _ role = false
+
+abbrev pub sets_gone : Op → Role → Bool
+sets_gone (Store word value) role = sets_gone_word word role
+sets_gone _ role = false
+
+-- an end is retired from its store to its own gone word on
+abbrev pub retired_after : Op → Side → Bool
+retired_after op s = sets_gone op s.role || s.retired
+
 -- ---- what an event adds to the notes of its end
 
 -- the peer's index is loaded: it counts where the end has asked
@@ -220,6 +235,7 @@ made s op taken = record s {
   sent = sent_after op s;
   got = got_after op s;
   saw = saw_after op taken s;
+  retired = retired_after op s;
   notes = noted op s.role taken s.notes;
 }
 
@@ -273,6 +289,10 @@ abbrev pub settled : Side → Plan → Side
 settled s (answers answer) = answered s answer
 settled s (does op next) = s
 
+-- an end after the next event of its call, which took this value, and after its answer where that was the last event
+abbrev pub side_after : Side → ℕ → Side
+side_after s taken = settled (made s (op_next s) taken) (after (plan_left s) taken)
+
 -- the event that an end makes next, the value that it takes, and what is left of its call then
 abbrev pub taken_next : Core → Role → ℕ
 taken_next core who = value_taken core.orders core.words (op_next (side_of core who))
@@ -284,4 +304,4 @@ plan_next core who = after (plan_left (side_of core who)) (taken_next core who)
 unfoldable pub event : Core → Role → Core
 event core who =
     with_side (record core { words = words_after core.orders core.words (side_of core who).payload (op_next (side_of core who)) }) who
-    (settled (made (side_of core who) (op_next (side_of core who)) (taken_next core who)) (plan_next core who))
+    (side_after (side_of core who) (taken_next core who))

@@ -11,11 +11,11 @@ use Rattle.vchan_protocol.specs.declared.call.EndState.TheVariants.{Shut}
 use Rattle.vchan_protocol.specs.declared.side.Side.{Side}
 use Rattle.vchan_protocol.specs.Plan.{GoesOn}
 use Rattle.vchan_protocol.specs.Ends.{own_gone}
-use Rattle.vchan_protocol.specs.Core.{Core, opened, begun, event, side_of, plan_left, op_next}
+use Rattle.vchan_protocol.specs.Core.{Core, opened, begun, event, side_of, plan_left, op_next, sets_gone, retired_after}
 use Rattle.vchan_protocol.specs.Alone.{called}
 use Rattle.vchan_protocol.specs.Turned.{strayed}
 use Rattle.vchan_protocol.specs.RingLaw.{IsPrefixOf}
-use Rattle.vchan_protocol.specs.LifeLaw.{SaysOrders, sets_gone}
+use Rattle.vchan_protocol.specs.LifeLaw.{SaysOrders, TellsGone}
 use Rattle.vchan_protocol.specs.Lawful.{Lawful, Honest}
 use Rattle.vchan_protocol.specs.Peer.{held}
 use Rattle.vchan_protocol.specs.Reached.{MayBegin}
@@ -73,6 +73,21 @@ GoneIsSetOnce =
     (core : Core) (who whose : Role) → Kept core → Honest core → GoesOn (plan_left (side_of core who)) →
     held (event core who) (own_gone whose) ≡ (if sets_gone (op_next (side_of core who)) whose then 1 else held core (own_gone whose))
 
+-- between honest ends a gone word is 1 exactly where its end is retired, and else 0; a retired end is shut
+abbrev pub GoneTellsRetired : Type 0
+GoneTellsRetired = (core : Core) (who : Role) → Kept core → Honest core → TellsGone (held core (own_gone who)) (side_of core who).retired (side_of core who).state
+
+-- an end is retired by its own store to its gone word, and by nothing else that may come: a begin of a call, its being given up and a hostile user's
+-- events leave it retired or not
+pub record RetiredIsSetOnce (core : Core) (who : Role) : Type 0 where
+  pub event : (side_of (event core who) who).retired ≡ retired_after (op_next (side_of core who)) (side_of core who)
+  pub begin : (call : Call) (payload : List ℕ) → (side_of (begun core who call payload) who).retired ≡ (side_of core who).retired
+  pub turn : (side_of (turning core who) who).retired ≡ (side_of core who).retired
+  pub stray : (op : Op) → (side_of (strayed core who op) who).retired ≡ (side_of core who).retired
+
+abbrev pub EachRetiresOnce : Type 0
+EachRetiresOnce = (core : Core) (who : Role) → RetiredIsSetOnce core who
+
 -- so it holds whatever happens
 abbrev pub EachIsKept : Type 0
 EachIsKept = (core : Core) → MayCome core → Kept core
@@ -90,12 +105,12 @@ pub record StreamSettled (size : ℕ) (writer reader : Side) : Type 0 where
 
 -- what stands of a page: of its rings, and of two honest ends that not each saw the other shut, and that none was misled where the order words
 -- of the start were the page's orders
-pub record PageSettled (core : Core) : Type 0 where
-  pub left : StreamSettled (size core.orders.left) core.client core.server
-  pub right : StreamSettled (size core.orders.right) core.server core.client
-  pub not_both_saw : Honest core → ¬ ((core.server.saw ≡ true) × (core.client.saw ≡ true))
-  pub none_misled : Honest core → SaysOrders core.said core.orders → (core.server.misled ≡ false) × (core.client.misled ≡ false)
+pub record PageSettled (orders : Orders) (said : ℕ × ℕ) (server client : Side) : Type 0 where
+  pub left : StreamSettled (size orders.left) client server
+  pub right : StreamSettled (size orders.right) server client
+  pub not_both_saw : server.turned ≡ false → client.turned ≡ false → ¬ ((server.saw ≡ true) × (client.saw ≡ true))
+  pub none_misled : server.turned ≡ false → client.turned ≡ false → SaysOrders said orders → (server.misled ≡ false) × (client.misled ≡ false)
 
 -- it stands at each moment, and so at the end of a page, when both ends are retired
 abbrev pub KeptSettles : Type 0
-KeptSettles = (core : Core) → Kept core → PageSettled core
+KeptSettles = (core : Core) → Kept core → PageSettled core.orders core.said core.server core.client

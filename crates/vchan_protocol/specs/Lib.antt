@@ -30,3 +30,6 @@ pub mod EndingLaws
 pub mod WorkedSignals
 pub mod WorkedTurn
 pub mod WorkedAnswers
+pub mod OneEnd
+pub mod OneEndLaw
+pub mod OneCall

@@ -1,14 +1,14 @@
 -- What stands between two honest ends about their lives: the live bytes, the gone words, the order words, and the end of a stream.
 -- Source: libxenvchan's io.c for the live bytes and init.c for the order words. The gone words and a drain's later looks are this project's.
-use Rattle.std.specs.Prelude.{◌≡◌, ◌≢◌, ℕ, ◌⊎◌, Bool, true, false, ◌||◌, IsSome, List, [], ◌∷◌, length}
+use Rattle.std.specs.Prelude.{◌≡◌, ◌≢◌, ℕ, Bool, true, false, ◌||◌, IsSome, List, [], ◌∷◌, length, if◌then◌else◌}
 use Rattle.ring_words.specs.declared.order.Orders.{Orders}
 use Rattle.ring_words.specs.declared.page.Role.{Role}
 use Rattle.ring_words.specs.declared.page.Role.TheVariants.{Server, Client}
 use Rattle.ring_words.specs.declared.page.WordName.{WordName}
-use Rattle.ring_words.specs.declared.page.WordName.TheVariants.{LeftProd, RightProd, LeftOrder, RightOrder, SrvGone, CliGone}
+use Rattle.ring_words.specs.declared.page.WordName.TheVariants.{LeftProd, RightProd, LeftOrder, RightOrder}
 use Rattle.ring_words.specs.Rings.{number_of}
 use Rattle.vchan_protocol.specs.declared.op.Op.{Op}
-use Rattle.vchan_protocol.specs.declared.op.Op.TheVariants.{Load, Store}
+use Rattle.vchan_protocol.specs.declared.op.Op.TheVariants.{Load}
 use Rattle.vchan_protocol.specs.declared.op.PastEvent.{PastEvent}
 use Rattle.vchan_protocol.specs.declared.call.EndState.{EndState}
 use Rattle.vchan_protocol.specs.declared.call.EndState.TheVariants.{Fresh, Shut}
@@ -20,14 +20,15 @@ use Rattle.vchan_protocol.specs.RingLaw.{index_at, word_at}
 
 -- ---- the words of a page
 
--- a gone word is 0 until its end is retired, and 1 from then on; a retired end is shut
-abbrev pub TellsGone : ℕ → EndState → Type 0
-TellsGone gone state = (gone ≡ 0) ⊎ ((gone ≡ 1) × (state ≡ Shut))
+-- a gone word is 1 where its end is retired and 0 where it isn't; a retired end is shut
+pub record TellsGone (gone : ℕ) (retired : Bool) (state : EndState) : Type 0 where
+  pub word : gone ≡ (if retired then 1 else 0)
+  pub shut : retired ≡ true → state ≡ Shut
 
--- the live byte and the gone word of an end tell its state
+-- the live byte and the gone word of an end tell its state, and whether it is retired
 pub record WordsTell (core : Core) (who : Role) : Type 0 where
   pub live : word_at core.orders core.words (own_live who) ≡ live_word (side_of core who).state
-  pub gone : TellsGone (word_at core.orders core.words (own_gone who)) (side_of core who).state
+  pub gone : TellsGone (word_at core.orders core.words (own_gone who)) (side_of core who).retired (side_of core who).state
 
 -- ---- what a trail shows its end
 
@@ -111,15 +112,3 @@ pub record LifeLawful (core : Core) : Type 0 where
   pub server_orders : OrdersGive core.said core.server.trail
   pub client_orders : OrdersGive core.said core.client.trail
   pub none_misled : SaysOrders core.said core.orders → (core.server.misled ≡ false) × (core.client.misled ≡ false)
-
--- ---- the gone words
-
--- the event stores to the gone word of this end
-abbrev pub sets_gone_word : WordName → Role → Bool
-sets_gone_word SrvGone Server = true
-sets_gone_word CliGone Client = true
-sets_gone_word _ role = false
-
-abbrev pub sets_gone : Op → Role → Bool
-sets_gone (Store word value) role = sets_gone_word word role
-sets_gone _ role = false

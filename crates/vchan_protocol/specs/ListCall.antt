@@ -13,9 +13,9 @@ use Rattle.vchan_protocol.specs.declared.call.Call.TheVariants.{Write, Send, Rea
 use Rattle.vchan_protocol.specs.declared.call.EndState.{EndState}
 use Rattle.vchan_protocol.specs.declared.call.EndState.TheVariants.{Open, Shut}
 use Rattle.vchan_protocol.specs.declared.side.Side.{Side}
-use Rattle.vchan_protocol.specs.Ends.{written_ring, own_gone}
+use Rattle.vchan_protocol.specs.Ends.{written_ring}
 use Rattle.vchan_protocol.specs.Core.{Core, is_shut}
-use Rattle.vchan_protocol.specs.Peer.{peer, held}
+use Rattle.vchan_protocol.specs.Peer.{peer}
 
 -- an end: its state, whether it has retired, all bytes that it sent into its ring and all that it got from its peer's
 pub record ListEnd : Type 0 where
@@ -151,15 +151,14 @@ list_calls channel (one ∷ more) =
 
 -- ---- the lists of a core state
 
--- an end has retired where its gone word is 1
-abbrev pub list_end : Core → Role → Side → ListEnd
-list_end core who side = record { state = side.state; retired = held core (own_gone who) == 1; sent = side.sent; got = side.got }
+abbrev pub list_end : Side → ListEnd
+list_end side = record { state = side.state; retired = side.retired; sent = side.sent; got = side.got }
 
 abbrev pub lists_of : Core → ChannelLists
 lists_of core = record {
   start = core.start;
   said = core.said;
   orders = core.orders;
-  server = list_end core Server core.server;
-  client = list_end core Client core.client;
+  server = list_end core.server;
+  client = list_end core.client;
 }

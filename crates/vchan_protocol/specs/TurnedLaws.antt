@@ -1,14 +1,15 @@
 -- The laws of a page whose ends may be given up: each event of either end keeps what holds of it.
-use Rattle.std.specs.Prelude.{◌≡◌, true, false}
+use Rattle.std.specs.Prelude.{◌≡◌, true, false, None, length}
 use Rattle.ring_words.specs.declared.page.Role.{Role}
 use Rattle.vchan_protocol.specs.declared.op.Op.{Op}
 use Rattle.vchan_protocol.specs.declared.side.Side.{Side}
 use Rattle.vchan_protocol.specs.Plan.{GoesOn}
-use Rattle.vchan_protocol.specs.Core.{Core, side_of, event, plan_left, op_next}
+use Rattle.vchan_protocol.specs.Ends.{written_ring}
+use Rattle.vchan_protocol.specs.Core.{Core, side_of, reader_of, event, plan_left, op_next}
 use Rattle.vchan_protocol.specs.Turned.{strayed}
 use Rattle.vchan_protocol.specs.RingLaw.{CallLawful}
 use Rattle.vchan_protocol.specs.Peer.{peer}
-use Rattle.vchan_protocol.specs.TurnedLaw.{TurnedLawful, ListsStand, ListsGrow, LiesAtCount}
+use Rattle.vchan_protocol.specs.TurnedLaw.{TurnedLawful, turning, ListsStand, ListsGrow, LiesAtCount}
 
 -- an honest end makes the next event of its call, whatever its peer has stored
 abbrev pub TurnedEventIsLawful : Type 0
@@ -35,3 +36,21 @@ StrayKeepsLists =
 -- whatever its peer has stored, an honest end touches its ring at the places of its own counts, and stores these
 abbrev pub BytesLieAtCounts : Type 0
 BytesLieAtCounts = (s : Side) → CallLawful s → GoesOn (plan_left s) → LiesAtCount s (op_next s)
+
+-- ---- giving up
+
+-- An end that is given up keeps its lists and all that it has seen, and drops its call. `consumed` is then what the reader of its ring had got, for good.
+pub record TurnStands (core : Core) (who : Role) : Type 0 where
+  pub turned : (side_of (turning core who) who).turned ≡ true
+  pub sent : (side_of (turning core who) who).sent ≡ (side_of core who).sent
+  pub got : (side_of (turning core who) who).got ≡ (side_of core who).got
+  pub consumed : (side_of core who).turned ≡ false → (side_of (turning core who) who).consumed ≡ length (reader_of core (written_ring who)).got
+  pub idle : (side_of core who).turned ≡ false → (side_of (turning core who) who).call ≡ None
+  pub again : (side_of core who).turned ≡ true → side_of (turning core who) who ≡ side_of core who
+  pub words : (turning core who).words ≡ core.words
+  pub peer : side_of (turning core who) (peer who) ≡ side_of core (peer who)
+  -- a hostile user's event gives the end up first, and leaves its lists and its `consumed` as they are then
+  pub stray : (op : Op) → ListsStand (side_of (turning core who) who) (side_of (strayed core who op) who)
+
+abbrev pub EachTurnStands : Type 0
+EachTurnStands = (core : Core) (who : Role) → TurnStands core who

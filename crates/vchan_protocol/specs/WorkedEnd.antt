@@ -33,6 +33,10 @@ drained_again orders = called (found_more orders) Server (Drain 1) []
 abbrev pub retired_then : Orders → Core
 retired_then orders = called (drained_again orders) Client Retire []
 
+-- and again, since a retired end may begin to retire
+abbrev pub retired_again : Orders → Core
+retired_again orders = called (retired_then orders) Client Retire []
+
 -- what each of these comes to
 pub record IsWorkedEnd (orders : Orders) : Type 0 where
   pub left : number_of orders.left ≡ 10
@@ -53,6 +57,11 @@ pub record IsWorkedEnd (orders : Orders) : Type 0 where
   pub here : held (drained_again orders) CliGone ≡ 0
   -- the client has retired
   pub gone : held (retired_then orders) CliGone ≡ 1
+  pub stays : (drained_again orders).client.retired ≡ false
+  pub retires : (retired_then orders).client.retired ≡ true
+  pub peer_stays : (retired_then orders).server.retired ≡ false
+  pub once : held (retired_again orders) CliGone ≡ 1
+  pub for_good : (retired_again orders).client.retired ≡ true
 
 abbrev pub EndIsAsWorked : Type 0
 EndIsAsWorked = (orders : Orders) × IsWorkedEnd orders

@@ -4,6 +4,8 @@ pub mod answers;
 pub mod endings;
 pub mod kept;
 pub mod lists;
+pub mod one_call;
+pub mod one_end;
 pub mod signals;
 pub mod turned;
 pub mod worked;

@@ -69,6 +69,8 @@ pub struct Side {
     pub misled: bool,
     /// A drain of it answered that nothing is left, and its peer writes no more.
     pub drained: bool,
+    /// It has stored to its gone word, and is done with the page.
+    pub retired: bool,
     /// It was given up to a hostile user.
     pub turned: bool,
     /// For a turned end, how much its reader had got when it was turned.

@@ -1,6 +1,6 @@
 //! Laws of a page at each moment, whether its ends are honest or were given up, and of its end.
 ghost use Rattle.vchan_protocol.specs.WorkedEnd.{EndIsAsWorked};
-ghost use Rattle.vchan_protocol.specs.Kept.{OpeningIsKept, BeginIsKept, EventIsKept, CallIsKept, TurnIsKept, StrayIsKept, GoneIsSetOnce, EachIsKept, KeptSettles};
+ghost use Rattle.vchan_protocol.specs.Kept.{OpeningIsKept, BeginIsKept, EventIsKept, CallIsKept, TurnIsKept, StrayIsKept, GoneIsSetOnce, GoneTellsRetired, EachRetiresOnce, EachIsKept, KeptSettles};
 
 /// What holds of a page holds when it is opened.
 pub fn opening_is_kept()
@@ -36,6 +36,18 @@ pub fn stray_is_kept()
 /// leaves it as it is.
 pub fn gone_is_set_once()
     ensures { GoneIsSetOnce }
+{}
+
+/// Between honest ends a gone word is 1 exactly where its end is retired, and else 0; a retired end
+/// is shut.
+pub fn gone_tells_retired()
+    ensures { GoneTellsRetired }
+{}
+
+/// An end is retired by its own store to its gone word, and stays so: it may begin to retire again,
+/// and no begin, no giving up and no event of a hostile user changes it.
+pub fn each_retires_once()
+    ensures { EachRetiresOnce }
 {}
 
 /// What holds of a page holds whatever happens to a page, in whatever order the events of its ends come.

@@ -1,5 +1,5 @@
 //! Laws of a page whose ends may be given up to a hostile user, who may make any event.
-ghost use Rattle.vchan_protocol.specs.TurnedLaws.{TurnedEventIsLawful, StrayIsLawful, EventGrowsLists, StrayKeepsLists, BytesLieAtCounts};
+ghost use Rattle.vchan_protocol.specs.TurnedLaws.{TurnedEventIsLawful, StrayIsLawful, EventGrowsLists, StrayKeepsLists, BytesLieAtCounts, EachTurnStands};
 
 /// What holds of a page with ends given up holds on when an honest end makes its next event,
 /// whatever its peer has stored.
@@ -26,4 +26,10 @@ pub fn stray_keeps_lists()
 /// counts alone, and the indices that it stores are its own counts.
 pub fn bytes_lie_at_counts()
     ensures { BytesLieAtCounts }
+{}
+
+/// An end that is given up keeps what it sent and got, and `consumed` is then what the reader of its
+/// ring had got. Its hostile user's events leave both as they are.
+pub fn each_turn_stands()
+    ensures { EachTurnStands }
 {}
