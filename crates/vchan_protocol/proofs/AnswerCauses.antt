@@ -46,10 +46,10 @@ wrote_told : (e : Standing) (count : ℕ) → 0 < count → sends_bytes e count 
 wrote_told e zero above = absurd (omega arith)
 wrote_told e (suc count) above = refl
 
-or_true : (a b : Bool) → a ≡ true → (a || b) ≡ true
-or_true a b is = ap (λ (c : Bool). c || b) is
+pub or_first : (a b : Bool) → a ≡ true → (a || b) ≡ true
+or_first a b is = ap (λ (c : Bool). c || b) is
 
-or_second : (a b : Bool) → b ≡ true → (a || b) ≡ true
+pub or_second : (a b : Bool) → b ≡ true → (a || b) ≡ true
 or_second true b is = refl
 or_second false b is = is
 
@@ -166,7 +166,7 @@ module _ (e : Standing) (n : ℕ) where
       (record {
         cause = drain_peer_gone (record { prod = again; cons = e.cons }) refl (nothing, none) (unread_last live next again apart) is refl;
         transfer = refl;
-        notices = λ unshut. or_true _ last (or_second seen more (noticed unshut));
+        notices = λ unshut. or_first _ last (or_second seen more (noticed unshut));
       }))))
     where
       unread : (live : ℕ) (next : Option Pair) → (live ≡ 0 → IsSomeAnd next (λ pair. pair.prod ≢ pair.cons)) → (Some live ≡ Some 0) × IsSomeAnd next (λ pair. pair.prod ≡ pair.cons) → ⊥
@@ -185,7 +185,7 @@ module _ (e : Standing) (n : ℕ) where
       comes_live (Answers e (Drain n)) e _ _ _
       (λ more noticed. comes_look_read (Answers e (Drain n)) e _ _ (λ again last. comes_if (Answers e (Drain n)) e e _ (again == e.cons) _ _
       (λ same. comes_answers (Answers e (Drain n)) e e _ AllRead
-      (record { cause = drain_all_read (refl, eqb-true _ _ same) refl; transfer = refl; notices = λ unshut. or_true _ last (or_second seen more (noticed unshut)) }))
+      (record { cause = drain_all_read (refl, eqb-true _ _ same) refl; transfer = refl; notices = λ unshut. or_first _ last (or_second seen more (noticed unshut)) }))
       (λ other. found_answers _ _ again _ _ refl none (λ all. eqb-false _ _ other all.1) (λ nothing. drain_gone_answers 0 _ _ again _ (nothing, none) (λ is. eqb-false _ _ other)))))
       (λ live more alive. drain_gone_answers live _ _ prod older none (λ is. absurd (alive is)))
 

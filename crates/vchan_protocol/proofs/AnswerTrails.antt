@@ -18,6 +18,7 @@ use Rattle.vchan_protocol.specs.Core.{count_stored, bytes_loaded, stored_by, loa
 use Rattle.vchan_protocol.specs.Loads.{Loads, looked, word_loaded, loads_after, loads_along}
 use Rattle.vchan_protocol.specs.AnswerLaw.{ring_write, ring_writes, written_to}
 use Rattle.vchan_protocol.specs.EndingLaw.{notices, has_noticed}
+use Rattle.vchan_protocol.proofs.LifeTrails.{or_false, or_assoc}
 
 -- ---- what the events of a call did so far
 
@@ -135,19 +136,12 @@ others-deeds now n (event ∷ events) =
     others-deeds (standing_after now event.op) (deeds_after now n event.op event.taken) events
     ∙ ap (λ (ops : List Op). ops ++ ring_writes events) (others-after now n event.op event.taken) ∙ append_assoc n.others (ring_write event.op) (ring_writes events)
 
-or_false : (b : Bool) → (b || false) ≡ b
-or_false true = refl
-or_false false = refl
-
 and_false : (b : Bool) → (b && false) ≡ false
 and_false true = refl
 and_false false = refl
 
-or_assoc : (a b c : Bool) → ((a || b) || c) ≡ (a || (b || c))
-or_assoc true b c = refl
-or_assoc false b c = refl
-
-unnoticed : (a b : Bool) → a ≡ (a || (b && false))
+-- an event that shows nothing adds nothing
+pub unnoticed : (a b : Bool) → a ≡ (a || (b && false))
 unnoticed a b = sym (ap (λ (c : Bool). a || c) (and_false b) ∙ or_false a)
 
 noticed-after : (now : Standing) (n : Deeds) (op : Op) (taken : ℕ) → (deeds_after now n op taken).noticed ≡ (n.noticed || notices now op taken)

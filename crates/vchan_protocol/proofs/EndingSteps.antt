@@ -19,44 +19,24 @@ use Rattle.vchan_protocol.specs.declared.side.EndedBy.TheVariants.{AllRead as By
 use Rattle.vchan_protocol.specs.Plan.{Plan, GoesOn, answers, does, after, past}
 use Rattle.vchan_protocol.specs.Ends.{Standing, standing_after}
 use Rattle.vchan_protocol.specs.Calls.{IsAllowed, Trace}
-use Rattle.vchan_protocol.specs.Core.{made, answered, settled, ending, drains, first_ended, saw_after, is_shut, begun_standing, standing_of, standing_along, plan_left, op_next}
+use Rattle.vchan_protocol.specs.Core.{made, answered, settled, side_after, ending, drains, first_ended, saw_after, is_shut, begun_standing, standing_of, standing_along, plan_left, op_next}
 use Rattle.vchan_protocol.specs.RingLaw.{CallLawful}
 use Rattle.vchan_protocol.specs.Loads.{loads_of}
 use Rattle.vchan_protocol.specs.Causes.{Cause}
 use Rattle.vchan_protocol.specs.EndingLaw.{EndingNoted, notices, has_noticed, tells_end}
-use Rattle.vchan_protocol.specs.EndingLaws.{stepped, EndingAnswered}
+use Rattle.vchan_protocol.specs.EndingLaws.{EndingAnswered}
 use Rattle.vchan_protocol.proofs.EndSteps.{InLawful, in_lawful}
-use Rattle.vchan_protocol.proofs.AnswerCauses.{NoticesEnd}
+use Rattle.vchan_protocol.proofs.LifeTrails.{or_false, or_assoc}
+use Rattle.vchan_protocol.proofs.AnswerTrails.{unnoticed}
+use Rattle.vchan_protocol.proofs.AnswerCauses.{NoticesEnd, or_first, or_second}
 use Rattle.vchan_protocol.proofs.AnswerLaws.{has_cause, notices_end, each_trace}
 
 -- ---- what one event shows
-
-or_false : (b : Bool) → (b || false) ≡ b
-or_false true = refl
-or_false false = refl
-
-and_false : (b : Bool) → (b && false) ≡ false
-and_false true = refl
-and_false false = refl
-
-or_assoc : (a b c : Bool) → ((a || b) || c) ≡ (a || (b || c))
-or_assoc true b c = refl
-or_assoc false b c = refl
-
-or_first : (a b : Bool) → a ≡ true → (a || b) ≡ true
-or_first a b is = ap (λ (c : Bool). c || b) is
-
-or_second : (a b : Bool) → b ≡ true → (a || b) ≡ true
-or_second true b is = refl
-or_second false b is = is
 
 -- one of two holds
 or_either : (a b : Bool) (P : Type 0) → (a || b) ≡ true → (a ≡ true → P) → (b ≡ true → P) → P
 or_either true b P is first second = first refl
 or_either false b P is first second = second is
-
-unnoticed : (a b : Bool) → a ≡ (a || (b && false))
-unnoticed a b = sym (ap (λ (c : Bool). a || c) (and_false b) ∙ or_false a)
 
 saw-after : (s : Side) (op : Op) (taken : ℕ) → saw_after op taken s ≡ (s.saw || notices (standing_of s) op taken)
 saw-after s (Load word) taken = refl
@@ -185,7 +165,7 @@ answered_notes s m answer h ended drained stays saw = record {
 one_begun : (call : Option Begun) (one two : Begun) → call ≡ Some one → call ≡ Some two → one ≡ two
 one_begun call one two p q = cc
 
-pub step_keeps_notes : (s : Side) (taken : ℕ) → CallLawful s → GoesOn (plan_left s) → EndingNoted s → EndingNoted (stepped s taken)
+pub step_keeps_notes : (s : Side) (taken : ℕ) → CallLawful s → GoesOn (plan_left s) → EndingNoted s → EndingNoted (side_after s taken)
 step_keeps_notes s taken lawful more h = go (after (plan_left s) taken) refl
   where
     i : InLawful s

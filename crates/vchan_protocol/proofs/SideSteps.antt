@@ -9,14 +9,13 @@ use Rattle.vchan_protocol.specs.declared.call.Call.{Call}
 use Rattle.vchan_protocol.specs.declared.call.EndState.{EndState}
 use Rattle.vchan_protocol.specs.declared.side.Side.{Side}
 use Rattle.vchan_protocol.specs.Plan.{Plan, GoesOn, answers, does, after}
-use Rattle.vchan_protocol.specs.Core.{Core, begun, begins, event, side_of, plan_left, op_next, taken_next, made, settled, new_side}
+use Rattle.vchan_protocol.specs.Core.{Core, begun, begins, event, side_of, plan_left, op_next, taken_next, made, settled, side_after, new_side}
 use Rattle.vchan_protocol.specs.Turned.{turns, given_up, strays, strayed}
 use Rattle.vchan_protocol.specs.RingLaw.{CallLawful}
 use Rattle.vchan_protocol.specs.TurnedLaw.{turning}
 use Rattle.vchan_protocol.specs.Kept.{Kept, MayCome, opens, begins_call, makes_event, is_given_up, strays as may_stray}
 use Rattle.vchan_protocol.specs.IndexLaw.{TakesAsMade, StoresTakeNothing}
 use Rattle.vchan_protocol.specs.EndingLaw.{EndingNoted}
-use Rattle.vchan_protocol.specs.EndingLaws.{stepped}
 use Rattle.vchan_protocol.proofs.KeptSteps.{each_kept}
 use Rattle.vchan_protocol.proofs.IndexLaws.{takes_as_made, takes_nothing-push}
 use Rattle.vchan_protocol.proofs.EndingSteps.{step_keeps_notes}
@@ -25,7 +24,7 @@ use Rattle.vchan_protocol.proofs.EndingSteps.{step_keeps_notes}
 pub record IsKeptBySteps (P : Side → Type 0) : Type 0 where
   pub opens : (role : Role) (orders : Orders) (start : ℕ) (state : EndState) → P (new_side role orders start state)
   pub begins : (s : Side) (call : Call) (payload : List ℕ) → P s → P (begins s call payload)
-  pub makes : (s : Side) (taken : ℕ) → CallLawful s → GoesOn (plan_left s) → TakesAsMade (op_next s) taken → P s → P (stepped s taken)
+  pub makes : (s : Side) (taken : ℕ) → CallLawful s → GoesOn (plan_left s) → TakesAsMade (op_next s) taken → P s → P (side_after s taken)
   pub turns : (s : Side) (consumed : ℕ) → P s → P (turns s consumed)
   pub strays : (s : Side) (op : Op) (taken : ℕ) → TakesAsMade op taken → P s → P (strays s op taken)
 

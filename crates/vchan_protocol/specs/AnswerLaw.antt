@@ -51,11 +51,11 @@ ring_writes (event ∷ events) = ring_write event.op ++ ring_writes events
 abbrev pub transfer_of : List PastEvent → Transfer
 transfer_of trail = record { stored = count_stored trail; loaded = length (bytes_loaded trail); others = ring_writes trail }
 
--- so many bytes are stored, and then the own producer index once
+-- so many bytes are stored, and the own producer index once: the own count moved on by so many
 abbrev pub sends_bytes : Standing → ℕ → Transfer
 sends_bytes e count = record { stored = count; loaded = 0; others = Store (prod_word (written_ring e.role)) ((e.prod + count) % 2 ^ 32) ∷ [] }
 
--- so many bytes are loaded, and then the own consumer index is stored once
+-- so many bytes are loaded, and the own consumer index is stored once: the own count moved on by so many
 abbrev pub gets_bytes : Standing → ℕ → Transfer
 gets_bytes e count = record { stored = 0; loaded = count; others = Store (cons_word (read_ring e.role)) ((e.cons + count) % 2 ^ 32) ∷ [] }
 

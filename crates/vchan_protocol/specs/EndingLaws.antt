@@ -7,19 +7,15 @@ use Rattle.vchan_protocol.specs.declared.call.Answer.TheVariants.{AllRead, PeerG
 use Rattle.vchan_protocol.specs.declared.side.Side.{Side}
 use Rattle.vchan_protocol.specs.declared.side.EndedBy.TheVariants.{AllRead as ByAllRead, PeerGone as ByPeerGone}
 use Rattle.vchan_protocol.specs.Plan.{GoesOn, after, answers}
-use Rattle.vchan_protocol.specs.Core.{Core, side_of, plan_left, op_next, made, settled, answered}
+use Rattle.vchan_protocol.specs.Core.{Core, side_of, plan_left, op_next, made, answered, side_after}
 use Rattle.vchan_protocol.specs.RingLaw.{CallLawful}
 use Rattle.vchan_protocol.specs.Kept.{MayCome}
 use Rattle.vchan_protocol.specs.IndexLaw.{StoresTakeNothing}
 use Rattle.vchan_protocol.specs.EndingLaw.{EndingNoted, tells_end}
 
--- the end after its next event, by the value that it takes
-abbrev pub stepped : Side → ℕ → Side
-stepped s taken = settled (made s (op_next s) taken) (after (plan_left s) taken)
-
 -- an end keeps its notes together by its next event, whatever value that takes
 abbrev pub StepKeepsNotes : Type 0
-StepKeepsNotes = (s : Side) (taken : ℕ) → CallLawful s → GoesOn (plan_left s) → EndingNoted s → EndingNoted (stepped s taken)
+StepKeepsNotes = (s : Side) (taken : ℕ) → CallLawful s → GoesOn (plan_left s) → EndingNoted s → EndingNoted (side_after s taken)
 
 -- what an answer leaves noted of the peer's end
 pub record EndingAnswered (before now : Side) (answer : Answer) : Type 0 where

@@ -1,12 +1,12 @@
 -- A worked row of what calls load and move, on the events of the other rows: a write, a read with an asking between two looks, and two drains around a close.
-use Rattle.std.specs.Prelude.{◌≡◌, Some, None, [], ◌∷◌}
+use Rattle.std.specs.Prelude.{◌≡◌, Some, [], ◌∷◌}
 use Rattle.ring_words.specs.Rings.{number_of}
 use Rattle.ring_words.specs.declared.order.Orders.{Orders}
 use Rattle.ring_words.specs.declared.page.WordName.TheVariants.{LeftProd, LeftCons}
 use Rattle.vchan_protocol.specs.declared.op.Op.TheVariants.{Store}
 use Rattle.vchan_protocol.specs.Core.{standing_of}
-use Rattle.vchan_protocol.specs.Loads.{Pair, Loads, nothing_loaded, loads_of}
-use Rattle.vchan_protocol.specs.AnswerLaw.{Transfer, transfer_of, no_transfer}
+use Rattle.vchan_protocol.specs.Loads.{nothing_loaded, loads_of}
+use Rattle.vchan_protocol.specs.AnswerLaw.{transfer_of, no_transfer}
 use Rattle.vchan_protocol.specs.Worked.{writing_three, reading_five}
 use Rattle.vchan_protocol.specs.WorkedEnd.{looked_twice, found_more, drained_again}
 

@@ -1,6 +1,6 @@
 -- A worked row of signals, in which an asking stands, and a test and a signal are owed: a server's read finds nothing and asks, then a client writes a byte, event by event.
 -- In the other row the client closes instead.
-use Rattle.std.specs.Prelude.{◌≡◌, ◌≢◌, true, Some, [], ◌∷◌, bit_and}
+use Rattle.std.specs.Prelude.{◌≡◌, true, Some, [], ◌∷◌, bit_and}
 use Rattle.ring_words.specs.Rings.{number_of}
 use Rattle.ring_words.specs.declared.order.Orders.{Orders}
 use Rattle.ring_words.specs.declared.page.Role.TheVariants.{Server, Client}

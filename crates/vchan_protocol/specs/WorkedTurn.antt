@@ -1,6 +1,6 @@
 -- A worked row of an end that is given up: a client writes three bytes, the server reads two, and the client is given up. Its hostile user stores another producer index,
 -- and the server reads on.
-use Rattle.std.specs.Prelude.{◌≡◌, true, false, Some, None, [], ◌∷◌, length, take}
+use Rattle.std.specs.Prelude.{◌≡◌, true, false, [], ◌∷◌}
 use Rattle.ring_words.specs.Rings.{size, number_of}
 use Rattle.ring_words.specs.declared.order.Orders.{Orders}
 use Rattle.ring_words.specs.declared.page.Role.TheVariants.{Server, Client}

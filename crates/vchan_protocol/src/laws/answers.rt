@@ -2,9 +2,10 @@
 ghost use Rattle.vchan_protocol.specs.AnswerLaw.{EachAnswerTellsItsTransfer, EachAnswerHasItsCause, EachAnswerHasItsTrace};
 ghost use Rattle.vchan_protocol.specs.IndexLaw.{IndicesAreOwnCounts};
 
-/// A call has moved what its answer says: after `Wrote` of at least one byte, or after `Sent`, it
-/// has stored just so many bytes and then its own producer index once; after `Got` it has loaded
-/// just so many and then stored its own consumer index once; after every other answer it has
+/// A call has moved what its answer says. After `Wrote` of at least one byte, and after `Sent`, it
+/// has stored just so many bytes and loaded none, and has stored its own producer index once, as
+/// its own count moved on by so many. After `Got` it has loaded just so many bytes and stored none,
+/// and has stored its own consumer index once, in the same way. After every other answer it has
 /// stored and loaded no byte of a ring, and stored no index.
 pub fn each_answer_tells_its_transfer()
     ensures { EachAnswerTellsItsTransfer }
