@@ -21,7 +21,8 @@ use Rattle.vchan_protocol.specs.Causes.{Cause}
 
 -- ---- what a call moves
 
--- what the events of a call do to the two rings: how many bytes they store and how many they load, and which events write to a ring beside the bytes of the payload
+-- What the events of a call do to the two rings: how many bytes they store and how many they load, and which events write to a ring beside those
+-- that store a byte of the payload.
 pub record Transfer : Type 0 where
   pub stored : ℕ
   pub loaded : ℕ
@@ -36,6 +37,7 @@ written_to RightCons op = op ∷ []
 written_to (RingByte ring at) op = op ∷ []
 written_to _ op = []
 
+-- the event, where it writes to a ring other than by a byte of the payload
 abbrev pub ring_write : Op → List Op
 ring_write (Store word value) = written_to word (Store word value)
 ring_write (Or word bits) = written_to word (Or word bits)
@@ -43,11 +45,12 @@ ring_write (And word bits) = written_to word (And word bits)
 ring_write (Swap word value) = written_to word (Swap word value)
 ring_write _ = []
 
--- the events of a trail that write to a ring, beside those that store a byte of the payload
+-- all such events of a trail
 abbrev pub ring_writes : List PastEvent → List Op
 ring_writes [] = []
 ring_writes (event ∷ events) = ring_write event.op ++ ring_writes events
 
+-- what a trail has moved
 abbrev pub transfer_of : List PastEvent → Transfer
 transfer_of trail = record { stored = count_stored trail; loaded = length (bytes_loaded trail); others = ring_writes trail }
 
@@ -59,6 +62,7 @@ sends_bytes e count = record { stored = count; loaded = 0; others = Store (prod_
 abbrev pub gets_bytes : Standing → ℕ → Transfer
 gets_bytes e count = record { stored = 0; loaded = count; others = Store (cons_word (read_ring e.role)) ((e.cons + count) % 2 ^ 32) ∷ [] }
 
+-- nothing is moved
 abbrev pub no_transfer : Transfer
 no_transfer = record { stored = 0; loaded = 0; others = [] }
 

@@ -11,24 +11,27 @@ use Rattle.vchan_protocol.specs.Loads.{Pair, Loads, last_pair}
 
 -- ---- what was found
 
--- the bytes that have room in the ring that the end writes, and those that wait in the one that it reads
+-- the bytes that have room in the ring that the end writes
 abbrev pub room_at : Standing → Pair → ℕ
 room_at e pair = room pair.prod pair.cons (write_order e)
 
+-- the bytes that wait in the ring that it reads
 abbrev pub waiting_at : Standing → Pair → ℕ
 waiting_at e pair = ready pair.prod pair.cons (read_order e)
 
--- the peer's live byte was loaded as 0, or as not 0
+-- the peer's live byte was loaded as 0
 abbrev pub FoundShut : Loads → Type 0
 FoundShut loads = loads.live ≡ Some 0
 
+-- it was loaded as not 0
 abbrev pub FoundOpen : Loads → Type 0
 FoundOpen loads = IsSomeAnd loads.live (λ live. live ≢ 0)
 
--- the peer's gone word was loaded as 0, or as not 0
+-- the peer's gone word was loaded as 0
 abbrev pub FoundHere : Loads → Type 0
 FoundHere loads = loads.gone ≡ Some 0
 
+-- it was loaded as not 0
 abbrev pub FoundGone : Loads → Type 0
 FoundGone loads = IsSomeAnd loads.gone (λ gone. gone ≢ 0)
 
@@ -41,7 +44,7 @@ FoundNone e (pair ∷ older) = (waiting_at e pair ≡ 0) × FoundNone e older
 abbrev pub FoundAllRead : Loads → Type 0
 FoundAllRead loads = FoundShut loads × IsSomeAnd loads.next_pair (λ pair. pair.prod ≡ pair.cons)
 
--- the orders of the page, as the order words say them
+-- two order words say the orders of the page
 abbrev pub SayOrders : Standing → ℕ → ℕ → Type 0
 SayOrders e left right = (left ≡ number_of e.orders.left) × (right ≡ number_of e.orders.right)
 
@@ -84,10 +87,11 @@ pub data ConnectCause (e : Standing) (loads : Loads) (answer : Answer) : Type 0 
   connect_agrees : (left right : ℕ) → loads.left_order ≡ Some left → loads.right_order ≡ Some right → SayOrders e left right → answer ≡ Connected → ConnectCause e loads answer
   connect_refused : (left right : ℕ) → loads.left_order ≡ Some left → loads.right_order ≡ Some right → ¬ SayOrders e left right → answer ≡ BadOrders left right → ConnectCause e loads answer
 
--- an answer that tells the last pair, or the one word that was loaded
+-- the answer is what is told of the last pair
 abbrev pub TellsPair : Loads → (Pair → Answer) → Answer → Type 0
 TellsPair loads told answer = IsSomeAnd (last_pair loads) (λ last. answer ≡ told last)
 
+-- the answer is what is told of the one word that was loaded
 abbrev pub TellsWord : Option ℕ → (ℕ → Answer) → Answer → Type 0
 TellsWord word told answer = IsSomeAnd word (λ value. answer ≡ told value)
 

@@ -15,10 +15,11 @@ use Rattle.vchan_protocol.specs.RingLaw.{CallLawful}
 
 -- ---- what an index store stores
 
--- the own count of an end before the store, moved on by the bytes that its call has stored, or loaded
+-- the own producer count of an end before the store, moved on by the bytes that its call has stored
 abbrev pub MovesProd : Side → ℕ → Type 0
 MovesProd s value = value ≡ (s.prod + count_stored s.trail) % 2 ^ 32
 
+-- the own consumer count, moved on by the bytes that its call has loaded
 abbrev pub MovesCons : Side → ℕ → Type 0
 MovesCons s value = value ≡ (s.cons + length (bytes_loaded s.trail)) % 2 ^ 32
 
@@ -34,6 +35,7 @@ StoresIndex LeftCons Client s value = ⊥
 StoresIndex RightCons Server s value = ⊥
 StoresIndex _ role s value = Unit {0}
 
+-- the word is none of the four indices
 abbrev pub IsNoIndex : WordName → Type 0
 IsNoIndex LeftProd = ⊥
 IsNoIndex RightProd = ⊥

@@ -34,11 +34,12 @@ pub record Loads : Type 0 where
 abbrev pub nothing_loaded : Loads
 nothing_loaded = record { pairs = []; next_pair = None; live = None; gone = None; left_order = None; right_order = None; pending = None }
 
--- the last pair: that of the last look
+-- the first of some pairs
 abbrev pub first_of : List Pair → Option Pair
 first_of [] = None
 first_of (pair ∷ older) = Some pair
 
+-- the last pair: that of the last look
 abbrev pub last_pair : Loads → Option Pair
 last_pair loads = first_of loads.pairs
 
