@@ -25,6 +25,13 @@ pub mod ListTells
 pub mod ListPieces
 pub mod ListCalls
 pub mod ListWhole
+pub mod AnswerTrails
+pub mod AnswerCauses
+pub mod AnswerLaws
+pub mod IndexLaws
+pub mod EndingSteps
+pub mod SideSteps
+pub mod WorkedMore
 pub mod OneEndSteps
 pub mod OneCallBytes
 pub mod OneCallWay

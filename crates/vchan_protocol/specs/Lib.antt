@@ -21,6 +21,15 @@ pub mod Reached
 pub mod SignalLaw
 pub mod Worked
 pub mod WorkedEnd
+pub mod Loads
+pub mod Causes
+pub mod AnswerLaw
+pub mod IndexLaw
+pub mod EndingLaw
+pub mod EndingLaws
+pub mod WorkedSignals
+pub mod WorkedTurn
+pub mod WorkedAnswers
 pub mod OneEnd
 pub mod OneEndLaw
 pub mod OneCall

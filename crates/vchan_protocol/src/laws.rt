@@ -1,11 +1,14 @@
 //! Laws of every call, whatever values its events take. A law is a function with no body, whose
 //! contract states it.
+pub mod answers;
+pub mod endings;
 pub mod kept;
 pub mod lists;
 pub mod one_call;
 pub mod one_end;
 pub mod signals;
 pub mod turned;
+pub mod worked;
 
 ghost use Rattle.vchan_protocol.specs.Worked.{RowIsAsWorked};
 ghost use Rattle.vchan_protocol.specs.Laws.{EachCallEnds, EachCallFits, EachCallMovesAtMost, OpeningIsLawful, BeginIsLawful, EventIsLawful, CallIsLawful, ReachedIsLawful, CallIsReached};
