@@ -319,4 +319,4 @@ whole_scripts (image ∷ more) can whole = absurd can
 -- so of the text that a script prints
 pub script_text : (script : List StepLine) (o : Opening) (lines : List StepLine) (text : List ℕ) → opens o ∷ lines ≡ script → CanOpen o → All (LineFits o.orders) lines → text ≡ text_of (step_lines script) → ToldByLists script text
 script_text script o lines text is can fit printed whole =
-    (step_lines script, printed, whole_scripts script (subst CanBe is (can, fit)) whole)
+    (printed, whole_scripts script (subst CanBe is (can, fit)) whole)

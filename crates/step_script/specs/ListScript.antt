@@ -117,6 +117,6 @@ CanBe lines = ⊥
 abbrev pub WholeScriptsFollowLists : Type 0
 WholeScriptsFollowLists = (script : List StepLine) → CanBe script → AreWhole script → filter is_told (step_lines script) ≡ list_lines script
 
--- the text of output lines of which the lists tell these, where the script's lines are whole
+-- the text is that of the very lines that the script prints, and of these the lists tell theirs, where the script's lines are whole
 abbrev pub ToldByLists : List StepLine → List ℕ → Type 0
-ToldByLists script text = AreWhole script → (lines : List TextLine) × (text ≡ text_of lines) × (filter is_told lines ≡ list_lines script)
+ToldByLists script text = AreWhole script → (text ≡ text_of (step_lines script)) × (filter is_told (step_lines script) ≡ list_lines script)

@@ -1,5 +1,5 @@
 -- What holds of each event of a call that neither opens nor shuts its end, whatever values these take: it is enough that it holds of the kinds of events that such calls make.
-use Rattle.std.proofs.Common.{◌≡◌, ℕ, suc, zero, ◌+◌, ◌==◌, min, nat_lt, Bool, true, false, cond}
+use Rattle.std.proofs.Common.{ℕ, suc, zero, ◌+◌, ◌==◌, min, nat_lt, Bool, true, false, cond}
 use Rattle.ring_words.specs.declared.page.WordName.{WordName}
 use Rattle.vchan_protocol.specs.declared.op.Op.{Op}
 use Rattle.vchan_protocol.specs.declared.op.Op.TheVariants.{Load, LoadByte, Store, StoreByte, Or, And, Swap}
@@ -11,7 +11,7 @@ use Rattle.vchan_protocol.specs.declared.call.Call.{Call}
 use Rattle.vchan_protocol.specs.declared.call.Call.TheVariants.{Write, Send, Read, Recv, Drain, DataReady, BufferSpace, Connect, Close, TakeEvent, Retire, PeerGone}
 use Rattle.vchan_protocol.specs.Plan.{Plan, does, answers, EachDoes}
 use Rattle.vchan_protocol.specs.Ends.{Standing, written_ring, read_ring, prod_word, cons_word, peer_pending, free_at, ready_at, low8, low32}
-use Rattle.vchan_protocol.specs.Calls.{put_bytes, take_bytes, put_index, take_index, put, take as takes_out, notify, ask, write, write_open, write_looked, read, read_live, read_looked, drain_found, drain_last, drain_gone, drain_further, drain_live, drain_second, drain, plan_of, send, send_open, send_looked, recv, recv_live, recv_looked}
+use Rattle.vchan_protocol.specs.Calls.{put_bytes, take_bytes, put, take as takes_out, notify, ask, write, write_open, write_looked, read, read_live, read_looked, drain_found, drain_last, drain_gone, drain_further, drain_live, drain_second, drain, plan_of, send, send_open, send_looked, recv, recv_live, recv_looked}
 
 -- the calls that neither open nor shut their end
 abbrev pub KeepsState : Call → Type 0

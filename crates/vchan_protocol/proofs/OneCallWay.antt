@@ -1,6 +1,6 @@
 -- A call of one end, one event at a time, whatever its peer does between them.
-use Rattle.std.proofs.Common.{◌≡◌, ℕ, suc, ◌+◌, ◌%◌, ◌<◌, ◌≤◌, Bool, ◌||◌, Option, Some, None, List, [], ◌∷◌, ◌++◌, length, take, drop, slice_set, refl, subst, sym, ap, ◌∙◌, arith, append-nil}
-use Rattle.std.proofs.lemmas.List.{length-append, length-set, take_all, take-append-le}
+use Rattle.std.proofs.Common.{◌≡◌, ℕ, ◌+◌, ◌%◌, ◌<◌, ◌≤◌, Bool, ◌||◌, Option, Some, None, List, [], ◌∷◌, ◌++◌, length, take, drop, slice_set, refl, subst, sym, ap, ◌∙◌, arith, append-nil}
+use Rattle.std.proofs.lemmas.List.{length-set, take_all, take-append-le}
 use Rattle.vchan_protocol.specs.declared.op.Op.{Op}
 use Rattle.vchan_protocol.specs.declared.op.Op.TheVariants.{Load, LoadByte, Store, StoreByte, Or, And, Swap, Nothing}
 use Rattle.vchan_protocol.specs.declared.op.PastEvent.{PastEvent}
@@ -12,7 +12,7 @@ use Rattle.vchan_protocol.specs.declared.side.Begun.{Begun}
 use Rattle.vchan_protocol.specs.declared.side.EndedBy.{EndedBy}
 use Rattle.vchan_protocol.specs.Plan.{Plan, answers, does, after, left_after, past, Leads, GoesOn}
 use Rattle.vchan_protocol.specs.Ends.{Standing}
-use Rattle.vchan_protocol.specs.Calls.{plan_of, stored_most, loaded_most, most_events, Trace}
+use Rattle.vchan_protocol.specs.Calls.{plan_of, stored_most, loaded_most, most_events}
 use Rattle.vchan_protocol.specs.Apply.{filled}
 use Rattle.vchan_protocol.specs.Core.{begins, begun_standing, standing_of, standing_along, plan_left, op_next, made, settled, side_after, answered, answer_in, loaded_by, count_stored, bytes_loaded, drains, first_ended, ending, misleads}
 use Rattle.vchan_protocol.specs.OneCall.{side_along, side_called, bytes_out, bytes_in, landed, OnWay, IsOver, IsThen, WayGoesOn, OverTells}

@@ -1,5 +1,5 @@
 -- What an honest end can say of itself holds at the opening, and its begins and events keep it, whatever values these take.
-use Rattle.std.proofs.Common.{◌≡◌, ◌≢◌, ℕ, suc, zero, ◌+◌, ◌^◌, ◌<◌, ◌⊎◌, inl, inr, Bool, true, false, ◌||◌, Option, Some, None, List, [], ◌∷◌, ◌++◌, length, refl, subst, sym, ap, ◌∙◌, arith}
+use Rattle.std.proofs.Common.{◌≡◌, ◌≢◌, ℕ, ◌^◌, ◌<◌, ◌==◌, ◌&&◌, ◌⊎◌, inl, inr, Bool, true, false, cond, ◌||◌, Option, Some, None, List, [], ◌∷◌, ◌++◌, length, refl, subst, sym, ap, ◌∙◌, arith}
 use Rattle.std.proofs.lemmas.Bool.{false≢true}
 use Rattle.ring_words.specs.declared.order.Orders.{Orders}
 use Rattle.ring_words.specs.declared.page.Role.{Role}
@@ -19,18 +19,21 @@ use Rattle.vchan_protocol.specs.declared.side.Side.{Side}
 use Rattle.vchan_protocol.specs.declared.side.Begun.{Begun}
 use Rattle.vchan_protocol.specs.Plan.{Plan, does, answers, next_op, after, past, Leads, GoesOn, EachDoes}
 use Rattle.vchan_protocol.specs.Ends.{Standing, standing_after, state_after, written_ring, read_ring, prod_word, cons_word, peer_pending, own_live, own_gone, low16}
-use Rattle.vchan_protocol.specs.Calls.{plan_of, close, retire, retire_shut, connect, connect_right, connect_looked, IsAllowed}
-use Rattle.vchan_protocol.specs.Core.{Core, opened, new_side, begins, made, settled, side_after, side_of, plan_left, op_next, begun_standing, standing_of, standing_along, sets_gone, retired_after}
-use Rattle.vchan_protocol.specs.RingLaw.{index_at, CallLawful, IsLawfulCall}
+use Rattle.vchan_protocol.specs.Calls.{plan_of, close, retire, retire_shut, connect, connect_right, IsAllowed}
+use Rattle.vchan_protocol.specs.Core.{Core, opened, new_side, event, begun, taken_next, begins, made, settled, side_after, side_of, plan_left, op_next, begun_standing, standing_along, sets_gone}
 use Rattle.vchan_protocol.specs.Reached.{MayBegin}
-use Rattle.vchan_protocol.specs.Kept.{MayCome, opens, begins_call, makes_event, is_given_up, strays}
-use Rattle.vchan_protocol.specs.TurnedLaw.{KeepsCounts}
+use Rattle.vchan_protocol.specs.Kept.{Kept, MayCome, opens, begins_call, makes_event, is_given_up, strays}
+use Rattle.vchan_protocol.specs.Turned.{strayed}
+use Rattle.vchan_protocol.specs.TurnedLaw.{KeepsCounts, turning}
 use Rattle.vchan_protocol.specs.OneEndLaw.{OwnLawful, HasCalled}
 use Rattle.vchan_protocol.proofs.PlanLaws.{Leads-more}
 use Rattle.vchan_protocol.proofs.EventLaws.{settled-turned, standing_of-made, standing_along-push}
 use Rattle.vchan_protocol.proofs.EndSteps.{InLawful, in_lawful, call_begins}
-use Rattle.vchan_protocol.proofs.TurnedSteps.{counts_go_on}
-use Rattle.vchan_protocol.proofs.EachEvent.{KeepsState, KindsHave, each_event, each_answers, each_does}
+use Rattle.vchan_protocol.proofs.TurnedSteps.{counts_go_on, turned-given_up}
+use Rattle.vchan_protocol.proofs.EndingSteps.{step_keeps_notes}
+use Rattle.vchan_protocol.proofs.SideSteps.{notes_kept}
+use Rattle.vchan_protocol.proofs.KeptSteps.{each_kept}
+use Rattle.vchan_protocol.proofs.EachEvent.{KindsHave, each_event}
 
 -- ---- the state of an end along its call
 
@@ -116,7 +119,7 @@ owed_retire e Fresh = owed_close e Fresh _ (owed_retire_shut e)
 owed_retire e Open = owed_close e Open _ (owed_retire_shut e)
 owed_retire e Shut = owed_retire_shut e
 
-owed_branch : (role : Role) (state : EndState) (b : Bool) (x y : Plan) → StateOwed role state x → StateOwed role state y → StateOwed role state (elim b [ true ↦ x | false ↦ y ])
+owed_branch : (role : Role) (state : EndState) (b : Bool) (x y : Plan) → StateOwed role state x → StateOwed role state y → StateOwed role state (cond b x y)
 owed_branch role state true x y one two = one
 owed_branch role state false x y one two = two
 
@@ -129,7 +132,7 @@ fresh_shut is = cc
 owed_connect : (e : Standing) → e.role ≡ Client → StateOwed e.role Fresh (connect e)
 unfolding connect connect_right
 owed_connect e client =
-    owed_load e.role Fresh _ _ (λ v. owed_load e.role Fresh _ _ (λ w. owed_branch e.role Fresh _ _ _ opens_it (owed_answers e.role Fresh (BadOrders (low16 v) (low16 w)))))
+    owed_load e.role Fresh _ _ (λ v. owed_load e.role Fresh _ _ (λ w. owed_branch e.role Fresh ((low16 v == e.orders.left.number) && (low16 w == e.orders.right.number)) _ _ opens_it (owed_answers e.role Fresh (BadOrders (low16 v) (low16 w)))))
   where
     opens_it : StateOwed e.role Fresh (does (Store CliLive 1) (λ _. answers Connected))
     opens_it = subst (λ (r : Role). StateOwed r Fresh (does (Store CliLive 1) (λ _. answers Connected))) (sym client)
@@ -186,6 +189,7 @@ own_opened role orders start state low = record {
   cons = omega (arith, low);
   call = tt;
   called = λ none. inl refl;
+  noted = notes_kept.opens role orders start state;
   retired = λ is. absurd (false≢true is);
 }
 
@@ -196,6 +200,7 @@ own_begun start s call payload h may = record {
   cons = h.cons;
   call = call_begins s call payload may.allowed may.pays may.bytes;
   called = λ none. absurd (some_none none);
+  noted = notes_kept.begins s call payload h.noted;
   retired = h.retired;
 }
   where
@@ -248,5 +253,48 @@ module _ (start : ℕ) (s : Side) (taken : ℕ) (h : OwnLawful start s) (more : 
     cons = counts.cons;
     call = counts.call;
     called = called_then (after (plan_left s) taken) refl;
+    noted = step_keeps_notes s taken h.call more h.noted;
     retired = shut_then (after (plan_left s) taken);
   }
+
+-- ---- whatever happens on a page
+
+-- each honest end can say so
+abbrev EachOwn : Core → Type 0
+EachOwn core = (who : Role) → (side_of core who).turned ≡ false → OwnLawful core.start (side_of core who)
+
+opened_own : (orders : Orders) (start : ℕ) (said : ℕ × ℕ) (state : EndState) → start < 2 ^ 32 → EachOwn (opened orders start said state)
+opened_own orders start said state low Server honest = own_opened Server orders start Open low
+opened_own orders start said state low Client honest = own_opened Client orders start state low
+
+begun_own : (core : Core) (one : Role) (call : Call) (payload : List ℕ) → Kept core → MayBegin one (side_of core one) call payload → EachOwn core → EachOwn (begun core one call payload)
+begun_own core Server call payload k may each Server honest = own_begun core.start core.server call payload (each Server honest) (subst (λ (r : Role). MayBegin r core.server call payload) (sym k.turned.server_end.role_is) may)
+begun_own core Client call payload k may each Client honest = own_begun core.start core.client call payload (each Client honest) (subst (λ (r : Role). MayBegin r core.client call payload) (sym k.turned.client_end.role_is) may)
+begun_own core Server call payload k may each Client honest = each Client honest
+begun_own core Client call payload k may each Server honest = each Server honest
+
+event_own : (core : Core) (one : Role) → (side_of core one).turned ≡ false → GoesOn (plan_left (side_of core one)) → EachOwn core → EachOwn (event core one)
+unfolding event
+event_own core Server fair more each Server honest = own_stepped core.start core.server (taken_next core Server) (each Server fair) more
+event_own core Client fair more each Client honest = own_stepped core.start core.client (taken_next core Client) (each Client fair) more
+event_own core Server fair more each Client honest = each Client honest
+event_own core Client fair more each Server honest = each Server honest
+
+turning_own : (core : Core) (one : Role) → EachOwn core → EachOwn (turning core one)
+turning_own core Server each Server honest = absurd (false≢true (sym honest ∙ turned-given_up core.server (length core.client.got)))
+turning_own core Client each Client honest = absurd (false≢true (sym honest ∙ turned-given_up core.client (length core.server.got)))
+turning_own core Server each Client honest = each Client honest
+turning_own core Client each Server honest = each Server honest
+
+strayed_own : (core : Core) (one : Role) (op : Op) → EachOwn core → EachOwn (strayed core one op)
+strayed_own core Server op each Server honest = absurd (false≢true (sym honest ∙ turned-given_up core.server (length core.client.got)))
+strayed_own core Client op each Client honest = absurd (false≢true (sym honest ∙ turned-given_up core.client (length core.server.got)))
+strayed_own core Server op each Client honest = each Client honest
+strayed_own core Client op each Server honest = each Server honest
+
+pub each_own : (core : Core) → MayCome core → (who : Role) → (side_of core who).turned ≡ false → OwnLawful core.start (side_of core who)
+each_own core (opens orders start said state low left right fresh) = opened_own orders start said state low
+each_own core (begins_call before one call payload there fair may) = begun_own before one call payload (each_kept before there) may (each_own before there)
+each_own core (makes_event before one there fair more) = event_own before one fair more (each_own before there)
+each_own core (is_given_up before one there) = turning_own before one (each_own before there)
+each_own core (strays before one op there) = strayed_own before one op (each_own before there)

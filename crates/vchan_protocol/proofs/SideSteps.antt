@@ -80,7 +80,7 @@ notes_idle s idle none saw ended drained h = record {
   drained_ended = λ is. ap is_some ended ∙ h.drained_ended (sym drained ∙ is);
 }
 
-notes_kept : IsKeptBySteps EndingNoted
+pub notes_kept : IsKeptBySteps EndingNoted
 notes_kept = record {
   opens = λ role orders start state. record {
     noticed = λ b is. cc;

@@ -15,6 +15,7 @@ use Rattle.vchan_protocol.specs.Core.{Core, new_side, begins, side_after, side_o
 use Rattle.vchan_protocol.specs.RingLaw.{index_at, CallLawful}
 use Rattle.vchan_protocol.specs.Reached.{MayBegin}
 use Rattle.vchan_protocol.specs.Kept.{MayCome}
+use Rattle.vchan_protocol.specs.EndingLaw.{EndingNoted}
 
 -- its trail is the whole of a call that it began and has the answer of, and stands as that left it
 pub record HasCalled (s : Side) : Type 0 where
@@ -34,6 +35,8 @@ pub record OwnLawful (start : ℕ) (s : Side) : Type 0 where
   -- in a call its trail is a beginning of that call; between two its trail is the whole of the last one, and empty before the first
   pub call : CallLawful s
   pub called : s.call ≡ None → (s.trail ≡ []) ⊎ HasCalled s
+  -- what it has noted of its peer's end hangs together
+  pub noted : EndingNoted s
   -- a retired end is shut
   pub retired : s.retired ≡ true → s.state ≡ Shut
 
@@ -51,4 +54,4 @@ StepKeepsOwn = (start : ℕ) (s : Side) (taken : ℕ) → OwnLawful start s → 
 
 -- so it holds of each honest end of a page, whatever happens to the page
 abbrev pub EachOwnIsLawful : Type 0
-EachOwnIsLawful = (core : Core) (who : Role) → MayCome core → (side_of core who).turned ≡ false → OwnLawful core.start (side_of core who)
+EachOwnIsLawful = (core : Core) → MayCome core → (who : Role) → (side_of core who).turned ≡ false → OwnLawful core.start (side_of core who)

@@ -1,7 +1,7 @@
 //! What one end can know of a page that others write: each of its steps changes its own part by
 //! that part and one value taken, and keeps what holds of the page, whatever its peer is.
 ghost use Rattle.vchan_protocol.specs.OneEnd.{EachCoreIsBetween, EachStepIsOwn, EachStepKeeps};
-ghost use Rattle.vchan_protocol.specs.OneEndLaw.{OwnAtOpening, BeginKeepsOwn, StepKeepsOwn};
+ghost use Rattle.vchan_protocol.specs.OneEndLaw.{OwnAtOpening, BeginKeepsOwn, StepKeepsOwn, EachOwnIsLawful};
 
 /// Each core state is the words, one of its ends and that end's peer.
 pub fn each_core_is_between()
@@ -33,4 +33,9 @@ pub fn begin_keeps_own()
 /// It can say so still after the next event of its call, whatever value that takes.
 pub fn step_keeps_own()
     ensures { StepKeepsOwn }
+{}
+
+/// Whatever happens to a page, each of its honest ends can say so.
+pub fn each_own_is_lawful()
+    ensures { EachOwnIsLawful }
 {}
