@@ -37,3 +37,4 @@ pub mod OneCallBytes
 pub mod OneCallWay
 pub mod EachEvent
 pub mod OneEndLaws
+pub mod WorkedOneEnd

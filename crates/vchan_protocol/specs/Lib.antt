@@ -33,3 +33,4 @@ pub mod WorkedAnswers
 pub mod OneEnd
 pub mod OneEndLaw
 pub mod OneCall
+pub mod WorkedOneEnd

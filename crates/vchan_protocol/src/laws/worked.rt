@@ -1,5 +1,6 @@
 //! Worked rows, by which the definitions that the laws stand on can be checked.
 ghost use Rattle.vchan_protocol.specs.WorkedAnswers.{AnswerIsAsWorked};
+ghost use Rattle.vchan_protocol.specs.WorkedOneEnd.{OneEndIsAsWorked};
 ghost use Rattle.vchan_protocol.specs.WorkedSignals.{SignalIsAsWorked};
 ghost use Rattle.vchan_protocol.specs.WorkedTurn.{TurnIsAsWorked};
 
@@ -16,4 +17,9 @@ pub fn worked_signal()
 /// An end is given up when its reader has got two of three bytes, and the reader reads on.
 pub fn worked_turn()
     ensures { TurnIsAsWorked }
+{}
+
+/// A write and a read make of their ends what their own events and answers make of them alone.
+pub fn worked_one_end()
+    ensures { OneEndIsAsWorked }
 {}
