@@ -9,7 +9,7 @@ use Rattle.vchan_protocol.specs.Plan.{past}
 use Rattle.vchan_protocol.specs.Core.{event}
 use Rattle.vchan_protocol.specs.Alone.{alone}
 use Rattle.vchan_protocol.specs.Ends.{standing_after}
-use Rattle.vchan_protocol.specs.Calls.{write, write_open, write_looked, read, read_looked, read_live, drain, drain_second, drain_live, drain_further}
+use Rattle.vchan_protocol.specs.Calls.{write, write_open, write_looked, read, read_looked, read_live, drain, drain_second, drain_live, drain_further, drain_gone}
 use Rattle.vchan_protocol.specs.WorkedSignals.{SignalIsAsWorked}
 use Rattle.vchan_protocol.specs.WorkedTurn.{TurnIsAsWorked}
 use Rattle.vchan_protocol.specs.WorkedAnswers.{AnswerIsAsWorked}
@@ -68,7 +68,7 @@ worked_turn = (
 )
 
 pub worked_answer : AnswerIsAsWorked
-unfolding event alone standing_after size place room ready diff write write_open write_looked read read_looked drain drain_second drain_live drain_further small
+unfolding event alone standing_after size place room ready diff write write_open write_looked read read_looked drain drain_second drain_live drain_further drain_gone small
 worked_answer = (
   small,
   record {
@@ -82,5 +82,10 @@ worked_answer = (
     found_moves = refl;
     drained_loads = refl;
     drained_moves = refl;
+    far_answer = refl;
+    far_loads = refl;
+    far_saw = refl;
+    full_answer = refl;
+    full_moves = refl;
   },
 )
