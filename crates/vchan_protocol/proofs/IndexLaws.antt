@@ -38,6 +38,11 @@ index_stored LeftCons Client s e n value prod cons stored loaded owes = absurd o
 index_stored RightCons Server s e n value prod cons stored loaded owes = absurd owes
 index_stored _ role s e n value prod cons stored loaded owes = tt
 
+-- an index that is owed is the own count, moved on by the bytes of the call
+pub stores_own : (s : Side) (i : InLawful s) (word : WordName) (value : ℕ) → OwesStored word s.role (begun_standing s i.begun) (so_far s.role s.trail) value → StoresIndex word s.role s value
+stores_own s i word value owes =
+    index_stored word s.role s (begun_standing s i.begun) (so_far s.role s.trail) value i.lawful.prod i.lawful.cons (stored-is s.role s.trail) (ap (λ (xs : List ℕ). length xs) (loaded-is s.role s.trail)) owes
+
 flag_apart : (word : WordName) → IsFlag word → IsNoIndex word
 flag_apart LeftProd flag = flag
 flag_apart RightProd flag = flag
@@ -52,8 +57,7 @@ keeps_indices s lawful more = go (op_next s) (owes_now s i more)
     i = in_lawful s lawful more
 
     go : (op : Op) → OwesSound (begun_standing s i.begun) (so_far s.role s.trail) op → KeepsIndices s op
-    go (Store word value) owes =
-        index_stored word s.role s (begun_standing s i.begun) (so_far s.role s.trail) value i.lawful.prod i.lawful.cons (stored-is s.role s.trail) (ap (λ (xs : List ℕ). length xs) (loaded-is s.role s.trail)) owes
+    go (Store word value) owes = stores_own s i word value owes
     go (StoreByte word at) owes = subst IsNoIndex (sym owes.word_is) tt
     go (Or word bits) owes = flag_apart word owes
     go (And word bits) owes = flag_apart word owes

@@ -15,7 +15,7 @@ use Rattle.vchan_protocol.specs.declared.call.Call.{Call}
 use Rattle.vchan_protocol.specs.declared.side.Side.{Side}
 use Rattle.vchan_protocol.specs.declared.side.Begun.{Begun}
 use Rattle.vchan_protocol.specs.Plan.{Plan, answers, does, GoesOn, next_op, after}
-use Rattle.vchan_protocol.specs.Ends.{Standing, prod_after, cons_after, prod_stored, cons_stored, written_ring, read_ring}
+use Rattle.vchan_protocol.specs.Ends.{prod_after, cons_after, prod_stored, cons_stored, written_ring, read_ring}
 use Rattle.vchan_protocol.specs.Calls.{payload_of, IsAllowed}
 use Rattle.vchan_protocol.specs.Apply.{words_after, word_of, leaves, value_taken}
 use Rattle.vchan_protocol.specs.Core.{Core, side_of, with_side, event, begun, begins, plan_left, op_next, taken_next, plan_next, begun_standing, standing_of, made, settled, side_after, sent_after, sent_stored, got_after, got_stored, bytes_loaded, count_stored}
@@ -23,13 +23,14 @@ use Rattle.vchan_protocol.specs.Turned.{turns, given_up, strays, strayed}
 use Rattle.vchan_protocol.specs.RingLaw.{index_at, IsPrefixOf, CallLawful, AreBytes}
 use Rattle.vchan_protocol.specs.Lawful.{Lawful, Honest, IsEnd}
 use Rattle.vchan_protocol.specs.Peer.{peer}
-use Rattle.vchan_protocol.specs.SoFar.{SoFar, so_far}
-use Rattle.vchan_protocol.specs.TurnedLaw.{TurnedLawful, KeepsCounts, ConsumedLawful, ListsStand, ListsGrow, LiesAtCount, OwnCount, turning}
+use Rattle.vchan_protocol.specs.SoFar.{so_far}
+use Rattle.vchan_protocol.specs.TurnedLaw.{TurnedLawful, KeepsCounts, ConsumedLawful, ListsStand, ListsGrow, LiesAtCount, turning}
 use Rattle.vchan_protocol.proofs.Counted.{OwesIndex, counts_within}
 use Rattle.vchan_protocol.proofs.EventLaws.{OwesNext, stored_most-payload}
-use Rattle.vchan_protocol.proofs.Sound.{OwesSound, OwesStored}
+use Rattle.vchan_protocol.proofs.Sound.{OwesSound}
 use Rattle.vchan_protocol.proofs.EndSteps.{InLawful, in_lawful, owes_now, counts_now, call_begins, call_goes_on}
 use Rattle.vchan_protocol.proofs.LifeSteps.{got_grows}
+use Rattle.vchan_protocol.proofs.IndexLaws.{stores_own}
 
 -- ---- the own counts of an end
 
@@ -304,20 +305,6 @@ stray_keeps core Client op = (refl, turned-given_up core.client (length core.ser
 unmoved : (flag : Bool) (moved_to before now : ℕ) → flag ≡ false → now ≡ cond flag moved_to before → now ≡ before
 unmoved flag moved_to before now still is = is ∙ ap (λ (b : Bool). cond b moved_to before) still
 
-stored_count : (word : WordName) (s : Side) (e : Standing) (n : SoFar) (value : ℕ) → OwesStored word s.role e n value → OwnCount word s value
-stored_count word s e n value owes = go word s.role owes
-  where
-    go : (word : WordName) (role : Role) → OwesStored word role e n value → OwnCount word (record s { role = role }) value
-    go LeftProd Client owes = omega (arith, owes.is)
-    go RightProd Server owes = omega (arith, owes.is)
-    go LeftCons Server owes = omega (arith, owes.is)
-    go RightCons Client owes = omega (arith, owes.is)
-    go LeftProd Server owes = absurd owes
-    go RightProd Client owes = absurd owes
-    go LeftCons Client owes = absurd owes
-    go RightCons Server owes = absurd owes
-    go _ role owes = tt
-
 pub lies_at_count : (s : Side) → CallLawful s → GoesOn (plan_left s) → LiesAtCount s (op_next s)
 lies_at_count s lawful more = go (op_next s) (owes_now s i more) (counts_now s i more)
   where
@@ -329,7 +316,7 @@ lies_at_count s lawful more = go (op_next s) (owes_now s i more) (counts_now s i
         (counts.0, owes.word_is ∙ ap (λ (n : ℕ). RingByte (written_ring s.role) (place (n + at) (order_of s.orders (written_ring s.role)))) (sym (unmoved (so_far s.role s.trail).shown _ i.begun.prod s.prod owes.not_shown i.lawful.prod)))
     go (LoadByte word at) owes counts =
         (counts.0, owes.word_is ∙ ap (λ (n : ℕ). RingByte (read_ring s.role) (place (n + at) (order_of s.orders (read_ring s.role)))) (sym (unmoved (so_far s.role s.trail).released _ i.begun.cons s.cons owes.not_released i.lawful.cons)))
-    go (Store word value) owes counts = stored_count word s (begun_standing s i.begun) (so_far s.role s.trail) value owes
+    go (Store word value) owes counts = stores_own s i word value owes
     go (Load word) owes counts = tt
     go (Or word bits) owes counts = tt
     go (And word bits) owes counts = tt

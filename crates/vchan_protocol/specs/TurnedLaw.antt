@@ -5,16 +5,16 @@ use Rattle.ring_words.specs.Rings.{size, place}
 use Rattle.ring_words.specs.Page.{word_count, order_of}
 use Rattle.ring_words.specs.declared.page.Role.{Role}
 use Rattle.ring_words.specs.declared.page.Role.TheVariants.{Server, Client}
-use Rattle.ring_words.specs.declared.page.WordName.{WordName}
-use Rattle.ring_words.specs.declared.page.WordName.TheVariants.{LeftCons, LeftProd, RightCons, RightProd, RingByte}
+use Rattle.ring_words.specs.declared.page.WordName.TheVariants.{RingByte}
 use Rattle.vchan_protocol.specs.declared.op.Op.{Op}
 use Rattle.vchan_protocol.specs.declared.op.Op.TheVariants.{LoadByte, Store, StoreByte}
 use Rattle.vchan_protocol.specs.declared.side.Side.{Side}
-use Rattle.vchan_protocol.specs.Ends.{written_ring, read_ring, prod_stored, cons_stored}
+use Rattle.vchan_protocol.specs.Ends.{written_ring, read_ring}
 use Rattle.vchan_protocol.specs.Core.{Core, side_of, with_side, reader_of, count_stored, bytes_loaded}
 use Rattle.vchan_protocol.specs.Turned.{given_up}
 use Rattle.vchan_protocol.specs.RingLaw.{IsPrefixOf, index_at, CallLawful}
 use Rattle.vchan_protocol.specs.Lawful.{IsEnd}
+use Rattle.vchan_protocol.specs.IndexLaw.{StoresIndex}
 
 -- the core state once this end is given up, and before its hostile user did anything
 abbrev pub turning : Core → Role → Core
@@ -58,17 +58,10 @@ pub record ListsGrow (before after : Side) : Type 0 where
 
 -- ---- the places of an honest end's bytes
 
--- an index that an end stores is its own count after that event
-abbrev pub OwnCount : WordName → Side → ℕ → Type 0
-OwnCount LeftProd s value = value ≡ prod_stored LeftProd s.role value s.prod
-OwnCount RightProd s value = value ≡ prod_stored RightProd s.role value s.prod
-OwnCount LeftCons s value = value ≡ cons_stored LeftCons s.role value s.cons
-OwnCount RightCons s value = value ≡ cons_stored RightCons s.role value s.cons
-OwnCount _ s value = Unit {0}
-
--- a byte that an end stores or loads is the next one of its call, and lies in its ring at the place of its own count and the byte's number
+-- A byte that an end stores or loads is the next one of its call, and lies in its ring at the place of its own count and the byte's number. An index that
+-- it stores is one of its own: its own count, moved on by the bytes of the call.
 abbrev pub LiesAtCount : Side → Op → Type 0
 LiesAtCount s (StoreByte word at) = (at ≡ count_stored s.trail) × (word ≡ RingByte (written_ring s.role) (place (s.prod + at) (order_of s.orders (written_ring s.role))))
 LiesAtCount s (LoadByte word at) = (at ≡ length (bytes_loaded s.trail)) × (word ≡ RingByte (read_ring s.role) (place (s.cons + at) (order_of s.orders (read_ring s.role))))
-LiesAtCount s (Store word value) = OwnCount word s value
+LiesAtCount s (Store word value) = StoresIndex word s.role s value
 LiesAtCount s _ = Unit {0}

@@ -23,7 +23,8 @@ pub fn stray_keeps_lists()
 {}
 
 /// Whatever its peer has stored, an honest end stores and loads ring bytes at the places of its own
-/// counts alone, and the indices that it stores are its own counts.
+/// counts alone, and the indices that it stores are its own counts, moved on by the bytes of its
+/// call.
 pub fn bytes_lie_at_counts()
     ensures { BytesLieAtCounts }
 {}
