@@ -1,8 +1,8 @@
 ghost use Rattle.std.specs.Prelude.{◌≡◌, length};
-ghost use Rattle.vchan_core.specs.Apply.{words_after, value_taken, buffer_after, Fits};
+ghost use Rattle.vchan_protocol.specs.Table.Apply.{words_after, value_taken, buffer_after, Fits};
 
-use crate::op::Op;
 use ring_words::Words;
+use vchan_protocol::Op;
 
 /// Carries an event out, and answers the value that it took.
 #[inline(always)]

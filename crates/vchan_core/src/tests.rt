@@ -1,10 +1,8 @@
 ghost use Rattle.std.specs.Prelude.{◌≡◌, ◌≤◌, ◌<◌, length, false};
-ghost use Rattle.vchan_core.specs.Ends.{Standing};
-ghost use Rattle.vchan_core.specs.Calls.{payload_of, loaded_most};
+ghost use Rattle.vchan_protocol.specs.Table.Ends.{Standing};
+ghost use Rattle.vchan_protocol.specs.Table.Calls.{payload_of, loaded_most};
 
-use crate::call::{Answer, Call, EndState};
 use crate::machine::Machine;
-use crate::op::Op;
 use crate::plain::Plain;
 use crate::steps::Steps;
 use ring_words::{Orders, Ring, Role, WordName, check_orders};
@@ -12,6 +10,7 @@ use std::marker::Brand;
 use std::process::Abort;
 use std::sync::ledger::{Blank, Ledger};
 use std::test::Fail;
+use vchan_protocol::{Answer, Call, EndState, Op};
 
 fn small_page() -> Result<Orders, &'static str> {
     check_orders(10, 11).map_err(|_| "orders")

@@ -1,5 +1,0 @@
-use Rattle.vchan_core.proofs.WholeCalls.{reached_called}
-use Rattle.vchan_core.proofs.laws.calls_are_reached.Goals as goal
-
-pub returns : goal.returns
-returns c = reached_called

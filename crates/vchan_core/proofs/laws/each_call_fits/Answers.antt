@@ -1,5 +1,0 @@
-use Rattle.vchan_core.proofs.Counted.{fits_call}
-use Rattle.vchan_core.proofs.laws.each_call_fits.Goals as goal
-
-pub returns : goal.returns
-returns c = fits_call

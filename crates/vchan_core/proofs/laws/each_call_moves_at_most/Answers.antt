@@ -1,5 +1,0 @@
-use Rattle.vchan_core.proofs.Counted.{counts_within}
-use Rattle.vchan_core.proofs.laws.each_call_moves_at_most.Goals as goal
-
-pub returns : goal.returns
-returns c = counts_within

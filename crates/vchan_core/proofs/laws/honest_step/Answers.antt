@@ -1,5 +1,0 @@
-use Rattle.vchan_core.proofs.LawfulSteps.{lawful_event}
-use Rattle.vchan_core.proofs.laws.honest_step.Goals as goal
-
-pub returns : goal.returns
-returns c core who lawful honest more = lawful_event core who lawful more

@@ -1,5 +1,0 @@
-use Rattle.vchan_core.proofs.LifeSteps.{gone_set}
-use Rattle.vchan_core.proofs.laws.kept.gone_is_set_once.Goals as goal
-
-pub returns : goal.returns
-returns c core who whose kept honest more = gone_set core who whose (kept.lawful honest) more

@@ -1,5 +1,0 @@
-use Rattle.vchan_core.proofs.WholeCalls.{lawful_called}
-use Rattle.vchan_core.proofs.laws.lawful_call.Goals as goal
-
-pub returns : goal.returns
-returns c core who call payload lawful honest may = lawful_called core who call payload lawful may

@@ -1,5 +1,0 @@
-use Rattle.vchan_core.proofs.ListWhole.{tells_lists, follows_lists, may_there}
-use Rattle.vchan_core.proofs.laws.lists.whole_calls_follow_lists.Goals as goal
-
-pub returns : goal.returns
-returns c = λ core who call payload lawful may. follows_lists core who call payload (tells_lists core lawful) (may_there core who call payload may)

@@ -1,5 +1,0 @@
-use Rattle.vchan_core.proofs.SignalLaws.{begin_keeps}
-use Rattle.vchan_core.proofs.laws.signals.begin_keeps_signals.Goals as goal
-
-pub returns : goal.returns
-returns c = begin_keeps

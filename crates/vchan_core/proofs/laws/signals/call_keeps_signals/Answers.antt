@@ -1,5 +1,0 @@
-use Rattle.vchan_core.proofs.SignalLaws.{call_keeps}
-use Rattle.vchan_core.proofs.laws.signals.call_keeps_signals.Goals as goal
-
-pub returns : goal.returns
-returns c = call_keeps

@@ -1,5 +1,0 @@
-use Rattle.vchan_core.proofs.SignalLaws.{event_keeps}
-use Rattle.vchan_core.proofs.laws.signals.event_keeps_signals.Goals as goal
-
-pub returns : goal.returns
-returns c = event_keeps

@@ -1,5 +1,0 @@
-use Rattle.vchan_core.proofs.SignalLaws.{no_signal_lost}
-use Rattle.vchan_core.proofs.laws.signals.no_signal_is_lost.Goals as goal
-
-pub returns : goal.returns
-returns c = no_signal_lost

@@ -1,5 +1,0 @@
-use Rattle.vchan_core.proofs.SignalLaws.{misses_nothing}
-use Rattle.vchan_core.proofs.laws.signals.wait_misses_nothing.Goals as goal
-
-pub returns : goal.returns
-returns c = misses_nothing

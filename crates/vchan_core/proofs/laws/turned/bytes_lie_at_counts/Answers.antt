@@ -1,5 +1,0 @@
-use Rattle.vchan_core.proofs.TurnedSteps.{lies_at_count}
-use Rattle.vchan_core.proofs.laws.turned.bytes_lie_at_counts.Goals as goal
-
-pub returns : goal.returns
-returns c = lies_at_count

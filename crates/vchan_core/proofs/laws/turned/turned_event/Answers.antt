@@ -1,5 +1,0 @@
-use Rattle.vchan_core.proofs.TurnedSteps.{turned_event}
-use Rattle.vchan_core.proofs.laws.turned.turned_event.Goals as goal
-
-pub returns : goal.returns
-returns c = turned_event

@@ -1,5 +1,0 @@
-use Rattle.vchan_core.proofs.WorkedRow.{worked_row}
-use Rattle.vchan_core.proofs.laws.worked_row.Goals as goal
-
-pub returns : goal.returns
-returns c = worked_row

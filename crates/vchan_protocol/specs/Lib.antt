@@ -1,0 +1,10 @@
+pub mod Table
+pub mod History
+pub mod Honest
+pub mod Signals
+pub mod Hostile
+pub mod Always
+pub mod OneEnd
+pub mod Answering
+pub mod Lists
+pub mod Rows

@@ -1,0 +1,19 @@
+//! The protocol of a channel: its calls, their events and answers, all that an end does, and the
+//! laws of it. It has no code beside small types; a machine of one end is a crate of its own.
+//!
+//! The events of each call, and their order, are those of libxenvchan's io.c in non-blocking mode
+//! on the fields of Xen's public/io/libxenvchan.h. An end keeps its own counts in place of loading
+//! its own indices, and the calls `Drain`, `PeerGone` and `Retire` are this project's.
+//!
+//! It serves whoever runs an end of a channel: the machine, whose contracts cite these definitions,
+//! and a table of words that several threads share.
+#![tactic(auto)]
+
+mod call;
+pub mod laws;
+mod op;
+mod side;
+
+pub use call::{Answer, Bit, Call, EndState};
+pub use op::{Op, PastEvent};
+pub use side::{Asked, Begun, EndedBy, Notes, Side};
