@@ -1,0 +1,9 @@
+pub mod Rows
+pub mod TableLaws
+pub mod TabledLaws
+pub mod OpenLaws
+pub mod DroppedLaws
+pub mod IndexLaws
+pub mod PortLaws
+pub mod Decided
+pub mod StateLaws

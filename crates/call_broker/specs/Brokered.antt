@@ -1,0 +1,9 @@
+-- What contracts see of a broker.
+use Rattle.std.specs.Prelude.{List}
+use Rattle.call_broker.specs.Domains.{Domains}
+use Rattle.call_broker.specs.declared.decision.Entry.{Entry}
+
+-- the domains that a broker was made for, and its journal
+pub record Brokered : Type 0 where
+  pub hub : Domains
+  pub journal : List Entry

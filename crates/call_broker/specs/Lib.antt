@@ -1,0 +1,5 @@
+pub mod Domains
+pub mod Pair
+pub mod Journal
+pub mod Tables
+pub mod Brokered
