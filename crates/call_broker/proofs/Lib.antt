@@ -1,5 +1,7 @@
 pub mod Rows
 pub mod TableLaws
+pub mod BrokerLaws
+pub mod AnswerLaws
 pub mod TabledLaws
 pub mod OpenLaws
 pub mod DroppedLaws

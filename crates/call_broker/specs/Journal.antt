@@ -1,6 +1,7 @@
 -- A journal: events with what was decided on each.
 use Rattle.std.specs.Prelude.{◌≡◌, ℕ, ◌==◌, ◌&&◌, Bool, true, false, List, [], ◌∷◌, ◌++◌, map, filter_map, Option, Some, None, if◌then◌else◌}
 use Rattle.std.specs.List.{list_any}
+use Rattle.qrexec_frame.specs.Streams.{Each}
 use Rattle.call_broker.specs.declared.decision.Entry.{Entry}
 use Rattle.call_broker.specs.declared.event.Event.{Event}
 use Rattle.call_broker.specs.declared.event.Event.TheVariants.{Trigger, Terminated, Dropped}
@@ -44,3 +45,7 @@ abbrev pub IsNumbered : Domains → Event → Type 0
 IsNumbered hub (Trigger from target service ident) = is_domain hub from ≡ true
 IsNumbered hub (Terminated from other port) = is_domain hub from ≡ true
 IsNumbered hub (Dropped domain) = is_domain hub domain ≡ true
+
+-- each event of a journal is one of domains of the broker
+abbrev pub AreNumbered : Domains → List Entry → Type 0
+AreNumbered hub journal = Each (λ x. IsNumbered hub x.event) journal

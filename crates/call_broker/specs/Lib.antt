@@ -3,3 +3,4 @@ pub mod Pair
 pub mod Journal
 pub mod Tables
 pub mod Brokered
+pub mod Inside

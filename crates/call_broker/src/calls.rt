@@ -14,7 +14,7 @@ pub(crate) const MOST_PAGES: u32 = 65_536;
 #[derive(Drop)]
 pub(crate) struct Calls {
     /// The ports of the live ones, the newest first.
-    pub(crate) live: ArrayVec<u32, 16>,
+    pub(crate) live: ArrayVec<u32, MOST_LIVE>,
     /// How many there have been. The next port follows from it.
     pub(crate) count: u32,
     ghost within_pages: { count ≤ MOST_PAGES },
@@ -34,7 +34,7 @@ impl Calls {
 
     /// A call with this port is live from now on.
     pub(crate) fn add(&mut self, port: u32)
-        requires room { length self.old.live.items < 16 }
+        requires room { length self.old.live.items < MOST_LIVE }
         requires pages { self.old.count < MOST_PAGES }
         ensures live { self.new.live.items ≡ port ∷ self.old.live.items }
         ensures count { self.new.count ≡ self.old.count + 1 }

@@ -6,13 +6,16 @@
 //! what is theirs and what is this project's own.
 #![tactic(auto)]
 
+mod broker;
 mod calls;
 mod decision;
 mod domain;
 mod event;
 mod index;
+mod ports;
 mod table;
 
+pub use broker::Broker;
 pub use decision::{Cause, Decision, Entry};
 pub use domain::DomainEntry;
 pub use event::Event;

@@ -4,7 +4,7 @@ ghost use Rattle.std.specs.List.{list_any};
 ghost use Rattle.std.specs.BTreeMap.{IsUnchanged};
 ghost use Rattle.call_broker.specs.Tables.{calls_at, live_of, number_of, AddsCall, EndsCall};
 
-use crate::calls::{Calls, MOST_PAGES};
+use crate::calls::{Calls, MOST_LIVE, MOST_PAGES};
 use std::alloc::AllocError;
 use std::collections::BTreeMap;
 
@@ -13,7 +13,7 @@ pub(crate) type Table = BTreeMap<(u32, u32), Calls>;
 
 /// A call of the pair is live from now on. Only the first call of a pair takes memory.
 pub(crate) fn add_call(table: &mut Table, from: u32, to: u32, port: u32) -> Result<(), AllocError>
-    requires room { length (live_of (calls_at table.old from to)) < 16 }
+    requires room { length (live_of (calls_at table.old from to)) < MOST_LIVE }
     requires pages { number_of (calls_at table.old from to) < MOST_PAGES }
     ensures ok { OnOk result (AddsCall table.old table.new from to port) }
     ensures err { OnErr result (IsUnchanged table.old table.new) }
