@@ -1,5 +1,5 @@
 -- The two tables that a broker keeps beside its journal: the calls of each ordered pair, and the dropped domains.
-use Rattle.std.specs.Prelude.{◌≡◌, ℕ, ◌+◌, ◌==◌, ◌&&◌, ◌||◌, not, Bool, true, false, List, [], ◌∷◌, filter, Option, Some, None, if◌then◌else◌}
+use Rattle.std.specs.Prelude.{◌≡◌, ℕ, ◌+◌, ◌<◌, length, ◌==◌, ◌&&◌, ◌||◌, not, Bool, true, false, List, [], ◌∷◌, filter, Option, Some, None, if◌then◌else◌}
 use Rattle.std.specs.declared.cmp.Ordering.{Ordering}
 use Rattle.std.specs.Ordering.{nat_cmp, ordering_then}
 use Rattle.std.specs.List.{list_any}
@@ -85,3 +85,8 @@ number_in index name = tree.get_by (λ key. slice_cmp nat_cmp name key.items) in
 -- an index that has for each name the first domain of it
 pub record IsIndex (names : List (List ℕ)) (index : BTreeMap (Vec ℕ) ℕ) : Type 0 where
   pub first : (name : List ℕ) → number_in index name ≡ domain_at names name
+
+-- where a trigger is accepted, its pair has room for one more call
+abbrev pub HasRoom : Event → Decision → BTreeMap (ℕ × ℕ) Calls → Type 0
+HasRoom (Trigger from target service ident) (Accepted to port) calls = (length (live_of (calls_at calls from to)) < 16) × (number_of (calls_at calls from to) < 65536)
+HasRoom event decision calls = Unit {0}

@@ -1,5 +1,6 @@
 ghost use Rattle.std.specs.Prelude.{◌≡◌, ℕ, List, ◌≤◌, ◌*◌, ◌++◌, ◌∷◌, [], true, false, not, ◌==◌, ◌&&◌, length, map, vec_len, vec_capacity, ◌<◌, OnErr, IfOk, All};
 ghost use Rattle.call_broker.specs.Domains.{count_of, is_domain, is_service, name_of, pages_of, target_of};
+ghost use Rattle.call_broker.specs.Brokered.{with_entry};
 ghost use Rattle.call_broker.specs.Pair.{Ordered, state_after, takes_call, decision, by_port};
 ghost use Rattle.call_broker.specs.Journal.{events, drops, live, IsJournal, IsNumbered, AreNumbered};
 ghost use Rattle.std.specs.List.{list_any};
@@ -9,8 +10,9 @@ use crate::decision::{Cause, Decision, Entry};
 use crate::domain::DomainEntry;
 use crate::event::Event;
 use crate::index::{self, Index};
-use crate::table::{self, Table};
 use crate::ports::{pair_by_port, port_after};
+use crate::settle::{append, settle};
+use crate::table::{self, Table};
 use qrexec_frame::{Text, clean_service, clean_target};
 use service_gate::Builtin;
 use std::alloc::Global;
@@ -61,6 +63,21 @@ impl Broker {
             calls: BTreeMap::new(alloc),
             dropped: BTreeSet::new(alloc),
         })
+    }
+
+    /// Decides an event, and keeps it with its decision. docs/BROKER.md has the table of decisions.
+    /// `Memory` leaves the broker as it was.
+    pub fn event(&mut self, event: Event) -> Result<Decision, Memory>
+        requires { IsNumbered self.old.hub event }
+        ensures decided { IfOk result (λ decided. decided ≡ decision self.old.hub (events self.old.journal) event) }
+        ensures kept { IfOk result (λ decided. self.new ≡ with_entry self.old event decided) }
+        ensures memory { OnErr result (self.new ≡ self.old) }
+    {
+        let decision = self.decide(&event)?;
+        self.journal.reserve(1)?;
+        settle(&mut self.calls, &mut self.dropped, &event, decision)?;
+        append(&mut self.journal, Entry { event, decision });
+        Ok(decision)
     }
 
     /// All events so far, each with its decision, in order.

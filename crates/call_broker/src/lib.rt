@@ -13,6 +13,7 @@ mod domain;
 mod event;
 mod index;
 mod ports;
+mod settle;
 mod table;
 
 pub use broker::Broker;
