@@ -12,15 +12,8 @@ use Rattle.call_broker.specs.declared.decision.Decision.TheVariants.{Accepted, R
 use Rattle.call_broker.specs.Domains.{Domains, target_of, is_service, pages_of, port_after}
 use Rattle.call_broker.specs.Pair.{PairState, has, pair_of, takes_call, answers, state_after, decision}
 use Rattle.call_broker.specs.Journal.{IsDecidedOn}
+use Rattle.call_broker.specs.Laws.{IsAccepted, AcceptsWell, AcceptedCallsAreWell}
 use Rattle.call_broker.proofs.PortLaws.{IsAnswer, rest_of, rest-view}
-
-pub record IsAccepted (hub : Domains) (from : ℕ) (target service : List ℕ) (to port : ℕ) : Type 0 where
-  pub named : target_of hub target ≡ Some to
-  pub apart : from ≢ to
-  pub serves : is_service service ≡ true
-  pub call : ℕ
-  pub within : call < pages_of hub from to
-  pub port_is : port ≡ port_after from to call
 
 served-only : (b : Bool) (rest : Decision) (a : Bool) (to port : ℕ) → (if a then PassedOver else if not b then Refused NoService else rest) ≡ Accepted to port → b ≡ true
 served-only true rest a to port h = refl
@@ -66,11 +59,6 @@ pub accepted-view : (hub : Domains) (before : List Event) (from : ℕ) (target s
 accepted-view hub before from target service ident to port h =
     in-state hub (state_after hub before (pair_of hub (Trigger from target service ident))) from target service to port (target_of hub target) refl h
 
--- each accepted entry of a journal
-abbrev pub AcceptsWell : Domains → Event → Decision → Type 0
-AcceptsWell hub (Trigger from target service ident) (Accepted to port) = IsAccepted hub from target service to port
-AcceptsWell hub event decision = Unit {0}
-
 one-entry : (hub : Domains) (before : List Event) (e : Event) (d : Decision) → d ≡ decision hub before e → AcceptsWell hub e d
 one-entry hub before (Trigger from target service ident) (Accepted to port) is = accepted-view hub before from target service ident to port (sym is)
 one-entry hub before (Trigger from target service ident) (Refused cause) is = tt
@@ -82,3 +70,6 @@ one-entry hub before (Dropped domain) d is = tt
 pub accepts-well : (hub : Domains) (journal : List Entry) (before : List Event) → IsDecidedOn hub before journal → Each (λ x. AcceptsWell hub x.event x.decision) journal
 accepts-well hub [] before h = tt
 accepts-well hub (x ∷ journal) before h = (one-entry hub before x.event x.decision h.0, accepts-well hub journal (before ++ x.event ∷ []) h.1)
+
+pub accepted-calls-are-well : AcceptedCallsAreWell
+accepted-calls-are-well hub journal decided = accepts-well hub journal [] decided

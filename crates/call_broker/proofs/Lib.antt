@@ -1,5 +1,6 @@
 pub mod Rows
 pub mod TableLaws
+pub mod AloneLaws
 pub mod BrokerLaws
 pub mod AnswerLaws
 pub mod TabledLaws

@@ -1,6 +1,7 @@
 -- Ports-apart: the accepted calls of an ordered pair have the ports from its first one on, by steps of 2, and no more than it has pages.
-use Rattle.std.proofs.Common.{◌≡◌, ◌≢◌, ℕ, ◌+◌, ◌*◌, ◌<◌, ◌≤◌, suc, zero, List, [], ◌∷◌, ◌++◌, length, refl, ap, ◌∙◌, arith, ◌⊎◌, inl, inr, Option, Some, None}
-use Rattle.std.specs.Prelude.{true, false, Bool, min, max, ◌%◌, nat_le, nat_lt, ◌==◌, ◌&&◌, not, if◌then◌else◌}
+use Rattle.std.proofs.Common.{◌≡◌, ◌≢◌, ℕ, ◌+◌, ◌*◌, ◌<◌, ◌≤◌, suc, zero, List, [], ◌∷◌, ◌++◌, length, refl, ap, sym, subst, ◌∙◌, arith, ◌⊎◌, inl, inr, Option, Some, None}
+use Rattle.std.specs.Prelude.{true, false, Bool, min, max, ◌%◌, nat_le, nat_lt, slice_index_or, ◌==◌, ◌&&◌, not, if◌then◌else◌}
+use Rattle.std.proofs.lemmas.Bool.{cases_lt}
 use Rattle.std.proofs.lemmas.Bool.Decides.{nat_tests}
 use Rattle.call_broker.specs.declared.decision.Entry.{Entry}
 use Rattle.call_broker.specs.declared.event.Event.{Event}
@@ -9,9 +10,10 @@ use Rattle.call_broker.specs.declared.decision.Cause.{Cause}
 use Rattle.call_broker.specs.declared.decision.Cause.TheVariants.{NoDomain, SameDomain, NoService}
 use Rattle.call_broker.specs.declared.decision.Decision.{Decision}
 use Rattle.call_broker.specs.declared.decision.Decision.TheVariants.{Accepted, Refused, Ended, PassedOver}
-use Rattle.call_broker.specs.Domains.{Domains, is_domain, target_of, is_service, pages_of, port_after}
-use Rattle.call_broker.specs.Pair.{Pair, Ordered, Alone, PairState, has, is_pair, towards, belongs, takes_call, answers, ends_call, decides, settles, step, run_on, state_after, at_first, decision}
+use Rattle.call_broker.specs.Domains.{Domains, is_domain, is_odd, target_of, is_service, pages_of, port_after}
+use Rattle.call_broker.specs.Pair.{Pair, Ordered, Alone, PairState, has, is_pair, towards, by_port, belongs, takes_call, answers, ends_call, decides, settles, step, run_on, state_after, at_first, decision}
 use Rattle.call_broker.specs.Journal.{IsDecidedOn, port_in, accepted_ports}
+use Rattle.call_broker.specs.Laws.{ports_from, PortsFollow, PortsApart, PortNamesPair}
 
 pub run_on-append : (hub : Domains) (pair : Pair) (s : PairState) (xs ys : List Event) → run_on hub pair s (xs ++ ys) ≡ run_on hub pair (run_on hub pair s xs) ys
 run_on-append hub pair s [] ys = refl
@@ -179,16 +181,6 @@ on-event hub before f t (Terminated from other port) =
     step-if (state_after hub before (Ordered f t)) _ (settles-calls hub (Ordered f t) (state_after hub before (Ordered f t)) from other port) (belongs hub (Ordered f t) (Terminated from other port))
 on-event hub before f t (Dropped domain) = step-if (state_after hub before (Ordered f t)) _ refl (belongs hub (Ordered f t) (Dropped domain))
 
--- from a count of calls on, the ports that follow
-abbrev pub ports_from : ℕ → ℕ → ℕ → ℕ → List ℕ
-ports_from f t calls zero = []
-ports_from f t calls (suc count) = port_after f t calls ∷ ports_from f t (calls + 1) count
-
-pub record PortsFollow (hub : Domains) (f t calls : ℕ) (journal : List Entry) : Type 0 where
-  pub count : ℕ
-  pub within : calls + count ≤ pages_of hub f t
-  pub ports : accepted_ports journal f t ≡ ports_from f t calls count
-
 one-more : (hub : Domains) (f t : ℕ) (s after : PairState) (x : Entry) (journal : List Entry) (o : Option ℕ) → port_in f t x.event x.decision ≡ o → IsStep hub f t s after o
     → (after.calls ≤ pages_of hub f t → PortsFollow hub f t after.calls journal) → s.calls ≤ pages_of hub f t → PortsFollow hub f t s.calls (x ∷ journal)
 one-more hub f t s after x journal None is same more within =
@@ -214,9 +206,34 @@ ports-follow hub f t (x ∷ journal) before decided within =
     let more' = rw after at more in
     one-more hub f t (state_after hub before (Ordered f t)) (step hub (Ordered f t) (state_after hub before (Ordered f t)) x.event) x journal (port_in f t x.event (decision hub before x.event)) here stepped more' within
 
--- the ports of a pair, from its first one on
-pub ports-apart : (hub : Domains) (f t : ℕ) (journal : List Entry) → IsDecidedOn hub [] journal → PortsFollow hub f t 0 journal
-ports-apart hub f t journal decided = ports-follow hub f t journal [] decided (omega arith)
+ports-from-first : (hub : Domains) (f t : ℕ) (journal : List Entry) → IsDecidedOn hub [] journal → PortsFollow hub f t 0 journal
+ports-from-first hub f t journal decided = ports-follow hub f t journal [] decided (omega arith)
+
+length-ports_from : (f t calls count : ℕ) → length (ports_from f t calls count) ≡ count
+length-ports_from f t calls zero = refl
+length-ports_from f t calls (suc count) = ap suc (length-ports_from f t (calls + 1) count)
+
+port-at : (f t calls count i d : ℕ) → i < count → slice_index_or (ports_from f t calls count) i d ≡ port_after f t (calls + i)
+port-at f t calls zero i d within = absurd (omega (arith, within))
+port-at f t calls (suc count) zero d within = ap (port_after f t) (omega arith)
+port-at f t calls (suc count) (suc i) d within =
+    let less : i < count = omega (arith, within) in
+    let next : calls + 1 + i ≡ calls + suc i = omega arith in
+    port-at f t (calls + 1) count i d less ∙ ap (port_after f t) next
+
+ports-differ : (f t count i j d : ℕ) → i < j → j < length (ports_from f t 0 count) → slice_index_or (ports_from f t 0 count) i d ≢ slice_index_or (ports_from f t 0 count) j d
+ports-differ f t count i j d before within same =
+    let len = length-ports_from f t 0 count in
+    let at_i = port-at f t 0 count i d (omega (arith, before, within, len)) in
+    let at_j = port-at f t 0 count j d (omega (arith, within, len)) in
+    let both_are : port_after f t (0 + i) ≡ port_after f t (0 + j) = sym at_i ∙ same ∙ at_j in
+    omega (arith, both_are, before)
+
+-- each accepted call of a pair has a port of its own
+pub ports-apart : PortsApart
+ports-apart hub f t journal decided =
+    let follow = ports-from-first hub f t journal decided in
+    (follow, λ i j d. subst (λ ports. i < j → j < length ports → slice_index_or ports i d ≢ slice_index_or ports j d) (sym follow.ports) (ports-differ f t follow.count i j d))
 
 pub state-after : (hub : Domains) (pair : Pair) (before : List Event) (e : Event) → state_after hub (before ++ e ∷ []) pair ≡ step hub pair (state_after hub before pair) e
 state-after hub pair before e = run_on-append hub pair at_first before (e ∷ [])
@@ -249,3 +266,33 @@ own-port hub f t k apart there = by_order (nat_lt f t) refl
         let low : min f t ≡ t = let l : t ≤ f = grind (arith, nat_tests, less) in omega (arith, l) in
         let high : max f t ≡ f = let l : t ≤ f = grind (arith, nat_tests, less) in omega (arith, l) in
         rw (there, other, less, even-first k, low, high, ff, tt') refl
+
+-- ---- a port names its pair
+
+parity-up : (f t call : ℕ) → f < t → is_odd (port_after f t call) ≡ true
+parity-up f t call less = let low : nat_lt f t ≡ true = grind (arith, nat_tests, less) in let odd = odd-first call in rw (low, odd) refl
+
+parity-down : (f t call : ℕ) → t < f → is_odd (port_after f t call) ≡ false
+parity-down f t call less = let high : nat_lt f t ≡ false = grind (arith, nat_tests, less) in let even = even-first call in rw (high, even) refl
+
+pub port-names-pair : PortNamesPair
+port-names-pair f t call apart = by_order (cases_lt f t)
+  where
+    by_order : (f < t) ⊎ (t ≤ f) → (by_port f t (port_after f t call) ≡ Ordered f t) × (by_port t f (port_after f t call) ≡ Ordered f t)
+    by_order (inl less) =
+        let low : min f t ≡ f = omega (arith, less) in
+        let high : max f t ≡ t = omega (arith, less) in
+        let low' : min t f ≡ f = omega (arith, less) in
+        let high' : max t f ≡ t = omega (arith, less) in
+        let odd = parity-up f t call less in
+        (ap (λ b. if b then Ordered (min f t) (max f t) else Ordered (max f t) (min f t)) odd ∙ rw (low, high) refl,
+         ap (λ b. if b then Ordered (min t f) (max t f) else Ordered (max t f) (min t f)) odd ∙ rw (low', high') refl)
+    by_order (inr more) =
+        let less : t < f = omega (arith, more, apart) in
+        let low : min f t ≡ t = omega (arith, less) in
+        let high : max f t ≡ f = omega (arith, less) in
+        let low' : min t f ≡ t = omega (arith, less) in
+        let high' : max t f ≡ f = omega (arith, less) in
+        let even = parity-down f t call less in
+        (ap (λ b. if b then Ordered (min f t) (max f t) else Ordered (max f t) (min f t)) even ∙ rw (low, high) refl,
+         ap (λ b. if b then Ordered (min t f) (max t f) else Ordered (max t f) (min t f)) even ∙ rw (low', high') refl)

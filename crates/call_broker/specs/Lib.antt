@@ -4,3 +4,5 @@ pub mod Journal
 pub mod Tables
 pub mod Brokered
 pub mod Inside
+pub mod Laws
+pub mod Worked

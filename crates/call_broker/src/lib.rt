@@ -12,6 +12,7 @@ mod decision;
 mod domain;
 mod event;
 mod index;
+pub mod laws;
 mod ports;
 mod settle;
 mod table;
