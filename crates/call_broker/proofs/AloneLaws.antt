@@ -1,17 +1,16 @@
 -- Each pair stands alone: its entries are what it makes of its own events.
-use Rattle.std.proofs.Common.{◌≡◌, ℕ, List, [], ◌∷◌, ◌++◌, refl, ap, sym, ◌∙◌, subst}
-use Rattle.std.specs.Prelude.{true, false, Bool, ◌==◌, filter, if◌then◌else◌}
+use Rattle.std.proofs.Common.{◌≡◌, List, [], ◌∷◌, ◌++◌, refl, ap, sym, ◌∙◌}
+use Rattle.std.specs.Prelude.{true, false, Bool, if◌then◌else◌}
 use Rattle.std.proofs.Common.{arith}
 use Rattle.std.proofs.lemmas.Bool.Decides.{nat_tests}
 use Rattle.call_broker.specs.declared.event.Event.{Event}
 use Rattle.call_broker.specs.declared.event.Event.TheVariants.{Trigger, Terminated, Dropped}
-use Rattle.call_broker.specs.declared.decision.Decision.{Decision}
 use Rattle.call_broker.specs.declared.decision.Entry.{Entry}
 use Rattle.call_broker.specs.Domains.{Domains}
 use Rattle.call_broker.specs.Pair.{Pair, Ordered, Alone, PairState, at_first, is_pair, pair_of, belongs, decides, settles, step, run_on, state_after, decision}
-use Rattle.call_broker.specs.Journal.{events, IsDecidedOn, IsJournal}
+use Rattle.call_broker.specs.Journal.{events, IsDecidedOn}
 use Rattle.call_broker.specs.Laws.{own_events, own_entries, entries_from, EachPairStandsAlone, OthersCountForNothing, DecidedByOwnEvents, StrangersChangeNothing}
-use Rattle.call_broker.proofs.PortLaws.{run_on-append, state-after}
+use Rattle.call_broker.proofs.PortLaws.{state-after}
 use Rattle.call_broker.proofs.TableLaws.{is-same}
 
 one-pair : (p q : Pair) → is_pair p q ≡ true → p ≡ q
@@ -45,7 +44,7 @@ alone-on hub pair before [] decided = refl
 alone-on hub pair before (x ∷ journal) decided =
     let rest = alone-on hub pair (before ++ x.event ∷ []) journal decided.1 in
     let next : own_entries hub pair journal ≡ entries_from hub pair (step hub pair (state_after hub before pair) x.event) (own_events hub pair (events journal)) =
-        rest ∙ ap (λ s. entries_from hub pair s (own_events hub pair (events journal))) (state-after hub pair before x.event) in
+    rest ∙ ap (λ s. entries_from hub pair s (own_events hub pair (events journal))) (state-after hub pair before x.event) in
     front-entries hub pair before x (own_entries hub pair journal) (own_events hub pair (events journal)) (belongs hub pair x.event) refl decided.0 next
 
 pub each-pair-stands-alone : EachPairStandsAlone
@@ -68,7 +67,7 @@ run-own hub pair s (e ∷ es) = by_own (belongs hub pair e) refl (run-own hub pa
 pub decided-by-own-events : DecidedByOwnEvents
 decided-by-own-events hub one other event same =
     let state : state_after hub one (pair_of hub event) ≡ state_after hub other (pair_of hub event) =
-        run-own hub (pair_of hub event) at_first one ∙ ap (run_on hub (pair_of hub event) at_first) same ∙ sym (run-own hub (pair_of hub event) at_first other) in
+    run-own hub (pair_of hub event) at_first one ∙ ap (run_on hub (pair_of hub event) at_first) same ∙ sym (run-own hub (pair_of hub event) at_first other) in
     ap (λ s. decides hub (pair_of hub event) s event) state
 
 pub strangers-change-nothing : StrangersChangeNothing

@@ -1,5 +1,5 @@
 -- The decision on an event, as the tables tell it.
-use Rattle.std.proofs.Common.{◌≡◌, ◌≢◌, ◌⊎◌, inl, inr, ℕ, ◌+◌, ◌-◌, ◌*◌, ◌<◌, ◌≤◌, List, [], ◌∷◌, length, refl, ap, sym, ◌∙◌, arith, Option, Some, None}
+use Rattle.std.proofs.Common.{◌≡◌, ◌≢◌, ◌⊎◌, inl, inr, ℕ, ◌+◌, ◌-◌, ◌*◌, ◌<◌, ◌≤◌, List, [], length, refl, ap, sym, ◌∙◌, arith, Option, Some, None}
 use Rattle.std.specs.Prelude.{true, false, Bool, ◌==◌, ◌&&◌, ◌||◌, not, nat_le, min, max, if◌then◌else◌}
 use Rattle.std.specs.List.{list_any}
 use Rattle.std.specs.BTreeMap.{BTreeMap}
@@ -8,12 +8,12 @@ use Rattle.std.proofs.lemmas.Bool.Decides.{nat_tests}
 use Rattle.std.proofs.lemmas.Nat.{mul-add-lt}
 use Rattle.call_broker.specs.declared.calls.Calls.{Calls}
 use Rattle.call_broker.specs.declared.event.Event.{Event}
-use Rattle.call_broker.specs.declared.event.Event.TheVariants.{Trigger, Terminated, Dropped}
+use Rattle.call_broker.specs.declared.event.Event.TheVariants.{Trigger, Terminated}
 use Rattle.call_broker.specs.declared.decision.Cause.TheVariants.{NoDomain, SameDomain, NoService, TargetDropped, PairFull, PortsSpent}
 use Rattle.call_broker.specs.declared.decision.Decision.{Decision}
 use Rattle.call_broker.specs.declared.decision.Decision.TheVariants.{Accepted, Refused, Ended, PassedOver}
 use Rattle.call_broker.specs.Domains.{Domains, is_domain, is_odd, target_of, is_service, pages_of, port_after}
-use Rattle.call_broker.specs.Pair.{Pair, Ordered, Alone, PairState, has, is_of, towards, by_port, pair_of, takes_call, answers, ends_call, state_after, decision}
+use Rattle.call_broker.specs.Pair.{Pair, Ordered, Alone, has, is_of, towards, by_port, pair_of, takes_call, ends_call, state_after, decision}
 use Rattle.call_broker.specs.Journal.{drops}
 use Rattle.call_broker.specs.Tables.{calls_at, live_of, number_of, IsTabled}
 use Rattle.call_broker.proofs.DroppedLaws.{dropped-is}

@@ -1,6 +1,6 @@
 -- What a broker's inside says of what contracts see of it.
 use Rattle.std.proofs.Common.{◌≡◌, ℕ, ◌<◌, ◌≤◌, ◌-◌, ◌*◌, ◌+◌, List, [], ◌∷◌, ◌++◌, length, Result, Ok, Err, IfOk, refl, ap, sym, ◌∙◌, subst, arith, append_assoc, get_or}
-use Rattle.std.specs.Prelude.{true, false, Bool, map, All, if◌then◌else◌}
+use Rattle.std.specs.Prelude.{false, All}
 use Rattle.std.specs.List.{list_any}
 use Rattle.std.proofs.Common.{⊎_elim}
 use Rattle.std.proofs.lemmas.Bool.{cases_lt}
@@ -14,8 +14,8 @@ use Rattle.call_broker.specs.declared.event.Event.{Event}
 use Rattle.call_broker.specs.declared.event.Event.TheVariants.{Trigger, Terminated, Dropped}
 use Rattle.call_broker.specs.declared.decision.Entry.{Entry}
 use Rattle.call_broker.specs.declared.decision.Decision.TheVariants.{Accepted, Refused, Ended, PassedOver}
-use Rattle.call_broker.specs.Domains.{Domains, target_of, pages_of, count_of}
-use Rattle.call_broker.specs.Pair.{Ordered, PairState, has, state_after, decision}
+use Rattle.call_broker.specs.Domains.{Domains, pages_of, count_of}
+use Rattle.call_broker.specs.Pair.{Ordered, state_after, decision}
 use Rattle.call_broker.specs.declared.broker.Broker.TheInside.{Inside}
 use Rattle.call_broker.specs.declared.decision.Decision.{Decision}
 use Rattle.call_broker.proofs.DroppedLaws.{dropped-is}
@@ -24,8 +24,8 @@ use Rattle.call_broker.proofs.AnswerLaws.{of-caller, of-target}
 use Rattle.call_broker.proofs.TabledLaws.{tabled-more}
 use Rattle.call_broker.specs.Brokered.{Brokered}
 use Rattle.call_broker.specs.Inside.{hub_of, brokered, IsKept}
-use Rattle.call_broker.specs.Journal.{events, drops, IsDecidedOn, IsNumbered, AreNumbered}
-use Rattle.call_broker.specs.Tables.{calls_at, live_of, number_of, HasRoom, IsSettled, IsTabled, IsIndex}
+use Rattle.call_broker.specs.Journal.{events, drops, IsDecidedOn, IsNumbered}
+use Rattle.call_broker.specs.Tables.{calls_at, live_of, HasRoom, IsSettled, IsTabled, IsIndex}
 
 -- its tables are those of what is seen
 pub tabled-now : (inside : Inside) (now : Brokered) → brokered inside ≡ now → IsKept inside → IsTabled now.hub (events now.journal) inside.calls inside.dropped

@@ -8,7 +8,7 @@ use Rattle.call_broker.specs.declared.event.Event.TheVariants.{Trigger, Terminat
 use Rattle.call_broker.specs.declared.decision.Decision.{Decision}
 use Rattle.call_broker.specs.declared.decision.Decision.TheVariants.{Accepted, Refused, Ended, PassedOver}
 use Rattle.call_broker.specs.Domains.{Domains}
-use Rattle.call_broker.specs.Pair.{Pair, Ordered, Alone, PairState, has, is_of, belongs, decides, settles, step, run_on, state_after, at_first}
+use Rattle.call_broker.specs.Pair.{Pair, PairState, has, is_of, belongs, decides, settles, step, run_on, state_after, at_first}
 use Rattle.call_broker.specs.Journal.{drops}
 
 or-assoc : (a b c : Bool) → ((a || b) || c) ≡ (b || (a || c))

@@ -1,14 +1,14 @@
 -- What is known of a pair where a call of it is accepted, or ended.
-use Rattle.std.proofs.Common.{◌≡◌, ◌≢◌, ℕ, suc, ◌+◌, ◌<◌, List, [], ◌∷◌, length, refl, ap, sym, ◌∙◌, arith, Option, Some, None}
+use Rattle.std.proofs.Common.{◌≡◌, ℕ, suc, ◌<◌, List, [], ◌∷◌, length, refl, ap, ◌∙◌, arith, Option, Some, None}
 use Rattle.std.specs.Prelude.{true, false, Bool, ◌==◌, ◌&&◌, not, nat_le, bytes_eq, option_map, if◌then◌else◌}
 use Rattle.std.proofs.lemmas.Bool.Decides.{nat_tests}
 use Rattle.call_broker.specs.declared.event.Event.{Event}
-use Rattle.call_broker.specs.declared.event.Event.TheVariants.{Trigger, Terminated, Dropped}
+use Rattle.call_broker.specs.declared.event.Event.TheVariants.{Trigger, Terminated}
 use Rattle.call_broker.specs.declared.decision.Cause.TheVariants.{NoDomain, SameDomain, NoService, TargetDropped, PairFull, PortsSpent}
 use Rattle.call_broker.specs.declared.decision.Decision.{Decision}
 use Rattle.call_broker.specs.declared.decision.Decision.TheVariants.{Accepted, Refused, Ended, PassedOver}
 use Rattle.call_broker.specs.Domains.{Domains, is_domain, place_of, domain_at, target_of, is_service, pages_of, port_after}
-use Rattle.call_broker.specs.Pair.{Pair, Ordered, Alone, PairState, has, is_pair, towards, pair_of, takes_call, answers, ends_call, decides, state_after, decision}
+use Rattle.call_broker.specs.Pair.{Pair, Ordered, Alone, PairState, has, towards, pair_of, takes_call, answers, ends_call, state_after, decision}
 
 pub both : (a b : Bool) → (a && b) ≡ true → (a ≡ true) × (b ≡ true)
 both true true h = (refl, refl)
@@ -141,7 +141,7 @@ ends-none-if false x y h k = k
 takes-ends-none : (hub : Domains) (s : PairState) (from to : ℕ) → ends_none (takes_call hub s from to) ≡ true
 takes-ends-none hub s from to =
     ends-none-if (has to s.dropped) _ _ refl
-        (ends-none-if (nat_le 16 (length s.live)) _ _ refl (ends-none-if (nat_le (pages_of hub from to) s.calls) _ _ refl refl))
+    (ends-none-if (nat_le 16 (length s.live)) _ _ refl (ends-none-if (nat_le (pages_of hub from to) s.calls) _ _ refl refl))
 
 answers-ends-none : (hub : Domains) (s : PairState) (from : ℕ) (service : List ℕ) (o : Option ℕ) → ends_none (answers hub s from service o) ≡ true
 answers-ends-none hub s from service None = refl
@@ -152,7 +152,7 @@ answers-ends-none hub s from service (Some to) =
 pub trigger-ends-none : (hub : Domains) (before : List Event) (from : ℕ) (target service ident : List ℕ) (a b p : ℕ) → Ended a b p ≡ decision hub before (Trigger from target service ident) → ⊥
 trigger-ends-none hub before from target service ident a b p h =
     let none = ends-none-if (has from (state_after hub before (pair_of hub (Trigger from target service ident))).dropped) PassedOver _ refl
-        (answers-ends-none hub (state_after hub before (pair_of hub (Trigger from target service ident))) from service (target_of hub target)) in
+    (answers-ends-none hub (state_after hub before (pair_of hub (Trigger from target service ident))) from service (target_of hub target)) in
     let some : false ≡ ends_none (decision hub before (Trigger from target service ident)) = ap ends_none h in
     cc
 
@@ -172,7 +172,7 @@ ends-takes-none (Alone d) s port = refl
 pub terminated-takes-none : (hub : Domains) (before : List Event) (from other port to q : ℕ) → Accepted to q ≡ decision hub before (Terminated from other port) → ⊥
 terminated-takes-none hub before from other port to q h =
     let none = takes-none-if (has from (state_after hub before (pair_of hub (Terminated from other port))).dropped) PassedOver _ refl
-        (ends-takes-none (pair_of hub (Terminated from other port)) (state_after hub before (pair_of hub (Terminated from other port))) port) in
+    (ends-takes-none (pair_of hub (Terminated from other port)) (state_after hub before (pair_of hub (Terminated from other port))) port) in
     let some : false ≡ takes_none (decision hub before (Terminated from other port)) = ap takes_none h in
     cc
 

@@ -284,15 +284,17 @@ port-names-pair f t call apart = by_order (cases_lt f t)
         let high : max f t ≡ t = omega (arith, less) in
         let low' : min t f ≡ f = omega (arith, less) in
         let high' : max t f ≡ t = omega (arith, less) in
-        let odd = parity-up f t call less in
-        (ap (λ b. if b then Ordered (min f t) (max f t) else Ordered (max f t) (min f t)) odd ∙ rw (low, high) refl,
-         ap (λ b. if b then Ordered (min t f) (max t f) else Ordered (max t f) (min t f)) odd ∙ rw (low', high') refl)
+        let odd = parity-up f t call less in (
+          ap (λ b. if b then Ordered (min f t) (max f t) else Ordered (max f t) (min f t)) odd ∙ rw (low, high) refl,
+          ap (λ b. if b then Ordered (min t f) (max t f) else Ordered (max t f) (min t f)) odd ∙ rw (low', high') refl,
+        )
     by_order (inr more) =
         let less : t < f = omega (arith, more, apart) in
         let low : min f t ≡ t = omega (arith, less) in
         let high : max f t ≡ f = omega (arith, less) in
         let low' : min t f ≡ t = omega (arith, less) in
         let high' : max t f ≡ f = omega (arith, less) in
-        let even = parity-down f t call less in
-        (ap (λ b. if b then Ordered (min f t) (max f t) else Ordered (max f t) (min f t)) even ∙ rw (low, high) refl,
-         ap (λ b. if b then Ordered (min t f) (max t f) else Ordered (max t f) (min t f)) even ∙ rw (low', high') refl)
+        let even = parity-down f t call less in (
+          ap (λ b. if b then Ordered (min f t) (max f t) else Ordered (max f t) (min f t)) even ∙ rw (low, high) refl,
+          ap (λ b. if b then Ordered (min t f) (max t f) else Ordered (max t f) (min t f)) even ∙ rw (low', high') refl,
+        )

@@ -1,7 +1,7 @@
 -- What a change of one pair leaves of the table of calls.
-use Rattle.std.proofs.Common.{◌≡◌, ℕ, ◌+◌, List, [], ◌∷◌, refl, ap, sym, ◌∙◌, arith, Option, Some, None, subst}
+use Rattle.std.proofs.Common.{◌≡◌, ℕ, ◌+◌, ◌∷◌, refl, ap, sym, ◌∙◌, arith, Some}
 use Rattle.std.specs.Prelude.{true, false, Bool, ◌==◌, ◌&&◌, not, filter, nat_lt, cond, if◌then◌else◌}
-use Rattle.std.specs.Ordering.{is_eq, nat_cmp, ordering_then}
+use Rattle.std.specs.Ordering.{is_eq, nat_cmp}
 use Rattle.std.specs.Cmp.{tied_then}
 use Rattle.std.specs.BTreeMap.{BTreeMap, UpdatesBy}
 use Rattle.std.proofs.lemmas.Bool.Decides.{nat_tests}

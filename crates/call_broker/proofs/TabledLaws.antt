@@ -1,5 +1,5 @@
 -- The tables follow the pairs: they stand for one more event once they are settled by its decision.
-use Rattle.std.proofs.Common.{◌≡◌, ℕ, ◌+◌, List, [], ◌∷◌, ◌++◌, refl, ap, sym, ◌∙◌, arith, Option, Some, None, subst}
+use Rattle.std.proofs.Common.{◌≡◌, ℕ, ◌+◌, List, [], ◌∷◌, ◌++◌, refl, ap, sym, ◌∙◌, arith, subst}
 use Rattle.std.specs.Prelude.{true, false, Bool, ◌==◌, ◌&&◌, ◌||◌, not, filter, if◌then◌else◌}
 use Rattle.std.specs.List.{list_any}
 use Rattle.std.specs.Map.{lookup}
@@ -14,7 +14,7 @@ use Rattle.call_broker.specs.declared.event.Event.TheVariants.{Trigger, Terminat
 use Rattle.call_broker.specs.declared.decision.Decision.{Decision}
 use Rattle.call_broker.specs.declared.decision.Decision.TheVariants.{Accepted, Refused, Ended, PassedOver}
 use Rattle.call_broker.specs.Domains.{Domains, is_domain, target_of}
-use Rattle.call_broker.specs.Pair.{Pair, Ordered, Alone, PairState, has, is_pair, is_of, pair_of, belongs, decides, settles, step, state_after, decision}
+use Rattle.call_broker.specs.Pair.{Pair, Ordered, Alone, PairState, is_pair, is_of, pair_of, decides, settles, state_after, decision}
 use Rattle.call_broker.specs.Journal.{drops, IsNumbered}
 use Rattle.qrexec_frame.specs.Names.{cleaned_target}
 use Rattle.call_broker.specs.Tables.{pair_cmp, calls_at, live_of, number_of, is_same, AddsCall, EndsCall, SameCalls, SameDropped, AddsDropped, IsSettled, IsTabled}
@@ -93,20 +93,20 @@ trigger-kept : (hub : Domains) (es : List Event) (from : ℕ) (target service id
     → SameCalls calls calls' → SameDropped dropped dropped' → IsTabled hub es calls dropped → IsTabled hub (es ++ Trigger from target service ident ∷ []) calls' dropped'
 trigger-kept hub es from target service ident d calls calls' dropped dropped' idle is same_calls same_gone was =
     kept hub es (Trigger from target service ident) calls calls' dropped dropped' (λ d. refl)
-        (λ f t. trigger-after hub es f t from target service ident d is
-            ∙ ap (λ s. if is_pair (pair_of hub (Trigger from target service ident)) (Ordered f t) then s else state_after hub es (Ordered f t)) (idle f t)
-            ∙ if-same (state_after hub es (Ordered f t)) (is_pair (pair_of hub (Trigger from target service ident)) (Ordered f t)))
-        same_calls same_gone was
+    (λ f t. trigger-after hub es f t from target service ident d is
+    ∙ ap (λ s. if is_pair (pair_of hub (Trigger from target service ident)) (Ordered f t) then s else state_after hub es (Ordered f t)) (idle f t)
+    ∙ if-same (state_after hub es (Ordered f t)) (is_pair (pair_of hub (Trigger from target service ident)) (Ordered f t)))
+    same_calls same_gone was
 
 terminated-kept : (hub : Domains) (es : List Event) (from other port : ℕ) (d : Decision) (calls calls' : BTreeMap (ℕ × ℕ) Calls) (dropped dropped' : BTreeSet ℕ)
     → ((f t : ℕ) → settles (state_after hub es (Ordered f t)) (Terminated from other port) d ≡ state_after hub es (Ordered f t)) → d ≡ decision hub es (Terminated from other port)
     → SameCalls calls calls' → SameDropped dropped dropped' → IsTabled hub es calls dropped → IsTabled hub (es ++ Terminated from other port ∷ []) calls' dropped'
 terminated-kept hub es from other port d calls calls' dropped dropped' idle is same_calls same_gone was =
     kept hub es (Terminated from other port) calls calls' dropped dropped' (λ d. refl)
-        (λ f t. terminated-after hub es f t from other port d is
-            ∙ ap (λ s. if is_pair (pair_of hub (Terminated from other port)) (Ordered f t) then s else state_after hub es (Ordered f t)) (idle f t)
-            ∙ if-same (state_after hub es (Ordered f t)) (is_pair (pair_of hub (Terminated from other port)) (Ordered f t)))
-        same_calls same_gone was
+    (λ f t. terminated-after hub es f t from other port d is
+    ∙ ap (λ s. if is_pair (pair_of hub (Terminated from other port)) (Ordered f t) then s else state_after hub es (Ordered f t)) (idle f t)
+    ∙ if-same (state_after hub es (Ordered f t)) (is_pair (pair_of hub (Terminated from other port)) (Ordered f t)))
+    same_calls same_gone was
 
 -- ---- an accepted trigger
 
@@ -202,7 +202,7 @@ ended hub es sender other named from to port calls calls' dropped dropped' is en
         ≡ (if list_any (drops f) es || list_any (drops t) es then [] else live_of (calls_at calls' f t))
     live f t true same =
         rw ((ends f t).0, same)
-            (ap (filter (λ p. not (p == port))) (was.live f t) ∙ filter-none (λ p. not (p == port)) (list_any (drops f) es || list_any (drops t) es) (live_of (calls_at calls f t)))
+        (ap (filter (λ p. not (p == port))) (was.live f t) ∙ filter-none (λ p. not (p == port)) (list_any (drops f) es || list_any (drops t) es) (live_of (calls_at calls f t)))
     live f t false apart = rw ((ends f t).0, apart) (was.live f t)
 
     among : (f t : ℕ) → (is_domain hub f && is_domain hub t) ≡ false → (b : Bool) → is_same from to f t ≡ b → live_of (calls_at calls' f t) ≡ []

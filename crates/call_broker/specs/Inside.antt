@@ -1,5 +1,5 @@
 -- How a broker is kept inside.
-use Rattle.std.specs.Prelude.{◌≡◌, ℕ, ◌*◌, ◌≤◌, length, map, All}
+use Rattle.std.specs.Prelude.{◌≡◌, ◌*◌, ◌≤◌, length, map, All}
 use Rattle.call_broker.specs.declared.broker.Broker.TheInside.{Inside}
 use Rattle.call_broker.specs.Domains.{Domains, count_of}
 use Rattle.call_broker.specs.Journal.{events, IsJournal, AreNumbered}

@@ -1,5 +1,5 @@
 -- The laws of a broker, over all its journals: each pair stands alone, no port is given out twice, and an accepted call is between domains that the broker serves.
-use Rattle.std.specs.Prelude.{◌≡◌, ◌≢◌, ℕ, ◌+◌, ◌<◌, ◌≤◌, suc, zero, Bool, true, false, List, [], ◌∷◌, ◌++◌, filter, AllPairs, Some}
+use Rattle.std.specs.Prelude.{◌≡◌, ◌≢◌, ℕ, ◌+◌, ◌<◌, ◌≤◌, suc, zero, true, false, List, [], ◌∷◌, ◌++◌, filter, AllPairs, Some}
 use Rattle.qrexec_frame.specs.Streams.{Each}
 use Rattle.call_broker.specs.declared.event.Event.{Event}
 use Rattle.call_broker.specs.declared.event.Event.TheVariants.{Trigger}
@@ -7,7 +7,7 @@ use Rattle.call_broker.specs.declared.decision.Decision.{Decision}
 use Rattle.call_broker.specs.declared.decision.Decision.TheVariants.{Accepted}
 use Rattle.call_broker.specs.declared.decision.Entry.{Entry}
 use Rattle.call_broker.specs.Domains.{Domains, target_of, is_service, pages_of, port_after}
-use Rattle.call_broker.specs.Pair.{Pair, PairState, Ordered, at_first, pair_of, by_port, belongs, decides, settles, state_after, decision}
+use Rattle.call_broker.specs.Pair.{Pair, PairState, Ordered, at_first, pair_of, by_port, belongs, decides, settles, decision}
 use Rattle.call_broker.specs.Journal.{events, accepted_ports, IsJournal}
 
 -- ---- each pair stands alone

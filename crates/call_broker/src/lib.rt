@@ -16,6 +16,8 @@ pub mod laws;
 mod ports;
 mod settle;
 mod table;
+#[cfg(test)]
+mod tests;
 
 pub use broker::Broker;
 pub use decision::{Cause, Decision, Entry};

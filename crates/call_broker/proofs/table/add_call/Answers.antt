@@ -1,4 +1,4 @@
-use Rattle.std.proofs.Common.{◌≡◌, ◌∙◌, refl, sym, ap, subst, Some, None, ◌+◌, ◌∷◌, IsSome}
+use Rattle.std.proofs.Common.{◌≡◌, ◌∙◌, refl, sym, ap, Some, None, ◌+◌, ◌∷◌, IsSome}
 use Rattle.call_broker.specs.Tables.{calls_at, live_of, number_of}
 use Rattle.call_broker.proofs.TableLaws.{adds-call}
 use Rattle.call_broker.proofs.table.add_call.Goals as goal

@@ -1,8 +1,7 @@
-use Rattle.std.proofs.Common.{◌≡◌, ◌≢◌, ◌∙◌, sym, ap, Some, None, true, false, not, arith}
-use Rattle.std.specs.List.{list_any}
+use Rattle.std.proofs.Common.{◌≡◌, ◌∙◌, sym, Some, None, true, false}
 use Rattle.qrexec_frame.specs.Names.{cleaned_target}
 use Rattle.call_broker.specs.Domains.{target_of, is_service}
-use Rattle.call_broker.specs.Journal.{events, drops}
+use Rattle.call_broker.specs.Journal.{events}
 use Rattle.call_broker.proofs.OpenLaws.{domain-found}
 use Rattle.call_broker.proofs.AnswerLaws.{caller-gone, no-domain, same-domain, no-service, goes-on}
 use Rattle.call_broker.proofs.broker.Broker.answer.Goals as goal

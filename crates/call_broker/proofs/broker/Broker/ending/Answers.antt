@@ -25,7 +25,7 @@ returns-then-has_port c =
     let server = c.pair_by_port-from.result.1 in
     ap (λ b. if b then Ended caller server c.args.port else PassedOver) c.if-has_port.ensures
     ∙ by-table now.hub (events now.journal) c.self.inside.calls c.self.inside.dropped was c.args.from c.args.other c.args.port caller server
-        (sym c.if-is_dropped.ensures) (sym c.if-not-is_other.ensures) c.pair_by_port-from.ensures alive
+    (sym c.if-is_dropped.ensures) (sym c.if-not-is_other.ensures) c.pair_by_port-from.ensures alive
 
 pub returns-else-has_port : goal.returns-else-has_port
 returns-else-has_port c =
@@ -36,4 +36,4 @@ returns-else-has_port c =
     let server = c.pair_by_port-from.result.1 in
     ap (λ b. if b then Ended caller server c.args.port else PassedOver) c.if-has_port.ensures
     ∙ by-table now.hub (events now.journal) c.self.inside.calls c.self.inside.dropped was c.args.from c.args.other c.args.port caller server
-        (sym c.if-is_dropped.ensures) (sym c.if-not-is_other.ensures) c.pair_by_port-from.ensures alive
+    (sym c.if-is_dropped.ensures) (sym c.if-not-is_other.ensures) c.pair_by_port-from.ensures alive

@@ -1,4 +1,4 @@
-use Rattle.std.proofs.Common.{◌≡◌, ◌<◌, ◌*◌, ◌-◌, ◌+◌, ◌&&◌, true, ℕ, length, map, ap, ◌∙◌, sym, subst, arith}
+use Rattle.std.proofs.Common.{◌≡◌, ◌<◌, ◌*◌, ◌-◌, ◌+◌, ◌&&◌, true, length, map, ap, ◌∙◌, sym, subst, arith}
 use Rattle.std.specs.Prelude.{nat_le, vec_len}
 use Rattle.std.proofs.lemmas.List.{length-map}
 use Rattle.call_broker.specs.declared.domain.DomainEntry.{DomainEntry}

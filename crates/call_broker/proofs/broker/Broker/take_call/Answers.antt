@@ -1,9 +1,8 @@
-use Rattle.std.proofs.Common.{◌≡◌, ◌≤◌, ◌<◌, true, false, ◌∙◌, ap, sym, subst, length, arith}
-use Rattle.std.specs.List.{list_any}
+use Rattle.std.proofs.Common.{◌≤◌, ◌<◌, ◌∙◌, ap, sym, subst, length}
 use Rattle.call_broker.specs.declared.decision.Cause.TheVariants.{PairFull, PortsSpent}
 use Rattle.call_broker.specs.declared.decision.Decision.TheVariants.{Accepted, Refused}
 use Rattle.call_broker.specs.Domains.{pages_of, port_after}
-use Rattle.call_broker.specs.Journal.{drops, events}
+use Rattle.call_broker.specs.Journal.{events}
 use Rattle.call_broker.specs.Tables.{calls_at, live_of, number_of}
 use Rattle.call_broker.proofs.AnswerLaws.{target-gone, pair-full, ports-spent, call-taken}
 use Rattle.call_broker.proofs.BrokerLaws.{tabled-now}
@@ -29,7 +28,7 @@ returns-then-count-pages_for c =
     let was = tabled-now c.self.inside now c.self.view_is c.self.invariant in
     let few : length (live_of (calls_at c.self.inside.calls c.args.from c.args.to)) < 16 = subst (λ n. n < 16) c.live_count-live.ensures c.if-live-ge-MOST_LIVE.false in
     let spent : pages_of now.hub c.args.from c.args.to ≤ number_of (calls_at c.self.inside.calls c.args.from c.args.to) =
-        subst (λ n. pages_of now.hub c.args.from c.args.to ≤ n) c.call_count-count.ensures (subst (λ n. n ≤ c.call_count-count.result) c.pages_for.ensures.pages c.if-count-pages_for.true) in
+    subst (λ n. pages_of now.hub c.args.from c.args.to ≤ n) c.call_count-count.ensures (subst (λ n. n ≤ c.call_count-count.result) c.pages_for.ensures.pages c.if-count-pages_for.true) in
     c.refused-then-count-pages_for.ensures
     ∙ ap (λ n. Refused (PortsSpent n)) (c.port_after-port.ensures ∙ ap (port_after c.args.from c.args.to) c.call_count-count.ensures)
     ∙ ports-spent now.hub (events now.journal) c.self.inside.calls c.self.inside.dropped was c.args.from c.args.to c.requires.up (sym c.if-is_dropped.ensures) few spent
@@ -40,6 +39,6 @@ returns c =
     let was = tabled-now c.self.inside now c.self.view_is c.self.invariant in
     let few : length (live_of (calls_at c.self.inside.calls c.args.from c.args.to)) < 16 = subst (λ n. n < 16) c.live_count-live.ensures c.if-live-ge-MOST_LIVE.false in
     let left : number_of (calls_at c.self.inside.calls c.args.from c.args.to) < pages_of now.hub c.args.from c.args.to =
-        subst (λ n. n < pages_of now.hub c.args.from c.args.to) c.call_count-count.ensures (subst (λ n. c.call_count-count.result < n) c.pages_for.ensures.pages c.if-count-pages_for.false) in
+    subst (λ n. n < pages_of now.hub c.args.from c.args.to) c.call_count-count.ensures (subst (λ n. c.call_count-count.result < n) c.pages_for.ensures.pages c.if-count-pages_for.false) in
     ap (Accepted c.args.to) (c.port_after-port.ensures ∙ ap (port_after c.args.from c.args.to) c.call_count-count.ensures)
     ∙ call-taken now.hub (events now.journal) c.self.inside.calls c.self.inside.dropped was c.args.from c.args.to c.requires.up (sym c.if-is_dropped.ensures) few left
