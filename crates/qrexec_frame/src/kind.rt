@@ -123,10 +123,7 @@ impl Kind {
         ensures { result ≡ kind_on channel number }
     {
         match channel {
-            Channel::Data => ON_DATA
-                .iter()
-                .copied()
-                .find(|kind| number == kind.number()),
+            Channel::Data => ON_DATA.iter().copied().find(|kind| number == kind.number()),
             Channel::Control => ON_CONTROL
                 .iter()
                 .copied()
