@@ -31,7 +31,9 @@ pub mod AnswerLaws
 pub mod IndexLaws
 pub mod EndingSteps
 pub mod SideSteps
-pub mod WorkedMore
+pub mod WorkedSignals
+pub mod WorkedTurn
+pub mod WorkedAnswers
 pub mod OneEndSteps
 pub mod OneCallBytes
 pub mod OneCallWay
