@@ -3,10 +3,10 @@ use Rattle.std.specs.Prelude.{◌≡◌, ℕ, ◌<◌, ◌↔◌, List, [], leng
 use Rattle.std.specs.Io.KnownBytes.{IsAtEnd}
 use Rattle.vchan_io.specs.Counts.{Rose}
 use Rattle.vchan_io.specs.Streams.{Takes, Appends, AppendsProperPrefix}
-use Rattle.step_script.specs.Script.{StepLine}
-use Rattle.step_script.specs.Grammar.{script_of}
-use Rattle.step_script.specs.ListScript.{ToldByLists}
-use Rattle.step_script.specs.Played.{step_text}
+use Rattle.step_script.specs.Language.Script.{StepLine}
+use Rattle.step_script.specs.Language.Grammar.{script_of}
+use Rattle.step_script.specs.Meaning.ListScript.{ToldByLists}
+use Rattle.step_script.specs.Meaning.Played.{step_text}
 use Rattle.step_script.specs.declared.error.ScriptKind.{ScriptKind}
 use Rattle.stream_text.specs.Texts.{decoded}
 use Rattle.stream_text.specs.declared.error.DecodeKind.{DecodeKind}

@@ -1,0 +1,2 @@
+-- What a machine still does of its call.
+pub mod Phases
