@@ -13,6 +13,7 @@ mod phase;
 mod plain;
 mod steps;
 mod totals;
+mod whole_call;
 mod words;
 
 pub use machine::Machine;

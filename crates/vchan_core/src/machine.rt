@@ -1,12 +1,12 @@
 use crate::phase::{Next, Phase};
-use crate::words::{cons_word, low8, low16, low32, mask, peer_pending, prod_word};
+use crate::words::{
+    ask_word, cons_word, mask, notify_word, own_gone, own_live, own_pending, peer_gone, peer_live,
+    peer_pending, prod_word, read_ring, written_ring,
+};
 use ring_words::{Orders, Ring, Role, WordName, place, ready, room};
 use vchan_protocol::{Answer, Bit, Call, EndState, Op};
 
-mod events;
-mod looks;
-mod moves;
-mod pieces;
+pub(crate) mod outcomes;
 
 /// One end of a channel, as a pure machine: it says which event comes next, and takes the value
 /// that the event took. It holds no page, so the same machine drives a plain page and a shared one.
@@ -15,12 +15,12 @@ mod pieces;
 /// that overwrites them changes nothing.
 #[derive(Clone, Copy, Debug)]
 pub struct Machine {
-    role: Role,
-    orders: Orders,
-    state: EndState,
-    prod: u32,
-    cons: u32,
-    phase: Option<Phase>,
+    pub(crate) role: Role,
+    pub(crate) orders: Orders,
+    pub(crate) state: EndState,
+    pub(crate) prod: u32,
+    pub(crate) cons: u32,
+    pub(crate) phase: Option<Phase>,
 }
 
 impl Machine {
@@ -29,7 +29,7 @@ impl Machine {
     ghost use Rattle.ring_words.specs.Rings.{place as place_of};
     ghost use Rattle.vchan_protocol.specs.Table.Apply.{Fits};
     ghost use Rattle.vchan_protocol.specs.Table.Plan.{next_op, after, rest_after, past};
-    ghost use Rattle.vchan_protocol.specs.Table.Ends.{Standing, written_ring, read_ring, ask_word, notify_word, peer_live, peer_pending as peer_pending_of, prod_word as prod_word_of, cons_word as cons_word_of, mask as mask_of, own_live, own_gone, own_pending, peer_gone, free_at, ready_at, read_size, standing_after};
+    ghost use Rattle.vchan_protocol.specs.Table.Ends.{Standing, written_ring as written_ring_of, read_ring as read_ring_of, ask_word as ask_word_of, notify_word as notify_word_of, peer_live as peer_live_of, peer_pending as peer_pending_of, prod_word as prod_word_of, cons_word as cons_word_of, mask as mask_of, own_live as own_live_of, own_gone as own_gone_of, own_pending as own_pending_of, peer_gone as peer_gone_of, free_at, ready_at, read_size, standing_after};
     ghost use Rattle.vchan_protocol.specs.Table.Calls.{plan_of, payload_of, loaded_most, IsAllowed};
     ghost use Rattle.vchan_core.specs.OneMachine.Phases.{standing, rest, rest_at, plan_at, rest_or_answer, IsIdle, Allows, payload_at, buffer_at, payload_needed, buffer_needed, payload_next, buffer_next, Stands, StandsOrAnswered};
     ghost use Rattle.vchan_protocol.specs.declared.call.Call.{Call};
@@ -215,7 +215,7 @@ impl Machine {
 
     /// What comes of the event of a phase, which is taken into its own counts and its state.
     #[inline(always)]
-    fn advanced(&mut self, phase: Phase, value: u64) -> Next
+    pub(crate) fn advanced(&mut self, phase: Phase, value: u64) -> Next
         ensures rest { plan_at (standing self.new) result ≡ after (rest_at (standing self.old) phase) value }
         ensures phase { self.new.phase ≡ self.old.phase }
         ensures standing { standing self.new ≡ standing_after (standing self.old) (next_op (rest_at (standing self.old) phase)) }
@@ -266,7 +266,7 @@ impl Machine {
 
     #[tactic(auto, using(vchan_protocol::proofs::Table::PlanLaws::bytes_laws), unfolding(crate::specs::OneMachine::Phases::rest_at, vchan_protocol::specs::Table::Calls::write, vchan_protocol::specs::Table::Calls::write_open, vchan_protocol::specs::Table::Calls::read, vchan_protocol::specs::Table::Calls::read_live, vchan_protocol::specs::Table::Calls::send, vchan_protocol::specs::Table::Calls::send_open, vchan_protocol::specs::Table::Calls::recv, vchan_protocol::specs::Table::Calls::recv_live, vchan_protocol::specs::Table::Calls::drain, vchan_protocol::specs::Table::Calls::drain_second, vchan_protocol::specs::Table::Calls::drain_live, vchan_protocol::specs::Table::Calls::drain_further, vchan_protocol::specs::Table::Calls::drain_gone, vchan_protocol::specs::Table::Calls::drain_last, vchan_protocol::specs::Table::Calls::connect, vchan_protocol::specs::Table::Calls::connect_right))]
     #[inline(always)]
-    fn op_at(&self, phase: Phase) -> Op
+    pub(crate) fn op_at(&self, phase: Phase) -> Op
         ensures op { result ≡ next_op (rest_at (standing self.now) phase) }
         ensures some { result ≢ Op.Nothing }
         ensures fits { Fits self.now.orders (payload_at phase) (buffer_at (read_size (standing self.now)) phase) result }
@@ -321,7 +321,7 @@ impl Machine {
     }
 
     fn look_read(&self) -> Op
-        ensures { result ≡ Op.Load (prod_word_of (read_ring self.now.role)) }
+        ensures { result ≡ Op.Load (prod_word_of (read_ring_of self.now.role)) }
     {
         Op::Load {
             word: prod_word(self.read()),
@@ -329,7 +329,7 @@ impl Machine {
     }
 
     fn look_write(&self) -> Op
-        ensures { result ≡ Op.Load (cons_word_of (written_ring self.now.role)) }
+        ensures { result ≡ Op.Load (cons_word_of (written_ring_of self.now.role)) }
     {
         Op::Load {
             word: cons_word(self.written()),
@@ -382,7 +382,7 @@ impl Machine {
     #[tactic(auto, using(ring_words::proofs::RingLaws::place_wraps))]
     fn put_word(&self, at: u32) -> WordName
         ensures has { Has self.now.orders result }
-        ensures word { let ring = written_ring self.now.role in result ≡ WordName.RingByte ring (place_of (self.now.prod + at) (order_of self.now.orders ring)) }
+        ensures word { let ring = written_ring_of self.now.role in result ≡ WordName.RingByte ring (place_of (self.now.prod + at) (order_of self.now.orders ring)) }
     {
         let ring = self.written();
         WordName::RingByte {
@@ -395,7 +395,7 @@ impl Machine {
     #[tactic(auto, using(ring_words::proofs::RingLaws::place_wraps))]
     fn take_word(&self, at: u32) -> WordName
         ensures has { Has self.now.orders result }
-        ensures word { let ring = read_ring self.now.role in result ≡ WordName.RingByte ring (place_of (self.now.cons + at) (order_of self.now.orders ring)) }
+        ensures word { let ring = read_ring_of self.now.role in result ≡ WordName.RingByte ring (place_of (self.now.cons + at) (order_of self.now.orders ring)) }
     {
         let ring = self.read();
         WordName::RingByte {
@@ -405,99 +405,63 @@ impl Machine {
     }
 
     fn ask(&self, bit: Bit) -> Op
-        ensures { result ≡ Op.Or (ask_word self.now.role) (mask_of bit) }
+        ensures { result ≡ Op.Or (ask_word_of self.now.role) (mask_of bit) }
     {
-        let word = match self.role {
-            Role::Server => WordName::CliNotify,
-            Role::Client => WordName::SrvNotify,
-        };
         Op::Or {
-            word,
+            word: ask_word(self.role),
             bits: mask(bit),
         }
     }
 
     fn notify(&self, bit: Bit) -> Op
-        ensures { result ≡ Op.And (notify_word self.now.role) (18446744073709551615 - mask_of bit) }
+        ensures { result ≡ Op.And (notify_word_of self.now.role) (18446744073709551615 - mask_of bit) }
     {
-        let word = match self.role {
-            Role::Server => WordName::SrvNotify,
-            Role::Client => WordName::CliNotify,
-        };
         Op::And {
-            word,
+            word: notify_word(self.role),
             bits: u64::MAX - mask(bit),
         }
     }
 
     fn load_live(&self) -> Op
-        ensures { result ≡ Op.Load (peer_live self.now.role) }
+        ensures { result ≡ Op.Load (peer_live_of self.now.role) }
     {
-        match self.role {
-            Role::Server => Op::Load {
-                word: WordName::CliLive,
-            },
-            Role::Client => Op::Load {
-                word: WordName::SrvLive,
-            },
+        Op::Load {
+            word: peer_live(self.role),
         }
     }
 
     fn load_gone(&self) -> Op
-        ensures { result ≡ Op.Load (peer_gone self.now.role) }
+        ensures { result ≡ Op.Load (peer_gone_of self.now.role) }
     {
-        match self.role {
-            Role::Server => Op::Load {
-                word: WordName::CliGone,
-            },
-            Role::Client => Op::Load {
-                word: WordName::SrvGone,
-            },
+        Op::Load {
+            word: peer_gone(self.role),
         }
     }
 
     fn store_live(&self) -> Op
-        ensures { result ≡ Op.Store (own_live self.now.role) 0 }
+        ensures { result ≡ Op.Store (own_live_of self.now.role) 0 }
     {
-        match self.role {
-            Role::Server => Op::Store {
-                word: WordName::SrvLive,
-                value: 0,
-            },
-            Role::Client => Op::Store {
-                word: WordName::CliLive,
-                value: 0,
-            },
+        Op::Store {
+            word: own_live(self.role),
+            value: 0,
         }
     }
 
     fn store_gone(&self) -> Op
-        ensures { result ≡ Op.Store (own_gone self.now.role) 1 }
+        ensures { result ≡ Op.Store (own_gone_of self.now.role) 1 }
     {
-        match self.role {
-            Role::Server => Op::Store {
-                word: WordName::SrvGone,
-                value: 1,
-            },
-            Role::Client => Op::Store {
-                word: WordName::CliGone,
-                value: 1,
-            },
+        Op::Store {
+            word: own_gone(self.role),
+            value: 1,
         }
     }
 
     fn take_pending(&self) -> Op
-        ensures { result ≡ Op.Swap (own_pending self.now.role) 0 }
+        ensures { result ≡ Op.Swap (own_pending_of self.now.role) 0 }
     {
-        match self.role {
-            Role::Server => Op::Swap {
-                word: WordName::SrvPending,
-                value: 0,
-            },
-            Role::Client => Op::Swap {
-                word: WordName::CliPending,
-                value: 0,
-            },
+        Op::Swap {
+            word: own_pending(self.role),
+            value: 0,
         }
     }
 
@@ -513,40 +477,52 @@ impl Machine {
     // ---- its rings
 
     fn written(&self) -> Ring
-        ensures { result ≡ written_ring self.now.role }
+        ensures { result ≡ written_ring_of self.now.role }
     {
-        self.written_as(self.role)
+        written_ring(self.role)
     }
 
     fn read(&self) -> Ring
-        ensures { result ≡ read_ring self.now.role }
+        ensures { result ≡ read_ring_of self.now.role }
     {
-        self.read_as(self.role)
+        read_ring(self.role)
     }
 
-    /// The ring that it writes, for a caller that knows its role.
+    // ---- the same, for a caller that knows its role
+
     #[inline(always)]
-    fn written_as(&self, role: Role) -> Ring
+    pub(crate) fn written_as(&self, role: Role) -> Ring
         requires { self.now.role ≡ role }
-        ensures { result ≡ written_ring self.now.role }
+        ensures { result ≡ written_ring_of self.now.role }
     {
-        match role {
-            Role::Server => Ring::Right,
-            Role::Client => Ring::Left,
-        }
+        written_ring(role)
     }
 
-    /// The ring that it reads, for a caller that knows its role.
     #[inline(always)]
-    fn read_as(&self, role: Role) -> Ring
+    pub(crate) fn read_as(&self, role: Role) -> Ring
         requires { self.now.role ≡ role }
-        ensures { result ≡ read_ring self.now.role }
+        ensures { result ≡ read_ring_of self.now.role }
     {
-        match role {
-            Role::Server => Ring::Left,
-            Role::Client => Ring::Right,
-        }
+        read_ring(role)
     }
+
+    #[inline(always)]
+    pub(crate) fn live_as(&self, role: Role) -> WordName
+        requires { self.now.role ≡ role }
+        ensures { result ≡ peer_live_of self.now.role }
+    {
+        peer_live(role)
+    }
+
+    #[inline(always)]
+    pub(crate) fn notify_as(&self, role: Role) -> WordName
+        requires { self.now.role ≡ role }
+        ensures { result ≡ notify_word_of self.now.role }
+    {
+        notify_word(role)
+    }
+
+    // ---- what an index that it loads tells
 
     fn free(&self, cons: u32) -> u32
         ensures { result ≡ free_at (standing self.now) cons }

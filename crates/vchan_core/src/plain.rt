@@ -19,11 +19,11 @@ use vchan_protocol::{Answer, Call, EndState};
 /// core state has the page's words and all that each end has done.
 #[derive(Drop)]
 pub struct Plain {
-    words: Words,
-    server: Machine,
-    client: Machine,
-    left: Totals,
-    right: Totals,
+    pub(crate) words: Words,
+    pub(crate) server: Machine,
+    pub(crate) client: Machine,
+    pub(crate) left: Totals,
+    pub(crate) right: Totals,
     server_turned: bool,
     client_turned: bool,
     ghost server_orders: { server.orders ≡ words.orders },
@@ -35,7 +35,8 @@ pub struct Plain {
 impl Plain {
     ghost use Rattle.vchan_protocol.specs.Table.Apply.{Fits, words_after, value_taken, buffer_after, filled};
     ghost use Rattle.vchan_protocol.specs.Table.Plan.{after, next_op, past};
-    ghost use Rattle.vchan_protocol.specs.Table.Ends.{Standing, read_size, peer_pending as peer_pending_of};
+    ghost use Rattle.vchan_protocol.specs.Table.Ends.{Standing, standing_after, peer_pending as peer_pending_of};
+    ghost use Rattle.ring_words.specs.Rings.{diff};
     ghost use Rattle.vchan_protocol.specs.Table.Calls.{plan_of, payload_of, loaded_most, most_events, Trace};
     ghost use Rattle.vchan_core.specs.OneMachine.Phases.{standing, at_phase, rest, rest_at, plan_at, rest_or_answer, IsIdle, Allows, payload_needed, buffer_needed, payload_at, buffer_at, payload_next, buffer_next, Stands, StandsOrAnswered};
     ghost use Rattle.vchan_protocol.specs.History.Core.{Core, opened, begun, event, side_of, writer_of, reader_of, plan_next, answer_in, bytes_loaded};
@@ -267,152 +268,35 @@ impl Plain {
         let op = self.machine(who).next();
         let value = carry_out(&mut self.words, op, payload, buf);
         match who {
-            Role::Server => Totals::took(&mut self.server, value, &mut self.right, &mut self.left),
-            Role::Client => Totals::took(&mut self.client, value, &mut self.left, &mut self.right),
+            Role::Server => Plain::took(&mut self.server, value, &mut self.right, &mut self.left),
+            Role::Client => Plain::took(&mut self.client, value, &mut self.left, &mut self.right),
         }
     }
 
-    /// The phase with which a call of an end begins.
+    /// Hands the value of an event to the end that made it, and counts what the event moved: an own
+    /// index that moves on shows that many bytes, or releases the places of that many.
     #[inline(always)]
-    fn first(&self, who: Role, call: Call) -> Phase
-        requires { IsIdle (machine_of self.now who) }
-        ensures stands { (core : Core) (payload : List ℕ) → StandsFor core self.now → length payload ≡ payload_of call → StandsFor (begun core who call payload) (page_at self.now who result) }
-        ensures plan { rest_at (standing (machine_of self.now who)) result ≡ plan_of (standing (machine_of self.now who)) call }
-        ensures payload_left { payload_at result ≤ payload_of call }
-        ensures buffer_left { buffer_at (read_size (standing (machine_of self.now who))) result ≤ loaded_most (standing (machine_of self.now who)) call }
+    fn took(
+        machine: &mut Machine,
+        value: u64,
+        writes: &mut Totals,
+        reads: &mut Totals,
+    ) -> Option<Answer>
+        requires { ¬ IsIdle machine.old }
+        ensures sent { writes.new ≡ record writes.old { sent = capped (writes.old.sent + diff (standing machine.new).prod (standing machine.old).prod) } }
+        ensures got { reads.new ≡ record reads.old { got = capped (reads.old.got + diff (standing machine.new).cons (standing machine.old).cons) } }
+        ensures low { ((standing machine.old).prod < 2 ^ 32) × ((standing machine.old).cons < 2 ^ 32) }
+        ensures rest { rest_or_answer result machine.new ≡ after (rest machine.old) value }
+        ensures idle { IsSome result ↔ IsIdle machine.new }
+        ensures standing { standing machine.new ≡ standing_after (standing machine.old) (next_op (rest machine.old)) }
+        ensures payload_left { payload_needed machine.new ≤ payload_needed machine.old }
+        ensures buffer_left { buffer_needed machine.new ≤ buffer_needed machine.old }
+        ensures past { (begun : Standing) → (call : Call) → (events : List PastEvent) → Stands begun call events machine.old
+            → StandsOrAnswered begun call (events ++ past (next_op (rest machine.old)) value ∷ []) result machine.new }
     {
-        match who {
-            Role::Server => self.server.first(call),
-            Role::Client => self.client.first(call),
-        }
-    }
-
-    /// The looks of an end that come next in a write or a read, and that give no answer. It answers
-    /// how many they were, and the phase then.
-    #[inline(always)]
-    fn look_ahead(&self, who: Role, phase: Phase) -> (u32, Phase)
-        ensures low { ((standing (machine_of self.now who)).prod < 2 ^ 32) × ((standing (machine_of self.now who)).cons < 2 ^ 32) }
-        ensures events { (payload : List ℕ) → (buffer : List ℕ)
-            → MakesEvents result.0 (orders_of self.now) payload (at_phase (machine_of self.now who) phase) (words_of self.now) buffer (at_phase (machine_of self.now who) result.1) (words_of self.now) buffer }
-    {
-        match who {
-            Role::Server => self.server.look_ahead(who, phase, &self.words),
-            Role::Client => self.client.look_ahead(who, phase, &self.words),
-        }
-    }
-
-    /// The events of an end that come next as long as they are all on bytes of one piece of a ring.
-    /// It answers how many they were, and the phase then; none gives an answer.
-    #[inline(always)]
-    fn move_piece(
-        &mut self,
-        who: Role,
-        phase: Phase,
-        payload: &[u8],
-        buf: &mut [u8],
-    ) -> (u32, Phase)
-        requires payload { payload_at phase ≤ length payload.now }
-        requires buf { buffer_at (read_size (standing (machine_of self.old who))) phase ≤ length buf.old }
-        ensures page { IsBeside who self.old self.new }
-        ensures machine { machine_of self.new who ≡ machine_of self.old who }
-        ensures low { ((standing (machine_of self.old who)).prod < 2 ^ 32) × ((standing (machine_of self.old who)).cons < 2 ^ 32) }
-        ensures events { MakesEvents result.0 (orders_of self.old) payload.now (at_phase (machine_of self.old who) phase) (words_of self.old) buf.old (at_phase (machine_of self.old who) result.1) (words_of self.new) buf.new }
-    {
-        match who {
-            Role::Server => self
-                .server
-                .move_piece(who, phase, &mut self.words, payload, buf),
-            Role::Client => self
-                .client
-                .move_piece(who, phase, &mut self.words, payload, buf),
-        }
-    }
-
-    /// One event of an end at a phase of its call. Its machine knows of no call, and takes only its
-    /// own counts and its state from the event.
-    #[inline(always)]
-    fn event(&mut self, who: Role, phase: Phase, payload: &[u8], buf: &mut [u8]) -> Next
-        requires idle { IsIdle (machine_of self.old who) }
-        requires payload { payload_at phase ≤ length payload.now }
-        requires buf { buffer_at (read_size (standing (machine_of self.old who))) phase ≤ length buf.old }
-        ensures stands { (core : Core) → StandsFor core (page_at self.old who phase) → HasPayload (side_of core who) payload.now → StandsFor (event core who) (page_to self.new who result) }
-        ensures footprint { Fits (orders_of self.old) (length payload.now) (length buf.old) (next_op (rest_at (standing (machine_of self.old who)) phase)) }
-        ensures buffer { buf.new ≡ buffer_after (orders_of self.old) (words_of self.old) buf.old (next_op (rest_at (standing (machine_of self.old who)) phase)) }
-        ensures rest { plan_at (standing (machine_of self.new who)) result ≡ after (rest_at (standing (machine_of self.old who)) phase) (value_taken (orders_of self.old) (words_of self.old) (next_op (rest_at (standing (machine_of self.old who)) phase))) }
-        ensures idle { IsIdle (machine_of self.new who) }
-        ensures payload_left { payload_next result ≤ payload_at phase }
-        ensures buffer_left { buffer_next (read_size (standing (machine_of self.new who))) result ≤ buffer_at (read_size (standing (machine_of self.old who))) phase }
-        ensures other { other_of self.new who ≡ other_of self.old who }
-    {
-        match who {
-            Role::Server => self.server.event(
-                who,
-                phase,
-                &mut self.words,
-                payload,
-                buf,
-                &mut self.right,
-                &mut self.left,
-            ),
-            Role::Client => self.client.event(
-                who,
-                phase,
-                &mut self.words,
-                payload,
-                buf,
-                &mut self.left,
-                &mut self.right,
-            ),
-        }
-    }
-
-    /// A whole call of an end; `steps` counts its events. The conditions are those of `begin` and
-    /// `step`. It makes at most `7 + min(n, size)` events for a request of n bytes, and a drain at
-    /// most `10 + min(n, size)`, whatever the page holds. Between two honest ends it is a call on
-    /// lists, of what was sent and got.
-    pub fn run_call<L: Ledger>(
-        &mut self,
-        who: Role,
-        call: Call,
-        payload: &[u8],
-        buf: &mut [u8],
-        steps: &mut Steps<L>,
-    ) -> Answer
-        requires honest { turned_of self.old who ≡ false }
-        requires allowed { Allows (machine_of self.old who) call }
-        requires payload { payload_of call ≤ length payload.now }
-        requires buf { loaded_most (standing (machine_of self.old who)) call ≤ length buf.old }
-        ensures stands { (core : Core) → StandsFor core self.old → StandsFor (called core who call (take (payload_of call) payload.now)) self.new }
-        ensures invariant { (core : Core) → StandsFor core self.old → Invariant core → Invariant (called core who call (take (payload_of call) payload.now)) }
-        ensures answer { (core : Core) → StandsFor core self.old → result ≡ call_answer core who call (take (payload_of call) payload.now) }
-        ensures buffer { (core : Core) → StandsFor core self.old
-            → buf.new ≡ filled buf.old (bytes_loaded (side_of (called core who call (take (payload_of call) payload.now)) who).trail) }
-        ensures lists { (core : Core) → StandsFor core self.old → Lawful core → FollowsLists core who call (take (payload_of call) payload.now) }
-        ensures trace { (events : List PastEvent) × Trace (standing (machine_of self.old who)) call events result × (steps.new ≡ steps.old + length events)
-            × ((core : Core) → StandsFor core self.old → events ≡ (side_of (called core who call (take (payload_of call) payload.now)) who).trail) }
-        ensures bound { steps.new ≤ steps.old + most_events (standing (machine_of self.old who)) call }
-        ensures idle { IsIdle (machine_of self.new who) }
-        ensures other { other_of self.new who ≡ other_of self.old who }
-    {
-        let mut phase = self.first(who, call);
-        'events: loop {
-            let (looks, looked) = self.look_ahead(who, phase);
-            steps.add(looks);
-            let (moved, at) = self.move_piece(who, looked, payload, buf);
-            steps.add(moved);
-            steps.tick();
-            match self.event(who, at, payload, buf) {
-                // An index is stored: the event that looks whether the peer asked follows at once.
-                Next::To(Phase::Notify { bit, answer }) => {
-                    steps.tick();
-                    match self.event(who, Phase::Notify { bit, answer }, payload, buf) {
-                        Next::To(next) => phase = next,
-                        Next::Done(answer) => return answer,
-                    }
-                }
-                Next::To(next) => phase = next,
-                Next::Done(answer) => return answer,
-            }
-        }
+        let before = machine.counts();
+        let answer = machine.took(value);
+        Totals::count(before, machine.counts(), writes, reads);
+        answer
     }
 }

@@ -1,6 +1,6 @@
-//! The words of a ring and of a notify byte, and the bits that a load takes.
+//! Which words and rings are whose, by role, and the bits that a load takes.
 ghost use Rattle.std.specs.Prelude.{◌≡◌, ◌<◌, ◌^◌, ◌≤◌};
-ghost use Rattle.vchan_protocol.specs.Table.Ends.{prod_word as prod_word_of, cons_word as cons_word_of, peer_pending as peer_pending_of, mask as mask_of, low8 as low8_of, low16 as low16_of, low32 as low32_of};
+ghost use Rattle.vchan_protocol.specs.Table.Ends.{prod_word as prod_word_of, cons_word as cons_word_of, written_ring as written_ring_of, read_ring as read_ring_of, ask_word as ask_word_of, notify_word as notify_word_of, peer_live as peer_live_of, own_live as own_live_of, own_pending as own_pending_of, peer_pending as peer_pending_of, own_gone as own_gone_of, peer_gone as peer_gone_of, mask as mask_of, low8 as low8_of, low16 as low16_of, low32 as low32_of};
 
 use ring_words::{Ring, Role, WordName};
 use vchan_protocol::Bit;
@@ -25,13 +25,113 @@ pub(crate) fn cons_word(ring: Ring) -> WordName
     }
 }
 
+/// The ring that an end writes.
+#[inline(always)]
+pub(crate) fn written_ring(role: Role) -> Ring
+    ensures { result ≡ written_ring_of role }
+{
+    match role {
+        Role::Server => Ring::Right,
+        Role::Client => Ring::Left,
+    }
+}
+
+/// The ring that an end reads.
+#[inline(always)]
+pub(crate) fn read_ring(role: Role) -> Ring
+    ensures { result ≡ read_ring_of role }
+{
+    match role {
+        Role::Server => Ring::Left,
+        Role::Client => Ring::Right,
+    }
+}
+
+/// The word in which an end asks to be signalled.
+#[inline(always)]
+pub(crate) fn ask_word(role: Role) -> WordName
+    ensures { result ≡ ask_word_of role }
+{
+    match role {
+        Role::Server => WordName::CliNotify,
+        Role::Client => WordName::SrvNotify,
+    }
+}
+
+/// The word in which an end's peer has asked to be signalled.
+#[inline(always)]
+pub(crate) fn notify_word(role: Role) -> WordName
+    ensures { result ≡ notify_word_of role }
+{
+    match role {
+        Role::Server => WordName::SrvNotify,
+        Role::Client => WordName::CliNotify,
+    }
+}
+
+/// An end's own live byte.
+#[inline(always)]
+pub(crate) fn own_live(role: Role) -> WordName
+    ensures { result ≡ own_live_of role }
+{
+    match role {
+        Role::Server => WordName::SrvLive,
+        Role::Client => WordName::CliLive,
+    }
+}
+
+/// The live byte of an end's peer.
+#[inline(always)]
+pub(crate) fn peer_live(role: Role) -> WordName
+    ensures { result ≡ peer_live_of role }
+{
+    match role {
+        Role::Server => WordName::CliLive,
+        Role::Client => WordName::SrvLive,
+    }
+}
+
+/// The word that says that an end is signalled.
+#[inline(always)]
+pub(crate) fn own_pending(role: Role) -> WordName
+    ensures { result ≡ own_pending_of role }
+{
+    match role {
+        Role::Server => WordName::SrvPending,
+        Role::Client => WordName::CliPending,
+    }
+}
+
 /// The word that signals an end's peer.
+#[inline(always)]
 pub(crate) fn peer_pending(role: Role) -> WordName
     ensures { result ≡ peer_pending_of role }
 {
     match role {
         Role::Server => WordName::CliPending,
         Role::Client => WordName::SrvPending,
+    }
+}
+
+/// The word in which an end says that it has retired.
+#[inline(always)]
+pub(crate) fn own_gone(role: Role) -> WordName
+    ensures { result ≡ own_gone_of role }
+{
+    match role {
+        Role::Server => WordName::SrvGone,
+        Role::Client => WordName::CliGone,
+    }
+}
+
+/// The word in which an end's peer says that it has retired.
+#[inline(always)]
+pub(crate) fn peer_gone(role: Role) -> WordName
+    ensures { result ≡ peer_gone_of role }
+{
+    match role {
+        Role::Server => WordName::CliGone,
+        Role::Client => WordName::SrvGone,
     }
 }
 

@@ -1,6 +1,6 @@
 -- A machine's event is the event of each end that it stands for.
 use Rattle.std.proofs.Common.{◌≡◌, ℕ, ◌+◌, ◌-◌, ◌%◌, ◌^◌, ◌<◌, ◌≤◌, ◌↔◌, min, Option, Some, None, IsSome, List, [], ◌∷◌, ◌++◌, length, take, slice_index, slice_set, refl, subst, sym, ap, ◌∙◌, arith}
-use Rattle.std.proofs.lemmas.List.{get_or-take, length-take, length-append}
+use Rattle.std.proofs.lemmas.List.{length-take, length-append}
 use Rattle.std.proofs.lemmas.Bool.{false≢true}
 use Rattle.std.proofs.lemmas.Bool.Decides.{nat_tests}
 use Rattle.ring_words.specs.Rings.{diff}
@@ -10,12 +10,12 @@ use Rattle.ring_words.specs.declared.page.Role.{Role}
 use Rattle.ring_words.specs.declared.page.Role.TheVariants.{Server, Client}
 use Rattle.ring_words.specs.declared.page.WordName.{WordName}
 use Rattle.ring_words.specs.declared.page.WordName.TheVariants.{LeftCons, LeftProd, RightCons, RightProd}
-use Rattle.ring_words.specs.Page.{index_of}
 use Rattle.vchan_protocol.specs.declared.op.Op.{Op}
 use Rattle.vchan_protocol.specs.declared.op.Op.TheVariants.{Load, LoadByte, Store, StoreByte, Or, And, Swap, Nothing}
 use Rattle.vchan_protocol.specs.declared.op.PastEvent.{PastEvent}
 use Rattle.vchan_protocol.specs.declared.call.Answer.{Answer}
 use Rattle.vchan_protocol.specs.declared.call.Answer.TheVariants.{Done}
+use Rattle.vchan_protocol.specs.declared.call.Call.{Call}
 use Rattle.vchan_protocol.specs.declared.side.Side.{Side}
 use Rattle.vchan_protocol.specs.declared.side.Begun.{Begun}
 use Rattle.vchan_core.specs.declared.machine.Machine.{Machine}
@@ -27,16 +27,16 @@ use Rattle.vchan_core.specs.declared.plain.Plain.{Plain}
 use Rattle.vchan_protocol.specs.Table.Plan.{Plan, answers, does, next_op, after, rest_after, past, Leads, GoesOn}
 use Rattle.vchan_protocol.specs.Table.Ends.{Standing, standing_after, prod_stored, cons_stored, prod_after, cons_after}
 use Rattle.vchan_protocol.specs.Table.Calls.{plan_of, payload_of, stored_most, loaded_most}
-use Rattle.vchan_protocol.specs.Table.Apply.{words_after, value_taken}
+use Rattle.vchan_protocol.specs.Table.Apply.{words_after, word_of, value_taken}
 use Rattle.vchan_core.specs.OneMachine.Phases.{standing, at_phase, rest, rest_at, plan_at, rest_or_answer, IsIdle}
-use Rattle.vchan_protocol.specs.History.Core.{Core, side_of, event, plan_next, begun_standing, standing_of, standing_along, plan_left, made, settled, answered, answer_in, count_stored, bytes_loaded, sent_stored, sent_after, got_stored, got_after}
+use Rattle.vchan_protocol.specs.History.Core.{Core, side_of, event, plan_next, begun_standing, standing_of, standing_along, plan_left, begins, side_after, made, settled, answered, answer_in, count_stored, bytes_loaded, sent_stored, sent_after, got_stored, got_after}
 use Rattle.vchan_core.specs.Page.Counts.{capped}
 use Rattle.vchan_core.specs.WholeCall.AtPhase.{page_at, page_to}
 use Rattle.vchan_core.specs.Page.StandsFor.{IsInCall, IsMachineOf, HasPayload, StandsFor, orders_of, words_of}
 use Rattle.vchan_protocol.proofs.Table.PlanLaws.{Leads-more, rest_after-Leads}
 use Rattle.vchan_core.proofs.OneMachine.PhaseLaws.{GoesOn-machine}
 use Rattle.vchan_protocol.proofs.Table.Counted.{Counted, OwesIndex, counted_call, counts_within, Counted-Leads}
-use Rattle.vchan_protocol.proofs.History.EventLaws.{owes_next, stored_most-payload, most_small, OwesNext, settled-on, settled-sent, settled-got, settled-turned, standing_of-made, standing_along-push, prod-after, cons-after, diff-same, side_by, event_by}
+use Rattle.vchan_protocol.proofs.History.EventLaws.{owes_next, leaves_same, stored_most-payload, most_small, OwesNext, settled-on, settled-sent, settled-got, settled-turned, standing_of-made, standing_along-push, prod-after, cons-after, diff-same, side_by, event_by}
 
 -- the call that a busy machine is in, as a record
 pub record InCall (s : Side) (m : Machine) : Type 0 where
@@ -79,17 +79,8 @@ owed s m c busy =
 -- the bytes that an end stores are those of its payload
 pub words_same : (s : Side) (b : Begun) (orders : Orders) (words source : List ℕ) (op : Op) → length s.payload ≡ payload_of b.call → HasPayload s source → OwesNext s b op →
     words_after orders words source op ≡ words_after orders words s.payload op
-words_same s b orders words source (StoreByte word at) pays has owes =
-    let within : at < length s.payload = omega (arith, owes.1, pays, stored_most-payload (begun_standing s b) b.call) in
-    let same : slice_index source at ≡ slice_index s.payload at = sym (get_or-take (length s.payload) source at 0 within) ∙ ap (λ (xs : List ℕ). slice_index xs at) has in
-    ap (λ (v : ℕ). slice_set words (index_of orders word) v) same
-words_same s b orders words source (Load word) pays has owes = refl
-words_same s b orders words source (LoadByte word at) pays has owes = refl
-words_same s b orders words source (Store word value) pays has owes = refl
-words_same s b orders words source (Or word bits) pays has owes = refl
-words_same s b orders words source (And word bits) pays has owes = refl
-words_same s b orders words source (Swap word value) pays has owes = refl
-words_same s b orders words source Nothing pays has owes = refl
+words_same s b orders words source op pays has owes =
+    sym (ap (λ (value : ℕ). slice_set words (word_of orders op) value) (leaves_same s b source op pays has owes (slice_index words (word_of orders op))))
 
 -- ---- the machine and its end
 
@@ -326,6 +317,25 @@ answer_is core who orders words m m' result h same_orders same_words busy leads 
     leads ∙ ap (λ (o : Orders). after (rest m) (value_taken o words (next_op (rest m)))) same_orders ∙ ap (λ (w : List ℕ). after (rest m) (value_taken core.orders w (next_op (rest m)))) same_words in
     sym (answer_in-rest m' result idle) ∙ ap answer_in there
     ∙ ap (λ (plan : Plan). answer_in (after plan (value_taken core.orders core.words (next_op plan)))) (sym (plan_left-is (side_of core who) m (in_call (side_of core who) m h busy)))
+
+-- ---- the machine of one end, whatever its peer is
+
+-- a machine that was begun on a call, and has made no event of it yet, stands for its end once the call is written into that
+pub begins_stands : (call : Call) (m : Machine) (s : Side) (payload : List ℕ) → ¬ IsIdle m → standing m ≡ standing_of s → rest m ≡ plan_of (standing m) call → length payload ≡ payload_of call →
+    IsMachineOf (begins s call payload) m
+begins_stands call m s payload busy stands plan pays =
+    let led : plan_of (standing_of s) call ≡ rest m = sym (plan ∙ ap (λ (e : Standing). plan_of e call) stands) in
+    record { standing_is = stands; in_call = (busy, led, pays, refl) }
+
+-- after its event it stands for the end after that event, and the answer is the one that is left
+pub steps_stand : (s : Side) (m m' : Machine) (result : Option Answer) (taken : ℕ) → IsMachineOf s m → ¬ IsIdle m →
+    rest_or_answer result m' ≡ after (rest m) taken → (IsSome result ↔ IsIdle m') → standing m' ≡ standing_after (standing m) (next_op (rest m)) →
+    IsMachineOf (side_after s taken) m' × (result ≡ answer_in (after (plan_left s) taken))
+steps_stand s m m' result taken h busy leads idle stands =
+    let plan : plan_left s ≡ rest m = plan_left-is s m (in_call s m h busy) in (
+      subst (λ (p : Plan). IsMachineOf (settled (made s (next_op p) taken) (after p taken)) m') (sym plan) (made_stands s m m' result taken h busy leads idle stands),
+      sym (answer_in-rest m' result idle) ∙ ap answer_in leads ∙ ap (λ (p : Plan). answer_in (after p taken)) (sym plan),
+    )
 
 -- ---- for the code
 

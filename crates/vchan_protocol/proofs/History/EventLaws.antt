@@ -1,6 +1,7 @@
 -- The next event of an end: what it owes, and how the end and the core state stand after it.
-use Rattle.std.proofs.Common.{◌≡◌, ℕ, ◌^◌, ◌<◌, ◌≤◌, List, [], ◌∷◌, ◌++◌, length, refl, sym, ap, ◌∙◌, arith}
+use Rattle.std.proofs.Common.{◌≡◌, ℕ, ◌^◌, ◌<◌, ◌≤◌, List, [], ◌∷◌, ◌++◌, length, take, slice_index, refl, sym, ap, ◌∙◌, arith}
 use Rattle.std.proofs.lemmas.Bool.Decides.{nat_tests}
+use Rattle.std.proofs.lemmas.List.{get_or-take}
 use Rattle.ring_words.specs.Rings.{diff}
 use Rattle.ring_words.proofs.RingLaws.{size-within}
 use Rattle.ring_words.specs.declared.order.Orders.{Orders}
@@ -17,13 +18,9 @@ use Rattle.vchan_protocol.specs.declared.side.Begun.{Begun}
 use Rattle.vchan_protocol.specs.Table.Plan.{Plan, answers, does, next_op, after, GoesOn}
 use Rattle.vchan_protocol.specs.Table.Ends.{Standing, read_order, write_order, standing_after, prod_after, cons_after}
 use Rattle.vchan_protocol.specs.Table.Calls.{payload_of, stored_most, loaded_most}
-use Rattle.vchan_protocol.specs.Table.Apply.{Fits, words_after, value_taken}
-use Rattle.vchan_protocol.specs.History.Core.{Core, side_of, with_side, event, begun_standing, standing_of, standing_along, made, settled, answered, count_stored, bytes_loaded}
+use Rattle.vchan_protocol.specs.Table.Apply.{Fits, leaves, words_after, value_taken}
+use Rattle.vchan_protocol.specs.History.Core.{Core, side_of, with_side, event, begun_standing, standing_of, standing_along, made, settled, answered, carried_out, count_stored, bytes_loaded}
 use Rattle.vchan_protocol.proofs.Table.Counted.{Counted, Owes}
-use Rattle.std.proofs.Common.{◌≡◌, ℕ, ◌<◌, ◌≤◌, List, [], ◌∷◌, ◌++◌, length, refl, sym, ap, ◌∙◌, arith}
-use Rattle.vchan_protocol.specs.Table.Ends.{Standing}
-use Rattle.vchan_protocol.specs.Table.Calls.{payload_of}
-use Rattle.vchan_protocol.specs.History.Core.{Core, side_of, with_side, event, made, settled, answered, carried_out, bytes_loaded}
 
 -- ---- what the next event owes
 
@@ -65,6 +62,20 @@ most_small e Retire = (omega arith, omega arith)
 abbrev pub OwesNext : (s : Side) (b : Begun) → Op → Type 0
 OwesNext s b op =
     Owes (begun_standing s b) (stored_most (begun_standing s b) b.call) (loaded_most (begun_standing s b) b.call) (standing_of s) (count_stored s.trail) (length (bytes_loaded s.trail)) op
+
+-- what an event leaves in its word is the same by the end's own payload and by bytes that begin with it
+pub leaves_same : (s : Side) (b : Begun) (source : List ℕ) (op : Op) → length s.payload ≡ payload_of b.call → take (length s.payload) source ≡ s.payload → OwesNext s b op → (old : ℕ) →
+    leaves s.payload op old ≡ leaves source op old
+leaves_same s b source (StoreByte word at) pays has owes old =
+    let within : at < length s.payload = omega (arith, owes.1, pays, stored_most-payload (begun_standing s b) b.call) in
+    sym (ap (λ (xs : List ℕ). slice_index xs at) has) ∙ get_or-take (length s.payload) source at 0 within
+leaves_same s b source (Load word) pays has owes old = refl
+leaves_same s b source (LoadByte word at) pays has owes old = refl
+leaves_same s b source (Store word value) pays has owes old = refl
+leaves_same s b source (Or word bits) pays has owes old = refl
+leaves_same s b source (And word bits) pays has owes old = refl
+leaves_same s b source (Swap word value) pays has owes old = refl
+leaves_same s b source Nothing pays has owes old = refl
 
 -- ---- an end after an event of its own
 

@@ -111,7 +111,7 @@ steps_keep setup words who mine theirs k = record {
   stray = λ op given. stray_kept setup words who mine theirs op given k;
 }
 
--- ---- giving up
+-- ---- turning
 
 turned_side-sent : (s : Side) (consumed : ℕ) → (turned_side s consumed).sent ≡ s.sent
 turned_side-sent s consumed = go s.turned

@@ -37,9 +37,9 @@ StrayKeepsLists =
 abbrev pub BytesLieAtCounts : Type 0
 BytesLieAtCounts = (s : Side) → CallLawful s → GoesOn (plan_left s) → LiesAtCount s (op_next s)
 
--- ---- giving up
+-- ---- turning
 
--- An end that is turned keeps its lists and all that it has seen, and drops its call. `consumed` is then what the reader of its ring had got, for good.
+-- An end that is turned keeps its lists and drops its call. `consumed` is then what the reader of its ring had got, for good.
 pub record TurnStands (core : Core) (who : Role) : Type 0 where
   pub turned : (side_of (turned_core core who) who).turned ≡ true
   pub sent : (side_of (turned_core core who) who).sent ≡ (side_of core who).sent
@@ -49,7 +49,7 @@ pub record TurnStands (core : Core) (who : Role) : Type 0 where
   pub again : (side_of core who).turned ≡ true → side_of (turned_core core who) who ≡ side_of core who
   pub words : (turned_core core who).words ≡ core.words
   pub peer : side_of (turned_core core who) (peer who) ≡ side_of core (peer who)
-  -- a hostile user's event gives the end up first, and leaves its lists and its `consumed` as they are then
+  -- a hostile user's event turns the end first, and leaves its lists and its `consumed` as they are then
   pub stray : (op : Op) → ListsStand (side_of (turned_core core who) who) (side_of (strayed core who op) who)
 
 abbrev pub EachTurnStands : Type 0

@@ -45,7 +45,7 @@ pub fn gone_tells_retired()
 {}
 
 /// An end is retired by its own store to its gone word, and stays so: it may begin to retire again,
-/// and no begin, no giving up and no event of a hostile user changes it.
+/// and no begin, no turning and no event of a hostile user changes it.
 pub fn each_retires_once()
     ensures { EachRetiresOnce }
 {}

@@ -15,8 +15,8 @@ returns-clause-events c = λ payload buffer.
     let n = c.args.len in
     let list = c.args.words.now.list in
     let value : c.load-live.result ≡ slice_index list (index_of m.orders (peer_live m.role)) =
-    c.load-live.ensures.value ∙ ap (λ (o : Orders). slice_index list (index_of o c.live_word.result)) c.requires.orders
-    ∙ ap (λ (w : WordName). slice_index list (index_of m.orders w)) c.live_word.ensures in
+    c.load-live.ensures.value ∙ ap (λ (o : Orders). slice_index list (index_of o c.live_as.result)) c.requires.orders
+    ∙ ap (λ (w : WordName). slice_index list (index_of m.orders w)) c.live_as.ensures in
     c.seen.ensures.events (peer_live m.role) (live_next e n) list payload buffer
     (live_is e n) (has_peer_live m.orders m.role)
     (c.if_alive-next.ensures.plan e ∙ alive_is e n c.load-live.result ∙ ap (λ (v : ℕ). live_next e n v) value)

@@ -17,7 +17,7 @@ impl Machine {
     /// What comes of the next event where it takes this value.
     #[tactic(auto, using(vchan_protocol::proofs::Table::PlanLaws::bytes_laws), unfolding(vchan_protocol::specs::Table::Ends::standing_after, crate::specs::OneMachine::Phases::rest_at, vchan_protocol::specs::Table::Calls::write, vchan_protocol::specs::Table::Calls::write_open, vchan_protocol::specs::Table::Calls::read, vchan_protocol::specs::Table::Calls::read_live, vchan_protocol::specs::Table::Calls::send, vchan_protocol::specs::Table::Calls::send_open, vchan_protocol::specs::Table::Calls::recv, vchan_protocol::specs::Table::Calls::recv_live, vchan_protocol::specs::Table::Calls::drain, vchan_protocol::specs::Table::Calls::drain_second, vchan_protocol::specs::Table::Calls::drain_live, vchan_protocol::specs::Table::Calls::drain_further, vchan_protocol::specs::Table::Calls::drain_gone, vchan_protocol::specs::Table::Calls::drain_last, vchan_protocol::specs::Table::Calls::connect, vchan_protocol::specs::Table::Calls::connect_right))]
     #[inline(always)]
-    pub(super) fn next_of(&self, phase: Phase, value: u64) -> Next
+    pub(crate) fn next_of(&self, phase: Phase, value: u64) -> Next
         ensures plan { let e = standing self.now in plan_at (standing_after e (next_op (rest_at e phase))) result ≡ after (rest_at e phase) value }
         ensures payload_left { payload_next result ≤ payload_at phase }
         ensures buffer_left { buffer_next (read_size (standing self.now)) result ≤ buffer_at (read_size (standing self.now)) phase }
@@ -82,7 +82,7 @@ impl Machine {
     /// A write that has looked once: where there is too little room it asks, and looks again.
     #[tactic(auto, unfolding(crate::specs::OneMachine::Phases::rest_at))]
     #[inline(always)]
-    pub(super) fn write_found(&self, len: u32, cons: u32) -> Next
+    pub(crate) fn write_found(&self, len: u32, cons: u32) -> Next
         ensures plan { let e = standing self.now in plan_at e result ≡ (if nat_lt (free_at e cons) len then ask e Bit.Consumed (look_write e (write_looked_plan e len)) else write_looked_plan e len cons) }
         ensures payload_left { payload_next result ≤ len }
         ensures buffer_left { buffer_next (read_size (standing self.now)) result ≡ 0 }
@@ -109,7 +109,7 @@ impl Machine {
     /// A read that has looked once: where too few bytes wait it asks, and looks again.
     #[tactic(auto, unfolding(crate::specs::OneMachine::Phases::rest_at))]
     #[inline(always)]
-    pub(super) fn read_found(&self, most: u32, prod: u32) -> Next
+    pub(crate) fn read_found(&self, most: u32, prod: u32) -> Next
         ensures plan { let e = standing self.now in plan_at e result ≡ (if nat_lt (ready_at e prod) most then ask e Bit.Written (look_read e (read_looked_plan e most)) else read_looked_plan e most prod) }
         ensures payload_left { payload_next result ≡ 0 }
         ensures buffer_left { buffer_next (read_size (standing self.now)) result ≤ min most (read_size (standing self.now)) }
@@ -296,7 +296,7 @@ impl Machine {
 }
 
 /// A load of the peer's live byte: closed, or what comes of a live one.
-pub(super) fn if_alive(value: u64, alive: Next) -> Next
+pub(crate) fn if_alive(value: u64, alive: Next) -> Next
     ensures plan { (e : Standing) → plan_at e result ≡ (if low8_of value == 0 then answers Answer.PeerClosed else plan_at e alive) }
     ensures payload_left { payload_next result ≤ payload_next alive }
     ensures buffer_left { (size : ℕ) → buffer_next size result ≤ buffer_next size alive }
@@ -322,7 +322,7 @@ fn drain_live(most: u32, prod: u32, value: u64) -> Next
 
 /// A put once another byte, or the index, is stored.
 #[inline(always)]
-pub(super) fn put_on(at: u32, count: u32, answer: Answer) -> Next
+pub(crate) fn put_on(at: u32, count: u32, answer: Answer) -> Next
     ensures byte { at < count → result ≡ Next.To (Phase.Put (at + 1) count answer) }
     ensures index { count ≤ at → result ≡ Next.To (Phase.Notify Bit.Written answer) }
 {
@@ -341,7 +341,7 @@ pub(super) fn put_on(at: u32, count: u32, answer: Answer) -> Next
 
 /// A take once another byte is loaded, or the index is stored.
 #[inline(always)]
-pub(super) fn take_on(at: u32, count: u32, answer: Answer) -> Next
+pub(crate) fn take_on(at: u32, count: u32, answer: Answer) -> Next
     ensures byte { at < count → result ≡ Next.To (Phase.Take (at + 1) count answer) }
     ensures index { count ≤ at → result ≡ Next.To (Phase.Notify Bit.Consumed answer) }
 {
@@ -361,7 +361,7 @@ pub(super) fn take_on(at: u32, count: u32, answer: Answer) -> Next
 /// A peer that had asked is signalled.
 #[tactic(auto, unfolding(crate::specs::OneMachine::Phases::rest_at))]
 #[inline(always)]
-pub(super) fn notified(bit: Bit, answer: Answer, value: u64) -> Next
+pub(crate) fn notified(bit: Bit, answer: Answer, value: u64) -> Next
     ensures plan { (e : Standing) → plan_at e result ≡ (if bit_and value (mask_of bit) == 0 then answers answer else signal e (answers answer)) }
     ensures payload_left { payload_next result ≡ 0 }
     ensures buffer_left { (size : ℕ) → buffer_next size result ≡ 0 }

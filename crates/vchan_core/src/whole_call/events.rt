@@ -11,13 +11,13 @@ ghost use Rattle.vchan_protocol.specs.Table.Plan.{next_op, after};
 ghost use Rattle.vchan_protocol.specs.Table.Ends.{read_size, standing_after};
 ghost use Rattle.vchan_core.specs.OneMachine.Phases.{standing, rest_at, plan_at, payload_at, buffer_at, payload_next, buffer_next};
 
-use super::Machine;
-use super::moves::{notified, put_on, take_on};
 use crate::carry::carry_out;
+use crate::machine::Machine;
+use crate::machine::outcomes::{notified, put_on, take_on};
 use crate::phase::{Next, Phase};
 use crate::totals::Totals;
 use crate::words::{cons_word, mask, prod_word};
-use ring_words::{Role, WordName, Words};
+use ring_words::{Role, Words};
 use vchan_protocol::{Answer, Bit};
 
 impl Machine {
@@ -162,10 +162,7 @@ impl Machine {
         ensures low { ((standing self.now).prod < 2 ^ 32) × ((standing self.now).cons < 2 ^ 32) }
     {
         let _counts = self.counts();
-        let word = match role {
-            Role::Server => WordName::SrvNotify,
-            Role::Client => WordName::CliNotify,
-        };
+        let word = self.notify_as(role);
         let asked = words.load(word);
         words.store(word, asked & (u64::MAX - mask(bit)));
         notified(bit, answer, asked)

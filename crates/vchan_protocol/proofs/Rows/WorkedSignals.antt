@@ -1,4 +1,4 @@
--- The worked rows of signals, of a turned end, and of what calls load and move, by computing.
+-- The worked row of signals, by computing.
 use Rattle.std.proofs.Common.{List, [], ◌∷◌, ◌++◌, refl, arith}
 use Rattle.ring_words.specs.Rings.{size, place, room, ready, diff}
 use Rattle.ring_words.specs.declared.page.Ring.TheVariants.{Left}
@@ -8,11 +8,8 @@ use Rattle.vchan_protocol.specs.declared.op.PastEvent.{PastEvent}
 use Rattle.vchan_protocol.specs.Table.Plan.{past}
 use Rattle.vchan_protocol.specs.History.Core.{event}
 use Rattle.vchan_protocol.specs.History.WholeCall.{alone}
-use Rattle.vchan_protocol.specs.Table.Ends.{standing_after}
-use Rattle.vchan_protocol.specs.Table.Calls.{write, write_open, write_looked, read, read_looked, read_live, drain, drain_second, drain_live, drain_further, drain_gone}
+use Rattle.vchan_protocol.specs.Table.Calls.{write, write_open, write_looked, read, read_looked, read_live}
 use Rattle.vchan_protocol.specs.Rows.WorkedSignals.{SignalIsAsWorked}
-use Rattle.vchan_protocol.specs.Rows.WorkedTurn.{TurnIsAsWorked}
-use Rattle.vchan_protocol.specs.Rows.WorkedAnswers.{AnswerIsAsWorked}
 use Rattle.vchan_protocol.proofs.Rows.WorkedRow.{small}
 
 -- the first three events of a client's write of a byte
@@ -41,51 +38,5 @@ worked_signal = (
     noted = refl;
     closed = refl;
     close_owed = (([], 0, refl), refl);
-  },
-)
-
-pub worked_turn : TurnIsAsWorked
-unfolding event alone size place room ready diff write write_open write_looked read read_looked small
-worked_turn = (
-  small,
-  record {
-    left = refl;
-    right = refl;
-    sent = refl;
-    got = refl;
-    turned = refl;
-    consumed = refl;
-    stands = refl;
-    honest = refl;
-    index = refl;
-    answer = refl;
-    own = refl;
-    restored = refl;
-    all_got = refl;
-    stays = refl;
-    begins = record { within = omega arith; fits = omega arith; begins = (108 ∷ [], refl) };
-  },
-)
-
-pub worked_answer : AnswerIsAsWorked
-unfolding event alone standing_after size place room ready diff write write_open write_looked read read_looked drain drain_second drain_live drain_further drain_gone small
-worked_answer = (
-  small,
-  record {
-    left = refl;
-    right = refl;
-    write_loads = refl;
-    write_moves = refl;
-    read_loads = refl;
-    read_moves = refl;
-    found_loads = refl;
-    found_moves = refl;
-    drained_loads = refl;
-    drained_moves = refl;
-    far_answer = refl;
-    far_loads = refl;
-    far_saw = refl;
-    full_answer = refl;
-    full_moves = refl;
   },
 )

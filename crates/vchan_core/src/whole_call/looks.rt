@@ -8,15 +8,15 @@ ghost use Rattle.ring_words.specs.declared.page.WordName.{WordName};
 ghost use Rattle.vchan_protocol.specs.declared.op.Op.TheVariants.{Load};
 ghost use Rattle.vchan_core.specs.declared.phase.Phase.{Phase};
 ghost use Rattle.vchan_protocol.specs.Table.Plan.{Plan, does};
-ghost use Rattle.vchan_protocol.specs.Table.Ends.{peer_live, read_size};
+ghost use Rattle.vchan_protocol.specs.Table.Ends.{read_size};
 ghost use Rattle.vchan_core.specs.OneMachine.Phases.{standing, at_phase, rest_at, plan_at, payload_at, buffer_at, payload_next, buffer_next};
 ghost use Rattle.vchan_core.specs.WholeCall.EventsMade.{MakesEvents};
 
-use super::Machine;
-use super::moves::if_alive;
+use crate::machine::Machine;
+use crate::machine::outcomes::if_alive;
 use crate::phase::{Next, Phase};
 use crate::words::{cons_word, low32, prod_word};
-use ring_words::{Role, WordName, Words};
+use ring_words::{Role, Words};
 
 impl Machine {
     /// Makes the looks that come next in a write or a read, up to the one that gives an answer. It
@@ -71,7 +71,7 @@ impl Machine {
         ensures most { result.0 ≤ 1 }
         ensures events { (payload : List ℕ) → (buffer : List ℕ) → MakesEvents result.0 self.now.orders payload (at_phase self.now (Phase.WriteLive len)) words.now.list buffer (at_phase self.now result.1) words.now.list buffer }
     {
-        let live = words.load(self.live_word(role));
+        let live = words.load(self.live_as(role));
         let next = if_alive(live, Next::To(Phase::WriteLook { len }));
         self.seen(Phase::WriteLive { len }, next)
     }
@@ -116,17 +116,6 @@ impl Machine {
         match next {
             Next::To(phase) => (1, phase),
             Next::Done(_) => (0, at),
-        }
-    }
-
-    #[inline(always)]
-    fn live_word(&self, role: Role) -> WordName
-        requires { self.now.role ≡ role }
-        ensures { result ≡ peer_live self.now.role }
-    {
-        match role {
-            Role::Server => WordName::CliLive,
-            Role::Client => WordName::SrvLive,
         }
     }
 }

@@ -9,7 +9,7 @@ ghost use Rattle.vchan_protocol.specs.declared.call.Answer.{Answer};
 ghost use Rattle.vchan_core.specs.declared.phase.Phase.{Phase};
 ghost use Rattle.vchan_core.specs.WholeCall.EventsMade.{MakesEvents};
 
-use super::Machine;
+use crate::machine::Machine;
 use crate::phase::Phase;
 use ring_words::{Role, Words, place};
 
