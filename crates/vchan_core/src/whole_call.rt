@@ -90,10 +90,33 @@ impl Plain {
         match who {
             Role::Server => self
                 .server
-                .move_piece(who, phase, &mut self.words, payload, buf),
+                .move_piece(who, phase, u32::MAX, &mut self.words, payload, buf),
             Role::Client => self
                 .client
-                .move_piece(who, phase, &mut self.words, payload, buf),
+                .move_piece(who, phase, u32::MAX, &mut self.words, payload, buf),
+        }
+    }
+
+    /// The next events of an end that is inside a call, at most so many, as long as they are all on
+    /// bytes of one piece of a ring. It answers how many they were; none gives an answer. The
+    /// conditions are those of `step`.
+    #[inline(always)]
+    pub fn step_piece(&mut self, who: Role, most: u32, payload: &[u8], buf: &mut [u8]) -> u32
+        requires busy { ¬ IsIdle (machine_of self.old who) }
+        requires payload { payload_needed (machine_of self.old who) ≤ length payload.now }
+        requires buf { buffer_needed (machine_of self.old who) ≤ length buf.old }
+        ensures within { result ≤ most }
+        ensures page { IsBeside who self.old self.new }
+        ensures low { ((standing (machine_of self.old who)).prod < 2 ^ 32) × ((standing (machine_of self.old who)).cons < 2 ^ 32) }
+        ensures events { MakesEvents result (orders_of self.old) payload.now (machine_of self.old who) (words_of self.old) buf.old (machine_of self.new who) (words_of self.new) buf.new }
+    {
+        match who {
+            Role::Server => self
+                .server
+                .step_piece(who, most, &mut self.words, payload, buf),
+            Role::Client => self
+                .client
+                .step_piece(who, most, &mut self.words, payload, buf),
         }
     }
 

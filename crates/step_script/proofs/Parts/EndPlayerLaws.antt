@@ -165,7 +165,7 @@ module _ (core : Core) (who : Role) (page page' : Plain) (end_player end_player'
 
 -- ---- several events
 
-stepped-more : (n : ℕ) (core : Core) (who : Role) → 0 < n → stepped n core who ≡ unless_answered (answer_in (plan_next core who)) (event core who) (stepped (n - 1) (event core who) who)
+pub stepped-more : (n : ℕ) (core : Core) (who : Role) → 0 < n → stepped n core who ≡ unless_answered (answer_in (plan_next core who)) (event core who) (stepped (n - 1) (event core who) who)
 unfolding stepped
 stepped-more zero core who some = absurd (omega arith)
 stepped-more (suc n) core who some = let same : n ≡ suc n - 1 = omega arith in ap (λ (k : ℕ). unless_answered (answer_in (plan_next core who)) (event core who) (stepped k (event core who) who)) same

@@ -119,6 +119,11 @@ stepped zero core who = (core, None)
 stepped (suc more) core who =
     unless_answered (answer_in (plan_next core who)) (event core who) (stepped more (event core who) who)
 
+-- the core state after so many events of the call under way, none of which gives its answer
+abbrev pub events_made : ℕ → Core → Role → Core
+events_made zero core who = core
+events_made (suc more) core who = events_made more (event core who) who
+
 -- the answer is printed where it came
 abbrev pub stops_with : Role → Call → Core → Option Answer → Outcome
 stops_with who call core None = quiet core

@@ -66,7 +66,7 @@ EventOn who source page buffer page' buffer' = MakesEvent (orders_of page) sourc
 abbrev pub IsLow : Machine → Type 0
 IsLow m = ((standing m).prod < 2 ^ 32) × ((standing m).cons < 2 ^ 32)
 
-stands_event : (who : Role) (source buffer buffer' : List ℕ) (page page' : Plain) → IsLow (machine_of page who) → IsBeside who page page' → EventOn who source page buffer page' buffer' →
+pub stands_event : (who : Role) (source buffer buffer' : List ℕ) (page page' : Plain) → IsLow (machine_of page who) → IsBeside who page page' → EventOn who source page buffer page' buffer' →
     (core : Core) → StandsFor core page → HasPayload (side_of core who) source → StandsFor (event core who) page'
 stands_event Server source buffer buffer' page page' low beside d core h has =
     stands_server core page page' source None h has
@@ -91,7 +91,7 @@ is_step who source buffer buffer' page page' low beside d = record {
 
 -- ---- what the loop keeps
 
-length-buffer_after : (orders : Orders) (words buffer : List ℕ) (op : Op) → length (buffer_after orders words buffer op) ≡ length buffer
+pub length-buffer_after : (orders : Orders) (words buffer : List ℕ) (op : Op) → length (buffer_after orders words buffer op) ≡ length buffer
 length-buffer_after orders words buffer (LoadByte word at) = length-set buffer at _
 length-buffer_after orders words buffer (Load word) = refl
 length-buffer_after orders words buffer (Store word value) = refl
@@ -222,7 +222,7 @@ beside_both who one two three a b = record {
 }
 
 -- a page that has the same parts stands for the same core states
-stands_same : (who : Role) (page page' : Plain) → IsBeside who page page' → machine_of page' who ≡ machine_of page who → words_of page' ≡ words_of page → (core : Core) → StandsFor core page → StandsFor core page'
+pub stands_same : (who : Role) (page page' : Plain) → IsBeside who page page' → machine_of page' who ≡ machine_of page who → words_of page' ≡ words_of page → (core : Core) → StandsFor core page → StandsFor core page'
 stands_same Server page page' b machine words core h = record {
   orders = b.orders ∙ h.orders;
   words = words ∙ h.words;
@@ -264,13 +264,19 @@ loop_same first who call source start page page' buffer buffer' count l b machin
       });
 }
 
--- so many events on ring bytes at once
-pub loop_along : (first : Plain) (who : Role) (call : Call) (source start : List ℕ) → payload_of call ≤ length source → (n : ℕ) (page page' : Plain) (buffer buffer' : List ℕ) (count : ℕ) →
-    InLoop first who call source start page buffer count → IsLow (machine_of page who) → IsBeside who page page' →
-    MakesEvents n (orders_of page) source (machine_of page who) (words_of page) buffer (machine_of page' who) (words_of page') buffer' → InLoop first who call source start page' buffer' (count + n)
-loop_along first who call source start enough zero page page' buffer buffer' count l low beside d =
-    subst (λ (n : ℕ). InLoop first who call source start page' buffer' n) (omega arith) (loop_same first who call source start page page' buffer buffer' count l beside d.0 d.1 d.2)
-loop_along first who call source start enough (suc n) page page' buffer buffer' count l low beside d =
+-- the first of several such events, and the page between it and the others
+pub record FirstEvent (who : Role) (source : List ℕ) (n : ℕ) (page page' : Plain) (buffer buffer' : List ℕ) : Type 0 where
+  pub mid : Plain
+  pub filled : List ℕ
+  pub beside : IsBeside who page mid
+  pub one : EventOn who source page buffer mid filled
+  pub low : IsLow (machine_of mid who)
+  pub then_beside : IsBeside who mid page'
+  pub more : MakesEvents n (orders_of mid) source (machine_of mid who) (words_of mid) filled (machine_of page' who) (words_of page') buffer'
+
+pub first_event : (who : Role) (source : List ℕ) (n : ℕ) (page page' : Plain) (buffer buffer' : List ℕ) → IsLow (machine_of page who) → IsBeside who page page' →
+    MakesEvents (suc n) (orders_of page) source (machine_of page who) (words_of page) buffer (machine_of page' who) (words_of page') buffer' → FirstEvent who source n page page' buffer buffer'
+first_event who source n page page' buffer buffer' low beside d =
     let m = d.0 in
     let list = d.1 in
     let filled = d.2 in
@@ -278,16 +284,29 @@ loop_along first who call source start enough (suc n) page page' buffer buffer' 
     let more = d.4 in
     let mid = page_on page who m list one.same in
     let has = page_on-has page who m list one.same in
-    let on : EventOn who source page buffer mid filled =
-    subst (λ (w : List ℕ). MakesEvent (orders_of page) source (machine_of page who) (words_of page) buffer (machine_of mid who) w filled) (sym has.words)
-    (subst (λ (x : Machine). MakesEvent (orders_of page) source (machine_of page who) (words_of page) buffer x list filled) (sym has.machine) one) in
-    let later : MakesEvents n (orders_of mid) source (machine_of mid who) (words_of mid) filled (machine_of page' who) (words_of page') buffer' =
-    subst (λ (o : Orders). MakesEvents n o source (machine_of mid who) (words_of mid) filled (machine_of page' who) (words_of page') buffer') (sym has.beside.orders)
-    (subst (λ (w : List ℕ). MakesEvents n (orders_of page) source (machine_of mid who) w filled (machine_of page' who) (words_of page') buffer') (sym has.words)
-    (subst (λ (x : Machine). MakesEvents n (orders_of page) source x list filled (machine_of page' who) (words_of page') buffer') (sym has.machine) more)) in
-    let low' : IsLow (machine_of mid who) = subst (λ (e : Standing). (e.prod < 2 ^ 32) × (e.cons < 2 ^ 32)) (sym has.beside.same) low in
+    record {
+      mid = mid;
+      filled = filled;
+      beside = has.beside;
+      one = subst (λ (w : List ℕ). MakesEvent (orders_of page) source (machine_of page who) (words_of page) buffer (machine_of mid who) w filled) (sym has.words)
+          (subst (λ (x : Machine). MakesEvent (orders_of page) source (machine_of page who) (words_of page) buffer x list filled) (sym has.machine) one);
+      low = subst (λ (e : Standing). (e.prod < 2 ^ 32) × (e.cons < 2 ^ 32)) (sym has.beside.same) low;
+      then_beside = beside_both who page mid page' has.beside beside;
+      more = subst (λ (o : Orders). MakesEvents n o source (machine_of mid who) (words_of mid) filled (machine_of page' who) (words_of page') buffer') (sym has.beside.orders)
+          (subst (λ (w : List ℕ). MakesEvents n (orders_of page) source (machine_of mid who) w filled (machine_of page' who) (words_of page') buffer') (sym has.words)
+          (subst (λ (x : Machine). MakesEvents n (orders_of page) source x list filled (machine_of page' who) (words_of page') buffer') (sym has.machine) more));
+    }
+
+-- so many events on ring bytes at once
+pub loop_along : (first : Plain) (who : Role) (call : Call) (source start : List ℕ) → payload_of call ≤ length source → (n : ℕ) (page page' : Plain) (buffer buffer' : List ℕ) (count : ℕ) →
+    InLoop first who call source start page buffer count → IsLow (machine_of page who) → IsBeside who page page' →
+    MakesEvents n (orders_of page) source (machine_of page who) (words_of page) buffer (machine_of page' who) (words_of page') buffer' → InLoop first who call source start page' buffer' (count + n)
+loop_along first who call source start enough zero page page' buffer buffer' count l low beside d =
+    subst (λ (n : ℕ). InLoop first who call source start page' buffer' n) (omega arith) (loop_same first who call source start page page' buffer buffer' count l beside d.0 d.1 d.2)
+loop_along first who call source start enough (suc n) page page' buffer buffer' count l low beside d =
+    let f = first_event who source n page page' buffer buffer' low beside d in
     subst (λ (k : ℕ). InLoop first who call source start page' buffer' k) (omega arith)
-    (loop_along first who call source start enough n mid page' filled buffer' (count + 1) (loop_on first who call source start enough page mid buffer filled count l low has.beside on) low' (beside_both who page mid page' has.beside beside) later)
+    (loop_along first who call source start enough n f.mid page' f.filled buffer' (count + 1) (loop_on first who call source start enough page f.mid buffer f.filled count l low f.beside f.one) f.low f.then_beside f.more)
 
 -- ---- the phase of a call that the page doesn't know of
 
