@@ -3,3 +3,5 @@ pub mod Seeing
 pub mod Sending
 pub mod Fitting
 pub mod Laws
+pub mod Reading
+pub mod Replies

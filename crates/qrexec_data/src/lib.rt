@@ -7,8 +7,11 @@
 #![tactic(auto)]
 
 mod fault;
+mod inbox;
 pub mod laws;
+mod outbox;
 mod outcome;
+mod replies;
 
 pub use fault::SessionFault;
 pub use outcome::Outcome;
