@@ -37,12 +37,23 @@ hears-first r m at k none = subst Is (sym (after-first m at r k.version)) (by_gr
   where
     Is : RepliesState → Type 0
     Is now = Heard now [] (placed_at at m)
+
     by_greeted : Greeted r.own m → Heard (after_greeting (greeting r.own m) r) [] (placed_at at m)
     by_greeted (Accepted version low is low_is) = rw is (GoesOn none (rw low_is (record {
-      outcome = rw none refl; stdout = k.stdout; stderr = k.stderr; stdout_ended = k.stdout_ended; stderr_ended = k.stderr_ended; version = rw is refl;
+      outcome = rw none refl;
+      stdout = k.stdout;
+      stderr = k.stderr;
+      stdout_ended = k.stdout_ended;
+      stderr_ended = k.stderr_ended;
+      version = rw is refl;
     })))
     by_greeted (Refused f is is2) = rw is (Decides (outcome.Fault (fault.Hello f)) refl (λ rest ending. rw is2 (record {
-      outcome = refl; stdout = k.stdout; stderr = k.stderr; stdout_ended = k.stdout_ended; stderr_ended = k.stderr_ended; version = k.version ∙ rw is refl;
+      outcome = refl;
+      stdout = k.stdout;
+      stderr = k.stderr;
+      stdout_ended = k.stdout_ended;
+      stderr_ended = k.stderr_ended;
+      version = k.version ∙ rw is refl;
     })))
 
 -- what a message behind the greeting is to a caller
@@ -82,14 +93,14 @@ decides r o version pieces placed seen out err out_ended err_ended agreed verdic
       version = agreed;
     }
 
-small-offset : (at : ℕ) → at < 2 ^ 64 → offset at ≡ at
+pub small-offset : (at : ℕ) → at < 2 ^ 64 → offset at ≡ at
 small-offset at small = omega arith
 
-if-true : {A : Type 0} (b : Bool) (x y : A) → b ≡ true → (if b then x else y) ≡ x
+pub if-true : {A : Type 0} (b : Bool) (x y : A) → b ≡ true → (if b then x else y) ≡ x
 if-true true x y is = refl
 if-true false x y is = cc
 
-if-false : {A : Type 0} (b : Bool) (x y : A) → b ≡ false → (if b then x else y) ≡ y
+pub if-false : {A : Type 0} (b : Bool) (x y : A) → b ≡ false → (if b then x else y) ≡ y
 if-false true x y is = cc
 if-false false x y is = refl
 
@@ -99,26 +110,30 @@ hears-later r q placed m at small k none = subst Is (sym (after-later m at f.ver
   where
     Is : RepliesState → Type 0
     Is now = Heard now (q ∷ placed) (placed_at at m)
+
     undecided : (sees_all caller_use (q ∷ placed) (Rest 0)).verdict ≡ Undecided
     undecided = rw none at k.outcome
+
     f : Follows caller_use r.own q placed (placed_at at m)
     f = follows caller_use r.own q placed (placed_at at m) undecided
+
     version : r.version ≡ Some f.version
     version = k.version ∙ f.agreed placed
+
     pieces : List Piece
     pieces = (sees_all caller_use (q ∷ placed) (Rest 0)).pieces
 
     -- the message decides
     over : (o : Outcome) → ((now : List Piece) (rest : List (Placed Message)) (ending : Ending Fault) → ((s : Stream) → has_ended s now ≡ has_ended s pieces)
-            → (AgreesWith (Some o) (sees_on caller_use (placed_at at m ∷ rest) ending now).verdict × ((sees_on caller_use (placed_at at m ∷ rest) ending now).pieces ≡ [])))
+        → (AgreesWith (Some o) (sees_on caller_use (placed_at at m ∷ rest) ending now).verdict × ((sees_on caller_use (placed_at at m ∷ rest) ending now).pieces ≡ [])))
         → Heard (record r { outcome = Some o }) (q ∷ placed) (placed_at at m)
     over o is = Decides o refl (λ rest ending.
         let s = f.seen rest ending in
         let d = is s.0 rest ending s.1 in
         let V : Seen → Type 0 = λ x. AgreesWith (Some o) x.verdict in
         decides r o f.version pieces ((q ∷ placed) ++ placed_at at m ∷ rest) (sees_all caller_use ((q ∷ placed) ++ placed_at at m ∷ rest) ending)
-            k.stdout k.stderr k.stdout_ended k.stderr_ended (version ∙ sym (f.agreed (placed ++ placed_at at m ∷ rest)))
-            (subst V (sym s.2) d.0) (ap (λ x. x.pieces) s.2 ∙ ap (λ x. pieces ++ x) d.1))
+        k.stdout k.stderr k.stdout_ended k.stderr_ended (version ∙ sym (f.agreed (placed ++ placed_at at m ∷ rest)))
+        (subst V (sym s.2) d.0) (ap (λ x. x.pieces) s.2 ∙ ap (λ x. pieces ++ x) d.1))
 
     -- the message carries a piece of a stream that has not ended
     on : (now : RepliesState) (piece : Piece) → caller_use m ≡ Carries piece → has_ended piece.stream pieces ≡ false → now.outcome ≡ None → now.own ≡ r.own → now.version ≡ r.version
@@ -130,7 +145,11 @@ hears-later r q placed m at small k none = subst Is (sym (after-later m at f.ver
         let ended : has_ended piece.stream s.0 ≡ false = s.1 piece.stream ∙ unended in
         let seen : sees_all caller_use ((q ∷ placed) ++ placed_at at m ∷ []) (Rest 0) ≡ record { pieces = pieces ++ piece ∷ []; verdict = Undecided } = s.2 ∙ rw (is, ended) refl in
         GoesOn going (rw seen (record {
-          outcome = rw going refl; stdout = out; stderr = err; stdout_ended = out_ended; stderr_ended = err_ended;
+          outcome = rw going refl;
+          stdout = out;
+          stderr = err;
+          stdout_ended = out_ended;
+          stderr_ended = err_ended;
           version = same ∙ version ∙ sym (f.agreed (placed ++ placed_at at m ∷ [])) ∙ ap (λ n. agreed_by n ((q ∷ placed) ++ placed_at at m ∷ [])) (sym own);
         }))
 
@@ -146,8 +165,8 @@ hears-later r q placed m at small k none = subst Is (sym (after-later m at f.ver
         let piece : Piece = record { stream = Out; bytes = bytes } in
         let unended : has_ended Out pieces ≡ false = sym k.stdout_ended ∙ ended in
         subst Is (sym (if-false r.stdout_ended _ _ ended)) (on (record r { stdout = r.stdout ++ bytes; stdout_ended = no_bytes bytes }) piece is unended none refl refl
-            (ap (λ x. x ++ bytes) k.stdout ∙ sym (joined-piece Out pieces piece refl)) (k.stderr ∙ sym (joined-other Errors pieces piece refl))
-            (sym (ended-piece Out pieces piece refl unended)) (k.stderr_ended ∙ sym (ended-other Errors pieces piece refl)))
+        (ap (λ x. x ++ bytes) k.stdout ∙ sym (joined-piece Out pieces piece refl)) (k.stderr ∙ sym (joined-other Errors pieces piece refl))
+        (sym (ended-piece Out pieces piece refl unended)) (k.stderr_ended ∙ sym (ended-other Errors pieces piece refl)))
 
     error : (bytes : List ℕ) → caller_use m ≡ Carries (record { stream = Errors; bytes = bytes }) → (b : Bool) → r.stderr_ended ≡ b
         → Heard (after_piece Errors bytes at (number m) r) (q ∷ placed) (placed_at at m)
@@ -156,8 +175,8 @@ hears-later r q placed m at small k none = subst Is (sym (after-later m at f.ver
         let piece : Piece = record { stream = Errors; bytes = bytes } in
         let unended : has_ended Errors pieces ≡ false = sym k.stderr_ended ∙ ended in
         subst Is (sym (if-false r.stderr_ended _ _ ended)) (on (record r { stderr = r.stderr ++ bytes; stderr_ended = no_bytes bytes }) piece is unended none refl refl
-            (k.stdout ∙ sym (joined-other Out pieces piece refl)) (ap (λ x. x ++ bytes) k.stderr ∙ sym (joined-piece Errors pieces piece refl))
-            (k.stdout_ended ∙ sym (ended-other Out pieces piece refl)) (sym (ended-piece Errors pieces piece refl unended)))
+        (k.stdout ∙ sym (joined-other Out pieces piece refl)) (ap (λ x. x ++ bytes) k.stderr ∙ sym (joined-piece Errors pieces piece refl))
+        (k.stdout_ended ∙ sym (ended-other Out pieces piece refl)) (sym (ended-piece Errors pieces piece refl unended)))
 
     by_view : CallerUse m → Heard (after_use (caller_use m) at (number m) r) (q ∷ placed) (placed_at at m)
     by_view (Output bytes is) = let P : Use → Type 0 = λ u. Heard (after_use u at (number m) r) (q ∷ placed) (placed_at at m) in subst P (sym is) (output bytes is r.stdout_ended refl)

@@ -5,3 +5,8 @@ pub mod Fitting
 pub mod Laws
 pub mod Reading
 pub mod Replies
+pub mod Requests
+pub mod CallerSide
+pub mod CallerLent
+pub mod Answering
+pub mod ServingSide

@@ -3,8 +3,10 @@ ghost use Rattle.std.specs.Prelude.{◌≡◌, ◌≤◌, ◌++◌, ◌==◌, []
 ghost use Rattle.qrexec_frame.specs.Kinds.{IsData};
 ghost use Rattle.qrexec_frame.specs.Fronts.{made};
 ghost use Rattle.qrexec_frame.specs.Messages.{Fits, written};
+ghost use Rattle.qrexec_frame.specs.declared.message.Message.TheVariants as message;
 
 use qrexec_frame::{Kind, Message, encode, encode_data};
+use qrexec_hello::Hello;
 use std::alloc::Global;
 use std::marker::Model;
 use vchan_io::Memory;
@@ -69,8 +71,24 @@ impl Outbox {
         encode_data(kind, bytes, &mut self.bytes)
     }
 
-    /// Puts a message behind the others.
-    pub(crate) fn put(&mut self, message: &Message) -> Result<(), Memory>
+    /// Puts the greeting of a side of this version, 2 or 3, behind the others.
+    pub(crate) fn put_greeting(&mut self, own: u32) -> Result<(), Memory>
+        requires { (2 ≤ own) × (own ≤ 3) }
+        ensures { OnOk result (self.new ≡ self.old ++ written (message.Hello own)) }
+    {
+        let greeting = Hello::announce(own);
+        self.put(&greeting)
+    }
+
+    /// Puts an exit code behind the others.
+    pub(crate) fn put_code(&mut self, code: i32) -> Result<(), Memory>
+        ensures { OnOk result (self.new ≡ self.old ++ written (message.ExitCode code)) }
+    {
+        let message = Message::ExitCode { code };
+        self.put(&message)
+    }
+
+    fn put(&mut self, message: &Message) -> Result<(), Memory>
         requires { Fits message.now }
         ensures ok { OnOk result (self.new ≡ self.old ++ written message.now) }
         ensures err { OnErr result (self.new ≡ self.old) }

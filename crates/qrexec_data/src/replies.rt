@@ -1,5 +1,5 @@
 //! What a caller reads.
-ghost use Rattle.std.specs.Prelude.{◌≡◌, ◌≤◌, length, OnOk};
+ghost use Rattle.std.specs.Prelude.{◌≡◌, ◌≤◌, ℕ, Some, length, OnOk};
 ghost use Rattle.std.specs.Option.{option_or};
 ghost use Rattle.qrexec_frame.specs.Fronts.{made};
 ghost use Rattle.qrexec_frame.specs.Kinds.{least_len};
@@ -35,13 +35,13 @@ impl Model for Replies {
     ghost Value = { RepliesState };
 
     ghost view = { λ r. record {
-        own = r.own;
-        version = r.version;
-        stdout = r.stdout.items;
-        stdout_ended = r.stdout_ended;
-        stderr = r.stderr.items;
-        stderr_ended = r.stderr_ended;
-        outcome = r.outcome;
+      own = r.own;
+      version = r.version;
+      stdout = r.stdout.items;
+      stdout_ended = r.stdout_ended;
+      stderr = r.stderr.items;
+      stderr_ended = r.stderr_ended;
+      outcome = r.outcome;
     } };
 
     ghost invariant = { λ r. (2 ≤ r.own) × (r.own ≤ 3) };
@@ -67,7 +67,9 @@ impl Replies {
     /// Reads the message that begins at this offset.
     pub(crate) fn hear(&mut self, body: Body<'_>, at: u64) -> Result<(), Memory>
         requires { least_len body.kind ≤ length body.bytes.now }
-        ensures { OnOk result (self.new ≡ after_message (made body.entry.kind body.entry.bytes.now) at self.old) }
+        ensures ok { OnOk result (self.new ≡ after_message (made body.entry.kind body.entry.bytes.now) at self.old) }
+        ensures own { self.new.own ≡ self.old.own }
+        ensures version { (v : ℕ) → self.old.version ≡ Some v → self.new.version ≡ Some v }
     {
         if self.version.is_none() {
             self.greet(body);
@@ -92,7 +94,8 @@ impl Replies {
     // Reads the first message, which has to be a greeting.
     fn greet(&mut self, body: Body<'_>)
         requires { least_len body.kind ≤ length body.bytes.now }
-        ensures { self.new ≡ after_greeting (greeting self.old.own (made body.entry.kind body.entry.bytes.now)) self.old }
+        ensures after { self.new ≡ after_greeting (greeting self.old.own (made body.entry.kind body.entry.bytes.now)) self.old }
+        ensures own { self.new.own ≡ self.old.own }
     {
         let mut hello = Hello::start(self.own);
         match hello.took_body(body) {
@@ -102,7 +105,8 @@ impl Replies {
     }
 
     fn hear_stdout(&mut self, bytes: &[u8], at: u64) -> Result<(), Memory>
-        ensures { OnOk result (self.new ≡ after_piece Out bytes.now at 401 self.old) }
+        ensures ok { OnOk result (self.new ≡ after_piece Out bytes.now at 401 self.old) }
+        ensures same { (self.new.own ≡ self.old.own) × (self.new.version ≡ self.old.version) }
     {
         if self.stdout_ended {
             let kind = Kind::Stdout.number();
@@ -115,7 +119,8 @@ impl Replies {
     }
 
     fn hear_stderr(&mut self, bytes: &[u8], at: u64) -> Result<(), Memory>
-        ensures { OnOk result (self.new ≡ after_piece Err bytes.now at 402 self.old) }
+        ensures ok { OnOk result (self.new ≡ after_piece Err bytes.now at 402 self.old) }
+        ensures same { (self.new.own ≡ self.old.own) × (self.new.version ≡ self.old.version) }
     {
         if self.stderr_ended {
             let kind = Kind::Stderr.number();
