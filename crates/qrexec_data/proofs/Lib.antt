@@ -2,3 +2,12 @@ pub mod Rows
 pub mod StreamRows
 pub mod PieceLaws
 pub mod SessionLaws
+pub mod ReadingLaws
+pub mod HearingLaws
+pub mod RepliesLaws
+pub mod SpelledLaws
+pub mod CallerLaws
+pub mod AnsweringLaws
+pub mod ServesLaws
+pub mod ServingLaws
+pub mod LaidLaws

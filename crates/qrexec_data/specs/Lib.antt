@@ -3,3 +3,10 @@ pub mod Seeing
 pub mod Sending
 pub mod Fitting
 pub mod Laws
+pub mod Reading
+pub mod Replies
+pub mod Requests
+pub mod CallerSide
+pub mod CallerLent
+pub mod Answering
+pub mod ServingSide

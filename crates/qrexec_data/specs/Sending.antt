@@ -13,17 +13,18 @@ use Rattle.service_gate.specs.Triple.{Triple}
 use Rattle.qrexec_data.specs.Pieces.{Stream, In, Out, Err as Errors, Piece, message_of, end_of, joined, ArePieces, is_input, is_output}
 use Rattle.qrexec_data.specs.Seeing.{serving_sees}
 
--- the version that both sides go on with, once the other side's greeting was read and accepted
-abbrev pub agreed : ℕ → List ℕ → Option ℕ
-agreed own got = by_first (reading Data got).placed
+-- the version that both sides go on with, by the messages of the other side: its first is a greeting that is accepted
+abbrev pub agreed_by : ℕ → List (Placed Message) → Option ℕ
+agreed_by own [] = None
+agreed_by own (p ∷ placed) = accepted (greeting own p.message)
   where
     accepted : Result ℕ HelloFault → Option ℕ
     accepted (Ok version) = Some version
     accepted (Err fault) = None
 
-    by_first : List (Placed Message) → Option ℕ
-    by_first [] = None
-    by_first (p ∷ placed) = accepted (greeting own p.message)
+-- the version that both sides go on with, once the other side's greeting was read and accepted
+abbrev pub agreed : ℕ → List ℕ → Option ℕ
+agreed own got = agreed_by own (reading Data got).placed
 
 -- the most bytes of one message in a version
 abbrev pub most : ℕ → ℕ

@@ -6,9 +6,21 @@
 //! which side, is this project's choice.
 #![tactic(auto)]
 
+mod answering;
+mod caller;
 mod fault;
+mod inbox;
 pub mod laws;
+mod limit;
+mod outbox;
 mod outcome;
+mod replies;
+mod requests;
+mod serving;
+#[cfg(test)]
+mod tests;
 
+pub use caller::Caller;
 pub use fault::SessionFault;
 pub use outcome::Outcome;
+pub use serving::Serving;

@@ -67,6 +67,13 @@ impl<'a> Body<'a> {
         }))
     }
 
+    /// How many bytes the whole message has, its header and its body.
+    pub fn message_len(&self) -> usize
+        ensures { result ≡ 8 + length self.now.bytes.now }
+    {
+        HEADER + self.bytes.len()
+    }
+
     /// The number that the body begins with, four bytes, the lowest first: a greeting's version, or the bits
     /// of an exit code.
     pub fn number(&self) -> u32

@@ -1,0 +1,157 @@
+-- A side that serves keeps what it stands for.
+use Rattle.std.proofs.Common.{◌≡◌, ◌≢◌, ℕ, ◌+◌, ◌-◌, ◌<◌, ◌≤◌, ◌^◌, suc, zero, List, [], ◌∷◌, ◌++◌, length, take, drop, map, refl, ap, sym, ◌∙◌, subst, arith, append_assoc, length-append, ◌⊎◌, inl, inr, Option, Some, None}
+use Rattle.std.proofs.lemmas.List.{append-nil, take-append-le}
+use Rattle.std.specs.Prelude.{true, false, Bool, ℤ, is_none, is_some, not}
+use Rattle.qrexec_frame.specs.declared.channel.Channel.TheVariants.{Data}
+use Rattle.qrexec_frame.specs.declared.message.Message.{Message}
+use Rattle.qrexec_frame.specs.Grammar.{Fault}
+use Rattle.qrexec_frame.specs.Fronts.{front, reading, fault_at}
+use Rattle.qrexec_frame.specs.Streams.{Whole, Bad, Short, Placed, Reading, Rest, FaultAt}
+use Rattle.service_gate.specs.Triple.{Triple}
+use Rattle.qrexec_data.specs.declared.fault.SessionFault.TheVariants as fault
+use Rattle.qrexec_data.specs.declared.outcome.Outcome.{Outcome}
+use Rattle.qrexec_data.specs.declared.outcome.Outcome.TheVariants as outcome
+use Rattle.qrexec_data.specs.Pieces.{In, joined}
+use Rattle.qrexec_data.specs.Seeing.{Seen, Undecided, Faulty, serving_use, sees_all, seen_by, at_end}
+use Rattle.qrexec_data.specs.Reading.{InboxState, unread, read_messages, IsAtMessage}
+use Rattle.qrexec_data.specs.Answering.{AnsweringState, AnswersTo, faulted}
+use Rattle.qrexec_data.specs.ServingSide.{ServingState, Serves, ReadsInput, NothingLeft, OneMessage, OneFault, IsServing, HasServed, ServingStandsFor}
+use Rattle.qrexec_data.proofs.ReadingLaws.{ReadsNext, reading-short, reading-bad, reading-next, more-bytes}
+use Rattle.qrexec_data.proofs.HearingLaws.{left-over, seen-frame}
+use Rattle.qrexec_data.proofs.RepliesLaws.{placed_at}
+use Rattle.qrexec_data.proofs.AnsweringLaws.{none-if}
+use Rattle.qrexec_data.proofs.ServesLaws.{Heard, GoesOn, Decides, hears, sends-faulted}
+
+-- ---- reading
+
+-- nothing whole is left
+serves-all : {S : Type 0} (owes : S → List ℕ → Triple) (owed : List ℕ → Triple) (s : ServingState S) (sent : List ℕ) → IsServing owes owed s sent → front Data (unread s.inbox) ≡ Short → HasServed owes owed s sent
+serves-all owes owed s sent h short =
+    let Q : Seen → Type 0 = λ x. Serves owes owed s.answering sent (read_messages s.inbox) x in
+    let P : Reading Message Fault → Type 0 = λ x. Serves owes owed s.answering sent x.placed (sees_all serving_use x.placed x.ending) in
+    record {
+      serves = subst P (sym (reading-short s.inbox h.at short)) (subst Q (left-over serving_use (read_messages s.inbox) 0 (length (unread s.inbox))) h.serves);
+      done = λ code some. let no : None ≡ Some (outcome.Done code) = sym h.undecided ∙ some in cc;
+      goes_on = λ none. h;
+    }
+
+-- a fault of the frame
+serves-fault : {S : Type 0} (owes : S → List ℕ → Triple) (owed : List ℕ → Triple) (s : ServingState S) (sent : List ℕ) → IsServing owes owed s sent → (g : Fault) → front Data (unread s.inbox) ≡ Bad g
+    → HasServed owes owed (record s { answering = faulted (fault.Frame (fault_at s.inbox.read g)) s.answering }) sent
+serves-fault owes owed s sent h g bad =
+    let now = faulted (fault.Frame (fault_at s.inbox.read g)) s.answering in
+    let P : Reading Message Fault → Type 0 = λ x. Serves owes owed now sent x.placed (sees_all serving_use x.placed x.ending) in
+    let undecided : (sees_all serving_use (read_messages s.inbox) (Rest 0)).verdict ≡ Undecided = rw h.undecided at h.serves.outcome in
+    let seen = seen-frame serving_use (read_messages s.inbox) undecided s.inbox.read g in
+    let Q : Seen → Type 0 = λ x. Serves owes owed now sent (read_messages s.inbox) x in
+    record {
+      serves = subst P (sym (reading-bad s.inbox h.at g bad)) (subst Q (sym seen) (record {
+        outcome = refl;
+        ended = h.serves.ended;
+        version = h.serves.version;
+        sends = sends-faulted owes owed s.answering.version s.answering (Some (outcome.Fault (fault.Frame (fault_at s.inbox.read g)))) _ sent h.serves.sends;
+      }));
+      done = λ code some. cc;
+      goes_on = λ none. cc;
+    }
+
+-- one message more
+serves-message : {S : Type 0} (owes : S → List ℕ → Triple) (owed : List ℕ → Triple) (old new : ServingState S) (sent : List ℕ) → IsServing owes owed old sent → (m : Message) (n : ℕ) → old.inbox.read < 2 ^ 64
+    → front Data (unread old.inbox) ≡ Whole m n → new.inbox ≡ record old.inbox { read = old.inbox.read + n } → AnswersTo owes m old.inbox.read old.answering new.answering
+    → (new.answering.outcome ≡ None → IsServing owes owed new sent) × ((o : Outcome) → new.answering.outcome ≡ Some o → HasServed owes owed new sent)
+serves-message {S} owes owed old new sent h m n small whole passed step = by_heard (hears owes owed sent old.answering new.answering (read_messages old.inbox) m old.inbox.read small h.serves h.undecided step)
+  where
+    next : ReadsNext old.inbox m n
+    next = reading-next old.inbox h.at m n whole
+
+    by_heard : Heard owes owed sent (read_messages old.inbox) (placed_at old.inbox.read m) new.answering
+        → (new.answering.outcome ≡ None → IsServing owes owed new sent) × ((o : Outcome) → new.answering.outcome ≡ Some o → HasServed owes owed new sent)
+    by_heard (GoesOn none shut serves) =
+        let A : InboxState → Type 0 = IsAtMessage in
+        let P : List (Placed Message) → Type 0 = λ placed. Serves owes owed new.answering sent placed (sees_all serving_use placed (Rest 0)) in
+        let after : InboxState = record old.inbox { read = old.inbox.read + n } in
+        let here : IsAtMessage after = record { within = next.within; whole = ap (λ x. x.ending) next.now } in
+        let Q : InboxState → Type 0 = λ i. P (read_messages i) in (
+          λ _. record { undecided = none; at = subst A (sym passed) here; going = λ closed. let no : false ≡ true = sym shut ∙ closed in cc; serves = subst Q (sym passed) (subst P (sym (ap (λ x. x.placed) next.now)) serves) },
+          λ o some. let no : None ≡ Some o = sym none ∙ some in cc,
+        )
+    by_heard (Decides f some serves) =
+        let P : Reading Message Fault → Type 0 = λ x. Serves owes owed new.answering sent x.placed (sees_all serving_use x.placed x.ending) in
+        let G : List ℕ → Type 0 = λ got. P (reading Data got) in (
+          λ none. let no : None ≡ Some (outcome.Fault f) = sym none ∙ some in cc,
+          λ _ _. record {
+            serves = subst G (ap (λ i. i.got) (sym passed)) (subst P (sym next.all) (serves next.rest next.ending));
+            done = λ code done. let no : Some (outcome.Fault f) ≡ Some (outcome.Done code) = sym some ∙ done in cc;
+            goes_on = λ none. let no : None ≡ Some (outcome.Fault f) = sym none ∙ some in cc;
+          },
+        )
+
+none-or-some : (o : Option Outcome) → (o ≡ None) ⊎ ((x : Outcome) × (o ≡ Some x))
+none-or-some None = inl refl
+none-or-some (Some x) = inr (x, refl)
+
+pub serves-on : {S : Type 0} (owes : S → List ℕ → Triple) (owed : List ℕ → Triple) (old new : ServingState S) (more : Bool) (sent : List ℕ) → old.inbox.read < 2 ^ 64 → IsServing owes owed old sent
+    → ReadsInput owes old new more → (more ≡ true → IsServing owes owed new sent) × (more ≡ false → HasServed owes owed new sent)
+serves-on {S} owes owed old new more sent small h (NothingLeft short is stops) =
+    let P : ServingState S → Type 0 = λ s. HasServed owes owed s sent in (λ goes. cc, λ _. subst P (sym is) (serves-all owes owed old sent h short))
+serves-on owes owed old new more sent small h (OneMessage m n whole passed step ends) = by_outcome (none-or-some new.answering.outcome)
+  where
+    one : (new.answering.outcome ≡ None → IsServing owes owed new sent) × ((o : Outcome) → new.answering.outcome ≡ Some o → HasServed owes owed new sent)
+    one = serves-message owes owed old new sent h m n small whole passed step
+
+    by_outcome : ((new.answering.outcome ≡ None) ⊎ ((x : Outcome) × (new.answering.outcome ≡ Some x))) → (more ≡ true → IsServing owes owed new sent) × (more ≡ false → HasServed owes owed new sent)
+    by_outcome (inl none) = let goes : more ≡ true = ends ∙ rw none refl in (λ _. one.0 none, λ stops. cc)
+    by_outcome (inr some) = let stops : more ≡ false = ends ∙ rw some.1 refl in (λ goes. cc, λ _. one.1 some.0 some.1)
+serves-on {S} owes owed old new more sent small h (OneFault g bad is stops) =
+    let P : ServingState S → Type 0 = λ s. HasServed owes owed s sent in (λ goes. cc, λ _. subst P (sym is) (serves-fault owes owed old sent h g bad))
+
+-- more bytes came
+pub serves-more : {S : Type 0} (owes : S → List ℕ → Triple) (owed : List ℕ → Triple) (s : ServingState S) (sent piece : List ℕ) → IsServing owes owed s sent
+    → IsServing owes owed (record s { inbox = record s.inbox { got = s.inbox.got ++ piece } }) sent
+serves-more owes owed s sent piece h =
+    let same : take s.inbox.read (s.inbox.got ++ piece) ≡ take s.inbox.read s.inbox.got = take-append-le s.inbox.read s.inbox.got piece h.at.within in
+    let P : List ℕ → Type 0 = λ bytes. Serves owes owed s.answering sent (reading Data bytes).placed (sees_all serving_use (reading Data bytes).placed (Rest 0)) in
+    record { undecided = h.undecided; at = more-bytes s.inbox piece h.at; going = h.going; serves = subst P (sym same) h.serves }
+
+-- the steps of `read_one`
+pub serves-one : {S : Type 0} (owes : S → List ℕ → Triple) (old inside : ServingState S) (m : Message) (n : ℕ) (inbox : InboxState) (answering : AnsweringState S) (more : Bool) → inside ≡ old
+    → front Data (unread inside.inbox) ≡ Whole m n → inbox ≡ record inside.inbox { read = inside.inbox.read + n } → AnswersTo owes m inside.inbox.read inside.answering answering
+    → more ≡ is_none answering.outcome → ReadsInput owes old (record { inbox = inbox; answering = answering }) more
+serves-one {S} owes old inside m n inbox answering more is whole passed step ends =
+    let P : ServingState S → Type 0 = λ s. ReadsInput owes s (record { inbox = inbox; answering = answering }) more in
+    subst P is (OneMessage m n whole passed step ends)
+
+pub serves-bad : {S : Type 0} (owes : S → List ℕ → Triple) (old inside : ServingState S) (g : Fault) (answering : AnsweringState S) → inside ≡ old → front Data (unread inside.inbox) ≡ Bad g
+    → answering ≡ faulted (fault.Frame (fault_at inside.inbox.read g)) inside.answering → ReadsInput owes old (record inside { answering = answering }) false
+serves-bad {S} owes old inside g answering is bad failed =
+    let P : ServingState S → Type 0 = λ s. ReadsInput owes s (record inside { answering = answering }) false in
+    subst P is (OneFault g bad (λ i. record inside { answering = failed i }) refl)
+
+-- what the loop of `read_on` keeps
+pub record KeepsServing {S : Type 0} (owes : S → List ℕ → Triple) (start now : ServingState S) : Type 0 where
+  pub got : now.inbox.got ≡ start.inbox.got
+  pub own : now.answering.own ≡ start.answering.own
+  pub chunk : now.answering.chunk ≡ start.answering.chunk
+  pub serves : (owed : List ℕ → Triple) (sent : List ℕ) → IsServing owes owed start sent → IsServing owes owed now sent
+
+pub keeps-serving : {S : Type 0} (owes : S → List ℕ → Triple) (start old new : ServingState S) (more : Bool) → KeepsServing owes start old → new.inbox.got ≡ old.inbox.got
+    → new.answering.own ≡ old.answering.own → new.answering.chunk ≡ old.answering.chunk → old.inbox.read < 2 ^ 64 → ReadsInput owes old new more → more ≡ true → KeepsServing owes start new
+keeps-serving owes start old new more k got own chunk small step goes = record {
+  got = got ∙ k.got;
+  own = own ∙ k.own;
+  chunk = chunk ∙ k.chunk;
+  serves = λ owed sent h. (serves-on owes owed old new more sent small (k.serves owed sent h) step).0 goes;
+}
+
+-- a session that reads more bytes
+pub serves-take : {S : Type 0} (owes : S → List ℕ → Triple) (owed : List ℕ → Triple) (old inside new : ServingState S) (inbox : InboxState) (sent piece : List ℕ) → inside ≡ old
+    → is_some inside.answering.outcome ≡ false → inbox ≡ record inside.inbox { got = inside.inbox.got ++ piece } → new.answering.chunk ≡ inside.answering.chunk
+    → ServingStandsFor owes owed old sent → (IsServing owes owed (record inside { inbox = inbox }) sent) × (HasServed owes owed new sent → ServingStandsFor owes owed new sent)
+serves-take {S} owes owed old inside new inbox sent piece same open_now came chunk stands =
+    let A : ServingState S → Type 0 = λ s. ServingStandsFor owes owed s sent in
+    let s : ServingStandsFor owes owed inside sent = subst A (sym same) stands in
+    let P : InboxState → Type 0 = λ i. IsServing owes owed (record inside { inbox = i }) sent in
+    let N : ℕ → Type 0 = λ n. 0 < n in (
+      subst P (sym came) (serves-more owes owed inside sent piece (s.read.goes_on (none-if inside.answering.outcome open_now))),
+      λ read. record { chunk = subst N (sym chunk) s.chunk; read = read },
+    )

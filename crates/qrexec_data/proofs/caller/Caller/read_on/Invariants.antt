@@ -1,0 +1,9 @@
+use Rattle.std.proofs.Common.{◌-◌, length}
+use Rattle.qrexec_data.proofs.CallerLaws.{KeepsOn}
+use Rattle.qrexec_data.proofs.caller.Caller.read_on.Given as goal
+
+abbrev pub invariant-loop : goal.invariant-loop
+invariant-loop l = KeepsOn l.initial.self l.self
+
+abbrev pub decreases-loop : goal.decreases-loop
+decreases-loop l = length l.self.inbox.got - l.self.inbox.read

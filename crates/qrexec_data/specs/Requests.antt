@@ -1,0 +1,58 @@
+-- A caller's side of sending: its input in messages.
+use Rattle.std.specs.Prelude.{◌≡◌, ℕ, ◌+◌, ◌-◌, ◌<◌, ◌≤◌, ◌==◌, min, nat_lt, Bool, true, false, List, [], ◌∷◌, ◌++◌, length, take, drop, map, Option, Some, None, if◌then◌else◌}
+use Rattle.std.specs.List.{flat_map}
+use Rattle.qrexec_frame.specs.declared.message.Message.TheVariants.{Hello, Stdin}
+use Rattle.qrexec_frame.specs.Messages.{written}
+use Rattle.qrexec_data.specs.Pieces.{In, Piece, message_of, end_of, joined, ArePieces, is_input}
+use Rattle.qrexec_data.specs.Sending.{most}
+
+-- what a caller keeps of its sending
+pub record RequestsState : Type 0 where
+  -- the most bytes of one message, and the whole input
+  pub chunk : ℕ
+  pub input : List ℕ
+  -- how many bytes of the input stand in messages, and whether its end does
+  pub laid : ℕ
+  pub closed : Bool
+  -- the bytes of messages that have not gone
+  pub waiting : List ℕ
+
+-- as many bytes as the next message of the input carries
+abbrev pub next_len : ℕ → RequestsState → ℕ
+next_len version r = min (min r.chunk (most version)) (length r.input - r.laid)
+
+-- the next bytes of the input, or else its end, in a message behind those that wait
+abbrev pub laid_next : ℕ → RequestsState → RequestsState
+laid_next version r =
+    if r.closed then r
+    else if nat_lt r.laid (length r.input) then record r { laid = r.laid + next_len version r; waiting = r.waiting ++ written (Stdin (take (next_len version r) (drop r.laid r.input))) }
+    else record r { closed = true; waiting = r.waiting ++ written (Stdin []) }
+
+-- the next message, where a version is agreed on and none waits
+abbrev pub laid_on : Option ℕ → RequestsState → RequestsState
+laid_on None r = r
+laid_on (Some version) r = if length r.waiting == 0 then laid_next version r else r
+
+-- the end of the input, where it stands in a message
+abbrev pub end_if : Bool → List Piece
+end_if true = end_of In ∷ []
+end_if false = []
+
+-- what has gone, and then what waits, is a caller's stream up to here
+pub record SendsInput (own limit : ℕ) (r : RequestsState) (sent : List ℕ) : Type 0 where
+  pub pieces : List Piece
+  pub each : ArePieces is_input limit pieces
+  pub all : joined In pieces ≡ take r.laid r.input
+  pub within : r.laid ≤ length r.input
+  pub stream : sent ++ r.waiting ≡ flat_map written (Hello own ∷ map message_of (pieces ++ end_if r.closed))
+  pub done : r.closed ≡ true → r.laid ≡ length r.input
+
+-- before a version is agreed on it is the greeting alone
+pub record SendsGreeting (own : ℕ) (r : RequestsState) (sent : List ℕ) : Type 0 where
+  pub none : r.laid ≡ 0
+  pub unclosed : r.closed ≡ false
+  pub stream : sent ++ r.waiting ≡ written (Hello own)
+
+abbrev pub SendsRequests : ℕ → Option ℕ → RequestsState → List ℕ → Type 0
+SendsRequests own None r sent = SendsGreeting own r sent
+SendsRequests own (Some version) r sent = SendsInput own (min r.chunk (most version)) r sent

@@ -1,0 +1,177 @@
+ghost use Rattle.std.specs.Prelude.{◌≡◌, ◌≤◌, ◌<◌, ◌^◌, ◌++◌, ◌↔◌, ℕ, List, [], Some, None, IsSome, length, take, drop, Ok, IsOk, IfOk, OnOk, OnErr, true, false};
+ghost use Rattle.std.specs.Option.{option_or};
+
+use crate::fault::SessionFault;
+use crate::inbox::Inbox;
+use crate::outcome::Outcome;
+use crate::replies::Replies;
+use crate::requests::Requests;
+use std::alloc::Global;
+use std::marker::Model;
+use vchan_io::Memory;
+
+/// The side of a call that made it: it sends the call's input, and reads the two outputs and the exit code.
+///
+/// It reads and writes bytes alone. Its owner takes from a channel what it is to read, and reports what of
+/// the bytes that it lends has gone. After want of memory in `take` or `front` the session is spent: what
+/// it got can still be asked for, and nothing else is claimed of it.
+#[derive(Debug, Drop)]
+pub struct Caller {
+    inbox: Inbox,
+    replies: Replies,
+    requests: Requests,
+}
+
+impl Model for Caller {
+    ghost use Rattle.qrexec_data.specs.CallerSide.{CallerState};
+
+    ghost Value = { CallerState };
+
+    ghost view = { λ c. record { inbox = c.inbox; replies = c.replies; requests = c.requests } };
+}
+
+impl Caller {
+    ghost use Rattle.std.specs.Borrow.{sem};
+    ghost use Rattle.qrexec_data.specs.Seeing.{caller_sees};
+    ghost use Rattle.qrexec_data.specs.CallerSide.{CallerStandsFor, ReadsReply, IsReading, HasRead, IsStill};
+    ghost use Rattle.qrexec_data.specs.CallerLent.{RestsLent};
+
+    /// A caller with this input, of this version, 2 or 3. No message of its input has more than `chunk`
+    /// bytes, 1 to 65,536, nor more than the version allows that both sides go on with.
+    ///
+    /// Want of memory drops the input.
+    pub fn new(alloc: Global, stdin: Vec<u8>, own: u32, chunk: u32) -> Result<Caller, Memory>
+        requires own { (2 ≤ own) × (own ≤ 3) }
+        requires chunk { (0 < chunk) × (chunk ≤ 65536) }
+        ensures asked { IfOk result (λ c. (c.requests.input ≡ stdin.items) × (c.requests.chunk ≡ chunk) × (c.replies.own ≡ own)) }
+        ensures new { IfOk result (λ c. (c.inbox.got ≡ []) × (c.replies.outcome ≡ None) × CallerStandsFor c []) }
+    {
+        Ok(Caller {
+            inbox: Inbox::new(alloc),
+            replies: Replies::new(alloc, own),
+            requests: Requests::new(alloc, stdin, own, chunk)?,
+        })
+    }
+
+    /// Reads the next bytes that came. With an outcome it changes nothing.
+    pub fn take(&mut self, piece: &[u8]) -> Result<(), Memory>
+        ensures over { IsSome self.old.replies.outcome → IsOk result × (self.new ≡ self.old) }
+        ensures got { self.old.replies.outcome ≡ None → OnOk result (self.new.inbox.got ≡ self.old.inbox.got ++ piece.now) }
+        ensures same { (self.new.requests ≡ self.old.requests) × (self.new.replies.own ≡ self.old.replies.own) }
+        ensures stands { (sent : List ℕ) → CallerStandsFor self.old sent → OnOk result (CallerStandsFor self.new sent) }
+    {
+        if self.replies.outcome().is_some() {
+            return Ok(());
+        }
+        self.inbox.take(piece)?;
+        self.read_on()
+    }
+
+    // Reads all whole messages that are left, up to the first that decides.
+    fn read_on(&mut self) -> Result<(), Memory>
+        ensures got { self.new.inbox.got ≡ self.old.inbox.got }
+        ensures same { (self.new.requests ≡ self.old.requests) × (self.new.replies.own ≡ self.old.replies.own) }
+        ensures version { (v : ℕ) → self.old.replies.version ≡ Some v → self.new.replies.version ≡ Some v }
+        ensures read { IsReading self.old → OnOk result (HasRead self.new) }
+    {
+        loop {
+            if !self.read_one()? {
+                return Ok(());
+            }
+        }
+    }
+
+    // Reads the next message, and answers whether another may follow.
+    fn read_one(&mut self) -> Result<bool, Memory>
+        ensures got { self.new.inbox.got ≡ self.old.inbox.got }
+        ensures same { (self.new.requests ≡ self.old.requests) × (self.new.replies.own ≡ self.old.replies.own) }
+        ensures version { (v : ℕ) → self.old.replies.version ≡ Some v → self.new.replies.version ≡ Some v }
+        ensures at { self.old.inbox.read < 2 ^ 64 }
+        ensures nearer { result ≡ Ok true → (self.old.inbox.read < self.new.inbox.read) × (self.new.inbox.read ≤ length self.old.inbox.got) }
+        ensures step { IfOk result (λ more. ReadsReply self.old self.new more) }
+    {
+        let at = self.inbox.read();
+        match self.inbox.front() {
+            Ok(None) => Ok(false),
+            Ok(Some(body)) => {
+                let len = body.message_len();
+                self.replies.hear(body, at as u64)?;
+                self.inbox.pass(len);
+                Ok(self.replies.outcome().is_none())
+            }
+            Err(fault) => {
+                self.replies.fail(SessionFault::Frame(fault));
+                Ok(false)
+            }
+        }
+    }
+
+    /// Lends the bytes that go out next. None can go exactly where there is an outcome, where the whole
+    /// stream has gone, or where the greeting has gone and the other side's was not read yet.
+    pub fn front(&mut self) -> Result<&[u8], Memory>
+        ensures* after { sem 𝓛 (RestsLent self.entry result) }
+        ensures nothing { IfOk result (λ piece. (piece.now ≡ []) ↔ IsStill self.old) }
+    {
+        if self.replies.outcome().is_some() {
+            return Ok(&[]);
+        }
+        let version = self.replies.version();
+        self.requests.lay(version)?;
+        Ok(self.requests.waiting())
+    }
+
+    /// So many of the bytes lent last have gone.
+    pub fn advance(&mut self, count: usize)
+        requires { count ≤ length self.old.requests.waiting }
+        ensures gone { self.new ≡ record self.old { requests = record self.old.requests { waiting = drop count self.old.requests.waiting } } }
+        ensures stands { (sent : List ℕ) → CallerStandsFor self.old sent → CallerStandsFor self.new (sent ++ take count self.old.requests.waiting) }
+    {
+        self.requests.advance(count);
+    }
+
+    /// The other side has closed the channel: the outcome is `Closed` where there is none yet.
+    pub fn closed(&mut self)
+        ensures outcome { self.new ≡ record self.old { replies = record self.old.replies { outcome = option_or self.old.replies.outcome (Some Outcome.Closed) } } }
+        ensures stands { (sent : List ℕ) → CallerStandsFor self.old sent → CallerStandsFor self.new sent }
+    {
+        self.replies.end(Outcome::Closed);
+    }
+
+    /// The other side has gone: the outcome is `Gone` where there is none yet.
+    pub fn gone(&mut self)
+        ensures outcome { self.new ≡ record self.old { replies = record self.old.replies { outcome = option_or self.old.replies.outcome (Some Outcome.Gone) } } }
+        ensures stands { (sent : List ℕ) → CallerStandsFor self.old sent → CallerStandsFor self.new sent }
+    {
+        self.replies.end(Outcome::Gone);
+    }
+
+    /// How the call came out, `None` where nothing has decided yet.
+    pub fn outcome(&self) -> Option<Outcome>
+        ensures { result ≡ self.now.replies.outcome }
+    {
+        self.replies.outcome()
+    }
+
+    /// The output that came before what decided.
+    pub fn stdout(&self) -> &[u8]
+        ensures is { result.now ≡ self.now.replies.stdout }
+        ensures sees { (sent : List ℕ) → CallerStandsFor self.now sent → result.now ≡ (caller_sees self.now.inbox.got).stdout }
+    {
+        self.replies.stdout()
+    }
+
+    /// The error output that came before what decided.
+    pub fn stderr(&self) -> &[u8]
+        ensures is { result.now ≡ self.now.replies.stderr }
+        ensures sees { (sent : List ℕ) → CallerStandsFor self.now sent → result.now ≡ (caller_sees self.now.inbox.got).stderr }
+    {
+        self.replies.stderr()
+    }
+
+    /// All bytes that came while there was no outcome.
+    pub fn got(&self) -> &[u8]
+        ensures { result.now ≡ self.now.inbox.got }
+    {
+        self.inbox.got()
+    }
+}

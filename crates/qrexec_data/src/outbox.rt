@@ -1,0 +1,109 @@
+//! The bytes that a side of a call sends.
+ghost use Rattle.std.specs.Prelude.{◌≡◌, ◌≤◌, ◌++◌, ◌==◌, [], length, drop, OnOk, OnErr};
+ghost use Rattle.qrexec_frame.specs.Kinds.{IsData};
+ghost use Rattle.qrexec_frame.specs.Fronts.{made};
+ghost use Rattle.qrexec_frame.specs.Messages.{Fits, written};
+ghost use Rattle.qrexec_frame.specs.declared.message.Message.TheVariants as message;
+
+use qrexec_frame::{Kind, Message, encode, encode_data};
+use qrexec_hello::Hello;
+use std::alloc::Global;
+use std::marker::Model;
+use vchan_io::Memory;
+
+/// Messages that wait to go, in their written spelling. Contracts see the bytes that have not gone.
+#[derive(Debug, Drop)]
+pub(crate) struct Outbox {
+    bytes: Vec<u8>,
+    gone: usize,
+}
+
+impl Model for Outbox {
+    ghost use Rattle.std.specs.Prelude.{◌≤◌, List, ℕ, length, drop};
+
+    ghost Value = { List ℕ };
+
+    ghost view = { λ o. drop o.gone o.bytes.items };
+
+    ghost invariant = { λ o. o.gone ≤ length o.bytes.items };
+}
+
+impl Outbox {
+    pub(crate) fn new(alloc: Global) -> Outbox
+        ensures { result ≡ [] }
+    {
+        Outbox {
+            bytes: Vec::new(alloc),
+            gone: 0,
+        }
+    }
+
+    /// Whether no byte waits.
+    pub(crate) fn is_empty(&self) -> bool
+        ensures { result ≡ (length self.now == 0) }
+    {
+        self.waiting().is_empty()
+    }
+
+    /// Lends the bytes that wait.
+    pub(crate) fn waiting(&self) -> &[u8]
+        ensures { result.now ≡ self.now }
+    {
+        &self.bytes[self.gone..]
+    }
+
+    /// So many of the bytes that wait have gone.
+    pub(crate) fn advance(&mut self, count: usize)
+        requires { count ≤ length self.old }
+        ensures { self.new ≡ drop count self.old }
+    {
+        self.gone += count;
+    }
+
+    /// Puts a message of a stream behind the others.
+    pub(crate) fn put_data(&mut self, kind: Kind, bytes: &[u8]) -> Result<(), Memory>
+        requires stream { IsData kind }
+        requires fits { length bytes.now ≤ 65536 }
+        ensures ok { OnOk result (self.new ≡ self.old ++ written (made kind bytes.now)) }
+        ensures err { OnErr result (self.new ≡ self.old) }
+    {
+        self.drop_gone();
+        encode_data(kind, bytes, &mut self.bytes)
+    }
+
+    /// Puts the greeting of a side of this version, 2 or 3, behind the others.
+    pub(crate) fn put_greeting(&mut self, own: u32) -> Result<(), Memory>
+        requires { (2 ≤ own) × (own ≤ 3) }
+        ensures { OnOk result (self.new ≡ self.old ++ written (message.Hello own)) }
+    {
+        let greeting = Hello::announce(own);
+        self.put(&greeting)
+    }
+
+    /// Puts an exit code behind the others.
+    pub(crate) fn put_code(&mut self, code: i32) -> Result<(), Memory>
+        ensures { OnOk result (self.new ≡ self.old ++ written (message.ExitCode code)) }
+    {
+        let message = Message::ExitCode { code };
+        self.put(&message)
+    }
+
+    fn put(&mut self, message: &Message) -> Result<(), Memory>
+        requires { Fits message.now }
+        ensures ok { OnOk result (self.new ≡ self.old ++ written message.now) }
+        ensures err { OnErr result (self.new ≡ self.old) }
+    {
+        self.drop_gone();
+        encode(message, &mut self.bytes)
+    }
+
+    // Begins the list anew where all its bytes have gone.
+    fn drop_gone(&mut self)
+        ensures { self.new ≡ self.old }
+    {
+        if self.gone == self.bytes.len() {
+            self.bytes.clear();
+            self.gone = 0;
+        }
+    }
+}

@@ -1,0 +1,160 @@
+ghost use Rattle.std.specs.Prelude.{◌≡◌, ◌≤◌, ◌<◌, ◌^◌, ◌++◌, ◌↔◌, ℕ, List, [], Ok, Some, None, IsSome, length, take, drop, IsOk, IfOk, OnOk, true, false};
+ghost use Rattle.std.specs.Option.{option_or};
+ghost use Rattle.service_gate.specs.Triple.{Triple};
+
+use crate::answering::Answering;
+use crate::fault::SessionFault;
+use crate::inbox::Inbox;
+use crate::outcome::Outcome;
+use service_gate::Service;
+use std::alloc::Global;
+use std::marker::Model;
+use vchan_io::Memory;
+
+/// The side of a call that serves it: it reads the call's input, feeds it to a service, and sends what that
+/// gives.
+///
+/// It reads and writes bytes alone, as a `Caller` does. After want of memory in `take` or `front` the
+/// session is spent: what it got can still be asked for, and nothing else is claimed of it.
+#[derive(Drop)]
+pub struct Serving<S: Service> {
+    inbox: Inbox,
+    answering: Answering<S>,
+}
+
+impl<S: Service> Model for Serving<S> {
+    ghost use Rattle.qrexec_data.specs.ServingSide.{ServingState};
+
+    ghost Value = { ServingState S };
+
+    ghost view = { λ s. record { inbox = s.inbox; answering = s.answering } };
+}
+
+impl<S: Service> Serving<S> {
+    ghost use Rattle.std.specs.Borrow.{sem};
+    ghost use Rattle.std.specs.Io.BufRead.{Rests};
+    ghost use Rattle.qrexec_data.specs.contracts.serving.Serving.{the_row};
+    ghost use Rattle.qrexec_data.specs.Answering.{after_gone};
+    ghost use Rattle.qrexec_data.specs.ServingSide.{ServingStandsFor, ReadsInput, IsServing, HasServed, LendsAnswers};
+
+    /// A side that serves with this service, of this version, 2 or 3. No message of an output has more than
+    /// `chunk` bytes, 1 to 65,536, nor more than the version allows that both sides go on with.
+    ///
+    /// Want of memory drops the service.
+    pub fn new(alloc: Global, service: S, own: u32, chunk: u32) -> Result<Serving<S>, Memory>
+        requires own { (2 ≤ own) × (own ≤ 3) }
+        requires chunk { (0 < chunk) × (chunk ≤ 65536) }
+        ensures asked { IfOk result (λ s. (s.answering.chunk ≡ chunk) × (s.answering.own ≡ own)) }
+        ensures new { IfOk result (λ s. (s.inbox.got ≡ []) × (s.answering.outcome ≡ None) × ServingStandsFor S.owes (S.owes service) s []) }
+    {
+        Ok(Serving {
+            inbox: Inbox::new(alloc),
+            answering: Answering::new(alloc, service, own, chunk),
+        })
+    }
+
+    /// Reads the next bytes that came. With an outcome it changes nothing.
+    pub fn take(&mut self, piece: &[u8]) -> Result<(), Memory>
+        ensures over { IsSome self.old.answering.outcome → IsOk result × (self.new ≡ self.old) }
+        ensures got { self.old.answering.outcome ≡ None → OnOk result (self.new.inbox.got ≡ self.old.inbox.got ++ piece.now) }
+        ensures same { (self.new.answering.own ≡ self.old.answering.own) × (self.new.answering.chunk ≡ self.old.answering.chunk) }
+        ensures stands { (owed : List ℕ → Triple) (sent : List ℕ) → ServingStandsFor S.owes owed self.old sent →
+            OnOk result (ServingStandsFor S.owes owed self.new sent) }
+    {
+        if self.answering.outcome().is_some() {
+            return Ok(());
+        }
+        self.inbox.take(piece)?;
+        self.read_on()
+    }
+
+    // Reads all whole messages that are left, up to the first that decides.
+    fn read_on(&mut self) -> Result<(), Memory>
+        ensures got { self.new.inbox.got ≡ self.old.inbox.got }
+        ensures same { (self.new.answering.own ≡ self.old.answering.own) × (self.new.answering.chunk ≡ self.old.answering.chunk) }
+        ensures read { (owed : List ℕ → Triple) (sent : List ℕ) → IsServing S.owes owed self.old sent →
+            OnOk result (HasServed S.owes owed self.new sent) }
+    {
+        loop {
+            if !self.read_one()? {
+                return Ok(());
+            }
+        }
+    }
+
+    // Reads the next message, and answers whether another may follow.
+    fn read_one(&mut self) -> Result<bool, Memory>
+        ensures got { self.new.inbox.got ≡ self.old.inbox.got }
+        ensures same { (self.new.answering.own ≡ self.old.answering.own) × (self.new.answering.chunk ≡ self.old.answering.chunk) }
+        ensures at { self.old.inbox.read < 2 ^ 64 }
+        ensures nearer { result ≡ Ok true → (self.old.inbox.read < self.new.inbox.read) × (self.new.inbox.read ≤ length self.old.inbox.got) }
+        ensures step { IfOk result (λ more. ReadsInput S.owes self.old self.new more) }
+    {
+        let at = self.inbox.read();
+        match self.inbox.front() {
+            Ok(None) => Ok(false),
+            Ok(Some(body)) => {
+                let len = body.message_len();
+                self.answering.hear(body, at as u64)?;
+                self.inbox.pass(len);
+                Ok(self.answering.outcome().is_none())
+            }
+            Err(fault) => {
+                self.answering.fail(SessionFault::Frame(fault));
+                Ok(false)
+            }
+        }
+    }
+
+    /// Lends the bytes that go out next. None can go exactly where there is an outcome, where the other side's
+    /// greeting was not read yet, or where all that the service gave has gone and its input has not ended.
+    pub fn front(&mut self) -> Result<&[u8], Memory>
+        ensures* after { sem 𝓛 (Rests (the_row S.row S.Service) self.entry (λ new. IfOk result (λ piece. LendsAnswers S.owes self.old new piece.now))) }
+    {
+        if self.answering.outcome().is_some() {
+            return Ok(&[]);
+        }
+        self.answering.lay()?;
+        Ok(self.answering.waiting())
+    }
+
+    /// So many of the bytes lent last have gone. With the last byte of the exit code the call is done.
+    pub fn advance(&mut self, count: usize)
+        requires { count ≤ length self.old.answering.waiting }
+        ensures gone { self.new ≡ record self.old { answering = after_gone count self.old.answering } }
+        ensures stands { (owed : List ℕ → Triple) (sent : List ℕ) → ServingStandsFor S.owes owed self.old sent →
+            ServingStandsFor S.owes owed self.new (sent ++ take count self.old.answering.waiting) }
+    {
+        self.answering.advance(count);
+    }
+
+    /// The other side has closed the channel: the outcome is `Closed` where there is none yet.
+    pub fn closed(&mut self)
+        ensures outcome { self.new ≡ record self.old { answering = record self.old.answering { outcome = option_or self.old.answering.outcome (Some Outcome.Closed) } } }
+        ensures stands { (owed : List ℕ → Triple) (sent : List ℕ) → ServingStandsFor S.owes owed self.old sent → ServingStandsFor S.owes owed self.new sent }
+    {
+        self.answering.end(Outcome::Closed);
+    }
+
+    /// The other side has gone: the outcome is `Gone` where there is none yet.
+    pub fn gone(&mut self)
+        ensures outcome { self.new ≡ record self.old { answering = record self.old.answering { outcome = option_or self.old.answering.outcome (Some Outcome.Gone) } } }
+        ensures stands { (owed : List ℕ → Triple) (sent : List ℕ) → ServingStandsFor S.owes owed self.old sent → ServingStandsFor S.owes owed self.new sent }
+    {
+        self.answering.end(Outcome::Gone);
+    }
+
+    /// How the call came out, `None` where nothing has decided yet.
+    pub fn outcome(&self) -> Option<Outcome>
+        ensures { result ≡ self.now.answering.outcome }
+    {
+        self.answering.outcome()
+    }
+
+    /// All bytes that came while there was no outcome.
+    pub fn got(&self) -> &[u8]
+        ensures { result.now ≡ self.now.inbox.got }
+    {
+        self.inbox.got()
+    }
+}
