@@ -1,7 +1,8 @@
 //! A bench of the broker: calls between 32 domains, each asked for, named by a stranger and ended.
 //!
 //! Without arguments it tells a broker 10,000 events and prints what came of them. With the word
-//! EVENTS it tells a broker so many events, made beforehand, and prints the time in nanoseconds.
+//! EVENTS it tells a broker so many events, made beforehand, and prints the processor time in
+//! nanoseconds.
 //! `bench/broker` sets the times of short and long runs beside each other.
 #![tactic(auto)]
 
@@ -13,8 +14,8 @@ use call_broker::{Broker, Event};
 use events::{broker_of, event_at};
 use std::alloc::Global;
 use std::env;
-use std::rt::{Clock, Env};
-use std::time::Instant;
+use std::rt::Env;
+use std::time::CpuClock;
 use telling::{Tally, tell_all};
 
 /// How many events are told where no number is asked for.
@@ -43,13 +44,13 @@ fn events_of(alloc: Global, count: u32) -> Result<Vec<Event>> {
     Ok(events)
 }
 
-fn run<R: Env + Clock + Print + AllocGlobal>(rt: &R) -> Result<()> {
+fn run<R: Env + CpuClock + Print + AllocGlobal>(rt: &R) -> Result<()> {
     let count = asked(rt)?;
     let events = events_of(rt.alloc(), count.unwrap_or(FEW))?;
     let mut broker = broker_of(rt.alloc())?;
-    let start = Instant::now(rt)?;
+    let start = rt.thread_cpu_time()?;
     let tally = tell_all(&mut broker, events)?;
-    let nanos = start.elapsed(rt)?.as_nanos();
+    let nanos = rt.thread_cpu_time()?.saturating_sub(start).as_nanos();
     if count.is_some() {
         println!(rt; "{nanos}")?;
         return Ok(());
