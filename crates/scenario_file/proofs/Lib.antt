@@ -2,3 +2,4 @@ pub mod PlaceLaws
 pub mod WithoutLaws
 pub mod KeptLaws
 pub mod GeneratedLaws
+pub mod Rows

@@ -23,3 +23,6 @@ pub use line::{Line, LineCause, LineResult};
 pub use outcomes::honest_lines;
 pub use scenario::{CallPlan, Domain, Scenario};
 pub use without::without_hostile;
+
+#[cfg(test)]
+mod tests;
