@@ -11,3 +11,4 @@ pub mod AnsweringLaws
 pub mod ServesLaws
 pub mod ServingLaws
 pub mod LaidLaws
+pub mod MaySendLaws

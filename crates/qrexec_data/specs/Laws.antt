@@ -10,9 +10,11 @@ use Rattle.qrexec_frame.specs.Messages.{written, IsSpellable, GoesOn}
 use Rattle.qrexec_frame.specs.Fronts.{front, reading}
 use Rattle.qrexec_frame.specs.Streams.{Each, IsPrefixOf, Begins, Extends, messages}
 use Rattle.service_gate.specs.Triple.{Triple}
+use Rattle.qrexec_data.specs.CallerSide.{CallerState, CallerStandsFor}
+use Rattle.qrexec_data.specs.ServingSide.{ServingState, ServingStandsFor}
 use Rattle.qrexec_data.specs.Pieces.{Piece, message_of, ArePieces, is_output}
 use Rattle.qrexec_data.specs.Seeing.{Undecided, Exited, CallerSeen, caller_sees, ServingSeen, serving_sees}
-use Rattle.qrexec_data.specs.Sending.{IsCallerStream, IsServingStream}
+use Rattle.qrexec_data.specs.Sending.{IsCallerStream, IsServingStream, CallerMaySend, ServingMaySend}
 
 -- a message that has a spelling, of a channel
 abbrev pub IsGood : Channel → Message → Type 0
@@ -74,3 +76,14 @@ InputsAreRead = (own limit : ℕ) (input : List ℕ) (stream : List Message) (go
 abbrev pub GreetingsAreNoFault : Type 0
 GreetingsAreNoFault = (own : ℕ) (got : List ℕ) → IsVersion own → IsPrefixOf got (written (Hello own))
     → ((serving_sees got).fault ≡ None) × ((serving_sees got).ended ≡ false)
+
+-- ---- what stands is allowed
+
+-- what a caller sent is what a caller may send
+abbrev pub CallersSendStreams : Type 0
+CallersSendStreams = (c : CallerState) (sent : List ℕ) → CallerStandsFor c sent → CallerMaySend c.replies.own c.requests.chunk c.requests.input c.inbox.got sent
+
+-- what a side that serves sent is what such a side may send, whatever its service
+abbrev pub ServingSendsStreams : (S : Type 0) → Type 0
+ServingSendsStreams S = (owes : S → List ℕ → Triple) (owed : List ℕ → Triple) (s : ServingState S) (sent : List ℕ) → ServingStandsFor owes owed s sent
+    → ServingMaySend s.answering.own s.answering.chunk owed s.inbox.got sent

@@ -1,6 +1,8 @@
 //! Laws of what one side of a call sees of what the other sends. A law is a function with no body, whose
 //! contract states it.
-ghost use Rattle.qrexec_data.specs.Laws.{WrittenBeginnings, WholeStreams, LongerStreams, CallersSeeTriples, CallersAreDone, CallersWait, InputsAreRead, GreetingsAreNoFault};
+ghost use Rattle.qrexec_data.specs.Laws.{WrittenBeginnings, WholeStreams, LongerStreams, CallersSeeTriples, CallersAreDone, CallersWait, InputsAreRead, GreetingsAreNoFault, CallersSendStreams, ServingSendsStreams};
+
+use service_gate::Service;
 
 /// A beginning of written messages reads without fault, as the first of them.
 pub fn written_beginnings()
@@ -42,4 +44,17 @@ pub fn inputs_are_read()
 /// A greeting alone, or a part of it, is no fault and ends no input.
 pub fn greetings_are_no_fault()
     ensures { GreetingsAreNoFault }
+{}
+
+/// What a caller stands for having sent is what a caller may send that got these bytes: the beginning of a
+/// caller's whole stream, or of its greeting alone until it has read the other side's.
+pub fn callers_send_streams()
+    ensures { CallersSendStreams }
+{}
+
+/// What a serving side stands for having sent is what such a side may send that got these bytes: nothing
+/// before a greeting, then a beginning of what its service gives, and behind the input's end the beginning of
+/// its whole stream.
+pub fn serving_sends_streams<S: Service>()
+    ensures { ServingSendsStreams S }
 {}

@@ -1,10 +1,13 @@
 //! Streams as bytes from outside. Contracts say the rest.
+ghost use Rattle.std.specs.Prelude.{[], codes, negsuc};
+
 use crate::{Caller, Outcome, Serving, SessionFault};
 use qrexec_frame::{Channel, Decoder, FrameFault, Kind, encode_data};
 use qrexec_hello::HelloFault;
 use service_gate::{Boxed, Builtin, Service};
 use std::alloc::Global;
 use std::test::Fail;
+use vchan_io::Memory;
 
 const HELLO: &str = "000300000400000003000000";
 
@@ -244,11 +247,33 @@ fn serves_split_in_single_bytes(rt: HostRuntime) -> Result<(), Fail> {
     Ok(())
 }
 
+/// A service of the test's own: it tells of the end, and looks at no input.
+#[derive(Drop)]
+struct Greeting;
+
+impl Service for Greeting {
+    ghost owes = { λ _ _. record { stdout = []; stderr = codes "hi"; code = negsuc 0 } };
+
+    fn feed(
+        &mut self,
+        _piece: &[u8],
+        _out: &mut Vec<u8>,
+        _err: &mut Vec<u8>,
+    ) -> Result<(), Memory> {
+        Ok(())
+    }
+
+    fn end(&mut self, _out: &mut Vec<u8>, err: &mut Vec<u8>) -> Result<i32, Memory> {
+        err.extend_from_slice(b"hi")?;
+        Ok(-1)
+    }
+}
+
 #[test]
 fn serves_with_an_object_of_the_callers(rt: HostRuntime) -> Result<(), Fail> {
     let alloc = rt.alloc();
     let service = Boxed {
-        inner: Box::new(alloc, Builtin::Exit { code: 7 })?,
+        inner: Box::new(alloc, Greeting)?,
     };
     let mut side = serving(alloc, service, 2, 1)?;
     side.take(&bytes_of(alloc, &[HELLO, "9001000000000000"])?)?;
@@ -256,9 +281,9 @@ fn serves_with_an_object_of_the_callers(rt: HostRuntime) -> Result<(), Fail> {
     drain_serving(&mut side, &mut out)?;
     assert_eq!(rt;
         lines_of(alloc, &out)?.as_str(),
-        "hello 2;stdout 0 -;stderr 0 -;exit 7;"
+        "hello 2;stderr 1 68;stderr 1 69;stdout 0 -;stderr 0 -;exit -1;"
     );
-    assert!(rt; side.outcome() == Some(Outcome::Done { code: 7 }));
+    assert!(rt; side.outcome() == Some(Outcome::Done { code: -1 }));
     Ok(())
 }
 
