@@ -1,5 +1,5 @@
 -- A side that serves keeps what it stands for, where a message is laid and where bytes have gone.
-use Rattle.std.proofs.Common.{◌≡◌, ◌≢◌, ℕ, ◌+◌, ◌-◌, ◌<◌, ◌≤◌, suc, zero, List, [], ◌∷◌, ◌++◌, length, take, drop, map, refl, ap, sym, ◌∙◌, subst, arith, append_assoc, ◌⊎◌, inl, inr, Option, Some, None}
+use Rattle.std.proofs.Common.{◌≡◌, ℕ, ◌<◌, ◌≤◌, suc, zero, List, [], ◌∷◌, ◌++◌, length, take, drop, map, refl, ap, sym, ◌∙◌, subst, arith, append_assoc, ◌⊎◌, inl, inr, Option, Some, None}
 use Rattle.std.proofs.lemmas.List.{append-nil, take-append-drop, length-take-le}
 use Rattle.std.proofs.lemmas.Bool.Decides.{nat_tests}
 use Rattle.std.proofs.lemmas.Bool.{eqb-true}
@@ -9,14 +9,14 @@ use Rattle.qrexec_frame.specs.declared.message.Message.{Message}
 use Rattle.qrexec_frame.specs.declared.message.Message.TheVariants.{Hello, Stdout, Stderr, ExitCode}
 use Rattle.qrexec_frame.specs.Messages.{written}
 use Rattle.qrexec_frame.specs.Streams.{Placed}
-use Rattle.service_gate.specs.Triple.{Triple, after_outputs}
+use Rattle.service_gate.specs.Triple.{Triple}
 use Rattle.qrexec_data.specs.declared.outcome.Outcome.{Outcome}
 use Rattle.qrexec_data.specs.declared.outcome.Outcome.TheVariants as outcome
 use Rattle.qrexec_data.specs.Pieces.{In, Out, Err as Errors, Piece, message_of, joined, is_output}
-use Rattle.qrexec_data.specs.Seeing.{Seen, Undecided}
+use Rattle.qrexec_data.specs.Seeing.{Seen}
 use Rattle.qrexec_data.specs.Sending.{agreed_by, most}
 use Rattle.qrexec_data.specs.Answering.{AnsweringState, next_len, laid_end, laid_next, laid_on, end_bytes, done_if, is_over, over_if, after_gone}
-use Rattle.qrexec_data.specs.ServingSide.{ServingState, Gives, ends_if, SendsOutputs, SendsNothing, SendsAnswers, AgreesWith, Serves, IsServing, HasSentAll, HasServed, ServingStandsFor, LendsAnswers, HasGivenAll, IsStill}
+use Rattle.qrexec_data.specs.ServingSide.{ServingState, Gives, ends_if, SendsOutputs, SendsAnswers, AgreesWith, Serves, IsServing, ServingStandsFor, LendsAnswers, HasGivenAll, IsStill}
 use Rattle.qrexec_data.proofs.RepliesLaws.{if-true, if-false}
 use Rattle.qrexec_data.proofs.HearingLaws.{joined-piece, joined-other}
 use Rattle.qrexec_data.proofs.SpelledLaws.{spelled, spelled-behind, each-one, gone-on}
