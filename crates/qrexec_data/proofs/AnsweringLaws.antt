@@ -1,8 +1,8 @@
 -- A side that serves keeps what is seen of the messages that it has read, and owes the rest.
-use Rattle.std.proofs.Common.{◌≡◌, ◌≢◌, ℕ, ◌+◌, ◌-◌, ◌<◌, ◌≤◌, ◌^◌, suc, zero, List, [], ◌∷◌, ◌++◌, length, take, drop, map, refl, ap, sym, ◌∙◌, subst, arith, append_assoc, length-append, ◌⊎◌, inl, inr, Option, Some, None, Result, Ok, Err}
-use Rattle.std.proofs.lemmas.List.{append-nil, drop-append-le}
-use Rattle.std.specs.Prelude.{true, false, Bool, ℤ, IsSome, is_some}
-use Rattle.service_gate.specs.Triple.{Triple, after_outputs, Feeds, Ends}
+use Rattle.std.proofs.Common.{◌≡◌, ℕ, ◌≤◌, List, ◌++◌, length, drop, refl, ap, sym, ◌∙◌, subst, Option, Some, None}
+use Rattle.std.proofs.lemmas.List.{drop-append-le}
+use Rattle.std.specs.Prelude.{true, false, IsSome, is_some}
+use Rattle.service_gate.specs.Triple.{Triple, Feeds}
 use Rattle.qrexec_data.specs.Answering.{AnsweringState, FeedsOn}
 
 -- what a service was fed, where a part of its outputs stands in messages

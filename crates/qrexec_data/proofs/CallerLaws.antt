@@ -1,29 +1,26 @@
 -- A caller keeps what it stands for.
-use Rattle.std.proofs.Common.{◌≡◌, ◌≢◌, ℕ, ◌+◌, ◌-◌, ◌<◌, ◌≤◌, ◌^◌, suc, zero, List, [], ◌∷◌, ◌++◌, length, take, drop, map, refl, ap, sym, ◌∙◌, subst, arith, append_assoc, length-append, ◌⊎◌, inl, inr, Option, Some, None}
+use Rattle.std.proofs.Common.{◌≡◌, ℕ, ◌+◌, ◌-◌, ◌<◌, ◌≤◌, ◌^◌, suc, List, [], ◌∷◌, ◌++◌, length, take, drop, refl, ap, sym, ◌∙◌, subst, arith, length-append, ◌⊎◌, inl, inr, Option, Some, None}
 use Rattle.std.proofs.lemmas.List.{append-nil, take-append-le, length-drop, length-take-le}
-use Rattle.std.proofs.Math.Seq.{take-append-add}
 use Rattle.std.proofs.lemmas.Bool.Decides.{nat_tests}
-use Rattle.std.proofs.lemmas.Bool.{eqb-true, eqb-false}
-use Rattle.std.specs.Prelude.{true, false, Bool, min, nat_lt, ◌==◌, is_none, is_some, not, if◌then◌else◌, IsSome, ◌↔◌, MatchOption}
-use Rattle.std.specs.List.{flat_map}
+use Rattle.std.proofs.lemmas.Bool.{eqb-true}
+use Rattle.std.specs.Prelude.{true, false, Bool, min, nat_lt, ◌==◌, is_none, is_some, not, if◌then◌else◌, IsSome, ◌↔◌}
 use Rattle.qrexec_frame.specs.declared.channel.Channel.TheVariants.{Data}
 use Rattle.qrexec_frame.specs.declared.message.Message.{Message}
 use Rattle.qrexec_frame.specs.declared.message.Message.TheVariants.{Hello, Stdin}
 use Rattle.qrexec_frame.specs.Messages.{written}
 use Rattle.qrexec_frame.specs.Grammar.{Fault}
 use Rattle.qrexec_frame.specs.Fronts.{front, reading, fault_at}
-use Rattle.qrexec_frame.specs.Streams.{Whole, Bad, Short, Placed, Reading, Rest, FaultAt, IsPrefixOf}
+use Rattle.qrexec_frame.specs.Streams.{Whole, Bad, Short, Placed, Reading, Rest}
 use Rattle.qrexec_data.specs.declared.fault.SessionFault.TheVariants as fault
 use Rattle.qrexec_data.specs.declared.outcome.Outcome.{Outcome}
-use Rattle.qrexec_data.specs.declared.outcome.Outcome.TheVariants as outcome
-use Rattle.qrexec_data.specs.Pieces.{In, Piece, message_of, end_of, joined, ArePieces, is_input}
-use Rattle.qrexec_data.specs.Seeing.{Seen, Undecided, Faulty, caller_use, sees_all, seen_by, at_end}
-use Rattle.qrexec_data.specs.Sending.{IsCallerStream, CallerMaySend, Begins, agreed, most}
-use Rattle.qrexec_data.specs.Reading.{InboxState, read_bytes, unread, read_messages, IsAtMessage}
-use Rattle.qrexec_data.specs.Replies.{RepliesState, after_message, faulted, AgreesWith, KnowsReplies}
+use Rattle.qrexec_data.specs.Pieces.{In, Piece, end_of, is_input}
+use Rattle.qrexec_data.specs.Seeing.{Seen, Undecided, caller_use, sees_all}
+use Rattle.qrexec_data.specs.Sending.{agreed, most}
+use Rattle.qrexec_data.specs.Reading.{InboxState, unread, read_messages}
+use Rattle.qrexec_data.specs.Replies.{RepliesState, after_message, faulted, KnowsReplies}
 use Rattle.qrexec_data.specs.Requests.{RequestsState, next_len, laid_next, laid_on, end_if, SendsInput, SendsGreeting, SendsRequests}
-use Rattle.qrexec_data.specs.CallerSide.{CallerState, ReadsReply, NothingLeft, OneMessage, OneFault, IsReading, HasRead, CallerStandsFor, LendsRequests, HasSentAll, IsStill}
-use Rattle.qrexec_data.proofs.SpelledLaws.{spelled, spelled-behind, each-one, take-more, written-some, gone-on}
+use Rattle.qrexec_data.specs.CallerSide.{CallerState, ReadsReply, NothingLeft, OneMessage, OneFault, IsReading, HasRead, CallerStandsFor, LendsRequests, IsStill}
+use Rattle.qrexec_data.proofs.SpelledLaws.{spelled, spelled-behind, each-one, take-more, written-some}
 use Rattle.qrexec_data.proofs.ReadingLaws.{ReadsNext, reading-short, reading-bad, reading-next, more-bytes}
 use Rattle.qrexec_data.proofs.HearingLaws.{left-over, seen-frame, joined-piece}
 use Rattle.qrexec_data.proofs.RepliesLaws.{if-true, if-false, Heard, GoesOn, Decides, placed_at, hears}

@@ -1,16 +1,16 @@
 -- What is seen of one more message, where those before it decide nothing.
-use Rattle.std.proofs.Common.{◌≡◌, ◌≢◌, ℕ, ◌<◌, ◌≤◌, suc, zero, List, [], ◌∷◌, ◌++◌, refl, ap, sym, subst, ◌∙◌, arith, append_assoc, Option, Some, None, Result, Ok, Err}
+use Rattle.std.proofs.Common.{◌≡◌, ℕ, List, [], ◌∷◌, ◌++◌, refl, ap, sym, subst, ◌∙◌, Some, Ok, Err}
 use Rattle.std.proofs.lemmas.List.{append-nil}
 use Rattle.std.specs.Prelude.{true, false, Bool, ◌&&◌, ◌||◌, min, nat_lt}
 use Rattle.qrexec_frame.specs.declared.message.Message.{Message}
 use Rattle.qrexec_frame.specs.declared.message.Message.TheVariants as message
 use Rattle.qrexec_frame.specs.Grammar.{Fault}
 use Rattle.qrexec_frame.specs.Streams.{Placed, Ending, Rest, FaultAt}
-use Rattle.qrexec_hello.specs.Greeting.{greeting, greet}
+use Rattle.qrexec_hello.specs.Greeting.{greeting}
 use Rattle.qrexec_hello.specs.declared.hello.HelloFault.{HelloFault}
 use Rattle.qrexec_hello.specs.declared.hello.HelloFault.TheVariants.{NotHello, Version}
 use Rattle.qrexec_data.specs.Pieces.{Stream, Piece, joined, has_ended, is_stream, no_bytes}
-use Rattle.qrexec_data.specs.Seeing.{Seen, Verdict, Undecided, Exited, Faulty, Use, Carries, Exits, Strays, sees_on, sees_one, sees_all, piece_first, decided, at_end, number}
+use Rattle.qrexec_data.specs.Seeing.{Seen, Undecided, Use, Carries, Exits, Strays, sees_on, sees_one, sees_all, piece_first, at_end, number}
 use Rattle.qrexec_data.specs.Sending.{agreed_by}
 use Rattle.qrexec_data.proofs.PieceLaws.{all_first, joined-append}
 

@@ -1,5 +1,5 @@
 -- A side that serves keeps what it stands for, where a message is laid and where bytes have gone.
-use Rattle.std.proofs.Common.{◌≡◌, ◌≢◌, ℕ, ◌+◌, ◌-◌, ◌<◌, ◌≤◌, suc, zero, List, [], ◌∷◌, ◌++◌, length, take, drop, map, refl, ap, sym, ◌∙◌, subst, arith, append_assoc, ◌⊎◌, inl, inr, Option, Some, None}
+use Rattle.std.proofs.Common.{◌≡◌, ℕ, ◌<◌, ◌≤◌, suc, zero, List, [], ◌∷◌, ◌++◌, length, take, drop, map, refl, ap, sym, ◌∙◌, subst, arith, append_assoc, ◌⊎◌, inl, inr, Option, Some, None}
 use Rattle.std.proofs.lemmas.List.{append-nil, take-append-drop, length-take-le}
 use Rattle.std.proofs.lemmas.Bool.Decides.{nat_tests}
 use Rattle.std.proofs.lemmas.Bool.{eqb-true}
@@ -9,14 +9,14 @@ use Rattle.qrexec_frame.specs.declared.message.Message.{Message}
 use Rattle.qrexec_frame.specs.declared.message.Message.TheVariants.{Hello, Stdout, Stderr, ExitCode}
 use Rattle.qrexec_frame.specs.Messages.{written}
 use Rattle.qrexec_frame.specs.Streams.{Placed}
-use Rattle.service_gate.specs.Triple.{Triple, after_outputs}
+use Rattle.service_gate.specs.Triple.{Triple}
 use Rattle.qrexec_data.specs.declared.outcome.Outcome.{Outcome}
 use Rattle.qrexec_data.specs.declared.outcome.Outcome.TheVariants as outcome
 use Rattle.qrexec_data.specs.Pieces.{In, Out, Err as Errors, Piece, message_of, joined, is_output}
-use Rattle.qrexec_data.specs.Seeing.{Seen, Undecided}
+use Rattle.qrexec_data.specs.Seeing.{Seen}
 use Rattle.qrexec_data.specs.Sending.{agreed_by, most}
 use Rattle.qrexec_data.specs.Answering.{AnsweringState, next_len, laid_end, laid_next, laid_on, end_bytes, done_if, is_over, over_if, after_gone}
-use Rattle.qrexec_data.specs.ServingSide.{ServingState, Gives, ends_if, SendsOutputs, SendsNothing, SendsAnswers, AgreesWith, Serves, IsServing, HasSentAll, HasServed, ServingStandsFor, LendsAnswers}
+use Rattle.qrexec_data.specs.ServingSide.{ServingState, Gives, ends_if, SendsOutputs, SendsAnswers, AgreesWith, Serves, IsServing, ServingStandsFor, LendsAnswers, HasGivenAll, IsStill}
 use Rattle.qrexec_data.proofs.RepliesLaws.{if-true, if-false}
 use Rattle.qrexec_data.proofs.HearingLaws.{joined-piece, joined-other}
 use Rattle.qrexec_data.proofs.SpelledLaws.{spelled, spelled-behind, each-one, gone-on}
@@ -321,9 +321,6 @@ over-cases a b is = by_closed a.closed a.waiting a.outcome is
         none w None = refl
         none w (Some o) = refl
 
-no-length : (xs : List ℕ) → xs ≡ [] → 0 < length xs → ⊥
-no-length xs is some = some-not xs some is
-
 no-code : (c : Option ℤ) → c ≡ None → IsSome c → ⊥
 no-code None is some = cc
 no-code (Some x) is some = cc
@@ -396,3 +393,81 @@ stands-gone {S} owes owed old inside answering sent count same is stands =
                 record { undecided = nothing; at = i.at; going = goes.1 nothing; serves = serves-same owes owed inside.answering gone sent now kept sends _ _ i.serves };
           };
         })
+
+-- ---- where nothing goes out
+
+behind-some : (xs ys : List ℕ) → 0 < length ys → xs ++ ys ≡ [] → ⊥
+behind-some [] ys some is = some-not ys some is
+behind-some (x ∷ xs) ys some is = cc
+
+no-length : (xs : List ℕ) → (length xs == 0) ≡ true → xs ≡ []
+no-length [] is = refl
+no-length (x ∷ xs) is = let zero_is : suc (length xs) ≡ 0 = eqb-true (suc (length xs)) 0 is in absurd (omega (arith, zero_is))
+
+has-length : (xs : List ℕ) → (length xs == 0) ≡ false → xs ≡ [] → ⊥
+has-length [] some is = cc
+has-length (x ∷ xs) some is = cc
+
+no-outcome : (o : Option Outcome) → o ≡ None → IsSome o → ⊥
+no-outcome None is some = cc
+no-outcome (Some x) is some = cc
+
+-- why nothing goes out waits for nothing
+still-waits : {S : Type 0} (a : AnsweringState S) → a.outcome ≡ None → IsStill a → a.waiting ≡ []
+still-waits a none (inl some) = absurd (no-outcome a.outcome none some)
+still-waits a none (inr (inl unread)) = unread.1
+still-waits a none (inr (inr given)) = given.waits
+
+-- and, once greeted, that all was given
+still-given : {S : Type 0} (a : AnsweringState S) (version : ℕ) → a.outcome ≡ None → a.version ≡ Some version → IsStill a → HasGivenAll a
+still-given a version none greeted (inl some) = absurd (no-outcome a.outcome none some)
+still-given a version none greeted (inr (inl unread)) = let no : None ≡ Some version = sym unread.0 ∙ greeted in cc
+still-given a version none greeted (inr (inr given)) = given
+
+pub still-serving : {S : Type 0} (a : AnsweringState S) → a.outcome ≡ None → (a.closed ≡ true → 0 < length a.waiting) → ((laid_on a.version a).waiting ≡ []) ↔ IsStill a
+still-serving {S} a none going = by_version a.version refl
+  where
+    By : AnsweringState S → Type 0
+    By x = (x.waiting ≡ []) ↔ IsStill a
+
+    by_closed : (version : ℕ) (code : ℤ) → a.version ≡ Some version → a.code ≡ Some code → a.waiting ≡ [] → (b : Bool) → a.closed ≡ b → By (laid_end (Some code) a)
+    by_closed version code greeted is empty true closed = absurd (some-not a.waiting (going closed) empty)
+    by_closed version code greeted is empty false closed =
+        subst By (sym (if-false a.closed _ _ closed)) (λ h. absurd (behind-some a.waiting (end_bytes code) (omega arith) h), λ h. let g = still-given a version none greeted h in let no : None ≡ Some code = sym g.unended ∙ is in cc)
+
+    by_code : (version : ℕ) → a.version ≡ Some version → a.waiting ≡ [] → a.out ≡ [] → a.err ≡ [] → (c : Option ℤ) → a.code ≡ c → By (laid_end c a)
+    by_code version greeted empty out err None is = (λ h. inr (inr (record { greeted = ap is_some greeted; out = out; err = err; waits = empty; unended = is })), λ h. empty)
+    by_code version greeted empty out err (Some code) is = by_closed version code greeted is empty a.closed refl
+
+    by_err : (version : ℕ) → a.version ≡ Some version → a.waiting ≡ [] → nat_lt 0 (length a.out) ≡ false → (b : Bool) → nat_lt 0 (length a.err) ≡ b → By (laid_next version a)
+    by_err version greeted empty out true is =
+        subst By (sym (if-false (nat_lt 0 (length a.out)) _ _ out ∙ if-true (nat_lt 0 (length a.err)) _ _ is))
+        (λ h. absurd (behind-some a.waiting (written (Stderr (take (next_len version a a.err) a.err))) (omega arith) h), λ h. absurd (some-not a.err (some-bytes a.err is) (still-given a version none greeted h).err))
+    by_err version greeted empty out false is =
+        subst By (sym (if-false (nat_lt 0 (length a.out)) _ _ out ∙ if-false (nat_lt 0 (length a.err)) _ _ is)) (by_code version greeted empty (no-bytes a.out out) (no-bytes a.err is) a.code refl)
+
+    by_out : (version : ℕ) → a.version ≡ Some version → a.waiting ≡ [] → (b : Bool) → nat_lt 0 (length a.out) ≡ b → By (laid_next version a)
+    by_out version greeted empty true is =
+        subst By (sym (if-true (nat_lt 0 (length a.out)) _ _ is))
+        (λ h. absurd (behind-some a.waiting (written (Stdout (take (next_len version a a.out) a.out))) (omega arith) h), λ h. absurd (some-not a.out (some-bytes a.out is) (still-given a version none greeted h).out))
+    by_out version greeted empty false is = by_err version greeted empty is (nat_lt 0 (length a.err)) refl
+
+    by_waiting : (version : ℕ) → a.version ≡ Some version → (b : Bool) → (length a.waiting == 0) ≡ b → By (laid_on (Some version) a)
+    by_waiting version greeted true empty = subst By (sym (if-true (length a.waiting == 0) _ _ empty)) (by_out version greeted (no-length a.waiting empty) (nat_lt 0 (length a.out)) refl)
+    by_waiting version greeted false some = subst By (sym (if-false (length a.waiting == 0) _ _ some)) (λ h. absurd (has-length a.waiting some h), λ h. still-waits a none h)
+
+    by_version : (v : Option ℕ) → a.version ≡ v → By (laid_on a.version a)
+    by_version None is = let V : Option ℕ → Type 0 = λ v. By (laid_on v a) in subst V (sym is) (λ h. inr (inl (is, h)), λ h. still-waits a none h)
+    by_version (Some version) is = let V : Option ℕ → Type 0 = λ v. By (laid_on v a) in subst V (sym is) (by_waiting version is (length a.waiting == 0) refl)
+
+pub lends-nothing : {S : Type 0} (owes : S → List ℕ → Triple) (owed : List ℕ → Triple) (old inside : ServingState S) (answering : AnsweringState S) (piece sent : List ℕ) → inside ≡ old
+    → is_some inside.answering.outcome ≡ false → answering ≡ laid_on inside.answering.version inside.answering → piece ≡ answering.waiting → ServingStandsFor owes owed old sent
+    → (piece ≡ []) ↔ IsStill old.answering
+lends-nothing {S} owes owed old inside answering piece sent same open_now laid lent stands =
+    let none : inside.answering.outcome ≡ None = none-if inside.answering.outcome open_now in
+    let A : ServingState S → Type 0 = λ s. ServingStandsFor owes owed s sent in
+    let P : ServingState S → Type 0 = λ s. (piece ≡ []) ↔ IsStill s.answering in
+    let s : ServingStandsFor owes owed inside sent = subst A (sym same) stands in
+    let h = still-serving inside.answering none (s.read.goes_on none).going in
+    let w : piece ≡ (laid_on inside.answering.version inside.answering).waiting = lent ∙ ap (λ x. x.waiting) laid in
+    subst P same (λ e. h.0 (sym w ∙ e), λ e. w ∙ h.1 e)

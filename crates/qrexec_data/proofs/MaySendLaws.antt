@@ -1,25 +1,21 @@
 -- What a side sent is what it may send.
-use Rattle.std.proofs.Common.{◌≡◌, ℕ, ◌+◌, ◌-◌, ◌<◌, ◌≤◌, suc, zero, List, [], ◌∷◌, ◌++◌, length, take, drop, map, refl, ap, sym, ◌∙◌, subst, arith, append_assoc, Option, Some, None}
+use Rattle.std.proofs.Common.{◌≡◌, ℕ, ◌<◌, List, [], ◌∷◌, ◌++◌, length, take, drop, map, refl, ap, sym, ◌∙◌, subst, arith, append_assoc, Option, Some, None}
 use Rattle.std.proofs.lemmas.List.{append-nil, take-append-drop}
-use Rattle.std.proofs.lemmas.Bool.Decides.{nat_tests}
 use Rattle.std.specs.Prelude.{true, false, Bool, ℤ, min, nat_lt, is_some, MatchOption, MatchBool}
 use Rattle.std.specs.List.{flat_map}
-use Rattle.qrexec_frame.specs.declared.channel.Channel.TheVariants.{Data}
 use Rattle.qrexec_frame.specs.declared.message.Message.{Message}
 use Rattle.qrexec_frame.specs.declared.message.Message.TheVariants.{Hello, Stdout, Stderr, ExitCode}
 use Rattle.qrexec_frame.specs.Messages.{written}
-use Rattle.qrexec_frame.specs.Fronts.{reading}
 use Rattle.qrexec_frame.specs.Streams.{IsPrefixOf}
-use Rattle.service_gate.specs.Triple.{Triple, after_outputs}
-use Rattle.qrexec_data.specs.Pieces.{Stream, In, Out, Err as Errors, Piece, message_of, end_of, joined, has_ended, is_stream, ArePieces, is_input, is_output}
-use Rattle.qrexec_data.specs.Seeing.{Seen, serving_use, seen_by, serving_sees}
-use Rattle.qrexec_data.specs.Sending.{agreed, most, IsCallerStream, IsServingStream, IsServingBegun, Begins, CallerMaySend, ServingMaySend}
+use Rattle.service_gate.specs.Triple.{Triple}
+use Rattle.qrexec_data.specs.Pieces.{Stream, In, Out, Err as Errors, Piece, message_of, end_of, joined, is_stream, ArePieces, is_input, is_output}
+use Rattle.qrexec_data.specs.Seeing.{serving_sees}
+use Rattle.qrexec_data.specs.Sending.{most, IsCallerStream, IsServingStream, IsServingBegun, Begins, CallerMaySend, ServingMaySend}
 use Rattle.qrexec_data.specs.Requests.{RequestsState, end_if, SendsInput, SendsRequests}
 use Rattle.qrexec_data.specs.CallerSide.{CallerState, CallerStandsFor}
 use Rattle.qrexec_data.specs.Answering.{AnsweringState}
 use Rattle.qrexec_data.specs.ServingSide.{ServingState, Gives, ends_if, SendsOutputs, SendsAnswers, ServingStandsFor}
 use Rattle.qrexec_data.proofs.PieceLaws.{joined-append}
-use Rattle.qrexec_data.proofs.SpelledLaws.{spelled}
 
 -- ---- pieces of one byte
 

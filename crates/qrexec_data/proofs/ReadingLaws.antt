@@ -1,5 +1,5 @@
 -- What the reading of all bytes is, by what stands at the front of those that were not read.
-use Rattle.std.proofs.Common.{◌≡◌, ℕ, ◌+◌, ◌-◌, ◌<◌, ◌≤◌, List, [], ◌∷◌, ◌++◌, length, take, drop, refl, sym, ◌∙◌, ap, arith, length-append, append_assoc}
+use Rattle.std.proofs.Common.{◌≡◌, ℕ, ◌+◌, ◌-◌, ◌<◌, ◌≤◌, List, [], ◌∷◌, ◌++◌, length, take, drop, refl, sym, ◌∙◌, ap, arith, length-append}
 use Rattle.std.proofs.lemmas.List.{length-take-le, length-drop, append-nil, take-append-drop, take-append-le}
 use Rattle.std.proofs.Math.Seq.{take-append-add}
 use Rattle.qrexec_frame.specs.declared.channel.Channel.TheVariants.{Data}

@@ -1,21 +1,19 @@
 -- A caller keeps what is seen of the messages that it has read.
-use Rattle.std.proofs.Common.{◌≡◌, ◌≢◌, ℕ, ◌<◌, ◌≤◌, ◌%◌, ◌^◌, suc, zero, List, [], ◌∷◌, ◌++◌, refl, ap, sym, ◌∙◌, subst, arith, append_assoc, Option, Some, None, Result, Ok, Err}
+use Rattle.std.proofs.Common.{◌≡◌, ℕ, ◌<◌, ◌^◌, List, [], ◌∷◌, ◌++◌, refl, ap, sym, ◌∙◌, subst, arith, Some, None}
 use Rattle.std.proofs.lemmas.List.{append-nil}
 use Rattle.std.specs.Prelude.{true, false, Bool, ℤ, if◌then◌else◌}
 use Rattle.qrexec_frame.specs.declared.message.Message.{Message}
 use Rattle.qrexec_frame.specs.declared.message.Message.TheVariants as message
 use Rattle.qrexec_frame.specs.Grammar.{Fault}
-use Rattle.qrexec_frame.specs.Streams.{Placed, Ending, Rest, FaultAt}
+use Rattle.qrexec_frame.specs.Streams.{Placed, Ending, Rest}
 use Rattle.qrexec_hello.specs.Greeting.{greeting}
-use Rattle.qrexec_hello.specs.declared.hello.HelloFault.{HelloFault}
 use Rattle.qrexec_data.specs.declared.fault.SessionFault.TheVariants as fault
 use Rattle.qrexec_data.specs.declared.outcome.Outcome.{Outcome}
 use Rattle.qrexec_data.specs.declared.outcome.Outcome.TheVariants as outcome
-use Rattle.qrexec_data.specs.Pieces.{Stream, In, Out, Err as Errors, Piece, joined, has_ended, no_bytes}
-use Rattle.qrexec_data.specs.Seeing.{Seen, Undecided, Exited, Faulty, Use, Carries, Exits, Strays, sees_on, sees_one, sees_all, decided, number, offset, caller_use}
+use Rattle.qrexec_data.specs.Pieces.{Stream, Out, Err as Errors, Piece, joined, has_ended, no_bytes}
+use Rattle.qrexec_data.specs.Seeing.{Seen, Undecided, Faulty, Use, Carries, Exits, Strays, sees_on, sees_all, decided, number, offset, caller_use}
 use Rattle.qrexec_data.specs.Sending.{agreed_by}
-use Rattle.qrexec_data.specs.Replies.{RepliesState, no_replies, faulted, after_piece, after_use, after_greeting, after_message, AgreesWith, KnowsReplies}
-use Rattle.qrexec_data.proofs.PieceLaws.{all_first}
+use Rattle.qrexec_data.specs.Replies.{RepliesState, faulted, after_piece, after_use, after_greeting, after_message, AgreesWith, KnowsReplies}
 use Rattle.qrexec_data.proofs.HearingLaws.{Greeted, Accepted, Refused, greeted-any, Follows, follows, joined-piece, joined-other, ended-piece, ended-other}
 
 abbrev pub placed_at : ℕ → Message → Placed Message

@@ -1,16 +1,11 @@
 -- Worked rows, computed.
-use Rattle.std.proofs.Common.{◌≡◌, refl, ℕ, ◌+◌, ◌≤◌, ◌<◌, List, [], ◌∷◌, ◌++◌, Option, Some, None, arith}
-use Rattle.std.specs.Prelude.{pos, negsuc, true, false, ℤ}
-use Rattle.std.specs.List.{flat_map}
+use Rattle.std.proofs.Common.{◌≡◌, refl, [], ◌∷◌, Some, None}
+use Rattle.std.specs.Prelude.{pos, negsuc, true}
 use Rattle.qrexec_frame.specs.Fronts.{front}
-use Rattle.qrexec_frame.specs.Messages.{written}
-use Rattle.qrexec_frame.specs.declared.message.Message.TheVariants as m
 use Rattle.qrexec_frame.specs.declared.fault.FrameFault.TheVariants as frame
 use Rattle.qrexec_hello.specs.declared.hello.HelloFault.TheVariants as hello
 use Rattle.qrexec_data.specs.declared.fault.SessionFault.TheVariants.{Frame, Hello, WrongSide, AfterEnd}
-use Rattle.qrexec_data.specs.Pieces.{In, Out, Err as Errors}
 use Rattle.qrexec_data.specs.Seeing.{Undecided, Exited, Faulty, caller_sees, serving_sees}
-use Rattle.qrexec_data.specs.Sending.{IsCallerStream, IsServingStream, agreed}
 
 wrong_side : (caller_sees (0 ∷ 3 ∷ 0 ∷ 0 ∷ 4 ∷ 0 ∷ 0 ∷ 0 ∷ 3 ∷ 0 ∷ 0 ∷ 0 ∷ 144 ∷ 1 ∷ 0 ∷ 0 ∷ 0 ∷ 0 ∷ 0 ∷ 0 ∷ [])).verdict ≡ Faulty (WrongSide 12 400)
 unfolding front

@@ -1,5 +1,5 @@
 -- A side that serves keeps what is seen of one more message, and owes the rest.
-use Rattle.std.proofs.Common.{◌≡◌, ◌≢◌, ℕ, ◌+◌, ◌-◌, ◌<◌, ◌≤◌, ◌^◌, suc, zero, List, [], ◌∷◌, ◌++◌, length, take, drop, map, refl, ap, sym, ◌∙◌, subst, arith, append_assoc, length-append, ◌⊎◌, inl, inr, Option, Some, None, Result, Ok, Err}
+use Rattle.std.proofs.Common.{◌≡◌, ℕ, ◌<◌, ◌^◌, List, [], ◌∷◌, ◌++◌, length, map, refl, ap, sym, ◌∙◌, subst, arith, append_assoc, Option, Some, None}
 use Rattle.std.proofs.lemmas.List.{append-nil}
 use Rattle.std.specs.Prelude.{true, false, Bool, ℤ, IsSome, is_some, min}
 use Rattle.std.specs.List.{flat_map}
@@ -7,18 +7,18 @@ use Rattle.qrexec_frame.specs.declared.message.Message.{Message}
 use Rattle.qrexec_frame.specs.declared.message.Message.TheVariants.{Hello, Stdin}
 use Rattle.qrexec_frame.specs.Messages.{written}
 use Rattle.qrexec_frame.specs.Grammar.{Fault}
-use Rattle.qrexec_frame.specs.Streams.{Placed, Ending, Rest, FaultAt}
+use Rattle.qrexec_frame.specs.Streams.{Placed, Ending, Rest}
 use Rattle.qrexec_hello.specs.Greeting.{greeting}
 use Rattle.service_gate.specs.Triple.{Triple, after_outputs, Feeds, Ends}
 use Rattle.qrexec_data.specs.declared.fault.SessionFault.{SessionFault}
 use Rattle.qrexec_data.specs.declared.fault.SessionFault.TheVariants as fault
 use Rattle.qrexec_data.specs.declared.outcome.Outcome.{Outcome}
 use Rattle.qrexec_data.specs.declared.outcome.Outcome.TheVariants as outcome
-use Rattle.qrexec_data.specs.Pieces.{Stream, In, Out, Err as Errors, Piece, message_of, joined, has_ended, no_bytes}
-use Rattle.qrexec_data.specs.Seeing.{Seen, Undecided, Faulty, Use, Carries, Strays, sees_on, sees_all, decided, number, serving_use}
+use Rattle.qrexec_data.specs.Pieces.{In, Out, Err as Errors, Piece, message_of, joined, has_ended, no_bytes}
+use Rattle.qrexec_data.specs.Seeing.{Seen, Undecided, Faulty, Carries, sees_on, sees_all, decided, number, serving_use}
 use Rattle.qrexec_data.specs.Sending.{agreed_by, most}
-use Rattle.qrexec_data.specs.Answering.{AnsweringState, FeedsOn, EndsOn, AnswersTo, Greets, Stray, Late, Fed, Ended, after_greeting, faulted}
-use Rattle.qrexec_data.specs.ServingSide.{Gives, ends_if, SendsOutputs, SendsNothing, SendsAnswers, AgreesWith, Serves}
+use Rattle.qrexec_data.specs.Answering.{AnsweringState, AnswersTo, Greets, Stray, Late, Fed, Ended, after_greeting, faulted}
+use Rattle.qrexec_data.specs.ServingSide.{Gives, ends_if, SendsOutputs, SendsNothing, SendsAnswers, Serves}
 use Rattle.qrexec_data.proofs.HearingLaws.{Greeted, Accepted, Refused, greeted-any, Follows, follows, joined-piece, ended-piece}
 use Rattle.qrexec_data.proofs.RepliesLaws.{placed_at, small-offset}
 

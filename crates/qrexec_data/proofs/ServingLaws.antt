@@ -1,18 +1,17 @@
 -- A side that serves keeps what it stands for.
-use Rattle.std.proofs.Common.{◌≡◌, ◌≢◌, ℕ, ◌+◌, ◌-◌, ◌<◌, ◌≤◌, ◌^◌, suc, zero, List, [], ◌∷◌, ◌++◌, length, take, drop, map, refl, ap, sym, ◌∙◌, subst, arith, append_assoc, length-append, ◌⊎◌, inl, inr, Option, Some, None}
-use Rattle.std.proofs.lemmas.List.{append-nil, take-append-le}
-use Rattle.std.specs.Prelude.{true, false, Bool, ℤ, is_none, is_some, not}
+use Rattle.std.proofs.Common.{◌≡◌, ℕ, ◌+◌, ◌<◌, ◌^◌, List, ◌++◌, length, take, refl, ap, sym, ◌∙◌, subst, ◌⊎◌, inl, inr, Option, Some, None}
+use Rattle.std.proofs.lemmas.List.{take-append-le}
+use Rattle.std.specs.Prelude.{true, false, Bool, is_none, is_some}
 use Rattle.qrexec_frame.specs.declared.channel.Channel.TheVariants.{Data}
 use Rattle.qrexec_frame.specs.declared.message.Message.{Message}
 use Rattle.qrexec_frame.specs.Grammar.{Fault}
 use Rattle.qrexec_frame.specs.Fronts.{front, reading, fault_at}
-use Rattle.qrexec_frame.specs.Streams.{Whole, Bad, Short, Placed, Reading, Rest, FaultAt}
+use Rattle.qrexec_frame.specs.Streams.{Whole, Bad, Short, Placed, Reading, Rest}
 use Rattle.service_gate.specs.Triple.{Triple}
 use Rattle.qrexec_data.specs.declared.fault.SessionFault.TheVariants as fault
 use Rattle.qrexec_data.specs.declared.outcome.Outcome.{Outcome}
 use Rattle.qrexec_data.specs.declared.outcome.Outcome.TheVariants as outcome
-use Rattle.qrexec_data.specs.Pieces.{In, joined}
-use Rattle.qrexec_data.specs.Seeing.{Seen, Undecided, Faulty, serving_use, sees_all, seen_by, at_end}
+use Rattle.qrexec_data.specs.Seeing.{Seen, Undecided, serving_use, sees_all}
 use Rattle.qrexec_data.specs.Reading.{InboxState, unread, read_messages, IsAtMessage}
 use Rattle.qrexec_data.specs.Answering.{AnsweringState, AnswersTo, faulted}
 use Rattle.qrexec_data.specs.ServingSide.{ServingState, Serves, ReadsInput, NothingLeft, OneMessage, OneFault, IsServing, HasServed, ServingStandsFor}

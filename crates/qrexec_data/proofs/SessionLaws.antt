@@ -1,11 +1,11 @@
 -- What each side sees of a beginning of what the other may send.
-use Rattle.std.proofs.Common.{◌≡◌, ◌≢◌, ℕ, ◌+◌, ◌-◌, ◌<◌, ◌≤◌, ◌^◌, suc, zero, List, [], ◌∷◌, ◌++◌, length, take, drop, map, refl, ap, sym, ◌∙◌, arith, append_assoc, ◌⊎◌, inl, inr, Option, Some, None, subst}
-use Rattle.std.specs.Prelude.{true, false, Bool, ◌&&◌, ◌||◌, filter, nat_lt, pos, ℤ}
+use Rattle.std.proofs.Common.{◌≡◌, ℕ, ◌<◌, ◌≤◌, ◌^◌, suc, zero, List, [], ◌∷◌, ◌++◌, length, take, map, refl, ap, sym, ◌∙◌, arith, ◌⊎◌, inl, inr, None}
+use Rattle.std.specs.Prelude.{true, false, Bool, nat_lt, ℤ}
 use Rattle.std.specs.Int.{w32}
 use Rattle.std.specs.Int.RustNames.{FitsSigned}
 use Rattle.std.proofs.lemmas.Bool.Decides.{nat_tests}
 use Rattle.std.proofs.lemmas.List.{append-nil}
-use Rattle.std.specs.List.{flat_map, list_any}
+use Rattle.std.specs.List.{flat_map}
 use Rattle.qrexec_frame.specs.declared.channel.Channel.TheVariants.{Data}
 use Rattle.qrexec_frame.specs.declared.message.Message.{Message}
 use Rattle.qrexec_frame.specs.declared.message.Message.TheVariants.{Hello, ExitCode}
@@ -18,7 +18,7 @@ use Rattle.qrexec_frame.proofs.GrammarLaws.{is_prefix_code}
 use Rattle.qrexec_frame.proofs.WrittenLaws.{is_read_again}
 use Rattle.service_gate.specs.Triple.{Triple}
 use Rattle.qrexec_data.specs.Pieces.{Stream, In, Out, Err as Errors, Piece, message_of, end_of, joined, has_ended, ArePieces, is_input, is_output}
-use Rattle.qrexec_data.specs.Seeing.{Seen, Use, Carries, Verdict, Undecided, Exited, sees_on, sees_all, seen_by, caller_use, serving_use, CallerSeen, caller_sees, ServingSeen, serving_sees, fault_of}
+use Rattle.qrexec_data.specs.Seeing.{Seen, Use, Carries, Undecided, Exited, sees_on, sees_all, seen_by, caller_use, serving_use, caller_sees, serving_sees, fault_of}
 use Rattle.qrexec_data.specs.Sending.{IsCallerStream, IsServingStream}
 use Rattle.qrexec_data.specs.Laws.{IsGood, FitsTriple, ReadsInput, WrittenBeginnings, WholeStreams, LongerStreams, CallersSeeTriples, CallersAreDone, CallersWait, InputsAreRead, GreetingsAreNoFault}
 use Rattle.qrexec_data.proofs.PieceLaws.{the_messages, NoneEnded, none-more, all_first, Within, Beyond, on-pieces, caller-carries, serving-carries, joined-append, ended-append, none-in, take-pieces}

@@ -1,12 +1,10 @@
 -- Pieces in their written spelling.
-use Rattle.std.proofs.Common.{◌≡◌, ℕ, ◌+◌, ◌-◌, ◌<◌, ◌≤◌, List, [], ◌∷◌, ◌++◌, length, take, drop, map, refl, ap, sym, ◌∙◌, arith, append_assoc}
+use Rattle.std.proofs.Common.{◌≡◌, ℕ, ◌+◌, ◌<◌, ◌≤◌, List, [], ◌∷◌, ◌++◌, length, take, drop, map, refl, ap, sym, ◌∙◌, arith, append_assoc}
 use Rattle.std.proofs.lemmas.List.{append-nil, length-take-le, take-append-drop}
 use Rattle.std.proofs.Math.Seq.{take-append-add}
-use Rattle.std.specs.Prelude.{true, false, Bool}
+use Rattle.std.specs.Prelude.{Bool}
 use Rattle.std.specs.List.{flat_map}
-use Rattle.qrexec_frame.specs.declared.message.Message.{Message}
 use Rattle.qrexec_frame.specs.Messages.{written}
-use Rattle.qrexec_frame.specs.Streams.{Each}
 use Rattle.qrexec_data.specs.Pieces.{Stream, In, Out, Err, Piece, message_of, ArePieces}
 
 -- pieces as they are written

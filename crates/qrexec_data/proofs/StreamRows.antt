@@ -1,11 +1,10 @@
 -- The rows caller-stream and serving-split, computed.
-use Rattle.std.proofs.Common.{◌≡◌, refl, ℕ, ◌+◌, ◌≤◌, ◌<◌, List, [], ◌∷◌, ◌++◌, Option, Some, None, arith, take, map}
-use Rattle.std.specs.Prelude.{pos, codes, true, false}
+use Rattle.std.proofs.Common.{◌≡◌, refl, ℕ, List, [], ◌∷◌, ◌++◌, Some, arith, take, map}
+use Rattle.std.specs.Prelude.{pos, codes}
 use Rattle.std.specs.List.{flat_map}
-use Rattle.qrexec_frame.specs.declared.message.Message.{Message}
 use Rattle.qrexec_frame.specs.declared.message.Message.TheVariants.{Hello, Stdin, ExitCode}
 use Rattle.qrexec_frame.specs.Messages.{written}
-use Rattle.service_gate.specs.ServiceResult.{service, splits}
+use Rattle.service_gate.specs.ServiceResult.{service}
 use Rattle.qrexec_data.specs.Pieces.{Stream, In, Out, Err as Errors, Piece, message_of, end_of}
 use Rattle.qrexec_data.specs.Sending.{IsCallerStream, IsServingStream}
 

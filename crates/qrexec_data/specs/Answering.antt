@@ -1,20 +1,17 @@
 -- A side that serves: what it feeds its service, and what it sends of what that gives.
-use Rattle.std.specs.Prelude.{◌≡◌, ℕ, ℤ, ◌<◌, ◌≤◌, ◌==◌, min, nat_lt, Bool, true, false, List, [], ◌∷◌, ◌++◌, length, take, drop, map, Option, Some, None, IsSome, is_some, is_none, ◌&&◌, Result, Ok, Err, if◌then◌else◌}
-use Rattle.std.specs.List.{flat_map}
+use Rattle.std.specs.Prelude.{◌≡◌, ℕ, ℤ, ◌<◌, ◌==◌, min, nat_lt, Bool, true, List, [], ◌++◌, length, take, drop, Option, Some, None, IsSome, is_none, ◌&&◌, Result, Ok, Err, if◌then◌else◌}
 use Rattle.qrexec_frame.specs.declared.message.Message.{Message}
 use Rattle.qrexec_frame.specs.declared.message.Message.TheVariants.{Hello, Stdin, Stdout, Stderr, ExitCode}
 use Rattle.qrexec_frame.specs.Messages.{written}
-use Rattle.qrexec_frame.specs.Streams.{Placed}
 use Rattle.qrexec_hello.specs.Greeting.{greeting}
 use Rattle.qrexec_hello.specs.declared.hello.HelloFault.{HelloFault}
-use Rattle.service_gate.specs.Triple.{Triple, after_outputs, Feeds, Ends}
+use Rattle.service_gate.specs.Triple.{Triple, Feeds, Ends}
 use Rattle.qrexec_data.specs.declared.fault.SessionFault.{SessionFault}
 use Rattle.qrexec_data.specs.declared.fault.SessionFault.TheVariants as fault
 use Rattle.qrexec_data.specs.declared.outcome.Outcome.{Outcome}
-use Rattle.qrexec_data.specs.declared.outcome.Outcome.TheVariants.{Done, Fault, Closed, Gone}
-use Rattle.qrexec_data.specs.Pieces.{Stream, In, Out, Err as Errors, Piece, message_of, end_of, joined, has_ended, ArePieces, is_output}
-use Rattle.qrexec_data.specs.Seeing.{Undecided, Faulty, Seen, Strays, number, serving_use}
-use Rattle.qrexec_data.specs.Sending.{agreed_by, most}
+use Rattle.qrexec_data.specs.declared.outcome.Outcome.TheVariants.{Done, Fault}
+use Rattle.qrexec_data.specs.Seeing.{Strays, number, serving_use}
+use Rattle.qrexec_data.specs.Sending.{most}
 
 -- what a side that serves keeps
 pub record AnsweringState (S : Type 0) : Type 0 where

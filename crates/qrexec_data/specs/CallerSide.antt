@@ -1,12 +1,12 @@
 -- A caller, and what it stands for: what it got, what it knows of it, and what it sent.
-use Rattle.std.specs.Prelude.{◌≡◌, ℕ, ◌+◌, ◌<◌, ◌≤◌, ◌⊎◌, Bool, true, false, List, [], ◌++◌, length, take, drop, Option, Some, None, IsSome, MatchBool, is_some, is_none, if◌then◌else◌}
+use Rattle.std.specs.Prelude.{◌≡◌, ℕ, ◌+◌, ◌<◌, ◌⊎◌, Bool, true, false, List, [], None, IsSome, is_none, if◌then◌else◌}
 use Rattle.qrexec_frame.specs.declared.channel.Channel.TheVariants.{Data}
 use Rattle.qrexec_frame.specs.declared.message.Message.{Message}
 use Rattle.qrexec_frame.specs.Grammar.{Fault}
 use Rattle.qrexec_frame.specs.Fronts.{front, reading, fault_at}
 use Rattle.qrexec_frame.specs.Streams.{Whole, Bad, Short, Rest}
 use Rattle.qrexec_data.specs.declared.fault.SessionFault.TheVariants as fault
-use Rattle.qrexec_data.specs.Seeing.{Seen, caller_use, sees_all, seen_by}
+use Rattle.qrexec_data.specs.Seeing.{caller_use, sees_all, seen_by}
 use Rattle.qrexec_data.specs.Reading.{InboxState, unread, read_messages, IsAtMessage}
 use Rattle.qrexec_data.specs.Replies.{RepliesState, after_message, faulted, KnowsReplies}
 use Rattle.qrexec_data.specs.Requests.{RequestsState, laid_on, SendsRequests}

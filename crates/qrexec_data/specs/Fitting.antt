@@ -1,8 +1,8 @@
 -- Which outcome fits the bytes that a side of a session got.
-use Rattle.std.specs.Prelude.{◌≡◌, ℕ, ◌≤◌, pos, Option, Some, None, true}
+use Rattle.std.specs.Prelude.{◌≡◌, ℕ, ◌≤◌, pos, Some, None, true}
 use Rattle.qrexec_data.specs.declared.outcome.Outcome.{Outcome}
 use Rattle.qrexec_data.specs.declared.outcome.Outcome.TheVariants.{Done, Fault, Closed, Gone}
-use Rattle.qrexec_data.specs.Seeing.{Verdict, Undecided, Exited, Faulty, CallerSeen, ServingSeen}
+use Rattle.qrexec_data.specs.Seeing.{Undecided, Exited, Faulty, CallerSeen, ServingSeen}
 
 abbrev pub FitsCaller : Outcome → CallerSeen → Type 0
 FitsCaller (Done code) seen = seen.verdict ≡ Exited code

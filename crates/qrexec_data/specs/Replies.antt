@@ -1,7 +1,7 @@
 -- A caller's side of reading: what it knows of the messages that it has read.
-use Rattle.std.specs.Prelude.{◌≡◌, ℕ, Bool, true, false, List, [], ◌++◌, Option, Some, None, Result, Ok, Err, if◌then◌else◌}
+use Rattle.std.specs.Prelude.{◌≡◌, ℕ, Bool, false, List, [], ◌++◌, Option, Some, None, Result, Ok, Err, if◌then◌else◌}
 use Rattle.qrexec_frame.specs.declared.message.Message.{Message}
-use Rattle.qrexec_frame.specs.Streams.{Placed, Rest}
+use Rattle.qrexec_frame.specs.Streams.{Placed}
 use Rattle.qrexec_hello.specs.Greeting.{greeting}
 use Rattle.qrexec_hello.specs.declared.hello.HelloFault.{HelloFault}
 use Rattle.qrexec_data.specs.declared.fault.SessionFault.{SessionFault}
@@ -9,7 +9,7 @@ use Rattle.qrexec_data.specs.declared.fault.SessionFault.TheVariants as fault
 use Rattle.qrexec_data.specs.declared.outcome.Outcome.{Outcome}
 use Rattle.qrexec_data.specs.declared.outcome.Outcome.TheVariants.{Done, Fault, Closed, Gone}
 use Rattle.qrexec_data.specs.Pieces.{Stream, In, Out, Err as Errors, no_bytes, joined, has_ended}
-use Rattle.qrexec_data.specs.Seeing.{Verdict, Undecided, Exited, Faulty, Seen, Use, Carries, Exits, Strays, number, caller_use, sees_all}
+use Rattle.qrexec_data.specs.Seeing.{Verdict, Undecided, Exited, Faulty, Seen, Use, Carries, Exits, Strays, number, caller_use}
 use Rattle.qrexec_data.specs.Sending.{agreed_by}
 
 -- what a caller keeps of the messages that it has read

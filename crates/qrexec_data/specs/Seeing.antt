@@ -1,6 +1,6 @@
 -- What each side of a call makes of the bytes that it got.
 -- Source: the qrexec protocol's data channel; which message is wrong on which side is this project's own.
-use Rattle.std.specs.Prelude.{◌≡◌, ℤ, ℕ, ◌%◌, ◌^◌, Bool, true, false, List, [], ◌∷◌, Option, Some, None, Result, Ok, Err, if◌then◌else◌}
+use Rattle.std.specs.Prelude.{ℤ, ℕ, ◌%◌, ◌^◌, Bool, List, [], ◌∷◌, Option, Some, None, Result, Ok, Err, if◌then◌else◌}
 use Rattle.qrexec_frame.specs.declared.channel.Channel.TheVariants.{Data}
 use Rattle.qrexec_frame.specs.declared.message.Message.{Message}
 use Rattle.qrexec_frame.specs.declared.message.Message.TheVariants.{ExitCode}
@@ -8,7 +8,7 @@ use Rattle.qrexec_frame.specs.Kinds.{number_of}
 use Rattle.qrexec_frame.specs.Messages.{kind_of}
 use Rattle.qrexec_frame.specs.Grammar.{Fault}
 use Rattle.qrexec_frame.specs.Fronts.{reading, fault_at}
-use Rattle.qrexec_frame.specs.Streams.{Reading, Placed, Ending, Rest, FaultAt}
+use Rattle.qrexec_frame.specs.Streams.{Placed, Ending, Rest, FaultAt}
 use Rattle.qrexec_hello.specs.Greeting.{greeting}
 use Rattle.qrexec_hello.specs.declared.hello.HelloFault.{HelloFault}
 use Rattle.qrexec_data.specs.declared.fault.SessionFault.{SessionFault}

@@ -1,5 +1,5 @@
 -- What each side of a call may have sent.
-use Rattle.std.specs.Prelude.{◌≡◌, ℕ, min, nat_lt, Bool, MatchBool, List, [], ◌∷◌, ◌++◌, map, Option, Some, None, MatchOption, Result, Ok, Err, if◌then◌else◌}
+use Rattle.std.specs.Prelude.{◌≡◌, ℕ, min, nat_lt, MatchBool, List, [], ◌∷◌, ◌++◌, map, Option, Some, None, MatchOption, Result, Ok, Err, if◌then◌else◌}
 use Rattle.std.specs.List.{flat_map}
 use Rattle.qrexec_frame.specs.declared.channel.Channel.TheVariants.{Data}
 use Rattle.qrexec_frame.specs.declared.message.Message.{Message}
@@ -10,7 +10,7 @@ use Rattle.qrexec_frame.specs.Streams.{Placed, IsPrefixOf}
 use Rattle.qrexec_hello.specs.Greeting.{greeting}
 use Rattle.qrexec_hello.specs.declared.hello.HelloFault.{HelloFault}
 use Rattle.service_gate.specs.Triple.{Triple}
-use Rattle.qrexec_data.specs.Pieces.{Stream, In, Out, Err as Errors, Piece, message_of, end_of, joined, ArePieces, is_input, is_output}
+use Rattle.qrexec_data.specs.Pieces.{In, Out, Err as Errors, Piece, message_of, end_of, joined, ArePieces, is_input, is_output}
 use Rattle.qrexec_data.specs.Seeing.{serving_sees}
 
 -- the version that both sides go on with, by the messages of the other side: its first is a greeting that is accepted

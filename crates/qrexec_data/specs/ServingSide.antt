@@ -1,5 +1,5 @@
 -- A side that serves, and what it stands for: what it got, what it knows of it, and what it sent.
-use Rattle.std.specs.Prelude.{◌≡◌, ℕ, ℤ, ◌+◌, ◌<◌, ◌≤◌, ◌⊎◌, min, Bool, true, false, List, [], ◌∷◌, ◌++◌, length, map, Option, Some, None, IsSome, is_some, is_none, if◌then◌else◌}
+use Rattle.std.specs.Prelude.{◌≡◌, ℕ, ℤ, ◌+◌, ◌<◌, ◌⊎◌, min, Bool, true, false, List, [], ◌∷◌, ◌++◌, length, map, Option, Some, None, IsSome, is_some, is_none, if◌then◌else◌}
 use Rattle.std.specs.List.{flat_map}
 use Rattle.qrexec_frame.specs.declared.channel.Channel.TheVariants.{Data}
 use Rattle.qrexec_frame.specs.declared.message.Message.{Message}
@@ -13,7 +13,7 @@ use Rattle.qrexec_data.specs.declared.fault.SessionFault.TheVariants as fault
 use Rattle.qrexec_data.specs.declared.outcome.Outcome.{Outcome}
 use Rattle.qrexec_data.specs.declared.outcome.Outcome.TheVariants as outcome
 use Rattle.qrexec_data.specs.Pieces.{In, Out, Err as Errors, Piece, message_of, joined, has_ended, ArePieces, is_output}
-use Rattle.qrexec_data.specs.Seeing.{Seen, Verdict, Undecided, Faulty, serving_use, sees_all, seen_by}
+use Rattle.qrexec_data.specs.Seeing.{Seen, Undecided, Faulty, serving_use, sees_all, seen_by}
 use Rattle.qrexec_data.specs.Sending.{agreed_by, most}
 use Rattle.qrexec_data.specs.Reading.{InboxState, unread, read_messages, IsAtMessage}
 use Rattle.qrexec_data.specs.Answering.{AnsweringState, AnswersTo, faulted, laid_on}

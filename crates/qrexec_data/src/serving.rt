@@ -35,7 +35,7 @@ impl<S: Service> Serving<S> {
     ghost use Rattle.std.specs.Io.BufRead.{Rests};
     ghost use Rattle.qrexec_data.specs.contracts.serving.Serving.{the_row};
     ghost use Rattle.qrexec_data.specs.Answering.{after_gone};
-    ghost use Rattle.qrexec_data.specs.ServingSide.{ServingStandsFor, ReadsInput, IsServing, HasServed, LendsAnswers};
+    ghost use Rattle.qrexec_data.specs.ServingSide.{ServingStandsFor, ReadsInput, IsServing, HasServed, LendsAnswers, IsStill};
 
     /// A side that serves with this service, of this version, 2 or 3. No message of an output has more than
     /// `chunk` bytes, 1 to 65,536, nor more than the version allows that both sides go on with.
@@ -110,6 +110,8 @@ impl<S: Service> Serving<S> {
     /// greeting was not read yet, or where all that the service gave has gone and its input has not ended.
     pub fn front(&mut self) -> Result<&[u8], Memory>
         ensures* after { sem 𝓛 (Rests (the_row S.row S.Service) self.entry (λ new. IfOk result (λ piece. LendsAnswers S.owes self.old new piece.now))) }
+        ensures nothing { (owed : List ℕ → Triple) (sent : List ℕ) → ServingStandsFor S.owes owed self.old sent →
+            IfOk result (λ piece. (piece.now ≡ []) ↔ IsStill self.old.answering) }
     {
         if self.answering.outcome().is_some() {
             return Ok(&[]);

@@ -3,7 +3,6 @@ use Rattle.std.proofs.lemmas.Int.{to_z-of_z}
 use Rattle.std.proofs.lemmas.Result.{on_ok_weaker}
 use Rattle.qrexec_frame.specs.Messages.{written}
 use Rattle.qrexec_frame.specs.declared.message.Message.TheVariants.{Stdout, Stderr, ExitCode}
-use Rattle.qrexec_data.specs.Answering.{end_bytes}
 use Rattle.qrexec_data.proofs.answering.lay_end.Goals as goal
 
 -- three messages behind others

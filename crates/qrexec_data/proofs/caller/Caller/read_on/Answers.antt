@@ -1,4 +1,3 @@
-use Rattle.std.proofs.Common.{◌≡◌, false, true}
 use Rattle.qrexec_data.proofs.CallerLaws.{reads-on, keeps-on}
 use Rattle.qrexec_data.proofs.caller.Caller.read_on.Goals as goal
 

@@ -1,6 +1,6 @@
-use Rattle.std.proofs.Common.{◌≡◌, ◌+◌, ◌∙◌, ap, length}
+use Rattle.std.proofs.Common.{◌+◌, ◌∙◌, ap, length}
 use Rattle.std.specs.Prelude.{is_none}
-use Rattle.qrexec_frame.specs.Fronts.{made, fault_at}
+use Rattle.qrexec_frame.specs.Fronts.{made}
 use Rattle.qrexec_data.specs.Replies.{after_message, faulted}
 use Rattle.qrexec_data.specs.declared.fault.SessionFault.TheVariants as fault
 use Rattle.qrexec_data.proofs.CallerLaws.{one-message, one-fault, none-of}

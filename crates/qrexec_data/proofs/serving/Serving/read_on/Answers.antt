@@ -1,4 +1,3 @@
-use Rattle.std.proofs.Common.{◌≡◌, false, true}
 use Rattle.qrexec_data.proofs.ServingLaws.{serves-on, keeps-serving}
 use Rattle.qrexec_data.proofs.serving.Serving.read_on.Goals as goal
 

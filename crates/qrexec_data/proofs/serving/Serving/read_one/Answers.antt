@@ -1,7 +1,7 @@
-use Rattle.std.proofs.Common.{◌≡◌, ◌+◌, ◌∙◌, ap, length, sym}
+use Rattle.std.proofs.Common.{◌+◌, ◌∙◌, ap, length}
 use Rattle.std.proofs.Common.{ℕ, subst}
 use Rattle.std.specs.Prelude.{is_none}
-use Rattle.qrexec_frame.specs.Fronts.{made, fault_at}
+use Rattle.qrexec_frame.specs.Fronts.{made}
 use Rattle.qrexec_data.specs.Answering.{AnswersTo, faulted}
 use Rattle.qrexec_data.specs.declared.fault.SessionFault.TheVariants as fault
 use Rattle.qrexec_data.proofs.CallerLaws.{none-of}
