@@ -4,3 +4,4 @@ pub mod Past
 pub mod Pieces
 pub mod Beside
 pub mod Midway
+pub mod Ahead

@@ -15,7 +15,7 @@ mod plain;
 mod steps;
 mod words;
 
-pub use machine::Machine;
+pub use machine::{Ahead, Machine, Span};
 pub use plain::Plain;
 pub use steps::Steps;
 pub use vchan_protocol::{

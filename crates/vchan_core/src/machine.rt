@@ -3,10 +3,13 @@ use crate::words::{cons_word, low8, low16, low32, mask, peer_pending, prod_word}
 use ring_words::{Orders, Ring, Role, WordName, place, ready, room};
 use vchan_protocol::{Answer, Bit, Call, EndState, Op};
 
+mod ahead;
 mod events;
 mod looks;
 mod moves;
 mod pieces;
+
+pub use ahead::{Ahead, Span};
 
 /// One end of a channel, as a pure machine: it says which event comes next, and takes the value
 /// that the event took. It holds no page, so the same machine drives a plain page and a shared one.
