@@ -17,7 +17,7 @@ pub or_yes : (b : Bool) → (b || true) ≡ true
 or_yes true = refl
 or_yes false = refl
 
-ended_no : (ended : Option EndedBy) → first_ended ended None ≡ ended
+pub ended_no : (ended : Option EndedBy) → first_ended ended None ≡ ended
 ended_no None = refl
 ended_no (Some by) = refl
 

@@ -5,6 +5,7 @@ use Rattle.atomic_table.specs.Seated.{TableId}
 use Rattle.ring_words.specs.declared.order.Orders.{Orders}
 use Rattle.ring_words.specs.declared.page.Role.{Role}
 use Rattle.vchan_protocol.specs.declared.call.Call.{Call}
+use Rattle.vchan_protocol.specs.declared.call.EndState.TheVariants.{Open}
 use Rattle.vchan_protocol.specs.declared.side.Side.{Side}
 use Rattle.vchan_core.specs.declared.machine.Machine.{Machine}
 use Rattle.end_view.specs.EndView.{EndView, view_of}
@@ -39,3 +40,7 @@ view e = view_of e.page (is_none e.machine.phase) e.side
 
 abbrev pub last_view : SeatedSide → EndView
 last_view e = view_of e.page true e.side
+
+-- it is open, and between two calls
+abbrev pub IsOpen : SeatedEnd → Type 0
+IsOpen e = ((view e).idle ≡ true) × ((view e).state ≡ Open)

@@ -6,7 +6,7 @@ ghost use Rattle.vchan_protocol.specs.Plan.{after, GoesOn};
 ghost use Rattle.vchan_protocol.specs.Apply.{Fits};
 ghost use Rattle.vchan_protocol.specs.Calls.{payload_of, loaded_most, most_events};
 ghost use Rattle.vchan_protocol.specs.Core.{op_next, plan_left, answer_in, side_after, standing_of, new_side, sets_gone};
-ghost use Rattle.vchan_protocol.specs.OneCall.{landed, IsOver, OverTells};
+ghost use Rattle.vchan_protocol.specs.OneCall.{landed, bytes_out, bytes_in, IsOver, OverTells};
 ghost use Rattle.vchan_protocol.specs.OneEndLaw.{OwnLawful};
 ghost use Rattle.vchan_protocol.specs.Turned.{turns};
 ghost use Rattle.vchan_protocol.specs.TurnedLaw.{LiesAtCount};
@@ -274,6 +274,7 @@ impl<'p> End<'p> {
         ensures tells { OverTells self.old.side (take (payload_of call) payload.now) self.new.side buf.new result }
         ensures view { view self.new ≡ answered_view (view self.old) call (take (payload_of call) payload.now) buf.new result self.new.side.saw }
         ensures saw { SeesAsTold call result self.old.side.saw self.new.side.saw }
+        ensures moved { (bytes_out result ≤ payload_of call) × (bytes_in result ≤ loaded_most (standing_of self.old.side) call) }
         ensures long { length buf.new ≡ length buf.old }
         ensures steps { steps.new ≡ steps.old + length self.new.side.trail }
         ensures bound { steps.new ≤ steps.old + most_events (standing_of self.old.side) call }
@@ -300,6 +301,7 @@ impl<'p> End<'p> {
         ensures tells { OverTells self.old.side (take (payload_of call) payload.now) self.new.side buf.new result }
         ensures view { view self.new ≡ answered_view (view self.old) call (take (payload_of call) payload.now) buf.new result self.new.side.saw }
         ensures saw { SeesAsTold call result self.old.side.saw self.new.side.saw }
+        ensures moved { (bytes_out result ≤ payload_of call) × (bytes_in result ≤ loaded_most (standing_of self.old.side) call) }
         ensures long { length buf.new ≡ length buf.old }
         ensures bound { length self.new.side.trail ≤ most_events (standing_of self.old.side) call }
     {
@@ -326,6 +328,7 @@ impl<'p> End<'p> {
         ensures tells { OverTells self.old.side (take (payload_of call) payload.now) self.new.side buf.new result }
         ensures view { view self.new ≡ answered_view (view self.old) call (take (payload_of call) payload.now) buf.new result self.new.side.saw }
         ensures saw { SeesAsTold call result self.old.side.saw self.new.side.saw }
+        ensures moved { (bytes_out result ≤ payload_of call) × (bytes_in result ≤ loaded_most (standing_of self.old.side) call) }
         ensures long { length buf.new ≡ length buf.old }
         ensures bound { length self.new.side.trail ≤ most_events (standing_of self.old.side) call }
     {

@@ -5,6 +5,7 @@ use Rattle.vchan_protocol.specs.declared.call.Answer.{Answer}
 use Rattle.vchan_protocol.specs.declared.side.Side.{Side}
 use Rattle.vchan_rule.specs.Ends.{seen}
 use Rattle.vchan_rule.proofs.CallLaws.{few_left, call_over, call_on, call_along, made_long, one_longer, seen_now, MakesOne, called_view, called_saw, own_of}
+use Rattle.vchan_protocol.proofs.OneCallBytes.{answers_tell}
 use Rattle.vchan_protocol.proofs.OneCallWay.{over_tells}
 use Rattle.vchan_rule.proofs.end.End.counted_call.Goals as goal
 
@@ -72,3 +73,9 @@ pub returns-in-Some-clause-steps : goal.returns-in-Some-clause-steps
 returns-in-Some-clause-steps g c =
     let longer = one_longer c.events.self c.args.payload.now c.events.buf c.step.new.self c.step.new.buf c.step.result c.step.ensures.event in
     omega (arith, longer, c.tick.ensures, c.events.invariant.1)
+
+pub returns-in-Some-clause-moved : goal.returns-in-Some-clause-moved
+returns-in-Some-clause-moved g c =
+    let over = call_over _ _ _ _ c.events.self c.events.buf c.step.new.self c.step.new.buf c.in-Some.answer c.events.invariant.0 c.step.ensures.goes_on c.in-Some.ensures.event in
+    let moved = answers_tell c.args.self.now.side _ _ _ c.in-Some.answer over.trace in
+    (moved.pays, moved.takes)
