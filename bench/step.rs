@@ -1,9 +1,12 @@
 //! `vchan step` as a plain std Rust program: the lines `open L R`, `client write BYTES` and
-//! `server read N`, where BYTES is hexadecimal digits, or `HH*N` for one byte N times.
+//! `server read N`, where BYTES is hexadecimal digits, or `HH*N` for one byte N times; and the same two
+//! calls cut into their events by `client begin write BYTES`, `server begin read N`, `E step N` and
+//! `E finish`, where E is the end.
 //!
 //! It keeps to the protocol of libxenvchan's io.c: indices that count modulo 2^32, live bytes,
 //! notify bits and pending signals. Its rings are bytes, and it copies in one piece where it can.
 use std::io::{Read, Write};
+use std::ops::Range;
 use std::process::exit;
 
 const WRITTEN: u8 = 1;
@@ -11,6 +14,7 @@ const CONSUMED: u8 = 2;
 const MAX_INPUT: u64 = 4 << 20;
 const MAX_LINES: usize = 65_536;
 const MAX_PAYLOAD: usize = 8 << 20;
+const MAX_NUMBER: u64 = 2_147_483_647;
 
 struct Ring {
     prod: u32,
@@ -145,9 +149,143 @@ impl Page {
     }
 }
 
+/// What a begun call does next. Each is one event, and of `Bytes` each byte is one.
+enum Next {
+    LoadLive,
+    Look,
+    Ask,
+    LookAgain,
+    Bytes { moved: usize, count: usize },
+    StoreIndex { count: usize },
+    Test { count: usize },
+    Signal { count: usize },
+}
+
+/// A write that was begun, of those bytes of the payload.
+struct BegunWrite {
+    payload: Range<usize>,
+    next: Next,
+}
+
+/// A read that was begun. Its bytes come into the front of the server's buffer.
+struct BegunRead {
+    most: usize,
+    next: Next,
+    /// The producer index that its last look found.
+    looked: u32,
+}
+
+impl Page {
+    /// Makes the next events of a write, `events` at most. Its outcome comes with its last event.
+    fn step_write(&mut self, call: &mut BegunWrite, data: &[u8], mut events: usize) -> Option<Outcome> {
+        while events > 0 {
+            let mut made = 1;
+            call.next = match call.next {
+                Next::LoadLive if self.srv_live == 0 => return Some(Outcome::Closed),
+                Next::LoadLive => Next::Look,
+                Next::Look if self.room() < data.len() => Next::Ask,
+                Next::Look | Next::LookAgain => match data.len().min(self.room()) {
+                    0 => return Some(Outcome::Stuck(self.client_prod, self.left.cons)),
+                    count => Next::Bytes { moved: 0, count },
+                },
+                Next::Ask => {
+                    self.srv_notify |= CONSUMED;
+                    Next::LookAgain
+                }
+                Next::Bytes { moved, count } => {
+                    made = events.min(count - moved);
+                    let at = self.client_prod.wrapping_add(moved as u32);
+                    self.left.put(at, &data[moved..moved + made]);
+                    match moved + made {
+                        moved if moved < count => Next::Bytes { moved, count },
+                        _ => Next::StoreIndex { count },
+                    }
+                }
+                Next::StoreIndex { count } => {
+                    self.client_prod = self.client_prod.wrapping_add(count as u32);
+                    self.left.prod = self.client_prod;
+                    self.sent += count as u64;
+                    Next::Test { count }
+                }
+                Next::Test { count } => {
+                    let asked = self.cli_notify & WRITTEN != 0;
+                    self.cli_notify &= !WRITTEN;
+                    if !asked {
+                        return Some(Outcome::Moved(count));
+                    }
+                    Next::Signal { count }
+                }
+                Next::Signal { count } => {
+                    self.srv_pending = true;
+                    return Some(Outcome::Moved(count));
+                }
+            };
+            events -= made;
+        }
+        None
+    }
+
+    /// Makes the next events of a read, `events` at most. Its outcome comes with its last event.
+    fn step_read(&mut self, call: &mut BegunRead, buf: &mut [u8], mut events: usize) -> Option<Outcome> {
+        while events > 0 {
+            let mut made = 1;
+            call.next = match call.next {
+                Next::Look if self.ready() < call.most => Next::Ask,
+                Next::Look | Next::LookAgain => {
+                    call.looked = self.left.prod;
+                    match (self.ready(), call.most) {
+                        (0, _) => Next::LoadLive,
+                        (_, 0) => Next::StoreIndex { count: 0 },
+                        (ready, most) => Next::Bytes { moved: 0, count: ready.min(most) },
+                    }
+                }
+                Next::Ask => {
+                    self.cli_notify |= WRITTEN;
+                    Next::LookAgain
+                }
+                Next::LoadLive if self.cli_live == 0 => return Some(Outcome::Closed),
+                Next::LoadLive => return Some(Outcome::Stuck(call.looked, self.server_cons)),
+                Next::Bytes { moved, count } => {
+                    made = events.min(count - moved);
+                    let at = self.server_cons.wrapping_add(moved as u32);
+                    let (first, second) = self.left.get(at, made);
+                    buf[moved..moved + first.len()].copy_from_slice(first);
+                    buf[moved + first.len()..moved + made].copy_from_slice(second);
+                    match moved + made {
+                        moved if moved < count => Next::Bytes { moved, count },
+                        _ => Next::StoreIndex { count },
+                    }
+                }
+                Next::StoreIndex { count } => {
+                    self.server_cons = self.server_cons.wrapping_add(count as u32);
+                    self.left.cons = self.server_cons;
+                    self.got += count as u64;
+                    Next::Test { count }
+                }
+                Next::Test { count } => {
+                    let asked = self.srv_notify & CONSUMED != 0;
+                    self.srv_notify &= !CONSUMED;
+                    if !asked {
+                        return Some(Outcome::Moved(count));
+                    }
+                    Next::Signal { count }
+                }
+                Next::Signal { count } => {
+                    self.cli_pending = true;
+                    return Some(Outcome::Moved(count));
+                }
+            };
+            events -= made;
+        }
+        None
+    }
+}
+
 enum Line {
-    Write { from: usize, to: usize },
-    Read { most: u32 },
+    Write { from: usize, to: usize, whole: bool },
+    Read { most: u32, whole: bool },
+    StepClient { events: u32 },
+    StepServer { events: u32 },
 }
 
 struct Script {
@@ -222,14 +360,41 @@ fn opening(line: &[u8]) -> Option<(u32, u32)> {
     (words.next().is_none() && fits(left) && fits(right) && apart).then_some((left, right))
 }
 
-fn call(line: &[u8], payload: &mut Vec<u8>) -> Option<Line> {
-    if let Some(word) = line.strip_prefix(b"client write ") {
-        let from = payload.len();
-        push_bytes(word, payload)?;
-        return Some(Line::Write { from, to: payload.len() });
+fn write(word: &[u8], payload: &mut Vec<u8>, whole: bool) -> Option<Line> {
+    let from = payload.len();
+    push_bytes(word, payload)?;
+    Some(Line::Write { from, to: payload.len(), whole })
+}
+
+fn read(word: &[u8], whole: bool) -> Option<Line> {
+    let most = number(word, MAX_NUMBER)? as u32;
+    Some(Line::Read { most, whole })
+}
+
+/// The events that a `step` or a `finish` makes at most.
+fn events(act: &[u8]) -> Option<u32> {
+    if act == b"finish" {
+        return Some(u32::MAX);
     }
-    let word = line.strip_prefix(b"server read ")?;
-    Some(Line::Read { most: number(word, 2_147_483_647)? as u32 })
+    let events = number(act.strip_prefix(b"step ")?, MAX_NUMBER)? as u32;
+    (events > 0).then_some(events)
+}
+
+fn line(line: &[u8], payload: &mut Vec<u8>) -> Option<Line> {
+    if let Some(word) = line.strip_prefix(b"client write ") {
+        write(word, payload, true)
+    } else if let Some(word) = line.strip_prefix(b"server read ") {
+        read(word, true)
+    } else if let Some(word) = line.strip_prefix(b"client begin write ") {
+        write(word, payload, false)
+    } else if let Some(word) = line.strip_prefix(b"server begin read ") {
+        read(word, false)
+    } else if let Some(act) = line.strip_prefix(b"client ") {
+        Some(Line::StepClient { events: events(act)? })
+    } else {
+        let act = line.strip_prefix(b"server ")?;
+        Some(Line::StepServer { events: events(act)? })
+    }
 }
 
 /// The script, or the number of its first bad line.
@@ -238,11 +403,11 @@ fn parse(input: &[u8]) -> Result<Script, usize> {
     let mut lines = text.split(|b| *b == b'\n');
     let orders = lines.next().and_then(opening).ok_or(1usize)?;
     let mut script = Script { orders, payload: Vec::new(), lines: Vec::new() };
-    for (i, line) in lines.enumerate() {
+    for (i, text) in lines.enumerate() {
         if i + 2 > MAX_LINES {
             return Err(i + 2);
         }
-        script.lines.push(call(line, &mut script.payload).ok_or(i + 2)?);
+        script.lines.push(line(text, &mut script.payload).ok_or(i + 2)?);
     }
     Ok(script)
 }
@@ -283,35 +448,110 @@ fn push_pair(text: &[u8], a: u64, between: &[u8], b: u64, out: &mut Vec<u8>) {
     push_number(b, out);
 }
 
+/// A page on which a script is played, and what was printed of it.
+struct Player<'a> {
+    page: Page,
+    payload: &'a [u8],
+    writing: Option<BegunWrite>,
+    reading: Option<BegunRead>,
+    buf: Vec<u8>,
+    out: Vec<u8>,
+}
+
+impl Player<'_> {
+    fn write(&mut self, payload: Range<usize>, whole: bool) {
+        if self.writing.is_some() {
+            self.step_client(usize::MAX);
+        }
+        if whole {
+            let outcome = self.page.write(&self.payload[payload]);
+            self.tell_client(outcome);
+        } else {
+            self.writing = Some(BegunWrite { payload, next: Next::LoadLive });
+        }
+    }
+
+    fn read(&mut self, most: usize, whole: bool) {
+        if self.reading.is_some() {
+            self.step_server(usize::MAX);
+        }
+        if whole {
+            let outcome = self.page.read(most, &mut self.buf);
+            self.tell_server(outcome);
+        } else {
+            self.reading = Some(BegunRead { most, next: Next::Look, looked: 0 });
+        }
+    }
+
+    fn step_client(&mut self, events: usize) {
+        let Some(call) = &mut self.writing else {
+            self.out.extend_from_slice(b"client idle\n");
+            return;
+        };
+        let data = &self.payload[call.payload.clone()];
+        if let Some(outcome) = self.page.step_write(call, data, events) {
+            self.writing = None;
+            self.tell_client(outcome);
+        }
+    }
+
+    fn step_server(&mut self, events: usize) {
+        let Some(call) = &mut self.reading else {
+            self.out.extend_from_slice(b"server idle\n");
+            return;
+        };
+        if let Some(outcome) = self.page.step_read(call, &mut self.buf, events) {
+            self.reading = None;
+            self.tell_server(outcome);
+        }
+    }
+
+    // Inlined, as in a program that plays whole calls alone: an answer is told right where it comes.
+    #[inline(always)]
+    fn tell_client(&mut self, outcome: Outcome) {
+        match outcome {
+            Outcome::Closed => self.out.extend_from_slice(b"client peer-closed"),
+            Outcome::Stuck(prod, cons) => {
+                push_pair(b"client full ", prod.into(), b" ", cons.into(), &mut self.out);
+            }
+            Outcome::Moved(count) => {
+                self.out.extend_from_slice(b"client wrote ");
+                push_number(count as u64, &mut self.out);
+            }
+        }
+        self.out.push(b'\n');
+    }
+
+    #[inline(always)]
+    fn tell_server(&mut self, outcome: Outcome) {
+        match outcome {
+            Outcome::Closed => self.out.extend_from_slice(b"server peer-closed"),
+            Outcome::Stuck(prod, cons) => {
+                push_pair(b"server empty ", prod.into(), b" ", cons.into(), &mut self.out);
+            }
+            Outcome::Moved(count) => {
+                self.out.extend_from_slice(b"server read ");
+                push_hex(&self.buf[..count], &mut self.out);
+            }
+        }
+        self.out.push(b'\n');
+    }
+}
+
 fn play(script: &Script) -> Vec<u8> {
-    let mut page = Page::new(script.orders.0, script.orders.1);
-    let mut buf = vec![0; page.left.bytes.len()];
-    let mut out = Vec::new();
+    let page = Page::new(script.orders.0, script.orders.1);
+    let buf = vec![0; page.left.bytes.len()];
+    let payload = &script.payload;
+    let mut player = Player { page, payload, writing: None, reading: None, buf, out: Vec::new() };
     for line in &script.lines {
         match *line {
-            Line::Write { from, to } => match page.write(&script.payload[from..to]) {
-                Outcome::Closed => out.extend_from_slice(b"client peer-closed"),
-                Outcome::Stuck(prod, cons) => {
-                    push_pair(b"client full ", prod.into(), b" ", cons.into(), &mut out);
-                }
-                Outcome::Moved(count) => {
-                    out.extend_from_slice(b"client wrote ");
-                    push_number(count as u64, &mut out);
-                }
-            },
-            Line::Read { most } => match page.read(most as usize, &mut buf) {
-                Outcome::Closed => out.extend_from_slice(b"server peer-closed"),
-                Outcome::Stuck(prod, cons) => {
-                    push_pair(b"server empty ", prod.into(), b" ", cons.into(), &mut out);
-                }
-                Outcome::Moved(count) => {
-                    out.extend_from_slice(b"server read ");
-                    push_hex(&buf[..count], &mut out);
-                }
-            },
+            Line::Write { from, to, whole } => player.write(from..to, whole),
+            Line::Read { most, whole } => player.read(most as usize, whole),
+            Line::StepClient { events } => player.step_client(events as usize),
+            Line::StepServer { events } => player.step_server(events as usize),
         }
-        out.push(b'\n');
     }
+    let Player { page, mut out, .. } = player;
     push_pair(b"left sent ", page.sent, b" got ", page.got, &mut out);
     out.push(b'\n');
     push_pair(b"right sent ", page.right.prod.into(), b" got ", page.right.cons.into(), &mut out);

@@ -16,11 +16,11 @@ use Rattle.vchan_protocol.specs.declared.call.Call.TheVariants.{Write, Send, Rea
 use Rattle.vchan_protocol.specs.declared.call.EndState.{EndState}
 use Rattle.vchan_protocol.specs.declared.call.EndState.TheVariants.{Fresh, Open, Shut}
 use Rattle.vchan_protocol.specs.declared.side.Side.{Side}
-use Rattle.vchan_protocol.specs.Plan.{Plan, does, answers, Leads}
-use Rattle.vchan_protocol.specs.Ends.{Standing, written_ring, read_ring, prod_word, cons_word, peer_live, own_live, own_gone, peer_gone, peer_pending, state_after, free_at, ready_at, low8, low16, low32}
-use Rattle.vchan_protocol.specs.Calls.{Trace, put_bytes, take_bytes, put_index, take_index, put, take, notify, ask, write, write_open, write_looked, read, read_live, read_looked, drain_found, drain_last, drain_gone, drain_further, drain_live, drain_second, drain, connect, connect_right, close, retire, retire_shut, plan_of, send, send_open, send_looked, recv, recv_live, recv_looked, IsAllowed}
-use Rattle.vchan_protocol.specs.Core.{standing_of, begins, is_shut, sees_end, sets_gone, saw_after, made}
-use Rattle.vchan_protocol.specs.OneCall.{side_along}
+use Rattle.vchan_protocol.specs.Table.Plan.{Plan, does, answers, Leads}
+use Rattle.vchan_protocol.specs.Table.Ends.{Standing, written_ring, read_ring, prod_word, cons_word, peer_live, own_live, own_gone, peer_gone, peer_pending, state_after, free_at, ready_at, low8, low16, low32}
+use Rattle.vchan_protocol.specs.Table.Calls.{Trace, put_bytes, take_bytes, put_index, take_index, put, take, notify, ask, write, write_open, write_looked, read, read_live, read_looked, drain_found, drain_last, drain_gone, drain_further, drain_live, drain_second, drain, connect, connect_right, close, retire, retire_shut, plan_of, send, send_open, send_looked, recv, recv_live, recv_looked, IsAllowed}
+use Rattle.vchan_protocol.specs.History.Core.{standing_of, begins, is_shut, sees_end, sets_gone, saw_after, made}
+use Rattle.vchan_protocol.specs.OneEnd.OneCall.{side_along}
 use Rattle.end_view.specs.AfterCall.{state_told, retires, SeesAsTold}
 
 -- ---- along the events

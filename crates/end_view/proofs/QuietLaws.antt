@@ -4,8 +4,8 @@ use Rattle.vchan_protocol.specs.declared.call.Answer.{Answer}
 use Rattle.vchan_protocol.specs.declared.call.Call.{Call}
 use Rattle.vchan_protocol.specs.declared.call.EndState.{EndState}
 use Rattle.vchan_protocol.specs.declared.side.EndedBy.{EndedBy}
-use Rattle.vchan_protocol.specs.Core.{ending, drains, first_ended, misleads}
-use Rattle.vchan_protocol.specs.OneCall.{bytes_out, bytes_in}
+use Rattle.vchan_protocol.specs.History.Core.{ending, drains, first_ended, misleads}
+use Rattle.vchan_protocol.specs.OneEnd.OneCall.{bytes_out, bytes_in}
 use Rattle.end_view.specs.EndView.{EndView}
 use Rattle.end_view.specs.AfterCall.{answered_view, state_told, retires}
 

@@ -6,12 +6,12 @@ use Rattle.vchan_protocol.specs.declared.op.PastEvent.{PastEvent}
 use Rattle.vchan_protocol.specs.declared.call.Answer.{Answer}
 use Rattle.vchan_protocol.specs.declared.call.Call.{Call}
 use Rattle.vchan_protocol.specs.declared.side.Side.{Side}
-use Rattle.vchan_protocol.specs.Calls.{IsAllowed}
-use Rattle.vchan_protocol.specs.Core.{begins, made}
-use Rattle.vchan_protocol.specs.LifeLaw.{SaysOrders}
-use Rattle.vchan_protocol.specs.Kept.{PageSettled, StreamSettled}
-use Rattle.vchan_protocol.specs.OneCall.{IsOver, side_along}
-use Rattle.vchan_protocol.proofs.OneCallWay.{over_tells}
+use Rattle.vchan_protocol.specs.Table.Calls.{IsAllowed}
+use Rattle.vchan_protocol.specs.History.Core.{begins, made}
+use Rattle.vchan_protocol.specs.Honest.LifeLaw.{SaysOrders}
+use Rattle.vchan_protocol.specs.Always.Invariant.{PageSettled, StreamSettled}
+use Rattle.vchan_protocol.specs.OneEnd.OneCall.{IsOver, side_along}
+use Rattle.vchan_protocol.proofs.OneEnd.OneCallWay.{over_tells}
 use Rattle.end_view.specs.EndView.{view_of, hostile_trail}
 use Rattle.end_view.specs.AfterCall.{ViewAfterCall, SeesAsTold}
 use Rattle.end_view.specs.Settled.{settled_view, AreDone, IsSettled, IsHonestRing, IsTurnedRing}

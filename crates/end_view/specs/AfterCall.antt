@@ -9,10 +9,10 @@ use Rattle.vchan_protocol.specs.declared.call.Call.TheVariants.{Connect, Close, 
 use Rattle.vchan_protocol.specs.declared.call.EndState.{EndState}
 use Rattle.vchan_protocol.specs.declared.call.EndState.TheVariants.{Open, Shut}
 use Rattle.vchan_protocol.specs.declared.side.Side.{Side}
-use Rattle.vchan_protocol.specs.Calls.{IsAllowed}
-use Rattle.vchan_protocol.specs.Core.{ending, drains, first_ended, misleads}
-use Rattle.vchan_protocol.specs.EndingLaw.{tells_end}
-use Rattle.vchan_protocol.specs.OneCall.{bytes_out, bytes_in, IsOver}
+use Rattle.vchan_protocol.specs.Table.Calls.{IsAllowed}
+use Rattle.vchan_protocol.specs.History.Core.{ending, drains, first_ended, misleads}
+use Rattle.vchan_protocol.specs.OneEnd.EndingLaw.{tells_end}
+use Rattle.vchan_protocol.specs.OneEnd.OneCall.{bytes_out, bytes_in, IsOver}
 use Rattle.end_view.specs.EndView.{EndView, view_of}
 
 -- an end between two calls may begin this call

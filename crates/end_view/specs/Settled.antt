@@ -7,9 +7,9 @@ use Rattle.ring_words.specs.declared.order.Orders.{Orders}
 use Rattle.ring_words.specs.declared.page.Role.TheVariants.{Server, Client}
 use Rattle.vchan_protocol.specs.declared.call.EndState.TheVariants.{Shut}
 use Rattle.vchan_protocol.specs.declared.side.Side.{Side}
-use Rattle.vchan_protocol.specs.RingLaw.{IsPrefixOf}
-use Rattle.vchan_protocol.specs.LifeLaw.{SaysOrders}
-use Rattle.vchan_protocol.specs.Kept.{PageSettled}
+use Rattle.vchan_protocol.specs.Honest.RingLaw.{IsPrefixOf}
+use Rattle.vchan_protocol.specs.Honest.LifeLaw.{SaysOrders}
+use Rattle.vchan_protocol.specs.Always.Invariant.{PageSettled}
 use Rattle.end_view.specs.EndView.{EndView, view_of}
 
 -- a ring between two honest ends: what was got begins what was sent, and is all of it where the ring is drained, as it is where its reader has ended
@@ -26,7 +26,7 @@ pub record IsHonestPage (server client : EndView) : Type 0 where
   pub server_found : server.misled ≡ false
   pub client_found : client.misled ≡ false
 
--- a ring of a turned writer and an honest reader: what the reader had got at the turning is still as it was sent
+-- a ring of a turned writer and an honest reader: what the reader had got at the turned_core is still as it was sent
 pub record IsTurnedRing (size : ℕ) (writer reader : EndView) : Type 0 where
   pub within : writer.consumed ≤ length reader.got
   pub bound : length writer.sent ≤ writer.consumed + size

@@ -7,8 +7,8 @@ use Rattle.ring_words.specs.declared.page.Role.{Role}
 use Rattle.ring_words.specs.declared.page.WordName.TheVariants.{RingByte}
 use Rattle.vchan_protocol.specs.declared.op.Op.TheVariants.{Store}
 use Rattle.vchan_protocol.specs.declared.op.PastEvent.{PastEvent}
-use Rattle.vchan_protocol.specs.Plan.{past}
-use Rattle.vchan_protocol.specs.Ends.{written_ring}
+use Rattle.vchan_protocol.specs.Table.Plan.{past}
+use Rattle.vchan_protocol.specs.Table.Ends.{written_ring}
 use Rattle.hostile_seat.specs.Hostile.{byte_stores}
 
 -- one more byte behind the others

@@ -9,8 +9,8 @@ use Rattle.ring_words.specs.declared.page.WordName.TheVariants.{RingByte}
 use Rattle.vchan_protocol.specs.declared.op.Op.TheVariants.{Load, Store}
 use Rattle.vchan_protocol.specs.declared.op.PastEvent.{PastEvent}
 use Rattle.vchan_protocol.specs.declared.side.Side.{Side}
-use Rattle.vchan_protocol.specs.Plan.{past}
-use Rattle.vchan_protocol.specs.Ends.{written_ring, prod_word, cons_word}
+use Rattle.vchan_protocol.specs.Table.Plan.{past}
+use Rattle.vchan_protocol.specs.Table.Ends.{written_ring, prod_word, cons_word}
 
 -- a turned end after these events of its hostile user
 abbrev pub strays_along : Side → List PastEvent → Side

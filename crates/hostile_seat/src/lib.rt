@@ -8,8 +8,8 @@
 ghost use Rattle.std.specs.Prelude.{◌≡◌, ◌+◌, ◌%◌, ◌^◌, ◌≤◌, ◌↔◌, IsTrue, ℕ, min, length, take};
 ghost use Rattle.ring_words.specs.Rings.{room as room_of};
 ghost use Rattle.ring_words.specs.Page.{order_of};
-ghost use Rattle.vchan_protocol.specs.Ends.{written_ring, peer_pending, own_gone, low32};
-ghost use Rattle.vchan_protocol.specs.Turned.{turns, strays, MayPoke};
+ghost use Rattle.vchan_protocol.specs.Table.Ends.{written_ring, peer_pending, own_gone, low32};
+ghost use Rattle.vchan_protocol.specs.Hostile.Turned.{turns, strays, MayPoke};
 ghost use Rattle.vchan_rule.specs.Seated.{last_view};
 ghost use Rattle.hostile_seat.specs.Hostile.{strays_along, byte_stores, say_events};
 

@@ -9,11 +9,11 @@ use Rattle.qrexec_frame.specs.declared.message.Message.{Message}
 use Rattle.qrexec_frame.specs.declared.message.Message.TheVariants as message
 use Rattle.qrexec_frame.specs.declared.kind.Kind.{Kind}
 use Rattle.qrexec_frame.specs.declared.kind.Kind.TheVariants as kind
-use Rattle.qrexec_frame.specs.Kinds.{kind_on, number_of, least_len, most_len}
-use Rattle.qrexec_frame.specs.Messages.{kind_of, body_of, four, written, Fits, HasNumbers, IsSpellable, GoesOn}
+use Rattle.qrexec_frame.specs.Kinds.{kind_on, number_of, least_len, most_len, IsData}
+use Rattle.qrexec_frame.specs.Messages.{kind_of, body_of, four, framed, written, Fits, HasNumbers, IsSpellable, GoesOn}
 use Rattle.qrexec_frame.specs.Texts.{HasNoNul, padded, ended, field_text, line_text}
 use Rattle.qrexec_frame.specs.Grammar.{number_at, last_byte, Says, Spelled}
-use Rattle.qrexec_frame.specs.Fronts.{front}
+use Rattle.qrexec_frame.specs.Fronts.{front, made}
 use Rattle.qrexec_frame.specs.Streams.{IsReadAgain}
 use Rattle.qrexec_frame.proofs.TextLaws.{field_text-padded, line_text-ended, last_byte-ended}
 use Rattle.qrexec_frame.proofs.GrammarLaws.{Spelled-front, most_len-le}
@@ -144,3 +144,18 @@ written-spelled channel m spellable goes =
 -- the messages of a channel that have a spelling are read again, whatever follows them
 pub is_read_again : (channel : Channel) → IsReadAgain (front channel) written (λ m. IsSpellable m × GoesOn channel m)
 is_read_again channel m more good = Spelled-front channel (written m) more m (written-spelled channel m good.0 good.1)
+
+-- a message of a stream is written as its header and its bytes
+pub written_data : (k : Kind) (bytes : List ℕ) → IsData k → written (made k bytes) ≡ framed (number_of k) bytes
+written_data kind.Stdin bytes is = refl
+written_data kind.Stdout bytes is = refl
+written_data kind.Stderr bytes is = refl
+written_data kind.Hello bytes is = absurd is
+written_data kind.ExitCode bytes is = absurd is
+written_data kind.Exec bytes is = absurd is
+written_data kind.JustExec bytes is = absurd is
+written_data kind.Connect bytes is = absurd is
+written_data kind.Refused bytes is = absurd is
+written_data kind.Terminated bytes is = absurd is
+written_data kind.Trigger3 bytes is = absurd is
+written_data kind.Trigger bytes is = absurd is

@@ -73,3 +73,10 @@ has_line Refused = false
 has_line Trigger = false
 has_line Terminated = false
 has_line Hello = false
+
+-- the types whose body is bytes of a stream of the call
+abbrev pub IsData : Kind → Type 0
+IsData Stdin = Unit {0}
+IsData Stdout = Unit {0}
+IsData Stderr = Unit {0}
+IsData kind = ⊥

@@ -9,3 +9,4 @@ pub mod Decoding
 pub mod Lines
 pub mod Printing
 pub mod Names
+pub mod Lent

@@ -16,3 +16,13 @@ is_allowed Target b = is_name_byte b || (b == 64) || (b == 58)
 -- a text with `_` in place of each byte that isn't allowed
 abbrev pub cleaned : Letters → List ℕ → List ℕ
 cleaned letters text = map (λ b. if is_allowed letters b then b else 95) text
+
+-- the three cleanings, by names that other crates can cite
+abbrev pub cleaned_name : List ℕ → List ℕ
+cleaned_name text = cleaned Name text
+
+abbrev pub cleaned_service : List ℕ → List ℕ
+cleaned_service text = cleaned Service text
+
+abbrev pub cleaned_target : List ℕ → List ℕ
+cleaned_target text = cleaned Target text

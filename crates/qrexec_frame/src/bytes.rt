@@ -24,6 +24,14 @@ impl Bytes {
         Bytes { list }
     }
 
+    /// Gives the list back, without a copy.
+    pub fn into_list(self) -> Vec<u8>
+        ensures { result.items ≡ self }
+    {
+        let Bytes { list } = self;
+        list
+    }
+
     /// Lends the bytes.
     pub fn slice(&self) -> &[u8]
         ensures { result.now ≡ self.now }

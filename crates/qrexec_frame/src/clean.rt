@@ -1,6 +1,5 @@
 ghost use Rattle.std.specs.Prelude.{◌≡◌, if◌then◌else◌, IfOk};
-ghost use Rattle.qrexec_frame.specs.Names.{cleaned, is_allowed, is_name_byte};
-ghost use Rattle.qrexec_frame.specs.declared.clean.Letters.TheVariants as letters;
+ghost use Rattle.qrexec_frame.specs.Names.{cleaned_name, cleaned_service, cleaned_target, is_allowed, is_name_byte};
 
 use crate::text::Text;
 use std::alloc::Global;
@@ -42,7 +41,7 @@ fn is_name_byte(byte: u8) -> bool
 /// A name of a domain with `_` in place of every byte that names don't hold: they hold letters and
 /// digits of ASCII, `_`, `-` and `.`.
 pub fn clean_name(alloc: Global, text: &Text) -> Result<Text, Memory>
-    ensures { IfOk result (λ clean. clean ≡ cleaned letters.Name text.now) }
+    ensures { IfOk result (λ clean. clean ≡ cleaned_name text.now) }
 {
     Ok(Text::cleaned(alloc, text, Letters::Name)?)
 }
@@ -50,7 +49,7 @@ pub fn clean_name(alloc: Global, text: &Text) -> Result<Text, Memory>
 /// A name of a service with `_` in place of every byte that services don't hold: they hold those of a
 /// domain's name, and `+`.
 pub fn clean_service(alloc: Global, text: &Text) -> Result<Text, Memory>
-    ensures { IfOk result (λ clean. clean ≡ cleaned letters.Service text.now) }
+    ensures { IfOk result (λ clean. clean ≡ cleaned_service text.now) }
 {
     Ok(Text::cleaned(alloc, text, Letters::Service)?)
 }
@@ -58,7 +57,7 @@ pub fn clean_service(alloc: Global, text: &Text) -> Result<Text, Memory>
 /// The target of a call with `_` in place of every byte that targets don't hold: they hold those of a
 /// domain's name, `@` and `:`.
 pub fn clean_target(alloc: Global, text: &Text) -> Result<Text, Memory>
-    ensures { IfOk result (λ clean. clean ≡ cleaned letters.Target text.now) }
+    ensures { IfOk result (λ clean. clean ≡ cleaned_target text.now) }
 {
     Ok(Text::cleaned(alloc, text, Letters::Target)?)
 }

@@ -40,6 +40,10 @@ impl Model for Decoder {
 }
 
 impl Decoder {
+    ghost use Rattle.std.specs.Borrow.{sem};
+    ghost use Rattle.qrexec_frame.specs.Bodies.{StandsAtFront};
+    ghost use Rattle.qrexec_frame.specs.Lent.{RestsBehind};
+
     /// A decoder of a channel's messages, which was fed nothing.
     pub fn new(alloc: Global, channel: Channel) -> Decoder
         ensures state { result ≡ record { channel = channel; left = []; at = 0; fault = None } }
@@ -137,6 +141,31 @@ impl Decoder {
             Err(fault) => {
                 self.fault = Some(fault);
                 Err(NextError::Fault(fault))
+            }
+        }
+    }
+
+    /// Takes the next message of the stream as `next` does, and lends its type and its body in place of
+    /// giving it. It takes no memory.
+    pub fn next_body(&mut self) -> Result<Option<Body<'_>>, FrameFault>
+        ensures* after { sem 𝓛 (RestsBehind self.entry result) }
+        ensures answer { self.old.fault ≡ None → StandsAtFront self.old.channel self.old.at self.old.left result }
+        ensures faulted { (f : FrameFault) → self.old.fault ≡ Some f → result ≡ Err f }
+    {
+        if let Some(known) = self.fault {
+            return Err(known);
+        }
+        match Body::at_front(self.channel, self.at, &self.bytes[self.given..]) {
+            Ok(None) => Ok(None),
+            Ok(Some(body)) => {
+                let len = HEADER + body.bytes.len();
+                self.given += len;
+                self.at = self.at.wrapping_add(len as u64);
+                Ok(Some(body))
+            }
+            Err(found) => {
+                self.fault = Some(found);
+                Err(found)
             }
         }
     }

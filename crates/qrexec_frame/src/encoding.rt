@@ -2,10 +2,12 @@ ghost use Rattle.std.specs.Prelude.{◌≡◌, ◌+◌, ◌≤◌, ◌++◌, Lis
 ghost use Rattle.qrexec_frame.specs.declared.channel.Channel.{Channel};
 ghost use Rattle.qrexec_frame.specs.Messages.{Fits, HasNumbers, GoesOn, body_of, four, written};
 ghost use Rattle.qrexec_frame.specs.Grammar.{Spelled};
-ghost use Rattle.qrexec_frame.specs.Fronts.{front};
+ghost use Rattle.qrexec_frame.specs.Fronts.{front, made};
+ghost use Rattle.qrexec_frame.specs.Kinds.{IsData};
 ghost use Rattle.qrexec_frame.specs.Streams.{Whole};
 ghost use Rattle.qrexec_frame.specs.Texts.{padded, ended};
 
+use crate::kind::Kind;
 use crate::message::Message;
 use crate::text::Text;
 use vchan_io::Memory;
@@ -39,6 +41,24 @@ pub fn encode(message: &Message, out: &mut Vec<u8>) -> Result<(), Memory>
     put_number(out, message.kind());
     put_number(out, len as u32);
     put_body(out, message);
+    Ok(())
+}
+
+/// Appends a message of a stream of the call, which carries these bytes, as `encode` writes it; none end
+/// the stream. The type is `Stdin`, `Stdout` or `Stderr`.
+///
+/// Want of memory leaves `out` as it was.
+#[tactic(auto, using(crate::proofs::WrittenLaws::written_data))]
+pub fn encode_data(kind: Kind, bytes: &[u8], out: &mut Vec<u8>) -> Result<(), Memory>
+    requires stream { IsData kind }
+    requires fits { length bytes.now ≤ 65536 }
+    ensures ok { OnOk result (out.new.items ≡ out.old.items ++ written (made kind bytes.now)) }
+    ensures err { OnErr result (out.new.items ≡ out.old.items) }
+{
+    out.reserve(HEADER + bytes.len())?;
+    put_number(out, kind.number());
+    put_number(out, bytes.len() as u32);
+    put(out, bytes);
     Ok(())
 }
 

@@ -15,11 +15,13 @@ use crate::message::Message;
 use crate::text::{Text, before_nul};
 use std::alloc::{AllocError, Global};
 
-/// The type and the body of a whole message.
+/// The type and the body of a whole message, lent from where they lie.
 #[derive(Clone, Copy, Debug)]
-pub(crate) struct Body<'a> {
-    pub(crate) kind: Kind,
-    pub(crate) bytes: &'a [u8],
+pub struct Body<'a> {
+    /// The type.
+    pub kind: Kind,
+    /// The bytes behind the header, as many as the header tells.
+    pub bytes: &'a [u8],
 }
 
 impl<'a> Body<'a> {
@@ -27,7 +29,10 @@ impl<'a> Body<'a> {
 
     /// The body of the message at the front of some bytes of a channel, the first of which has the offset
     /// `at`; `None` where that message isn't whole and no fault shows.
-    pub(crate) fn at_front(
+    ///
+    /// A fault comes exactly where it shows, the first that applies. It reads a stream as a `Decoder` does,
+    /// for who keeps the bytes: it takes no memory, and moves no byte.
+    pub fn at_front(
         channel: Channel,
         at: u64,
         bytes: &'a [u8],
@@ -60,6 +65,15 @@ impl<'a> Body<'a> {
             kind: row,
             bytes: body,
         }))
+    }
+
+    /// The number that the body begins with, four bytes, the lowest first: a greeting's version, or the bits
+    /// of an exit code.
+    pub fn number(&self) -> u32
+        requires { 4 ≤ length self.now.bytes.now }
+        ensures { result ≡ number_at 0 self.now.bytes.now }
+    {
+        u32_at(self.bytes, 0)
     }
 }
 

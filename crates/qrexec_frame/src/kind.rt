@@ -1,5 +1,5 @@
-//! The table of message types: number, channel, and the lengths of the body.
-ghost use Rattle.std.specs.Prelude.{◌≡◌};
+//! The table of message types: number, channel, lengths of the body, and how it ends.
+ghost use Rattle.std.specs.Prelude.{◌≡◌, true, false};
 ghost use Rattle.qrexec_frame.specs.Kinds.{kind_on, number_of, least_len, most_len, has_line};
 
 use crate::channel::Channel;
@@ -9,7 +9,7 @@ pub(crate) const MOST_BODY: u32 = 65_536;
 
 /// The types of qrexec messages.
 #[derive(Clone, Copy, Debug, PartialEq, Eq)]
-pub(crate) enum Kind {
+pub enum Kind {
     Hello,
     Stdin,
     Stdout,
@@ -24,102 +24,138 @@ pub(crate) enum Kind {
     Trigger,
 }
 
+/// The types that a data channel carries.
+const ON_DATA: [Kind; 5] = [
+    Kind::Stdin,
+    Kind::Stdout,
+    Kind::Stderr,
+    Kind::ExitCode,
+    Kind::Hello,
+];
+
+/// The types that a control channel carries.
+const ON_CONTROL: [Kind; 8] = [
+    Kind::Exec,
+    Kind::JustExec,
+    Kind::Connect,
+    Kind::Refused,
+    Kind::Trigger,
+    Kind::Terminated,
+    Kind::Trigger3,
+    Kind::Hello,
+];
+
+/// What the table has of one type.
+#[derive(Clone, Copy, Debug)]
+struct Row {
+    /// The number in a header.
+    number: u32,
+    /// The least and the greatest length of the body.
+    least: u32,
+    most: u32,
+    /// Whether the body ends with a line or a service, whose last byte has to be NUL.
+    line: bool,
+}
+
+impl Row {
+    /// A type whose bodies have this one length.
+    fn fixed(number: u32, len: u32) -> Row
+        ensures { result ≡ record { number = number; least = len; most = len; line = false } }
+    {
+        Row {
+            number,
+            least: len,
+            most: len,
+            line: false,
+        }
+    }
+
+    /// A type whose bodies are any bytes, none too.
+    fn bytes(number: u32) -> Row
+        ensures { result ≡ record { number = number; least = 0; most = MOST_BODY; line = false } }
+    {
+        Row {
+            number,
+            least: 0,
+            most: MOST_BODY,
+            line: false,
+        }
+    }
+
+    /// A type whose bodies have this length at least, and end with a line or a service.
+    fn line(number: u32, least: u32) -> Row
+        ensures { result ≡ record { number = number; least = least; most = MOST_BODY; line = true } }
+    {
+        Row {
+            number,
+            least,
+            most: MOST_BODY,
+            line: true,
+        }
+    }
+}
+
 impl Kind {
+    fn row(self) -> Row
+        ensures number { result.number ≡ number_of self }
+        ensures least { result.least ≡ least_len self }
+        ensures most { result.most ≡ most_len self }
+        ensures line { result.line ≡ has_line self }
+    {
+        match self {
+            Kind::Stdin => Row::bytes(0x190),
+            Kind::Stdout => Row::bytes(0x191),
+            Kind::Stderr => Row::bytes(0x192),
+            Kind::ExitCode => Row::fixed(0x193, 4),
+            Kind::Exec => Row::line(0x200, 9),
+            Kind::JustExec => Row::line(0x201, 9),
+            Kind::Connect => Row::fixed(0x202, 40),
+            Kind::Refused => Row::fixed(0x203, 32),
+            Kind::Trigger => Row::fixed(0x210, 128),
+            Kind::Terminated => Row::fixed(0x211, 8),
+            Kind::Trigger3 => Row::line(0x212, 97),
+            Kind::Hello => Row::fixed(0x300, 4),
+        }
+    }
+
     /// The type of this number on a channel, or `None` where the channel has no such type.
     pub(crate) fn of(channel: Channel, number: u32) -> Option<Kind>
         ensures { result ≡ kind_on channel number }
     {
         match channel {
-            Channel::Data => Kind::on_data(number),
-            Channel::Control => Kind::on_control(number),
-        }
-    }
-
-    fn on_data(number: u32) -> Option<Kind>
-        ensures { result ≡ kind_on Channel.Data number }
-    {
-        match number {
-            0x190 => Some(Kind::Stdin),
-            0x191 => Some(Kind::Stdout),
-            0x192 => Some(Kind::Stderr),
-            0x193 => Some(Kind::ExitCode),
-            0x300 => Some(Kind::Hello),
-            _ => None,
-        }
-    }
-
-    fn on_control(number: u32) -> Option<Kind>
-        ensures { result ≡ kind_on Channel.Control number }
-    {
-        match number {
-            0x200 => Some(Kind::Exec),
-            0x201 => Some(Kind::JustExec),
-            0x202 => Some(Kind::Connect),
-            0x203 => Some(Kind::Refused),
-            0x210 => Some(Kind::Trigger),
-            0x211 => Some(Kind::Terminated),
-            0x212 => Some(Kind::Trigger3),
-            0x300 => Some(Kind::Hello),
-            _ => None,
+            Channel::Data => ON_DATA.iter().copied().find(|kind| number == kind.number()),
+            Channel::Control => ON_CONTROL
+                .iter()
+                .copied()
+                .find(|kind| number == kind.number()),
         }
     }
 
     /// The number of the type in a header.
-    pub(crate) fn number(self) -> u32
+    pub fn number(self) -> u32
         ensures { result ≡ number_of self }
     {
-        match self {
-            Kind::Stdin => 0x190,
-            Kind::Stdout => 0x191,
-            Kind::Stderr => 0x192,
-            Kind::ExitCode => 0x193,
-            Kind::Exec => 0x200,
-            Kind::JustExec => 0x201,
-            Kind::Connect => 0x202,
-            Kind::Refused => 0x203,
-            Kind::Trigger => 0x210,
-            Kind::Terminated => 0x211,
-            Kind::Trigger3 => 0x212,
-            Kind::Hello => 0x300,
-        }
+        self.row().number
     }
 
     /// The least length of the body.
     pub(crate) fn least_len(self) -> u32
         ensures { result ≡ least_len self }
     {
-        match self {
-            Kind::Stdin | Kind::Stdout | Kind::Stderr => 0,
-            Kind::ExitCode | Kind::Hello => 4,
-            Kind::Terminated => 8,
-            Kind::Exec | Kind::JustExec => 9,
-            Kind::Refused => 32,
-            Kind::Connect => 40,
-            Kind::Trigger3 => 97,
-            Kind::Trigger => 128,
-        }
+        self.row().least
     }
 
     /// The greatest length of the body.
     pub(crate) fn most_len(self) -> u32
         ensures { result ≡ most_len self }
     {
-        match self {
-            Kind::Exec | Kind::JustExec | Kind::Trigger3 => MOST_BODY,
-            Kind::Stdin | Kind::Stdout | Kind::Stderr => MOST_BODY,
-            Kind::ExitCode
-            | Kind::Hello
-            | Kind::Terminated
-            | Kind::Refused
-            | Kind::Connect
-            | Kind::Trigger => self.least_len(),
-        }
+        self.row().most
     }
 
     /// Whether the body ends with a line or a service, whose last byte has to be NUL.
     pub(crate) fn has_line(self) -> bool
         ensures { result ≡ has_line self }
     {
-        matches!(self, Kind::Exec | Kind::JustExec | Kind::Trigger3)
+        self.row().line
     }
 }

@@ -1,8 +1,8 @@
 //! Streams as bytes from outside, each type of message at the ends of its lengths, and the calls once on
 //! their way to an answer. Contracts say the rest.
 use crate::{
-    Bytes, Channel, Decoder, FrameFault, Message, NextError, Text, TextError, clean_name,
-    clean_service, clean_target, encode, fits, message_line,
+    Bytes, Channel, Decoder, FrameFault, Kind, Message, NextError, Text, TextError, clean_name,
+    clean_service, clean_target, encode, encode_data, fits, message_line,
 };
 use std::alloc::Global;
 use std::process::Abort;
@@ -550,13 +550,49 @@ fn keeps_its_fault(rt: HostRuntime) -> Result<(), Fail> {
 }
 
 #[test]
+fn lends_bodies(rt: HostRuntime) -> Result<(), Fail> {
+    let alloc = rt.alloc();
+    let mut decoder = Decoder::new(alloc, Channel::Data);
+    let mut bytes = bytes_of(alloc, &[(HELLO, 1)])?;
+    encode_data(Kind::Stderr, b"ab", &mut bytes)?;
+    bytes.extend_from_slice(&[0x93, 1, 0, 0, 8, 0, 0, 0])?;
+    decoder.feed(&bytes)?;
+    match decoder.next_body() {
+        Ok(Some(body)) => {
+            assert_eq!(rt; body.kind, Kind::Hello);
+            assert_eq!(rt; body.bytes, [3, 0, 0, 0].as_slice());
+        }
+        other => panic!(rt; "{other:?}"),
+    }
+    match decoder.next() {
+        Ok(Some(Message::Stderr { bytes })) => assert_eq!(rt;
+            bytes.into_list(),
+            b"ab".to_vec(alloc)?
+        ),
+        other => panic!(rt; "{other:?}"),
+    }
+    for _ in 0..2 {
+        match decoder.next_body() {
+            Err(FrameFault::BadLength { at, kind, len }) => {
+                assert_eq!(rt; (at, kind, len), (22, 0x193, 8));
+            }
+            other => panic!(rt; "{other:?}"),
+        }
+    }
+    Ok(())
+}
+
+#[test]
 fn refuses_a_text_with_nul(rt: HostRuntime) -> Result<(), Fail> {
     let alloc = rt.alloc();
     assert_eq!(rt;
         Text::of(alloc, b"a\0b").map(|text| text.bytes().len()),
         Err(TextError::Nul)
     );
-    assert_eq!(rt; Text::of(alloc, b"ab")?.bytes(), b"ab".as_slice());
+    let text = Text::of(alloc, b"ab")?;
+    assert_eq!(rt; text.bytes(), b"ab".as_slice());
+    assert!(rt; text.clone()? == text);
+    assert!(rt; text != Text::of(alloc, b"a")?);
     assert_eq!(rt; Text::of(alloc, b"")?.bytes(), b"".as_slice());
     Ok(())
 }

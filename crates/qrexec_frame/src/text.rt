@@ -1,5 +1,7 @@
-ghost use Rattle.std.specs.Prelude.{◌≡◌, ◌↔◌, ◌≤◌, length, position, Contains, IfOk};
+ghost use Rattle.std.specs.Prelude.{◌≡◌, ◌↔◌, ◌≤◌, length, position, Contains, IfOk, bytes_eq};
 ghost use Rattle.std.specs.List.{before_first, position_or_len};
+ghost use Rattle.std.specs.Cmp.{partial_equiv_from_equiv};
+ghost use Rattle.std.specs.Cmp.Lexicographic.{nat_list_eq_equiv};
 ghost use Rattle.qrexec_frame.specs.Names.{cleaned};
 ghost use Rattle.qrexec_frame.specs.Texts.{HasNoNul, is_nul};
 ghost use Rattle.qrexec_frame.specs.declared.text.TextError.TheVariants as error;
@@ -43,6 +45,30 @@ impl From<AllocError> for TextError {
     fn from(_refused: AllocError) -> TextError {
         TextError::Memory
     }
+}
+
+impl Clone for Text {
+    ghost is_clone = { λ text copy. copy ≡ text };
+
+    fn clone(&self) -> Result<Text, AllocError> {
+        Ok(Text {
+            bytes: self.bytes.clone()?,
+        })
+    }
+}
+
+impl PartialEq for Text {
+    ghost eq = { bytes_eq };
+
+    ghost laws = { partial_equiv_from_equiv nat_list_eq_equiv };
+
+    fn eq(&self, other: &Text) -> bool {
+        self.bytes == other.bytes
+    }
+}
+
+impl Eq for Text {
+    ghost laws = { nat_list_eq_equiv };
 }
 
 impl Text {

@@ -1,7 +1,9 @@
-ghost use Rattle.std.specs.Prelude.{◌≡◌, ◌≤◌, true, false};
-ghost use Rattle.qrexec_hello.specs.Greeting.{greeting};
+ghost use Rattle.std.specs.Prelude.{◌≡◌, ◌≤◌, true, false, length};
+ghost use Rattle.qrexec_frame.specs.Fronts.{made};
+ghost use Rattle.qrexec_frame.specs.Kinds.{least_len};
+ghost use Rattle.qrexec_hello.specs.Greeting.{greet, greeting};
 
-use qrexec_frame::Message;
+use qrexec_frame::{Body, Kind, Message};
 use std::marker::Model;
 
 /// The lowest version that is spoken.
@@ -68,13 +70,36 @@ impl Hello {
     {
         self.waiting = false;
         match message {
-            Message::Hello { version } if *version < LOWEST => {
-                Err(HelloFault::Version { got: *version })
-            }
-            Message::Hello { version } => Ok(self.own.min(*version)),
+            Message::Hello { version } => self.answer(*version),
             _ => Err(HelloFault::NotHello {
                 kind: message.kind(),
             }),
         }
+    }
+
+    /// Takes the other side's first message as `took` does, from where it lies.
+    pub fn took_body(&mut self, body: Body<'_>) -> Result<u32, HelloFault>
+        requires waiting { self.old.waiting ≡ true }
+        requires whole { least_len body.kind ≤ length body.bytes.now }
+        ensures greeting { result ≡ greeting self.old.own (made body.entry.kind body.entry.bytes.now) }
+        ensures spent { self.new ≡ record self.old { waiting = false } }
+    {
+        self.waiting = false;
+        match body.kind {
+            Kind::Hello => self.answer(body.number()),
+            kind => Err(HelloFault::NotHello {
+                kind: kind.number(),
+            }),
+        }
+    }
+
+    /// The version that both go on with, where the other side says this one.
+    fn answer(&self, version: u32) -> Result<u32, HelloFault>
+        ensures { result ≡ greet self.now.own version }
+    {
+        if version < LOWEST {
+            return Err(HelloFault::Version { got: version });
+        }
+        Ok(self.own.min(version))
     }
 }

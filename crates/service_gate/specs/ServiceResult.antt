@@ -1,5 +1,5 @@
 -- The built-in services: their names, and what each makes of its whole input.
-use Rattle.std.specs.Prelude.{◌≡◌, ◌⊎◌, ℕ, ◌≤◌, ◌%◌, ◌^◌, pos, nat_le, Bool, true, false, not, ◌&&◌, if◌then◌else◌, List, [], ◌∷◌, ◌++◌, take, drop, length, map, codes, decimal, bytes_eq, Option, Some, None, option_map, option_and_then}
+use Rattle.std.specs.Prelude.{◌≡◌, ◌⊎◌, ℕ, ℤ, ◌≤◌, ◌%◌, ◌^◌, pos, nat_le, Bool, true, false, not, ◌&&◌, if◌then◌else◌, List, [], ◌∷◌, ◌++◌, take, drop, length, map, codes, decimal, bytes_eq, Option, Some, None, option_map, option_and_then}
 use Rattle.std.specs.Option.{option_or}
 use Rattle.std.specs.Char.{to_ascii_uppercase}
 use Rattle.std.specs.Str.Parse.{digits_value}
@@ -68,3 +68,7 @@ abbrev pub IsName : List ℕ → Type 0
 IsName name =
     (name ≡ codes "echo") ⊎ (name ≡ codes "upper") ⊎ (name ≡ codes "count") ⊎ (name ≡ codes "split")
     ⊎ IsNumbered (codes "first+") most_first name ⊎ IsNumbered (codes "exit+") most_exit name
+
+-- the code is 0 to 255
+abbrev pub IsSmallCode : ℤ → Type 0
+IsSmallCode code = (n : ℕ) × (n ≤ 255) × (code ≡ pos n)

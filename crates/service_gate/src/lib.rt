@@ -20,5 +20,5 @@ pub use answer::{Answer, serve};
 pub use boxed::Boxed;
 pub use builtin::Builtin;
 pub use gate::{Gate, OpenGate};
-pub use naming::services_by_name;
+pub use naming::{every_service, services_by_name};
 pub use service::Service;

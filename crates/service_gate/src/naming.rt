@@ -1,8 +1,8 @@
 //! Which built-in service a name asks for.
-ghost use Rattle.std.specs.Prelude.{◌≡◌, ◌≤◌, ◌++◌, ℕ, true, List, length, map, take, codes, decimal, IfSome, option_map};
+ghost use Rattle.std.specs.Prelude.{◌≡◌, ◌≤◌, ◌++◌, ℕ, true, List, length, map, take, codes, decimal, IfSome, Some, is_some, option_map};
 ghost use Rattle.std.specs.Char.{to_ascii_uppercase};
-ghost use Rattle.service_gate.specs.ServiceResult.{service, numbered_service, count_line, splits, exits, IsName, number_to as spelled_to};
-ghost use Rattle.service_gate.specs.Triple.{writes};
+ghost use Rattle.service_gate.specs.ServiceResult.{service, numbered_service, count_line, splits, exits, IsName, IsSmallCode, number_to as spelled_to};
+ghost use Rattle.service_gate.specs.Triple.{Triple, writes};
 ghost use Rattle.service_gate.specs.Owing.{builtin_owes};
 
 use crate::builtin::Builtin;
@@ -82,4 +82,12 @@ pub fn services_by_name()
     ensures split { (input : List ℕ) → service (codes "split") input ≡ Some (splits true input) }
     ensures exit { (n : ℕ) (input : List ℕ) → n ≤ 255 → service (codes "exit+" ++ decimal n) input ≡ Some (exits n) }
     ensures others { (name : List ℕ) (input : List ℕ) → ¬ IsName name → service name input ≡ None }
+{}
+
+/// What holds of every service: whether a name has one doesn't depend on the input, and its exit code is
+/// 0 to 255.
+#[tactic(auto, using(crate::proofs::EveryService::known_anyway, crate::proofs::EveryService::small_codes))]
+pub fn every_service()
+    ensures known { (name one other : List ℕ) → is_some (service name one) ≡ is_some (service name other) }
+    ensures codes { (name input : List ℕ) (gives : Triple) → service name input ≡ Some gives → IsSmallCode gives.code }
 {}

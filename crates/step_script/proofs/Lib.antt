@@ -1,13 +1,3 @@
-pub mod OrdersLaws
-pub mod NameLaws
-pub mod HexLaws
-pub mod KeptLaws
-pub mod ScriptLaws
-pub mod SpacedLaws
-pub mod GotLaws
-pub mod HandLaws
-pub mod FinishLaws
-pub mod DoesLaws
-pub mod PlayerLaws
-pub mod ListScriptLaws
-pub mod RunningLaws
+pub mod Language
+pub mod Meaning
+pub mod Parts

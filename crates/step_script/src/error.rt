@@ -87,7 +87,7 @@ pub(crate) enum LineError {
 }
 
 impl LineError {
-    ghost use Rattle.step_script.specs.Readings.{error_at};
+    ghost use Rattle.step_script.specs.Parts.Readings.{error_at};
 
     /// The first line is none that opens a page.
     pub(crate) const BAD_HEADER: LineError = LineError::Bad(ScriptKind::BadHeader);
@@ -116,7 +116,7 @@ impl LineError {
 }
 
 impl From<ByteError> for LineError {
-    ghost use Rattle.step_script.specs.Readings.{line_error_of};
+    ghost use Rattle.step_script.specs.Parts.Readings.{line_error_of};
 
     ghost from_gives = { λ byte_error e. e ≡ line_error_of byte_error };
 

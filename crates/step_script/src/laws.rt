@@ -1,5 +1,5 @@
 //! Laws of scripts. A law is a function with no body, whose contract states it.
-ghost use Rattle.step_script.specs.ListScript.{WholeScriptsFollowLists};
+ghost use Rattle.step_script.specs.Meaning.ListScript.{WholeScriptsFollowLists};
 
 /// In a script whose lines behind the opening are whole calls, `head` and `image`, the lists of
 /// what was sent and got tell every output line but those of `head`, `image` and `event` and those

@@ -8,26 +8,17 @@
 #![tactic(auto)]
 
 mod error;
-mod forms;
-mod hand;
 pub mod laws;
-mod line;
-mod lines;
-mod opening;
-mod operand;
 mod played;
 mod player;
-mod poke;
-mod printer;
-mod reader;
-mod refusal;
+mod read;
 mod running;
 mod script;
 
 pub use error::{ScriptError, ScriptKind};
 pub use played::{Played, text};
 pub use player::play;
-pub use reader::parse;
+pub use read::parse;
 pub use running::script_text;
 pub use script::Script;
 pub use script_words::{ByteError, bytes_of};

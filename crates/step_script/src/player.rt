@@ -1,16 +1,20 @@
 //! Playing a script on one page.
 ghost use Rattle.std.specs.Prelude.{◌≡◌, ◌++◌, IfOk, OnOk};
-ghost use Rattle.step_script.specs.Played.{step_text};
-ghost use Rattle.step_script.specs.ListScript.{ToldByLists};
+ghost use Rattle.step_script.specs.Meaning.Played.{step_text};
+ghost use Rattle.step_script.specs.Meaning.ListScript.{ToldByLists};
 
-use crate::hand::Hand;
 use crate::played::Played;
-use crate::printer::{push_head, push_image, push_lengths};
 use crate::script::{Line, Opening, Script};
+use end_player::EndPlayer;
+use printer::{push_head, push_image, push_lengths};
 use ring_words::{Ring, Role, page_image};
 use std::alloc::{AllocError, Global};
 use vchan_core::{Call, Plain};
 use vchan_io::Memory;
+
+mod end_player;
+mod printer;
+mod refusal;
 
 /// The bytes of a page that `head` prints: its fields, up to the grant list.
 const HEAD: usize = 24;
@@ -42,22 +46,22 @@ pub fn play(alloc: Global, script: &Script) -> Result<Played, Memory>
 #[derive(Drop)]
 pub(crate) struct Player {
     page: Plain,
-    server: Hand,
-    client: Hand,
+    server: EndPlayer,
+    client: EndPlayer,
     text: Vec<u8>,
 }
 
 impl Player {
     ghost use Rattle.std.specs.Prelude.{◌≢◌, [], take, List};
-    ghost use Rattle.vchan_protocol.specs.Core.{Core, opened};
-    ghost use Rattle.vchan_core.specs.Past.{StandsFor, orders_of};
+    ghost use Rattle.vchan_protocol.specs.History.Core.{Core, opened};
+    ghost use Rattle.vchan_core.specs.Page.StandsFor.{StandsFor, orders_of};
     ghost use Rattle.vchan_protocol.specs.declared.call.EndState.TheVariants.{Shut};
-    ghost use Rattle.step_script.specs.Output.{line_text, text_of};
-    ghost use Rattle.step_script.specs.Played.{line_done, plays, ring_line};
-    ghost use Rattle.step_script.specs.ListScript.{CanOpen};
-    ghost use Rattle.step_script.specs.Players.{IsPlayedTo, Plays};
-    ghost use Rattle.step_script.specs.Script.{CallFits, LineFits, begins, calls, finishes, head, image as image_line, steps};
-    ghost use Rattle.step_script.specs.ScriptLines.{call_with, line_with};
+    ghost use Rattle.step_script.specs.Meaning.Output.{line_text, text_of};
+    ghost use Rattle.step_script.specs.Meaning.Played.{line_done, plays, ring_line};
+    ghost use Rattle.step_script.specs.Meaning.ListScript.{CanOpen};
+    ghost use Rattle.step_script.specs.Parts.Players.{IsPlayedTo, Plays};
+    ghost use Rattle.step_script.specs.Language.Script.{CallFits, LineFits, begins, calls, finishes, head, image as image_line, steps};
+    ghost use Rattle.step_script.specs.Parts.ScriptLines.{call_with, line_with};
 
     /// A page on which nothing has happened yet.
     pub(crate) fn open(alloc: Global, opening: Opening) -> Result<Player, Memory>
@@ -74,8 +78,8 @@ impl Player {
         } = opening;
         Ok(Player {
             page: Plain::open(alloc, orders, start, said, state)?,
-            server: Hand::new(alloc),
-            client: Hand::new(alloc),
+            server: EndPlayer::new(alloc),
+            client: EndPlayer::new(alloc),
             text: Vec::new(alloc),
         })
     }

@@ -1,13 +1,13 @@
 //! Reading a script and playing it in one pass.
 ghost use Rattle.std.specs.Prelude.{IfErr, IfOk};
-ghost use Rattle.step_script.specs.Grammar.{script_of};
-ghost use Rattle.step_script.specs.Readings.{IsScriptRefusal};
-ghost use Rattle.step_script.specs.ScriptText.{IsTextOf};
+ghost use Rattle.step_script.specs.Language.Grammar.{script_of};
+ghost use Rattle.step_script.specs.Parts.Readings.{IsScriptRefusal};
+ghost use Rattle.step_script.specs.Meaning.ScriptText.{IsTextOf};
 
 use crate::error::ScriptError;
-use crate::lines::{LineReader, NextLine};
 use crate::player::Player;
-use crate::reader::{MOST_BYTES, read_front, read_line_at};
+use crate::read::lines::{LineReader, NextLine};
+use crate::read::{MOST_BYTES, read_front, read_line_at};
 use std::alloc::Global;
 
 /// The text that a script prints: what [`text`](crate::text) gives of [`play`](crate::play) of

@@ -14,11 +14,11 @@ pub struct Script {
 
 impl Model for Script {
     ghost use Rattle.std.specs.Prelude.{List, ◌∷◌};
-    ghost use Rattle.step_script.specs.Script.{StepLine, opens};
+    ghost use Rattle.step_script.specs.Language.Script.{StepLine, opens};
 
     ghost Value = { List StepLine };
 
-    ghost use Rattle.step_script.specs.ScriptLines.{lines_seen, IsScript};
+    ghost use Rattle.step_script.specs.Parts.ScriptLines.{lines_seen, IsScript};
 
     ghost view = { λ s. opens s.opening ∷ lines_seen s.lines.items };
 
@@ -79,7 +79,7 @@ pub(crate) enum Line {
     },
     /// A hostile store.
     Poke {
-        /// The end that is given up.
+        /// The end that is turned.
         who: Role,
         /// The word that is stored to.
         word: WordName,
@@ -88,7 +88,7 @@ pub(crate) enum Line {
     },
     /// A hostile signal.
     Signal {
-        /// The end that is given up.
+        /// The end that is turned.
         who: Role,
     },
     /// Prints the first 24 bytes of the page's image.

@@ -191,3 +191,97 @@ fn one_turn_at_a_time(rt: HostRuntime) -> Result<(), Fail> {
     assert!(rt; !gate.met.load(Ordering::SeqCst), "two tasks met");
     Ok(())
 }
+
+// How many turns a task makes whose companions do not come.
+const MOST_TURNS: u32 = 1_000_000;
+
+// A task that is done once each task of a set, by the bits of their places, has had a turn. It
+// gives up after `MOST_TURNS` turns, and answers whether all of them came.
+#[derive(Drop)]
+struct Awaiting<'a> {
+    set: u64,
+    own: u64,
+    turned: &'a AtomicU64,
+    made: u32,
+}
+
+impl PoolTask for Awaiting<'_> {
+    type Done = bool;
+
+    ghost owes = { λ _ _. Unit {0} };
+
+    fn turn(mut self) -> Turn<Self> {
+        let turned = self.turned.fetch_or(self.own, Ordering::SeqCst) | self.own;
+        if turned == self.set {
+            return Turn::Done(true);
+        }
+        if self.made >= MOST_TURNS {
+            return Turn::Done(false);
+        }
+        self.made += 1;
+        thread::yield_now();
+        Turn::Again(self)
+    }
+}
+
+// A worker gives its task back after each turn, so tasks that wait for each other all come to
+// their end.
+#[test]
+fn tasks_that_wait_for_each_other(rt: HostRuntime) -> Result<(), Fail> {
+    let alloc = rt.alloc();
+    for workers in [1, 2] {
+        let turned = AtomicU64::new(0);
+        let task = |own: u64| Awaiting {
+            set: 0b1_1111,
+            own,
+            turned: &turned,
+            made: 0,
+        };
+        let tasks = Vec::from_array(alloc, [task(1), task(2), task(4), task(8), task(16)])?;
+        let dones = run_pool(&rt, alloc, tasks, workers, &OpenGate)?;
+        assert_eq!(rt;
+            dones.as_slice(),
+            [true; 5].as_slice(),
+            "with {workers} workers"
+        );
+    }
+    Ok(())
+}
+
+// Wants tasks to enter in rounds: the places from 0 on, and then from 0 on again.
+#[derive(Drop)]
+struct InRounds {
+    tasks: u64,
+    entered: AtomicU64,
+    missed: AtomicBool,
+}
+
+impl Gate for InRounds {
+    fn enter(&self, task: u32) {
+        let before = self.entered.fetch_add(1, Ordering::SeqCst);
+        if self.tasks == 0 || before % self.tasks != u64::from(task) {
+            self.missed.store(true, Ordering::SeqCst);
+        }
+    }
+}
+
+// One worker enters the gate once for each turn, for the task that it turns, and turns no task
+// twice before the others.
+#[test]
+fn one_worker_turns_in_rounds(rt: HostRuntime) -> Result<(), Fail> {
+    let gate = InRounds {
+        tasks: 3,
+        entered: AtomicU64::new(0),
+        missed: AtomicBool::new(false),
+    };
+    let twice = || Steps { made: 0, left: 2 };
+    let tasks = Vec::from_array(rt.alloc(), [twice(), twice(), twice()])?;
+    let dones = run_pool(&rt, rt.alloc(), tasks, 1, &gate)?;
+    assert_eq!(rt; dones.as_slice(), [2, 2, 2].as_slice());
+    assert_eq!(rt; gate.entered.load(Ordering::SeqCst), 6);
+    assert!(rt;
+        !gate.missed.load(Ordering::SeqCst),
+        "a task entered out of its turn"
+    );
+    Ok(())
+}

@@ -1,3 +1,4 @@
+pub mod About
 pub mod Command
 pub mod Status
 pub mod Top

@@ -3,10 +3,10 @@ use Rattle.std.specs.Prelude.{◌≡◌, ℕ, ◌<◌, ◌↔◌, List, [], leng
 use Rattle.std.specs.Io.KnownBytes.{IsAtEnd}
 use Rattle.vchan_io.specs.Counts.{Rose}
 use Rattle.vchan_io.specs.Streams.{Takes, Appends, AppendsProperPrefix}
-use Rattle.step_script.specs.Script.{StepLine}
-use Rattle.step_script.specs.Grammar.{script_of}
-use Rattle.step_script.specs.ListScript.{ToldByLists}
-use Rattle.step_script.specs.Played.{step_text}
+use Rattle.step_script.specs.Language.Script.{StepLine}
+use Rattle.step_script.specs.Language.Grammar.{script_of}
+use Rattle.step_script.specs.Meaning.ListScript.{ToldByLists}
+use Rattle.step_script.specs.Meaning.Played.{step_text}
 use Rattle.step_script.specs.declared.error.ScriptKind.{ScriptKind}
 use Rattle.stream_text.specs.Texts.{decoded}
 use Rattle.stream_text.specs.declared.error.DecodeKind.{DecodeKind}
@@ -72,10 +72,12 @@ Ends WriteFault words taken left' reads reads' held held' writes writes' =
 Ends OutOfMemory words taken left' reads reads' held held' writes writes' = held' ≡ held
 
 -- A run with these words: from a source that had so many bytes left, and has so many, with these counts of faults;
--- to a sink that held so many, and holds so many, with these counts of faults.
+-- to a sink that held so many, and holds so many, with these counts of faults. Each count stays but with its own status.
 pub record IsRun (words : List (List ℕ)) (left left' : Option (List ℕ)) (reads reads' : ℕ) (held held' : Option (List ℕ)) (writes writes' : ℕ) (status : Status) : Type 0 where
   pub taken : List ℕ
   pub takes : Takes left left' taken
   pub bad_words : (status ≡ BadWords) ↔ (command_of words ≡ None)
   pub too_long : (status ≡ TooLong) ↔ (greatest_input < length taken)
   pub ends : Ends status words taken left' reads reads' held held' writes writes'
+  pub reads_stay : (¬ (status ≡ ReadFault)) → reads' ≡ reads
+  pub writes_stay : (¬ (status ≡ WriteFault)) → writes' ≡ writes

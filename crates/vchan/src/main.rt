@@ -2,14 +2,16 @@
 //!
 //! `top` is the whole program over any source and any two sinks, and its contract is what the program
 //! promises. `main` only makes the real source and sinks: standard input, standard output and standard
-//! error.
+//! error. What the program says of itself, as for `--help`, is the one thing that it does above `top`.
 #![tactic(auto)]
 
+mod about;
 mod command;
 mod output;
 mod status;
 mod top;
 
+pub use about::{About, about_in, tell};
 pub use status::{Bad, Status};
 use std::alloc::Global;
 use std::env;
@@ -25,16 +27,16 @@ const NO_WORDS: u8 = 8;
 fn main(rt: HostRuntime) -> ExitCode {
     match words(&rt, rt.alloc()) {
         Some(words) => {
-            let mut source = StdSource::new(rt.stdin());
             let mut out = StdSink::new(rt.stdout());
             let mut err = StdSink::new(rt.stderr());
-            let status = top(
-                rt.alloc(),
-                words.as_slice(),
-                &mut source,
-                &mut out,
-                &mut err,
-            );
+            let words = words.as_slice();
+            let status = match about_in(words) {
+                Some(about) => tell(about.text(), &mut out, &mut err),
+                None => {
+                    let mut source = StdSource::new(rt.stdin());
+                    top(rt.alloc(), words, &mut source, &mut out, &mut err)
+                }
+            };
             ExitCode::from(status.code())
         }
         None => ExitCode::from(NO_WORDS),

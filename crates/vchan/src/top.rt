@@ -26,7 +26,8 @@ pub const GREATEST_INPUT: usize = 4_194_304;
 /// count of faults rose, `TooLong` exactly where more than [`GREATEST_INPUT`] bytes were taken,
 /// `BadInput` exactly where the input was read to its end and has not the command's form,
 /// `WriteFault` only where the count of `out` rose, and `OutOfMemory` wherever memory is short.
-/// Nothing is written to `out` but with `Done`, and with `WriteFault` a part of the text.
+/// Nothing is written to `out` but with `Done`, and with `WriteFault` a part of the text. The source's
+/// count stays as it was but with `ReadFault`, and that of `out` but with `WriteFault`.
 pub fn top<S: Source, K: Sink, E: Sink>(
     alloc: Global,
     words: &[String],
@@ -69,7 +70,7 @@ fn run<S: Source, K: Sink>(alloc: Global, words: &[String], source: &mut S, out:
 }
 
 /// Says on `err` how the run ended, where it didn't end well.
-fn report<E: Sink>(status: Status, err: &mut E) -> Result<(), WriteFault>
+pub(crate) fn report<E: Sink>(status: Status, err: &mut E) -> Result<(), WriteFault>
     ensures line { OnOk result (Appends (E.held err.old) (E.held err.new) (status_line status)) }
     ensures fault { OnErr result (Rose (E.faults err.old) (E.faults err.new)) }
 {

@@ -1,8 +1,3 @@
-pub mod PhaseLaws
-pub mod StepLaws
-pub mod RunLaws
-pub mod TurnLaws
-pub mod PlainLaws
-pub mod PieceLaws
-pub mod LoopLaws
-pub mod LookLaws
+pub mod OneMachine
+pub mod Page
+pub mod WholeCall

@@ -1,7 +1,3 @@
-pub mod Phases
-pub mod Counts
-pub mod Past
-pub mod Pieces
-pub mod Beside
-pub mod Midway
-pub mod Ahead
+pub mod OneMachine
+pub mod Page
+pub mod WholeCall

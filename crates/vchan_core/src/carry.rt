@@ -1,5 +1,5 @@
 ghost use Rattle.std.specs.Prelude.{◌≡◌, length};
-ghost use Rattle.vchan_protocol.specs.Apply.{words_after, value_taken, buffer_after, Fits};
+ghost use Rattle.vchan_protocol.specs.Table.Apply.{words_after, value_taken, buffer_after, Fits};
 
 use ring_words::Words;
 use vchan_protocol::Op;

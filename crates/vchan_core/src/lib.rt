@@ -9,10 +9,10 @@
 
 mod carry;
 mod machine;
-mod moved;
 mod phase;
 mod plain;
 mod steps;
+mod totals;
 mod words;
 
 pub use machine::{Ahead, Machine, Span};

@@ -1,4 +1,4 @@
-use crate::phase::{Move, Phase};
+use crate::phase::{Next, Phase};
 use crate::words::{cons_word, low8, low16, low32, mask, peer_pending, prod_word};
 use ring_words::{Orders, Ring, Role, WordName, place, ready, room};
 use vchan_protocol::{Answer, Bit, Call, EndState, Op};
@@ -30,11 +30,11 @@ impl Machine {
     ghost use Rattle.std.specs.Prelude.{◌≡◌, ◌↔◌, ◌+◌, ◌-◌, ◌++◌, ◌∷◌, [], List, IsTrue, IsSome, ◌≢◌, ◌≤◌, ℕ};
     ghost use Rattle.ring_words.specs.Page.{order_of, Has};
     ghost use Rattle.ring_words.specs.Rings.{place as place_of};
-    ghost use Rattle.vchan_protocol.specs.Apply.{Fits};
-    ghost use Rattle.vchan_protocol.specs.Plan.{next_op, after, left_after, past};
-    ghost use Rattle.vchan_protocol.specs.Ends.{Standing, written_ring, read_ring, ask_word, notify_word, peer_live, peer_pending as peer_pending_of, prod_word as prod_word_of, cons_word as cons_word_of, mask as mask_of, own_live, own_gone, own_pending, peer_gone, free_at, ready_at, read_size, standing_after};
-    ghost use Rattle.vchan_protocol.specs.Calls.{plan_of, payload_of, loaded_most, IsAllowed};
-    ghost use Rattle.vchan_core.specs.Phases.{standing, rest, rest_at, plan_at, left, IsIdle, Allows, out_at, into_at, out_of, into_of, out_move, into_move, Stands, StandsOrAnswered};
+    ghost use Rattle.vchan_protocol.specs.Table.Apply.{Fits};
+    ghost use Rattle.vchan_protocol.specs.Table.Plan.{next_op, after, rest_after, past};
+    ghost use Rattle.vchan_protocol.specs.Table.Ends.{Standing, written_ring, read_ring, ask_word, notify_word, peer_live, peer_pending as peer_pending_of, prod_word as prod_word_of, cons_word as cons_word_of, mask as mask_of, own_live, own_gone, own_pending, peer_gone, free_at, ready_at, read_size, standing_after};
+    ghost use Rattle.vchan_protocol.specs.Table.Calls.{plan_of, payload_of, loaded_most, IsAllowed};
+    ghost use Rattle.vchan_core.specs.OneMachine.Phases.{standing, rest, rest_at, plan_at, rest_or_answer, IsIdle, Allows, payload_at, buffer_at, payload_needed, buffer_needed, payload_next, buffer_next, Stands, StandsOrAnswered};
     ghost use Rattle.vchan_protocol.specs.declared.call.Call.{Call};
     ghost use Rattle.vchan_protocol.specs.declared.call.Answer.{Answer};
     ghost use Rattle.vchan_protocol.specs.declared.op.PastEvent.{PastEvent};
@@ -108,19 +108,19 @@ impl Machine {
         ensures standing { standing self.new ≡ standing self.old }
         ensures rest { rest self.new ≡ plan_of (standing self.old) call }
         ensures busy { ¬ IsIdle self.new }
-        ensures out { out_of self.new ≤ payload_of call }
-        ensures into { into_of self.new ≤ loaded_most (standing self.old) call }
+        ensures payload_left { payload_needed self.new ≤ payload_of call }
+        ensures buffer_left { buffer_needed self.new ≤ loaded_most (standing self.old) call }
     {
         self.phase = Some(self.first(call));
     }
 
     /// The phase with which a call begins.
-    #[tactic(auto, unfolding(crate::specs::Phases::rest_at))]
+    #[tactic(auto, unfolding(crate::specs::OneMachine::Phases::rest_at))]
     #[inline(always)]
     pub(crate) fn first(&self, call: Call) -> Phase
         ensures plan { rest_at (standing self.now) result ≡ plan_of (standing self.now) call }
-        ensures out { out_at result ≤ payload_of call }
-        ensures into { into_at (read_size (standing self.now)) result ≤ loaded_most (standing self.now) call }
+        ensures payload_left { payload_at result ≤ payload_of call }
+        ensures buffer_left { buffer_at (read_size (standing self.now)) result ≤ loaded_most (standing self.now) call }
     {
         match call {
             Call::Write { len } => Phase::WriteLive { len },
@@ -146,9 +146,9 @@ impl Machine {
     pub fn next(&self) -> Op
         ensures op { result ≡ next_op (rest self.now) }
         ensures trail { (begun : Standing) → (call : Call) → (events : List PastEvent) → Stands begun call events self.now
-            → result ≡ next_op (left_after (plan_of begun call) events) }
+            → result ≡ next_op (rest_after (plan_of begun call) events) }
         ensures idle { (result ≡ Op.Nothing) ↔ IsIdle self.now }
-        ensures fits { Fits self.now.orders (out_of self.now) (into_of self.now) result }
+        ensures fits { Fits self.now.orders (payload_needed self.now) (buffer_needed self.now) result }
     {
         self.next_event()
     }
@@ -157,7 +157,7 @@ impl Machine {
     fn next_event(&self) -> Op
         ensures op { result ≡ next_op (rest self.now) }
         ensures idle { (result ≡ Op.Nothing) ↔ IsIdle self.now }
-        ensures fits { Fits self.now.orders (out_of self.now) (into_of self.now) result }
+        ensures fits { Fits self.now.orders (payload_needed self.now) (buffer_needed self.now) result }
     {
         match self.phase {
             None => Op::Nothing,
@@ -170,11 +170,11 @@ impl Machine {
     #[inline(always)]
     pub fn took(&mut self, value: u64) -> Option<Answer>
         requires { ¬ IsIdle self.old }
-        ensures rest { left result self.new ≡ after (rest self.old) value }
+        ensures rest { rest_or_answer result self.new ≡ after (rest self.old) value }
         ensures idle { IsSome result ↔ IsIdle self.new }
         ensures standing { standing self.new ≡ standing_after (standing self.old) (next_op (rest self.old)) }
-        ensures out { out_of self.new ≤ out_of self.old }
-        ensures into { into_of self.new ≤ into_of self.old }
+        ensures payload_left { payload_needed self.new ≤ payload_needed self.old }
+        ensures buffer_left { buffer_needed self.new ≤ buffer_needed self.old }
         ensures past { (begun : Standing) → (call : Call) → (events : List PastEvent) → Stands begun call events self.old
             → StandsOrAnswered begun call (events ++ past (next_op (rest self.old)) value ∷ []) result self.new }
     {
@@ -184,11 +184,11 @@ impl Machine {
     #[inline(always)]
     fn advance(&mut self, value: u64) -> Option<Answer>
         requires { ¬ IsIdle self.old }
-        ensures rest { left result self.new ≡ after (rest self.old) value }
+        ensures rest { rest_or_answer result self.new ≡ after (rest self.old) value }
         ensures idle { IsSome result ↔ IsIdle self.new }
         ensures standing { standing self.new ≡ standing_after (standing self.old) (next_op (rest self.old)) }
-        ensures out { out_of self.new ≤ out_of self.old }
-        ensures into { into_of self.new ≤ into_of self.old }
+        ensures payload_left { payload_needed self.new ≤ payload_needed self.old }
+        ensures buffer_left { buffer_needed self.new ≤ buffer_needed self.old }
     {
         let Some(phase) = self.phase else {
             unreachable!()
@@ -198,18 +198,18 @@ impl Machine {
 
     #[inline(always)]
     fn advance_at(&mut self, phase: Phase, value: u64) -> Option<Answer>
-        ensures rest { left result self.new ≡ after (rest_at (standing self.old) phase) value }
+        ensures rest { rest_or_answer result self.new ≡ after (rest_at (standing self.old) phase) value }
         ensures idle { IsSome result ↔ IsIdle self.new }
         ensures standing { standing self.new ≡ standing_after (standing self.old) (next_op (rest_at (standing self.old) phase)) }
-        ensures out { out_of self.new ≤ out_at phase }
-        ensures into { into_of self.new ≤ into_at (read_size (standing self.old)) phase }
+        ensures payload_left { payload_needed self.new ≤ payload_at phase }
+        ensures buffer_left { buffer_needed self.new ≤ buffer_at (read_size (standing self.old)) phase }
     {
         match self.advanced(phase, value) {
-            Move::To(phase) => {
+            Next::To(phase) => {
                 self.phase = Some(phase);
                 None
             }
-            Move::Done(answer) => {
+            Next::Done(answer) => {
                 self.phase = None;
                 Some(answer)
             }
@@ -218,21 +218,21 @@ impl Machine {
 
     /// What comes of the event of a phase, which is taken into its own counts and its state.
     #[inline(always)]
-    fn advanced(&mut self, phase: Phase, value: u64) -> Move
+    fn advanced(&mut self, phase: Phase, value: u64) -> Next
         ensures rest { plan_at (standing self.new) result ≡ after (rest_at (standing self.old) phase) value }
         ensures phase { self.new.phase ≡ self.old.phase }
         ensures standing { standing self.new ≡ standing_after (standing self.old) (next_op (rest_at (standing self.old) phase)) }
-        ensures out { out_move result ≤ out_at phase }
-        ensures into { into_move (read_size (standing self.new)) result ≤ into_at (read_size (standing self.old)) phase }
+        ensures payload_left { payload_next result ≤ payload_at phase }
+        ensures buffer_left { buffer_next (read_size (standing self.new)) result ≤ buffer_at (read_size (standing self.old)) phase }
     {
-        let moved = self.moved(phase, value);
+        let next = self.next_of(phase, value);
         self.count(phase);
-        moved
+        next
     }
 
     /// Takes the event of a phase into its own counts and its state: an own index that it stores is
     /// its count, and its own live byte makes its state.
-    #[tactic(auto, using(vchan_protocol::proofs::PlanLaws::bytes_laws), unfolding(vchan_protocol::specs::Ends::standing_after, crate::specs::Phases::rest_at, vchan_protocol::specs::Calls::write, vchan_protocol::specs::Calls::write_open, vchan_protocol::specs::Calls::read, vchan_protocol::specs::Calls::read_live, vchan_protocol::specs::Calls::send, vchan_protocol::specs::Calls::send_open, vchan_protocol::specs::Calls::recv, vchan_protocol::specs::Calls::recv_live, vchan_protocol::specs::Calls::drain, vchan_protocol::specs::Calls::drain_second, vchan_protocol::specs::Calls::drain_live, vchan_protocol::specs::Calls::drain_further, vchan_protocol::specs::Calls::drain_gone, vchan_protocol::specs::Calls::drain_last, vchan_protocol::specs::Calls::connect, vchan_protocol::specs::Calls::connect_right))]
+    #[tactic(auto, using(vchan_protocol::proofs::Table::PlanLaws::bytes_laws), unfolding(vchan_protocol::specs::Table::Ends::standing_after, crate::specs::OneMachine::Phases::rest_at, vchan_protocol::specs::Table::Calls::write, vchan_protocol::specs::Table::Calls::write_open, vchan_protocol::specs::Table::Calls::read, vchan_protocol::specs::Table::Calls::read_live, vchan_protocol::specs::Table::Calls::send, vchan_protocol::specs::Table::Calls::send_open, vchan_protocol::specs::Table::Calls::recv, vchan_protocol::specs::Table::Calls::recv_live, vchan_protocol::specs::Table::Calls::drain, vchan_protocol::specs::Table::Calls::drain_second, vchan_protocol::specs::Table::Calls::drain_live, vchan_protocol::specs::Table::Calls::drain_further, vchan_protocol::specs::Table::Calls::drain_gone, vchan_protocol::specs::Table::Calls::drain_last, vchan_protocol::specs::Table::Calls::connect, vchan_protocol::specs::Table::Calls::connect_right))]
     #[inline(always)]
     fn count(&mut self, phase: Phase)
         ensures standing { standing self.new ≡ standing_after (standing self.old) (next_op (rest_at (standing self.old) phase)) }
@@ -257,7 +257,7 @@ impl Machine {
         }
     }
 
-    /// Drops the call under way, as where the end is given up to a hostile user.
+    /// Drops the call under way, as where the end is turned over to a hostile user.
     pub(crate) fn drop_call(&mut self)
         ensures idle { IsIdle self.new }
         ensures standing { standing self.new ≡ standing self.old }
@@ -267,12 +267,12 @@ impl Machine {
 
     // ---- the events
 
-    #[tactic(auto, using(vchan_protocol::proofs::PlanLaws::bytes_laws), unfolding(crate::specs::Phases::rest_at, vchan_protocol::specs::Calls::write, vchan_protocol::specs::Calls::write_open, vchan_protocol::specs::Calls::read, vchan_protocol::specs::Calls::read_live, vchan_protocol::specs::Calls::send, vchan_protocol::specs::Calls::send_open, vchan_protocol::specs::Calls::recv, vchan_protocol::specs::Calls::recv_live, vchan_protocol::specs::Calls::drain, vchan_protocol::specs::Calls::drain_second, vchan_protocol::specs::Calls::drain_live, vchan_protocol::specs::Calls::drain_further, vchan_protocol::specs::Calls::drain_gone, vchan_protocol::specs::Calls::drain_last, vchan_protocol::specs::Calls::connect, vchan_protocol::specs::Calls::connect_right))]
+    #[tactic(auto, using(vchan_protocol::proofs::Table::PlanLaws::bytes_laws), unfolding(crate::specs::OneMachine::Phases::rest_at, vchan_protocol::specs::Table::Calls::write, vchan_protocol::specs::Table::Calls::write_open, vchan_protocol::specs::Table::Calls::read, vchan_protocol::specs::Table::Calls::read_live, vchan_protocol::specs::Table::Calls::send, vchan_protocol::specs::Table::Calls::send_open, vchan_protocol::specs::Table::Calls::recv, vchan_protocol::specs::Table::Calls::recv_live, vchan_protocol::specs::Table::Calls::drain, vchan_protocol::specs::Table::Calls::drain_second, vchan_protocol::specs::Table::Calls::drain_live, vchan_protocol::specs::Table::Calls::drain_further, vchan_protocol::specs::Table::Calls::drain_gone, vchan_protocol::specs::Table::Calls::drain_last, vchan_protocol::specs::Table::Calls::connect, vchan_protocol::specs::Table::Calls::connect_right))]
     #[inline(always)]
     fn op_at(&self, phase: Phase) -> Op
         ensures op { result ≡ next_op (rest_at (standing self.now) phase) }
         ensures some { result ≢ Op.Nothing }
-        ensures fits { Fits self.now.orders (out_at phase) (into_at (read_size (standing self.now)) phase) result }
+        ensures fits { Fits self.now.orders (payload_at phase) (buffer_at (read_size (standing self.now)) phase) result }
     {
         match phase {
             Phase::WriteLive { .. }
@@ -341,7 +341,7 @@ impl Machine {
 
     /// The event of a put of `count` bytes once `stored` of them are: the bytes come first, and
     /// then the index shows them all at once.
-    #[tactic(auto, using(vchan_protocol::proofs::PlanLaws::bytes_laws), unfolding(crate::specs::Phases::rest_at))]
+    #[tactic(auto, using(vchan_protocol::proofs::Table::PlanLaws::bytes_laws), unfolding(crate::specs::OneMachine::Phases::rest_at))]
     fn put_event(&self, stored: u32, count: u32) -> Op
         ensures op { (answer : Answer) → result ≡ next_op (rest_at (standing self.now) (Phase.Put stored count answer)) }
         ensures some { result ≢ Op.Nothing }
@@ -360,9 +360,9 @@ impl Machine {
         }
     }
 
-    /// The event of a take of `count` bytes once `loaded` of them are: the index gives up their
+    /// The event of a take of `count` bytes once `loaded` of them are: the index releases their
     /// places only after all bytes were loaded.
-    #[tactic(auto, using(vchan_protocol::proofs::PlanLaws::bytes_laws), unfolding(crate::specs::Phases::rest_at))]
+    #[tactic(auto, using(vchan_protocol::proofs::Table::PlanLaws::bytes_laws), unfolding(crate::specs::OneMachine::Phases::rest_at))]
     fn take_event(&self, loaded: u32, count: u32) -> Op
         ensures op { (answer : Answer) → result ≡ next_op (rest_at (standing self.now) (Phase.Take loaded count answer)) }
         ensures some { result ≢ Op.Nothing }
@@ -374,10 +374,10 @@ impl Machine {
                 at: loaded,
             };
         }
-        let given_up = self.cons.wrapping_add(count);
+        let released = self.cons.wrapping_add(count);
         Op::Store {
             word: cons_word(self.read()),
-            value: u64::from(given_up),
+            value: u64::from(released),
         }
     }
 

@@ -7,18 +7,14 @@ pub enum Phase {
     WriteLook { len: u32 },
     WriteAsk { len: u32 },
     WriteLookAgain { len: u32 },
-    Put { at: u32, count: u32, answer: Answer },
-    ReadLook { most: u32 },
-    ReadAsk { most: u32 },
-    ReadLookAgain { most: u32 },
-    ReadLive { prod: u32 },
-    Take { at: u32, count: u32, answer: Answer },
-    Notify { bit: Bit, answer: Answer },
-    Signal { answer: Answer },
     SendLive { len: u32 },
     SendLook { len: u32 },
     SendAsk { len: u32 },
     SendLookAgain { len: u32 },
+    ReadLook { most: u32 },
+    ReadAsk { most: u32 },
+    ReadLookAgain { most: u32 },
+    ReadLive { prod: u32 },
     RecvLook { len: u32 },
     RecvAsk { len: u32 },
     RecvLookAgain { len: u32 },
@@ -43,11 +39,15 @@ pub enum Phase {
     RetireStore,
     RetireSignal,
     GoneStore,
+    Put { at: u32, count: u32, answer: Answer },
+    Take { at: u32, count: u32, answer: Answer },
+    Notify { bit: Bit, answer: Answer },
+    Signal { answer: Answer },
 }
 
 /// What comes of an event: a phase, or the answer of the call.
 #[derive(Clone, Copy, Debug)]
-pub enum Move {
+pub enum Next {
     To(Phase),
     Done(Answer),
 }

@@ -3,9 +3,9 @@ ghost use Rattle.ring_words.specs.declared.page.Role.TheVariants.{Server, Client
 
 use crate::carry::carry_out;
 use crate::machine::Machine;
-use crate::moved::Moved;
-use crate::phase::{Move, Phase};
+use crate::phase::{Next, Phase};
 use crate::steps::Steps;
+use crate::totals::Totals;
 use crate::words::peer_pending;
 use ring_words::{Layout, Orders, Ring, Role, WordName, Words};
 use std::alloc::Global;
@@ -22,8 +22,8 @@ pub struct Plain {
     words: Words,
     server: Machine,
     client: Machine,
-    left: Moved,
-    right: Moved,
+    left: Totals,
+    right: Totals,
     server_turned: bool,
     client_turned: bool,
     ghost server_orders: { server.orders ≡ words.orders },
@@ -33,24 +33,24 @@ pub struct Plain {
 }
 
 impl Plain {
-    ghost use Rattle.vchan_protocol.specs.Apply.{Fits, words_after, value_taken, buffer_after, filled};
-    ghost use Rattle.vchan_protocol.specs.Plan.{after, next_op, past};
-    ghost use Rattle.vchan_protocol.specs.Ends.{Standing, read_size, peer_pending as peer_pending_of};
-    ghost use Rattle.vchan_protocol.specs.Calls.{plan_of, payload_of, loaded_most, most_events, Trace};
-    ghost use Rattle.vchan_core.specs.Phases.{standing, at_phase, rest, rest_at, plan_at, left as left_of, IsIdle, Allows, out_of, into_of, out_at, into_at, out_move, into_move, Stands, StandsOrAnswered};
-    ghost use Rattle.vchan_protocol.specs.Core.{Core, opened, begun, event, side_of, writer_of, reader_of, plan_next, answer_in, bytes_loaded};
-    ghost use Rattle.vchan_core.specs.Counts.{capped};
+    ghost use Rattle.vchan_protocol.specs.Table.Apply.{Fits, words_after, value_taken, buffer_after, filled};
+    ghost use Rattle.vchan_protocol.specs.Table.Plan.{after, next_op, past};
+    ghost use Rattle.vchan_protocol.specs.Table.Ends.{Standing, read_size, peer_pending as peer_pending_of};
+    ghost use Rattle.vchan_protocol.specs.Table.Calls.{plan_of, payload_of, loaded_most, most_events, Trace};
+    ghost use Rattle.vchan_core.specs.OneMachine.Phases.{standing, at_phase, rest, rest_at, plan_at, rest_or_answer, IsIdle, Allows, payload_needed, buffer_needed, payload_at, buffer_at, payload_next, buffer_next, Stands, StandsOrAnswered};
+    ghost use Rattle.vchan_protocol.specs.History.Core.{Core, opened, begun, event, side_of, writer_of, reader_of, plan_next, answer_in, bytes_loaded};
+    ghost use Rattle.vchan_core.specs.Page.Counts.{capped};
     ghost use Rattle.ring_words.specs.Page.{index_of};
-    ghost use Rattle.vchan_protocol.specs.Turned.{MayPoke, poked, signalled};
-    ghost use Rattle.vchan_protocol.specs.Alone.{called, call_answer};
-    ghost use Rattle.vchan_protocol.specs.RingLaw.{AreBytes};
-    ghost use Rattle.vchan_protocol.specs.Kept.{Kept};
-    ghost use Rattle.vchan_protocol.specs.Lawful.{Lawful};
-    ghost use Rattle.vchan_protocol.specs.ListLaw.{FollowsLists};
-    ghost use Rattle.vchan_core.specs.Pieces.{MakesEvents};
-    ghost use Rattle.vchan_core.specs.Beside.{IsBeside};
-    ghost use Rattle.vchan_core.specs.Midway.{page_at, page_to};
-    ghost use Rattle.vchan_core.specs.Past.{machine_of, other_of, words_of, orders_of, turned_of, other_turned_of, op_of, StandsFor, HasPayload};
+    ghost use Rattle.vchan_protocol.specs.Hostile.Turned.{MayPoke, poked, signalled};
+    ghost use Rattle.vchan_protocol.specs.History.WholeCall.{called, call_answer};
+    ghost use Rattle.vchan_protocol.specs.Honest.RingLaw.{AreBytes};
+    ghost use Rattle.vchan_protocol.specs.Always.Invariant.{Invariant};
+    ghost use Rattle.vchan_protocol.specs.Honest.Lawful.{Lawful};
+    ghost use Rattle.vchan_protocol.specs.Lists.ListLaw.{FollowsLists};
+    ghost use Rattle.vchan_core.specs.WholeCall.EventsMade.{MakesEvents};
+    ghost use Rattle.vchan_core.specs.WholeCall.Beside.{IsBeside};
+    ghost use Rattle.vchan_core.specs.WholeCall.AtPhase.{page_at, page_to};
+    ghost use Rattle.vchan_core.specs.Page.StandsFor.{machine_of, other_of, words_of, orders_of, turned_of, other_turned_of, op_of, StandsFor, HasPayload};
     ghost use Rattle.vchan_protocol.specs.declared.call.Call.{Call};
     ghost use Rattle.vchan_protocol.specs.declared.op.PastEvent.{PastEvent};
 
@@ -65,7 +65,7 @@ impl Plain {
     ) -> Result<Plain, Memory>
         requires { state ≢ EndState.Shut }
         ensures stands { IfOk result (λ page. StandsFor (opened orders start said state) page) }
-        ensures kept { IfOk result (λ page. Kept (opened orders start said state)) }
+        ensures invariant { IfOk result (λ page. Invariant (opened orders start said state)) }
     {
         let index = u64::from(start);
         let live = match state {
@@ -96,8 +96,8 @@ impl Plain {
             words: Words::of(orders, list),
             server: Machine::new(Role::Server, orders, EndState::Open, start),
             client: Machine::new(Role::Client, orders, state, start),
-            left: Moved::NONE,
-            right: Moved::NONE,
+            left: Totals::NONE,
+            right: Totals::NONE,
             server_turned: false,
             client_turned: false,
         })
@@ -121,7 +121,7 @@ impl Plain {
         }
     }
 
-    /// Whether an end was given up to a hostile user.
+    /// Whether an end was turned over to a hostile user.
     pub fn turned(&self, who: Role) -> bool
         ensures { result ≡ turned_of self.now who }
     {
@@ -153,19 +153,19 @@ impl Plain {
         }
     }
 
-    /// A hostile store of an end: it is given up to a hostile user where it wasn't yet, and a call
+    /// A hostile store of an end: it is turned over to a hostile user where it wasn't yet, and a call
     /// under way is dropped. The word is a header field or a ring byte that the page has, which
     /// `may_poke` tests.
     pub fn poke(&mut self, who: Role, word: WordName, value: u64)
         requires { MayPoke (orders_of self.old) word }
         ensures stands { (core : Core) → StandsFor core self.old → StandsFor (poked core who word value) self.new }
-        ensures kept { (core : Core) → StandsFor core self.old → Kept core → Kept (poked core who word value) }
+        ensures invariant { (core : Core) → StandsFor core self.old → Invariant core → Invariant (poked core who word value) }
         ensures words { words_of self.new ≡ slice_set (words_of self.old) (index_of (orders_of self.old) word) value }
         ensures orders { orders_of self.new ≡ orders_of self.old }
         ensures turned { turned_of self.new who ≡ true }
         ensures other { other_of self.new who ≡ other_of self.old who }
     {
-        self.give_up(who);
+        self.turn(who);
         self.words.store(word, value);
     }
 
@@ -180,22 +180,22 @@ impl Plain {
         }
     }
 
-    /// A hostile signal of an end: it is given up where it wasn't yet, and its peer's pending word is
+    /// A hostile signal of an end: it is turned where it wasn't yet, and its peer's pending word is
     /// set.
     pub fn signal(&mut self, who: Role)
         ensures stands { (core : Core) → StandsFor core self.old → StandsFor (signalled core who) self.new }
-        ensures kept { (core : Core) → StandsFor core self.old → Kept core → Kept (signalled core who) }
+        ensures invariant { (core : Core) → StandsFor core self.old → Invariant core → Invariant (signalled core who) }
         ensures words { words_of self.new ≡ slice_set (words_of self.old) (index_of (orders_of self.old) (peer_pending_of who)) 1 }
         ensures orders { orders_of self.new ≡ orders_of self.old }
         ensures turned { turned_of self.new who ≡ true }
         ensures other { other_of self.new who ≡ other_of self.old who }
     {
-        self.give_up(who);
+        self.turn(who);
         self.words.store(peer_pending(who), 1);
     }
 
     /// Gives an end up to a hostile user: its call is dropped.
-    fn give_up(&mut self, who: Role)
+    fn turn(&mut self, who: Role)
         ensures idle { IsIdle (machine_of self.new who) }
         ensures standing { standing (machine_of self.new who) ≡ standing (machine_of self.old who) }
         ensures turned { turned_of self.new who ≡ true }
@@ -223,11 +223,11 @@ impl Plain {
         requires honest { turned_of self.old who ≡ false }
         requires allowed { Allows (machine_of self.old who) call }
         ensures stands { (core : Core) (payload : List ℕ) → StandsFor core self.old → length payload ≡ payload_of call → StandsFor (begun core who call payload) self.new }
-        ensures kept { (core : Core) (payload : List ℕ) → StandsFor core self.old → length payload ≡ payload_of call → AreBytes payload → Kept core → Kept (begun core who call payload) }
+        ensures invariant { (core : Core) (payload : List ℕ) → StandsFor core self.old → length payload ≡ payload_of call → AreBytes payload → Invariant core → Invariant (begun core who call payload) }
         ensures busy { ¬ IsIdle (machine_of self.new who) }
         ensures rest { rest (machine_of self.new who) ≡ plan_of (standing (machine_of self.old who)) call }
-        ensures out { out_of (machine_of self.new who) ≤ payload_of call }
-        ensures into { into_of (machine_of self.new who) ≤ loaded_most (standing (machine_of self.old who)) call }
+        ensures payload_left { payload_needed (machine_of self.new who) ≤ payload_of call }
+        ensures buffer_left { buffer_needed (machine_of self.new who) ≤ loaded_most (standing (machine_of self.old who)) call }
         ensures other { other_of self.new who ≡ other_of self.old who }
         ensures orders { orders_of self.new ≡ orders_of self.old }
         ensures words { words_of self.new ≡ words_of self.old }
@@ -243,23 +243,23 @@ impl Plain {
     /// smaller of the call's request and the ring's size. A ring byte that is loaded goes to its
     /// place in `buf`, and nothing else of `buf` changes.
     // This and the parts of an event are inlined always, so that each phase is followed straight
-    // through, with no `Op` or `Move` in memory.
+    // through, with no `Op` or `Next` in memory.
     #[inline(always)]
     pub fn step(&mut self, who: Role, payload: &[u8], buf: &mut [u8]) -> Option<Answer>
         requires busy { ¬ IsIdle (machine_of self.old who) }
-        requires payload { out_of (machine_of self.old who) ≤ length payload.now }
-        requires buf { into_of (machine_of self.old who) ≤ length buf.old }
+        requires payload { payload_needed (machine_of self.old who) ≤ length payload.now }
+        requires buf { buffer_needed (machine_of self.old who) ≤ length buf.old }
         ensures stands { (core : Core) → StandsFor core self.old → HasPayload (side_of core who) payload.now → StandsFor (event core who) self.new }
-        ensures kept { (core : Core) → StandsFor core self.old → turned_of self.old who ≡ false → Kept core → Kept (event core who) }
+        ensures invariant { (core : Core) → StandsFor core self.old → turned_of self.old who ≡ false → Invariant core → Invariant (event core who) }
         ensures answer { (core : Core) → StandsFor core self.old → result ≡ answer_in (plan_next core who) }
         ensures footprint { Fits (orders_of self.old) (length payload.now) (length buf.old) (op_of self.old who) }
         ensures buffer { buf.new ≡ buffer_after (orders_of self.old) (words_of self.old) buf.old (op_of self.old who) }
         ensures orders { orders_of self.new ≡ orders_of self.old }
         ensures words { words_of self.new ≡ words_after (orders_of self.old) (words_of self.old) payload.now (op_of self.old who) }
-        ensures rest { left_of result (machine_of self.new who) ≡ after (rest (machine_of self.old who)) (value_taken (orders_of self.old) (words_of self.old) (op_of self.old who)) }
+        ensures rest { rest_or_answer result (machine_of self.new who) ≡ after (rest (machine_of self.old who)) (value_taken (orders_of self.old) (words_of self.old) (op_of self.old who)) }
         ensures idle { IsSome result ↔ IsIdle (machine_of self.new who) }
-        ensures out { out_of (machine_of self.new who) ≤ out_of (machine_of self.old who) }
-        ensures into { into_of (machine_of self.new who) ≤ into_of (machine_of self.old who) }
+        ensures payload_left { payload_needed (machine_of self.new who) ≤ payload_needed (machine_of self.old who) }
+        ensures buffer_left { buffer_needed (machine_of self.new who) ≤ buffer_needed (machine_of self.old who) }
         ensures other { other_of self.new who ≡ other_of self.old who }
         ensures past { (begun : Standing) → (call : Call) → (events : List PastEvent) → Stands begun call events (machine_of self.old who)
             → StandsOrAnswered begun call (events ++ past (op_of self.old who) (value_taken (orders_of self.old) (words_of self.old) (op_of self.old who)) ∷ []) result (machine_of self.new who) }
@@ -267,8 +267,8 @@ impl Plain {
         let op = self.machine(who).next();
         let value = carry_out(&mut self.words, op, payload, buf);
         match who {
-            Role::Server => Moved::took(&mut self.server, value, &mut self.right, &mut self.left),
-            Role::Client => Moved::took(&mut self.client, value, &mut self.left, &mut self.right),
+            Role::Server => Totals::took(&mut self.server, value, &mut self.right, &mut self.left),
+            Role::Client => Totals::took(&mut self.client, value, &mut self.left, &mut self.right),
         }
     }
 
@@ -278,8 +278,8 @@ impl Plain {
         requires { IsIdle (machine_of self.now who) }
         ensures stands { (core : Core) (payload : List ℕ) → StandsFor core self.now → length payload ≡ payload_of call → StandsFor (begun core who call payload) (page_at self.now who result) }
         ensures plan { rest_at (standing (machine_of self.now who)) result ≡ plan_of (standing (machine_of self.now who)) call }
-        ensures out { out_at result ≤ payload_of call }
-        ensures into { into_at (read_size (standing (machine_of self.now who))) result ≤ loaded_most (standing (machine_of self.now who)) call }
+        ensures payload_left { payload_at result ≤ payload_of call }
+        ensures buffer_left { buffer_at (read_size (standing (machine_of self.now who))) result ≤ loaded_most (standing (machine_of self.now who)) call }
     {
         match who {
             Role::Server => self.server.first(call),
@@ -311,8 +311,8 @@ impl Plain {
         payload: &[u8],
         buf: &mut [u8],
     ) -> (u32, Phase)
-        requires payload { out_at phase ≤ length payload.now }
-        requires buf { into_at (read_size (standing (machine_of self.old who))) phase ≤ length buf.old }
+        requires payload { payload_at phase ≤ length payload.now }
+        requires buf { buffer_at (read_size (standing (machine_of self.old who))) phase ≤ length buf.old }
         ensures page { IsBeside who self.old self.new }
         ensures machine { machine_of self.new who ≡ machine_of self.old who }
         ensures low { ((standing (machine_of self.old who)).prod < 2 ^ 32) × ((standing (machine_of self.old who)).cons < 2 ^ 32) }
@@ -331,17 +331,17 @@ impl Plain {
     /// One event of an end at a phase of its call. Its machine knows of no call, and takes only its
     /// own counts and its state from the event.
     #[inline(always)]
-    fn event(&mut self, who: Role, phase: Phase, payload: &[u8], buf: &mut [u8]) -> Move
+    fn event(&mut self, who: Role, phase: Phase, payload: &[u8], buf: &mut [u8]) -> Next
         requires idle { IsIdle (machine_of self.old who) }
-        requires payload { out_at phase ≤ length payload.now }
-        requires buf { into_at (read_size (standing (machine_of self.old who))) phase ≤ length buf.old }
+        requires payload { payload_at phase ≤ length payload.now }
+        requires buf { buffer_at (read_size (standing (machine_of self.old who))) phase ≤ length buf.old }
         ensures stands { (core : Core) → StandsFor core (page_at self.old who phase) → HasPayload (side_of core who) payload.now → StandsFor (event core who) (page_to self.new who result) }
         ensures footprint { Fits (orders_of self.old) (length payload.now) (length buf.old) (next_op (rest_at (standing (machine_of self.old who)) phase)) }
         ensures buffer { buf.new ≡ buffer_after (orders_of self.old) (words_of self.old) buf.old (next_op (rest_at (standing (machine_of self.old who)) phase)) }
         ensures rest { plan_at (standing (machine_of self.new who)) result ≡ after (rest_at (standing (machine_of self.old who)) phase) (value_taken (orders_of self.old) (words_of self.old) (next_op (rest_at (standing (machine_of self.old who)) phase))) }
         ensures idle { IsIdle (machine_of self.new who) }
-        ensures out { out_move result ≤ out_at phase }
-        ensures into { into_move (read_size (standing (machine_of self.new who))) result ≤ into_at (read_size (standing (machine_of self.old who))) phase }
+        ensures payload_left { payload_next result ≤ payload_at phase }
+        ensures buffer_left { buffer_next (read_size (standing (machine_of self.new who))) result ≤ buffer_at (read_size (standing (machine_of self.old who))) phase }
         ensures other { other_of self.new who ≡ other_of self.old who }
     {
         match who {
@@ -383,12 +383,13 @@ impl Plain {
         requires payload { payload_of call ≤ length payload.now }
         requires buf { loaded_most (standing (machine_of self.old who)) call ≤ length buf.old }
         ensures stands { (core : Core) → StandsFor core self.old → StandsFor (called core who call (take (payload_of call) payload.now)) self.new }
-        ensures kept { (core : Core) → StandsFor core self.old → Kept core → Kept (called core who call (take (payload_of call) payload.now)) }
+        ensures invariant { (core : Core) → StandsFor core self.old → Invariant core → Invariant (called core who call (take (payload_of call) payload.now)) }
         ensures answer { (core : Core) → StandsFor core self.old → result ≡ call_answer core who call (take (payload_of call) payload.now) }
         ensures buffer { (core : Core) → StandsFor core self.old
             → buf.new ≡ filled buf.old (bytes_loaded (side_of (called core who call (take (payload_of call) payload.now)) who).trail) }
         ensures lists { (core : Core) → StandsFor core self.old → Lawful core → FollowsLists core who call (take (payload_of call) payload.now) }
-        ensures trace { (events : List PastEvent) × Trace (standing (machine_of self.old who)) call events result × (steps.new ≡ steps.old + length events) }
+        ensures trace { (events : List PastEvent) × Trace (standing (machine_of self.old who)) call events result × (steps.new ≡ steps.old + length events)
+            × ((core : Core) → StandsFor core self.old → events ≡ (side_of (called core who call (take (payload_of call) payload.now)) who).trail) }
         ensures bound { steps.new ≤ steps.old + most_events (standing (machine_of self.old who)) call }
         ensures idle { IsIdle (machine_of self.new who) }
         ensures other { other_of self.new who ≡ other_of self.old who }
@@ -402,15 +403,15 @@ impl Plain {
             steps.tick();
             match self.event(who, at, payload, buf) {
                 // An index is stored: the event that looks whether the peer asked follows at once.
-                Move::To(Phase::Notify { bit, answer }) => {
+                Next::To(Phase::Notify { bit, answer }) => {
                     steps.tick();
                     match self.event(who, Phase::Notify { bit, answer }, payload, buf) {
-                        Move::To(next) => phase = next,
-                        Move::Done(answer) => return answer,
+                        Next::To(next) => phase = next,
+                        Next::Done(answer) => return answer,
                     }
                 }
-                Move::To(next) => phase = next,
-                Move::Done(answer) => return answer,
+                Next::To(next) => phase = next,
+                Next::Done(answer) => return answer,
             }
         }
     }

@@ -1,6 +1,6 @@
 ghost use Rattle.std.specs.Prelude.{◌≡◌, ◌≤◌, ◌<◌, length, false};
-ghost use Rattle.vchan_protocol.specs.Ends.{Standing};
-ghost use Rattle.vchan_protocol.specs.Calls.{payload_of, loaded_most};
+ghost use Rattle.vchan_protocol.specs.Table.Ends.{Standing};
+ghost use Rattle.vchan_protocol.specs.Table.Calls.{payload_of, loaded_most};
 
 use crate::machine::Machine;
 use crate::plain::Plain;

@@ -1,6 +1,6 @@
 //! The words of a ring and of a notify byte, and the bits that a load takes.
 ghost use Rattle.std.specs.Prelude.{◌≡◌, ◌<◌, ◌^◌, ◌≤◌};
-ghost use Rattle.vchan_protocol.specs.Ends.{prod_word as prod_word_of, cons_word as cons_word_of, peer_pending as peer_pending_of, mask as mask_of, low8 as low8_of, low16 as low16_of, low32 as low32_of};
+ghost use Rattle.vchan_protocol.specs.Table.Ends.{prod_word as prod_word_of, cons_word as cons_word_of, peer_pending as peer_pending_of, mask as mask_of, low8 as low8_of, low16 as low16_of, low32 as low32_of};
 
 use ring_words::{Ring, Role, WordName};
 use vchan_protocol::Bit;

@@ -47,9 +47,9 @@ impl From<Failed> for ReadAllError {
 
 /// Reads a source to its end, at most `limit` bytes.
 ///
-/// `ReadFault` comes only where the source's count of faults rose in this call, and `TooLong` exactly
-/// where more than `limit` bytes were taken, which are then one more. `Memory` is want of memory. With
-/// each error the bytes taken are gone from the source.
+/// `ReadFault` comes only where the source's count of faults rose in this call, and else that count stays
+/// as it was. `TooLong` comes exactly where more than `limit` bytes were taken, which are then one more.
+/// `Memory` is want of memory. With each error the bytes taken are gone from the source.
 pub fn read_all<S: Source>(
     alloc: Global,
     source: &mut S,
@@ -64,6 +64,7 @@ pub fn read_all<S: Source>(
         × (IsErrOf result ReadAllError.TooLong ↔ (limit < length taken))
         × IfOk result (λ bytes. bytes.items ≡ taken) }
     ensures fault { IsErrOf result ReadAllError.ReadFault → Rose (S.faults source.old) (S.faults source.new) }
+    ensures unfaulted { (¬ IsErrOf result ReadAllError.ReadFault) → S.faults source.new ≡ S.faults source.old }
     ensures counted { S.faults source.old ≤ S.faults source.new }
 {
     let mut bytes = Vec::new(alloc);
@@ -105,6 +106,7 @@ fn read_at<S: Source>(source: &mut S, bytes: &mut [u8], filled: usize) -> Result
     ensures within { IfOk result (λ count. filled + count ≤ length bytes.old) }
     ensures taken { IfOk result (λ count. Takes (S.left source.old) (S.left source.new) (take count (drop filled bytes.new))) }
     ensures end { IfOk result (λ count. count ≡ 0 → IsAtEnd (S.left source.new)) }
+    ensures unfaulted { OnOk result (S.faults source.new ≡ S.faults source.old) }
     ensures failed { OnErr result (Rose (S.faults source.old) (S.faults source.new)) }
     ensures none_taken { OnErr result (S.left source.new ≡ S.left source.old) }
     ensures counted { S.faults source.old ≤ S.faults source.new }

@@ -1,4 +1,4 @@
-ghost use Rattle.std.specs.Prelude.{◌≡◌, ℕ, ◌<◌, ◌≤◌, List, length, take, IfOk, OnErr, Option};
+ghost use Rattle.std.specs.Prelude.{◌≡◌, ℕ, ◌<◌, ◌≤◌, List, length, take, IfOk, OnOk, OnErr, Option};
 ghost use Rattle.vchan_io.specs.Counts.{Rose};
 ghost use Rattle.vchan_io.specs.Streams.{Appends};
 
@@ -16,12 +16,13 @@ pub trait Sink {
 
     /// Appends the front of `piece` and answers how many bytes it took, at least one if there is one.
     ///
-    /// `Failed` comes only where the count of faults rose, and appends nothing.
+    /// With `Ok` the count of faults stays as it was. `Failed` comes only where it rose, and appends nothing.
     fn write(&mut self, piece: &[u8]) -> Result<usize, Failed>
         ensures within { IfOk result (λ count. count ≤ length piece.now) }
         ensures some { IfOk result (λ count. 0 < length piece.now → 0 < count) }
         ensures appended { IfOk result (λ count. Appends (held self.old) (held self.new) (take count piece.now)) }
 
+        ensures unfaulted { OnOk result (faults self.new ≡ faults self.old) }
         ensures failed { OnErr result (Rose (faults self.old) (faults self.new)) }
         ensures none_appended { OnErr result (held self.new ≡ held self.old) }
 

@@ -1,4 +1,4 @@
-ghost use Rattle.std.specs.Prelude.{◌≡◌, ℕ, ◌<◌, ◌≤◌, List, length, take, drop, IfOk, OnErr, IsSome, Option};
+ghost use Rattle.std.specs.Prelude.{◌≡◌, ℕ, ◌<◌, ◌≤◌, List, length, take, drop, IfOk, OnOk, OnErr, IsSome, Option};
 ghost use Rattle.std.specs.Io.KnownBytes.{IsAtEnd};
 ghost use Rattle.vchan_io.specs.Counts.{Rose};
 ghost use Rattle.vchan_io.specs.Streams.{Takes};
@@ -17,14 +17,15 @@ pub trait Source {
 
     /// Reads into the front of `buf` and answers how many bytes it gave.
     ///
-    /// `Ok(0)` with room in `buf` is the end of input. `Failed` comes only where the count of faults rose,
-    /// and takes nothing. What a source that doesn't tell its bytes does to the rest of `buf` is left open.
+    /// `Ok(0)` with room in `buf` is the end of input. With `Ok` the count of faults stays as it was. `Failed`
+    /// comes only where it rose, and takes nothing. What a source that doesn't tell its bytes does to the rest of `buf` is left open.
     fn read(&mut self, buf: &mut [u8]) -> Result<usize, Failed>
         ensures within { IfOk result (λ count. count ≤ length buf.old) }
         ensures taken { IfOk result (λ count. Takes (left self.old) (left self.new) (take count buf.new)) }
         ensures rest { IfOk result (λ count. IsSome (left self.old) → drop count buf.new ≡ drop count buf.old) }
         ensures end { IfOk result (λ count. count ≡ 0 → 0 < length buf.old → IsAtEnd (left self.new)) }
 
+        ensures unfaulted { OnOk result (faults self.new ≡ faults self.old) }
         ensures failed { OnErr result (Rose (faults self.old) (faults self.new)) }
         ensures none_taken { OnErr result (left self.new ≡ left self.old) }
         ensures untouched { OnErr result (IsSome (left self.old) → buf.new ≡ buf.old) }

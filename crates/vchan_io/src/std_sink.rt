@@ -1,4 +1,5 @@
-ghost use Rattle.std.specs.Prelude.{◌≡◌, ℕ, ◌≤◌, ◌<◌, length, IfOk, IfSome, is_ok, if◌then◌else◌, None};
+ghost use Rattle.std.specs.Prelude.{◌≡◌, ℕ, ◌≤◌, ◌<◌, length, take, IfOk, MatchOption, IfSome, is_ok, if◌then◌else◌, None};
+ghost use Rattle.std.specs.Io.KnownBytes.{Keeps, Appends, WriteAppends};
 ghost use Rattle.vchan_io.specs.Counts.{one_more};
 
 use crate::faults::Failed;
@@ -7,7 +8,7 @@ use std::io::{ErrorKind, Write};
 use std::marker::Model;
 
 /// A sink into a writer of std. It is trusted to write what it is handed, and doesn't tell its bytes;
-/// contracts see its count of faults. Nothing is flushed: a writer that holds bytes back is its owner's.
+/// contracts see its count of faults, and the writer, which took what a write took. Nothing is flushed: a writer that holds bytes back is its owner's.
 #[derive(Debug, Drop)]
 pub struct StdSink<W> {
     inner: W,
@@ -15,15 +16,18 @@ pub struct StdSink<W> {
 }
 
 impl<W> Model for StdSink<W> {
-    ghost Value = { ℕ };
+    ghost use Rattle.vchan_io.specs.StdStream.{StdStream};
 
-    ghost view = { λ s. s.faults };
+    ghost Value = { StdStream W };
+
+    ghost view = { λ s. record { inner = s.inner; faults = s.faults } };
 }
 
 impl<W: Write> StdSink<W> {
     /// A sink into `inner`, with no fault yet.
     pub fn new(inner: W) -> StdSink<W>
-        ensures { result ≡ 0 }
+        ensures inner { result.inner ≡ inner }
+        ensures faults { result.faults ≡ 0 }
     {
         StdSink { inner, faults: 0 }
     }
@@ -32,15 +36,16 @@ impl<W: Write> StdSink<W> {
 impl<W: Write> Sink for StdSink<W> {
     ghost held = { λ _. None };
 
-    ghost faults = { λ s. s };
+    ghost faults = { λ s. s.faults };
 
     /// Each error of the writer counts as a fault, but for an interruption, after which it is asked again. A
     /// write that takes nothing of a piece that isn't empty is a fault too.
     fn write(&mut self, piece: &[u8]) -> Result<usize, Failed>
         ensures within { IfOk result (λ count. count ≤ length piece.now) }
         ensures some { IfOk result (λ count. 0 < length piece.now → 0 < count) }
-        ensures faults { self.new ≡ (if is_ok result then self.old else one_more self.old) }
-        ensures counted { self.old ≤ self.new }
+        ensures bytes { WriteAppends (W.contents self.old.inner) (W.contents self.new.inner) result piece.now }
+        ensures faults { self.new.faults ≡ (if is_ok result then self.old.faults else one_more self.old.faults) }
+        ensures counted { self.old.faults ≤ self.new.faults }
     {
         match write_uninterrupted(&mut self.inner, piece) {
             Some(count) if count > 0 || piece.is_empty() => Ok(count),
@@ -54,7 +59,9 @@ impl<W: Write> Sink for StdSink<W> {
 
 // One write, repeated where a signal interrupts it. `None` is an error of the writer.
 fn write_uninterrupted<W: Write>(writer: &mut W, piece: &[u8]) -> Option<usize>
-    ensures { IfSome result (λ count. count ≤ length piece.now) }
+    ensures within { IfSome result (λ count. count ≤ length piece.now) }
+    ensures bytes { MatchOption result (Keeps (W.contents writer.old) (W.contents writer.new))
+        (λ count. Appends (W.contents writer.old) (W.contents writer.new) (take count piece.now)) }
 {
     for _ in 0..u64::MAX {
         match writer.write(piece) {

@@ -1,4 +1,5 @@
-ghost use Rattle.std.specs.Prelude.{◌≡◌, ℕ, ◌≤◌, ◌<◌, length, IfOk, IfSome, is_ok, if◌then◌else◌, None};
+ghost use Rattle.std.specs.Prelude.{◌≡◌, ℕ, ◌≤◌, ◌<◌, length, take, IfOk, MatchOption, IfSome, is_ok, if◌then◌else◌, None};
+ghost use Rattle.std.specs.Io.KnownBytes.{Keeps, Consumes, IsAtEnd, ReadConsumes};
 ghost use Rattle.vchan_io.specs.Counts.{one_more};
 
 use crate::faults::Failed;
@@ -7,7 +8,7 @@ use std::io::{ErrorKind, Read};
 use std::marker::Model;
 
 /// A source over a reader of std. It is trusted to read what the reader's stream has, and doesn't tell its
-/// bytes; contracts see its count of faults.
+/// bytes; contracts see its count of faults, and the reader, of which a read takes what it gives.
 #[derive(Debug, Drop)]
 pub struct StdSource<R> {
     inner: R,
@@ -15,15 +16,18 @@ pub struct StdSource<R> {
 }
 
 impl<R> Model for StdSource<R> {
-    ghost Value = { ℕ };
+    ghost use Rattle.vchan_io.specs.StdStream.{StdStream};
 
-    ghost view = { λ s. s.faults };
+    ghost Value = { StdStream R };
+
+    ghost view = { λ s. record { inner = s.inner; faults = s.faults } };
 }
 
 impl<R: Read> StdSource<R> {
     /// A source of what `inner` reads, with no fault yet.
     pub fn new(inner: R) -> StdSource<R>
-        ensures { result ≡ 0 }
+        ensures inner { result.inner ≡ inner }
+        ensures faults { result.faults ≡ 0 }
     {
         StdSource { inner, faults: 0 }
     }
@@ -32,13 +36,14 @@ impl<R: Read> StdSource<R> {
 impl<R: Read> Source for StdSource<R> {
     ghost left = { λ _. None };
 
-    ghost faults = { λ s. s };
+    ghost faults = { λ s. s.faults };
 
     /// Each error of the reader counts as a fault, but for an interruption, after which it is asked again.
     fn read(&mut self, buf: &mut [u8]) -> Result<usize, Failed>
         ensures within { IfOk result (λ count. count ≤ length buf.old) }
-        ensures faults { self.new ≡ (if is_ok result then self.old else one_more self.old) }
-        ensures counted { self.old ≤ self.new }
+        ensures bytes { ReadConsumes (R.remaining self.old.inner) (R.remaining self.new.inner) result buf.new }
+        ensures faults { self.new.faults ≡ (if is_ok result then self.old.faults else one_more self.old.faults) }
+        ensures counted { self.old.faults ≤ self.new.faults }
     {
         match read_uninterrupted(&mut self.inner, buf) {
             Some(count) => Ok(count),
@@ -52,7 +57,10 @@ impl<R: Read> Source for StdSource<R> {
 
 // One read, repeated where a signal interrupts it. `None` is an error of the reader.
 fn read_uninterrupted<R: Read>(reader: &mut R, buf: &mut [u8]) -> Option<usize>
-    ensures { IfSome result (λ count. count ≤ length buf.old) }
+    ensures within { IfSome result (λ count. count ≤ length buf.old) }
+    ensures bytes { MatchOption result (Keeps (R.remaining reader.old) (R.remaining reader.new))
+        (λ count. Consumes (R.remaining reader.old) (R.remaining reader.new) (take count buf.new)
+        × (count ≡ 0 → 0 < length buf.new → IsAtEnd (R.remaining reader.new))) }
 {
     for _ in 0..u64::MAX {
         match reader.read(buf) {

@@ -1,4 +1,4 @@
-ghost use Rattle.std.specs.Prelude.{◌≤◌, OnOk, OnErr};
+ghost use Rattle.std.specs.Prelude.{◌≡◌, ◌≤◌, OnOk, OnErr};
 ghost use Rattle.vchan_io.specs.Counts.{Rose};
 ghost use Rattle.vchan_io.specs.Streams.{Appends, AppendsProperPrefix};
 
@@ -13,9 +13,10 @@ pub struct WriteFault;
 /// Writes all of `bytes`, in as many writes as the sink wants.
 ///
 /// `WriteFault` comes only where the sink's count of faults rose in this call, and then some of the bytes
-/// were appended, from the first on, and not all. It takes no memory.
+/// were appended, from the first on, and not all. Else that count stays as it was. It takes no memory.
 pub fn write_all<K: Sink>(sink: &mut K, bytes: &[u8]) -> Result<(), WriteFault>
     ensures ok { OnOk result (Appends (K.held sink.old) (K.held sink.new) bytes.now) }
+    ensures unfaulted { OnOk result (K.faults sink.new ≡ K.faults sink.old) }
     ensures fault { OnErr result (Rose (K.faults sink.old) (K.faults sink.new)) }
     ensures part { OnErr result (AppendsProperPrefix (K.held sink.old) (K.held sink.new) bytes.now) }
     ensures counted { K.faults sink.old ≤ K.faults sink.new }

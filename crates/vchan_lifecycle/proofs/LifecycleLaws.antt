@@ -10,18 +10,18 @@ use Rattle.vchan_protocol.specs.declared.call.Call.{Call}
 use Rattle.vchan_protocol.specs.declared.call.Call.TheVariants.{Connect, Drain, Close, Retire}
 use Rattle.vchan_protocol.specs.declared.call.EndState.{EndState}
 use Rattle.vchan_protocol.specs.declared.call.EndState.TheVariants.{Fresh, Open, Shut}
-use Rattle.vchan_protocol.specs.Plan.{Plan, does, answers, Leads}
-use Rattle.vchan_protocol.specs.Ends.{Standing, own_live, own_gone, peer_pending}
-use Rattle.vchan_protocol.specs.Calls.{Trace, close, retire, retire_shut}
-use Rattle.vchan_protocol.specs.Causes.{DrainCause, drain_got, drain_all_read, drain_not_yet, drain_peer_gone, ConnectCause, connect_agrees, connect_refused, waiting_at}
-use Rattle.vchan_protocol.specs.Loads.{loads_of}
-use Rattle.vchan_protocol.specs.EndingLaw.{tells_end}
-use Rattle.vchan_core.specs.Phases.{IsIdle}
+use Rattle.vchan_protocol.specs.Table.Plan.{Plan, does, answers, Leads}
+use Rattle.vchan_protocol.specs.Table.Ends.{Standing, own_live, own_gone, peer_pending}
+use Rattle.vchan_protocol.specs.Table.Calls.{Trace, close, retire, retire_shut}
+use Rattle.vchan_protocol.specs.Answering.Causes.{DrainCause, drain_got, drain_all_read, drain_not_yet, drain_peer_gone, ConnectCause, connect_agrees, connect_refused, waiting_at}
+use Rattle.vchan_protocol.specs.Answering.Loads.{loads_of}
+use Rattle.vchan_protocol.specs.OneEnd.EndingLaw.{tells_end}
+use Rattle.vchan_core.specs.OneMachine.Phases.{IsIdle}
 use Rattle.end_view.specs.EndView.{EndView, view_of}
 use Rattle.end_view.specs.AfterCall.{answered_view, state_told, retires, SeesAsTold}
 use Rattle.end_view.proofs.QuietLaws.{or_no, or_yes, ended_no}
 use Rattle.vchan_rule.specs.Seated.{SeatedEnd, SeatedSide, view, last_view}
-use Rattle.vchan_protocol.proofs.AnswerLaws.{has_cause, each_cause}
+use Rattle.vchan_protocol.proofs.Answering.AnswerLaws.{has_cause, each_cause}
 use Rattle.vchan_lifecycle.specs.declared.BadOrders.{BadOrders}
 use Rattle.vchan_lifecycle.specs.declared.DrainAnswer.{DrainAnswer}
 use Rattle.vchan_lifecycle.specs.declared.DrainAnswer.TheVariants.{More, NotYet as IsNotYet, AllRead as IsAllRead, PeerGone as IsPeerGone}

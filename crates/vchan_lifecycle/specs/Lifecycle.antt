@@ -10,8 +10,8 @@ use Rattle.vchan_protocol.specs.declared.call.Answer.TheVariants.{Got, NotYet, A
 use Rattle.vchan_protocol.specs.declared.call.EndState.{EndState}
 use Rattle.vchan_protocol.specs.declared.call.EndState.TheVariants.{Open, Shut}
 use Rattle.vchan_protocol.specs.declared.side.EndedBy.TheVariants.{AllRead as ByAllRead, PeerGone as ByPeerGone}
-use Rattle.vchan_protocol.specs.Ends.{own_live, own_gone, peer_pending}
-use Rattle.vchan_protocol.specs.Core.{first_ended}
+use Rattle.vchan_protocol.specs.Table.Ends.{own_live, own_gone, peer_pending}
+use Rattle.vchan_protocol.specs.History.Core.{first_ended}
 use Rattle.end_view.specs.EndView.{EndView}
 use Rattle.vchan_lifecycle.specs.declared.BadOrders.{BadOrders}
 use Rattle.vchan_lifecycle.specs.declared.DrainAnswer.{DrainAnswer}

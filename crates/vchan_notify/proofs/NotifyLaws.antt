@@ -3,9 +3,9 @@ use Rattle.std.proofs.Common.{◌≡◌, Option, Some, None, IsSomeAnd, List, sy
 use Rattle.vchan_protocol.specs.declared.call.Answer.{Answer}
 use Rattle.vchan_protocol.specs.declared.call.Call.TheVariants.{DataReady, BufferSpace, TakeEvent, PeerGone}
 use Rattle.vchan_protocol.specs.declared.op.PastEvent.{PastEvent}
-use Rattle.vchan_protocol.specs.Ends.{Standing}
-use Rattle.vchan_protocol.specs.Calls.{Trace}
-use Rattle.vchan_protocol.proofs.AnswerLaws.{has_cause}
+use Rattle.vchan_protocol.specs.Table.Ends.{Standing}
+use Rattle.vchan_protocol.specs.Table.Calls.{Trace}
+use Rattle.vchan_protocol.proofs.Answering.AnswerLaws.{has_cause}
 use Rattle.vchan_notify.specs.Notify.{AnswersReady, AnswersSpace, AnswersEvent, AnswersGone}
 
 told : {T : Type 0} (o : Option T) (tells : T → Answer) (answer : Answer) (P : Answer → Type 0) → IsSomeAnd o (λ x. answer ≡ tells x) → ((x : T) → P (tells x)) → P answer

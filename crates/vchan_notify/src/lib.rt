@@ -9,10 +9,10 @@
 ghost use Rattle.std.specs.Prelude.{◌≡◌, true};
 ghost use Rattle.vchan_protocol.specs.declared.call.Answer.TheVariants.{Ready, Space, Event, Gone};
 ghost use Rattle.vchan_protocol.specs.declared.call.Call.TheVariants.{DataReady, BufferSpace, TakeEvent, PeerGone};
-ghost use Rattle.vchan_protocol.specs.Calls.{Trace};
-ghost use Rattle.vchan_protocol.specs.Causes.{Cause};
-ghost use Rattle.vchan_protocol.specs.Core.{standing_of};
-ghost use Rattle.vchan_protocol.specs.Loads.{loads_of};
+ghost use Rattle.vchan_protocol.specs.Table.Calls.{Trace};
+ghost use Rattle.vchan_protocol.specs.Answering.Causes.{Cause};
+ghost use Rattle.vchan_protocol.specs.History.Core.{standing_of};
+ghost use Rattle.vchan_protocol.specs.Answering.Loads.{loads_of};
 ghost use Rattle.vchan_rule.specs.Seated.{view, IsOpen};
 ghost use Rattle.vchan_rule.specs.Ends.{IsSameEnd};
 ghost use Rattle.vchan_notify.specs.Notify.{AnswersReady, AnswersSpace, AnswersEvent, AnswersGone, asked_gone};

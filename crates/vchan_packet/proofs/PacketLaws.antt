@@ -8,12 +8,12 @@ use Rattle.vchan_protocol.specs.declared.call.Answer.{Answer}
 use Rattle.vchan_protocol.specs.declared.call.Answer.TheVariants.{Sent, NoRoom, Got, Short, PeerClosed}
 use Rattle.vchan_protocol.specs.declared.call.Call.TheVariants.{Send, Recv}
 use Rattle.vchan_protocol.specs.declared.op.PastEvent.{PastEvent}
-use Rattle.vchan_protocol.specs.Ends.{Standing, write_order, read_order}
-use Rattle.vchan_protocol.specs.Calls.{Trace}
-use Rattle.vchan_protocol.specs.Causes.{SendCause, send_closed, send_no_room, sent_all, RecvCause, recv_got, recv_closed, recv_short, room_at, waiting_at}
-use Rattle.vchan_protocol.specs.Loads.{loads_of}
-use Rattle.vchan_protocol.proofs.AnswerLaws.{has_cause, each_cause}
-use Rattle.vchan_protocol.specs.EndingLaw.{tells_end}
+use Rattle.vchan_protocol.specs.Table.Ends.{Standing, write_order, read_order}
+use Rattle.vchan_protocol.specs.Table.Calls.{Trace}
+use Rattle.vchan_protocol.specs.Answering.Causes.{SendCause, send_closed, send_no_room, sent_all, RecvCause, recv_got, recv_closed, recv_short, room_at, waiting_at}
+use Rattle.vchan_protocol.specs.Answering.Loads.{loads_of}
+use Rattle.vchan_protocol.proofs.Answering.AnswerLaws.{has_cause, each_cause}
+use Rattle.vchan_protocol.specs.OneEnd.EndingLaw.{tells_end}
 use Rattle.end_view.specs.EndView.{EndView}
 use Rattle.end_view.specs.AfterCall.{answered_view}
 use Rattle.end_view.proofs.QuietLaws.{quiet_view, or_no, or_yes}

@@ -7,10 +7,10 @@
 
 ghost use Rattle.std.specs.Prelude.{◌≡◌, ◌↔◌, min, length};
 ghost use Rattle.vchan_protocol.specs.declared.call.Call.TheVariants.{Send, Recv};
-ghost use Rattle.vchan_protocol.specs.Calls.{Trace};
-ghost use Rattle.vchan_protocol.specs.Causes.{SendCause, RecvCause};
-ghost use Rattle.vchan_protocol.specs.Core.{standing_of};
-ghost use Rattle.vchan_protocol.specs.Loads.{loads_of};
+ghost use Rattle.vchan_protocol.specs.Table.Calls.{Trace};
+ghost use Rattle.vchan_protocol.specs.Answering.Causes.{SendCause, RecvCause};
+ghost use Rattle.vchan_protocol.specs.History.Core.{standing_of};
+ghost use Rattle.vchan_protocol.specs.Answering.Loads.{loads_of};
 ghost use Rattle.vchan_rule.specs.Seated.{view, IsOpen};
 ghost use Rattle.vchan_rule.specs.Ends.{IsSameEnd};
 ghost use Rattle.vchan_packet.specs.Packet.{most_asked, AnswersSend, AnswersRecv, send_told, recv_told, told_send, told_recv, sent_to, received_from};

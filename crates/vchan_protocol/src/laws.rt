@@ -2,7 +2,7 @@
 //! contract states it.
 pub mod answers;
 pub mod endings;
-pub mod kept;
+pub mod invariant;
 pub mod lists;
 pub mod one_call;
 pub mod one_end;
@@ -10,8 +10,9 @@ pub mod signals;
 pub mod turned;
 pub mod worked;
 
-ghost use Rattle.vchan_protocol.specs.Worked.{RowIsAsWorked};
-ghost use Rattle.vchan_protocol.specs.Laws.{EachCallEnds, EachCallFits, EachCallMovesAtMost, OpeningIsLawful, BeginIsLawful, EventIsLawful, CallIsLawful, ReachedIsLawful, CallIsReached};
+ghost use Rattle.vchan_protocol.specs.Rows.WorkedRow.{RowIsAsWorked};
+ghost use Rattle.vchan_protocol.specs.Table.CallLaws.{EachCallEnds, EachCallFits, EachCallMovesAtMost};
+ghost use Rattle.vchan_protocol.specs.Honest.HonestLaws.{OpeningIsLawful, BeginIsLawful, EventIsLawful, CallIsLawful, ReachedIsLawful, CallIsReached};
 
 /// A call of `n` bytes ends within `7 + min(n, size)` events, and a drain within
 /// `10 + min(n, size)`, `size` being that of the ring which it moves bytes through.

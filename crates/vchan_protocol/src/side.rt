@@ -59,7 +59,7 @@ pub struct Side {
     pub payload: LinkedList<u8>,
     /// All bytes that it has shown to its peer by an index.
     pub sent: LinkedList<u8>,
-    /// All bytes that it has taken and given up the places of by an index.
+    /// All bytes that it has taken and released the places of by an index.
     pub got: LinkedList<u8>,
     /// While not shut, it has loaded its peer's live byte as 0 or its gone word as not 0.
     pub saw: bool,
@@ -71,7 +71,7 @@ pub struct Side {
     pub drained: bool,
     /// It has stored to its gone word, and is done with the page.
     pub retired: bool,
-    /// It was given up to a hostile user.
+    /// It was turned over to a hostile user.
     pub turned: bool,
     /// For a turned end, how much its reader had got when it was turned.
     pub consumed: u64,

@@ -12,22 +12,22 @@ use Rattle.ring_words.specs.Page.{order_of, index_of, word_count, Has}
 use Rattle.ring_words.specs.Rings.{place, size}
 use Rattle.ring_words.proofs.RingLaws.{place_wraps, place_within}
 use Rattle.vchan_core.specs.declared.machine.ahead.Span.{Span}
-use Rattle.vchan_core.specs.Ahead.{IsPut, IsTake, put_at, take_at}
-use Rattle.vchan_core.proofs.PieceLaws.{put_plan, take_plan, put_place, take_place, stands_store, stands_load}
+use Rattle.vchan_core.specs.OneMachine.Ahead.{IsPut, IsTake, put_at, take_at}
+use Rattle.vchan_core.proofs.WholeCall.PieceLaws.{put_plan, take_plan, put_place, take_place, stands_store, stands_load}
 use Rattle.vchan_protocol.specs.declared.op.Op.{Op}
 use Rattle.vchan_protocol.specs.declared.op.Op.TheVariants.{StoreByte, LoadByte}
 use Rattle.vchan_protocol.specs.declared.op.PastEvent.{PastEvent}
 use Rattle.vchan_protocol.specs.declared.side.Side.{Side}
 use Rattle.vchan_core.specs.declared.machine.Machine.{Machine}
-use Rattle.vchan_protocol.specs.Plan.{Plan, does, next_op, after, past, GoesOn}
-use Rattle.vchan_protocol.specs.Ends.{standing_after, write_order, read_order}
-use Rattle.vchan_protocol.specs.Apply.{leaves}
-use Rattle.vchan_protocol.specs.Core.{op_next, plan_left, made, side_after, sets_gone}
-use Rattle.vchan_core.specs.Phases.{standing, rest, IsIdle}
-use Rattle.vchan_core.specs.Past.{HasPayload}
-use Rattle.vchan_protocol.specs.OneCall.{landed}
-use Rattle.vchan_protocol.proofs.OneCallWay.{landed-length}
-use Rattle.vchan_protocol.proofs.EventLaws.{settled-trail}
+use Rattle.vchan_protocol.specs.Table.Plan.{Plan, does, next_op, after, past, GoesOn}
+use Rattle.vchan_protocol.specs.Table.Ends.{standing_after, write_order, read_order}
+use Rattle.vchan_protocol.specs.Table.Apply.{leaves}
+use Rattle.vchan_protocol.specs.History.Core.{op_next, plan_left, made, side_after, sets_gone}
+use Rattle.vchan_core.specs.OneMachine.Phases.{standing, rest, IsIdle}
+use Rattle.vchan_core.specs.Page.StandsFor.{HasPayload}
+use Rattle.vchan_protocol.specs.OneEnd.OneCall.{landed}
+use Rattle.vchan_protocol.proofs.OneEnd.OneCallWay.{landed-length}
+use Rattle.vchan_protocol.proofs.History.EventLaws.{settled-trail}
 use Rattle.vchan_rule.specs.Ends.{Agrees}
 use Rattle.vchan_rule.specs.Along.{GoesAlong}
 use Rattle.vchan_rule.proofs.EndLaws.{Inside, inside, plan_is, goes_on, stores_own, after_step, keeps_payload, Stepped}

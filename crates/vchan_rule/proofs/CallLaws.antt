@@ -5,15 +5,15 @@ use Rattle.vchan_protocol.specs.declared.op.PastEvent.{PastEvent}
 use Rattle.vchan_protocol.specs.declared.call.Answer.{Answer}
 use Rattle.vchan_protocol.specs.declared.call.Call.{Call}
 use Rattle.vchan_protocol.specs.declared.side.Side.{Side}
-use Rattle.vchan_protocol.specs.Plan.{after, past, GoesOn}
-use Rattle.vchan_protocol.specs.Calls.{payload_of, loaded_most, most_events}
-use Rattle.vchan_protocol.specs.Core.{standing_of, plan_left, op_next, made, side_after, answer_in}
-use Rattle.vchan_protocol.specs.OneCall.{landed, OnWay, IsOver, IsThen}
-use Rattle.vchan_protocol.proofs.OneCallWay.{way_goes_on, landed-length}
-use Rattle.vchan_protocol.proofs.EventLaws.{settled-trail}
-use Rattle.vchan_core.specs.Phases.{IsIdle, out_of, into_of}
-use Rattle.vchan_core.specs.Past.{HasPayload}
-use Rattle.vchan_protocol.specs.OneEndLaw.{OwnLawful}
+use Rattle.vchan_protocol.specs.Table.Plan.{after, past, GoesOn}
+use Rattle.vchan_protocol.specs.Table.Calls.{payload_of, loaded_most, most_events}
+use Rattle.vchan_protocol.specs.History.Core.{standing_of, plan_left, op_next, made, side_after, answer_in}
+use Rattle.vchan_protocol.specs.OneEnd.OneCall.{landed, OnWay, IsOver, IsThen}
+use Rattle.vchan_protocol.proofs.OneEnd.OneCallWay.{way_goes_on, landed-length}
+use Rattle.vchan_protocol.proofs.History.EventLaws.{settled-trail}
+use Rattle.vchan_core.specs.OneMachine.Phases.{IsIdle, payload_needed, buffer_needed}
+use Rattle.vchan_core.specs.Page.StandsFor.{HasPayload}
+use Rattle.vchan_protocol.specs.OneEnd.OneEndLaw.{OwnLawful}
 use Rattle.end_view.specs.EndView.{view_of}
 use Rattle.end_view.specs.AfterCall.{MayCall, answered_view, SeesAsTold}
 use Rattle.end_view.proofs.ViewLaws.{view_after}
@@ -34,8 +34,8 @@ way_on was call payload start s buffer taken long w more result now buffer' answ
 pub record InCalls (was : SeatedEnd) (call : Call) (payload start : List ℕ) (e : SeatedEnd) (buffer : List ℕ) : Type 0 where
   pub same : IsSameEnd was e
   pub busy : ¬ IsIdle e.machine
-  pub out : out_of e.machine ≤ length payload
-  pub into : into_of e.machine ≤ length buffer
+  pub out : payload_needed e.machine ≤ length payload
+  pub into : buffer_needed e.machine ≤ length buffer
   pub long : length buffer ≡ length start
   pub enough : loaded_most (standing_of was.side) call ≤ length start
   pub pays : Pays e.begun e.side payload
@@ -66,7 +66,7 @@ pub seen_now : (e : SeatedEnd) (payload : List ℕ) → e.begun ≡ None → see
 seen_now e payload none = ap (λ (b : Option Call). seen_by b e.side payload) none
 
 pub call_on : (was : SeatedEnd) (call : Call) (payload start : List ℕ) (e : SeatedEnd) (buffer : List ℕ) (e' : SeatedEnd) (buffer' : List ℕ) → InCalls was call payload start e buffer → GoesOn (plan_left (seen e payload)) →
-    MakesOne e payload buffer e' buffer' None → IsSameEnd e e' → ¬ IsIdle e'.machine → out_of e'.machine ≤ out_of e.machine → into_of e'.machine ≤ into_of e.machine → e'.begun ≡ None → HasPayload e'.side payload →
+    MakesOne e payload buffer e' buffer' None → IsSameEnd e e' → ¬ IsIdle e'.machine → payload_needed e'.machine ≤ payload_needed e.machine → buffer_needed e'.machine ≤ buffer_needed e.machine → e'.begun ≡ None → HasPayload e'.side payload →
     InCalls was call payload start e' buffer'
 call_on was call payload start e buffer e' buffer' i more m same busy out into none has =
     let long : length buffer' ≡ length buffer = ap (λ (xs : List ℕ). length xs) m.3 ∙ landed-length (op_next (seen e payload)) m.0 buffer in
@@ -87,7 +87,7 @@ made_long e payload buffer e' buffer' result m = ap (λ (xs : List ℕ). length 
 
 -- the same after more events that give no answer
 pub call_along : (was : SeatedEnd) (call : Call) (payload start : List ℕ) (e : SeatedEnd) (buffer : List ℕ) (e' : SeatedEnd) (buffer' : List ℕ) (count : ℕ) → InCalls was call payload start e buffer → e.begun ≡ None →
-    GoesAlong count e.side buffer e'.side buffer' → IsSameEnd e e' → ¬ IsIdle e'.machine → out_of e'.machine ≤ out_of e.machine → into_of e'.machine ≤ into_of e.machine → e'.begun ≡ None → HasPayload e'.side payload →
+    GoesAlong count e.side buffer e'.side buffer' → IsSameEnd e e' → ¬ IsIdle e'.machine → payload_needed e'.machine ≤ payload_needed e.machine → buffer_needed e'.machine ≤ buffer_needed e.machine → e'.begun ≡ None → HasPayload e'.side payload →
     InCalls was call payload start e' buffer'
 call_along was call payload start e buffer e' buffer' count i quiet along same busy out into none has =
     record {

@@ -10,23 +10,23 @@ use Rattle.vchan_protocol.specs.declared.call.Call.{Call}
 use Rattle.vchan_protocol.specs.declared.side.Side.{Side}
 use Rattle.vchan_protocol.specs.declared.side.Begun.{Begun}
 use Rattle.vchan_core.specs.declared.machine.Machine.{Machine}
-use Rattle.vchan_protocol.specs.Plan.{Plan, answers, does, next_op, after, GoesOn}
-use Rattle.vchan_protocol.specs.Ends.{Standing, standing_after}
-use Rattle.vchan_protocol.specs.Calls.{payload_of, plan_of}
-use Rattle.vchan_protocol.specs.Apply.{leaves}
-use Rattle.vchan_protocol.specs.Core.{begins, made, settled, standing_of, op_next, plan_left, answer_in, begun_standing, side_after, sets_gone}
-use Rattle.vchan_core.specs.Phases.{standing, rest, left, IsIdle}
-use Rattle.vchan_core.specs.Past.{IsMachineOf, HasPayload}
-use Rattle.vchan_protocol.specs.RingLaw.{AreBytes}
-use Rattle.vchan_protocol.specs.TurnedLaw.{LiesAtCount}
-use Rattle.vchan_protocol.specs.OneEnd.{Enters}
-use Rattle.vchan_protocol.specs.Reached.{MayBegin}
-use Rattle.vchan_protocol.specs.OneEndLaw.{OwnLawful}
-use Rattle.vchan_protocol.proofs.OneEndLaws.{own_begun, own_stepped}
-use Rattle.vchan_protocol.proofs.EventLaws.{settled-payload, stored_most-payload, OwesNext}
-use Rattle.vchan_protocol.proofs.TurnedSteps.{lies_at_count}
-use Rattle.vchan_core.proofs.PhaseLaws.{GoesOn-machine}
-use Rattle.vchan_core.proofs.StepLaws.{in_call, plan_left-is, owed, made_stands, answer_in-left}
+use Rattle.vchan_protocol.specs.Table.Plan.{Plan, answers, does, next_op, after, GoesOn}
+use Rattle.vchan_protocol.specs.Table.Ends.{Standing, standing_after}
+use Rattle.vchan_protocol.specs.Table.Calls.{payload_of, plan_of}
+use Rattle.vchan_protocol.specs.Table.Apply.{leaves}
+use Rattle.vchan_protocol.specs.History.Core.{begins, made, settled, standing_of, op_next, plan_left, answer_in, begun_standing, side_after, sets_gone}
+use Rattle.vchan_core.specs.OneMachine.Phases.{standing, rest, left, IsIdle}
+use Rattle.vchan_core.specs.Page.StandsFor.{IsMachineOf, HasPayload}
+use Rattle.vchan_protocol.specs.Honest.RingLaw.{AreBytes}
+use Rattle.vchan_protocol.specs.Hostile.TurnedLaw.{LiesAtCount}
+use Rattle.vchan_protocol.specs.OneEnd.OneEnd.{Enters}
+use Rattle.vchan_protocol.specs.Honest.Reached.{MayBegin}
+use Rattle.vchan_protocol.specs.OneEnd.OneEndLaw.{OwnLawful}
+use Rattle.vchan_protocol.proofs.OneEnd.OneEndLaws.{own_begun, own_stepped}
+use Rattle.vchan_protocol.proofs.History.EventLaws.{settled-payload, stored_most-payload, OwesNext}
+use Rattle.vchan_protocol.proofs.Hostile.TurnedSteps.{lies_at_count}
+use Rattle.vchan_core.proofs.OneMachine.PhaseLaws.{GoesOn-machine}
+use Rattle.vchan_core.proofs.Page.StepLaws.{in_call, plan_left-is, owed, made_stands, answer_in-rest}
 use Rattle.vchan_rule.specs.Ends.{seen_by, Agrees, IsPending, Pays}
 
 -- ---- what the core lacks of one end and its machine
@@ -120,7 +120,7 @@ after_step start m m' v s payload result taken h busy leads idle stands =
         own = own_stepped start s taken h.own (goes_on start m v s payload h busy);
         stands = subst (λ (p : Plan). IsMachineOf (settled (made s (next_op p) taken) (after p taken)) m') (sym plan) (made_stands s m m' result taken h.stands busy leads idle stands);
       };
-      answer = sym (answer_in-left m' result idle) ∙ ap answer_in leads ∙ ap (λ (p : Plan). answer_in (after p taken)) (sym plan);
+      answer = sym (answer_in-rest m' result idle) ∙ ap answer_in leads ∙ ap (λ (p : Plan). answer_in (after p taken)) (sym plan);
       orders_are = settled-orders (made s (op_next s) taken) (after (plan_left s) taken);
       role_is = settled-role (made s (op_next s) taken) (after (plan_left s) taken);
       retired_is = settled-retired (made s (op_next s) taken) (after (plan_left s) taken);

@@ -2,9 +2,9 @@
 use Rattle.std.specs.Prelude.{◌≡◌, ℕ, ◌+◌, ◌≤◌, List, length}
 use Rattle.vchan_protocol.specs.declared.call.Call.{Call}
 use Rattle.vchan_protocol.specs.declared.side.Side.{Side}
-use Rattle.vchan_protocol.specs.Calls.{loaded_most}
-use Rattle.vchan_protocol.specs.Core.{standing_of}
-use Rattle.vchan_protocol.specs.OneCall.{OnWay}
+use Rattle.vchan_protocol.specs.Table.Calls.{loaded_most}
+use Rattle.vchan_protocol.specs.History.Core.{standing_of}
+use Rattle.vchan_protocol.specs.OneEnd.OneCall.{OnWay}
 
 -- so many events of an end that give no answer: whatever call it is on the way of, it is so after them
 pub record GoesAlong (count : ℕ) (s : Side) (buffer : List ℕ) (s' : Side) (buffer' : List ℕ) : Type 0 where

@@ -1,7 +1,7 @@
 -- The two ends of a page that is done with.
 use Rattle.std.specs.Prelude.{◌≡◌}
 use Rattle.vchan_protocol.specs.declared.side.Side.{Side}
-use Rattle.vchan_protocol.specs.Kept.{PageSettled}
+use Rattle.vchan_protocol.specs.Always.Invariant.{PageSettled}
 use Rattle.vchan_rule.specs.declared.rule.View.{View}
 use Rattle.vchan_rule.specs.declared.rule.View.TheVariants.{Both}
 use Rattle.vchan_rule.specs.declared.rule.Opening.{Opening}

@@ -3,12 +3,12 @@ use Rattle.std.specs.Prelude.{◌≡◌, ℕ, ◌≤◌, Option, Some, None, Lis
 use Rattle.atomic_table.specs.declared.shared.Seat.{Seat}
 use Rattle.vchan_protocol.specs.declared.call.Call.{Call}
 use Rattle.vchan_protocol.specs.declared.side.Side.{Side}
-use Rattle.vchan_protocol.specs.Calls.{plan_of, payload_of, IsAllowed}
-use Rattle.vchan_protocol.specs.Core.{begins, standing_of}
-use Rattle.vchan_protocol.specs.OneEndLaw.{OwnLawful}
+use Rattle.vchan_protocol.specs.Table.Calls.{plan_of, payload_of, IsAllowed}
+use Rattle.vchan_protocol.specs.History.Core.{begins, standing_of}
+use Rattle.vchan_protocol.specs.OneEnd.OneEndLaw.{OwnLawful}
 use Rattle.vchan_core.specs.declared.machine.Machine.{Machine}
-use Rattle.vchan_core.specs.Phases.{standing, rest, IsIdle}
-use Rattle.vchan_core.specs.Past.{IsMachineOf, HasPayload}
+use Rattle.vchan_core.specs.OneMachine.Phases.{standing, rest, IsIdle}
+use Rattle.vchan_core.specs.Page.StandsFor.{IsMachineOf, HasPayload}
 use Rattle.vchan_rule.specs.declared.rule.View.{View}
 use Rattle.vchan_rule.specs.declared.rule.View.TheVariants.{One}
 use Rattle.vchan_rule.specs.Rule.{nobody}

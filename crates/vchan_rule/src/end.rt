@@ -1,17 +1,17 @@
 //! An honest end of a page, which makes one event at a time.
 ghost use Rattle.std.specs.Prelude.{◌≡◌, ◌≢◌, ◌≤◌, ◌+◌, ◌||◌, ◌<◌, ◌^◌, ℕ, false, true, take, [], ◌∷◌, length, IsTrue, IsSome, None, Some, ◌↔◌};
 ghost use Rattle.ring_words.specs.Page.{word_count};
-ghost use Rattle.vchan_protocol.specs.Ends.{own_gone};
-ghost use Rattle.vchan_protocol.specs.Plan.{after, GoesOn};
-ghost use Rattle.vchan_protocol.specs.Apply.{Fits};
-ghost use Rattle.vchan_protocol.specs.Calls.{payload_of, loaded_most, most_events};
-ghost use Rattle.vchan_protocol.specs.Core.{op_next, plan_left, answer_in, side_after, standing_of, new_side, sets_gone};
-ghost use Rattle.vchan_protocol.specs.OneCall.{landed, bytes_out, bytes_in, IsOver, OverTells};
-ghost use Rattle.vchan_protocol.specs.OneEndLaw.{OwnLawful};
-ghost use Rattle.vchan_protocol.specs.Turned.{turns};
-ghost use Rattle.vchan_protocol.specs.TurnedLaw.{LiesAtCount};
-ghost use Rattle.vchan_core.specs.Phases.{IsIdle, out_of, into_of};
-ghost use Rattle.vchan_core.specs.Past.{HasPayload};
+ghost use Rattle.vchan_protocol.specs.Table.Ends.{own_gone};
+ghost use Rattle.vchan_protocol.specs.Table.Plan.{after, GoesOn};
+ghost use Rattle.vchan_protocol.specs.Table.Apply.{Fits};
+ghost use Rattle.vchan_protocol.specs.Table.Calls.{payload_of, loaded_most, most_events};
+ghost use Rattle.vchan_protocol.specs.History.Core.{op_next, plan_left, answer_in, side_after, standing_of, new_side, sets_gone};
+ghost use Rattle.vchan_protocol.specs.OneEnd.OneCall.{landed, bytes_out, bytes_in, IsOver, OverTells};
+ghost use Rattle.vchan_protocol.specs.OneEnd.OneEndLaw.{OwnLawful};
+ghost use Rattle.vchan_protocol.specs.Hostile.Turned.{turns};
+ghost use Rattle.vchan_protocol.specs.Hostile.TurnedLaw.{LiesAtCount};
+ghost use Rattle.vchan_core.specs.OneMachine.Phases.{IsIdle, payload_needed, buffer_needed};
+ghost use Rattle.vchan_core.specs.Page.StandsFor.{HasPayload};
 ghost use Rattle.end_view.specs.AfterCall.{MayCall, answered_view, SeesAsTold};
 ghost use Rattle.vchan_rule.specs.declared.rule.View.TheVariants.{One};
 ghost use Rattle.vchan_rule.specs.Seated.{view};
@@ -168,8 +168,8 @@ impl<'p> End<'p> {
         ensures begun { self.new.begun ≡ Some call }
         ensures own { OwnLawful self.new.start self.new.side }
         ensures busy { ¬ IsIdle self.new.machine }
-        ensures out { out_of self.new.machine ≤ payload_of call }
-        ensures into { into_of self.new.machine ≤ loaded_most (standing_of self.old.side) call }
+        ensures out { payload_needed self.new.machine ≤ payload_of call }
+        ensures into { buffer_needed self.new.machine ≤ loaded_most (standing_of self.old.side) call }
     {
         self.machine.begin(call);
         self.begun = Snapshot::of(&Some(call));
@@ -181,8 +181,8 @@ impl<'p> End<'p> {
     #[inline(always)]
     pub fn step(&mut self, payload: &[u8], buf: &mut [u8]) -> Option<Answer>
         requires busy { ¬ IsIdle self.old.machine }
-        requires out { out_of self.old.machine ≤ length payload.now }
-        requires into { into_of self.old.machine ≤ length buf.old }
+        requires out { payload_needed self.old.machine ≤ length payload.now }
+        requires into { buffer_needed self.old.machine ≤ length buf.old }
         requires payload { Pays self.old.begun self.old.side payload.now }
         ensures same { IsSameEnd self.old self.new }
         ensures event { (taken : ℕ) × (self.new.side ≡ side_after (seen self.old payload.now) taken) × (result ≡ answer_in (after (plan_left (seen self.old payload.now)) taken)) × (buf.new ≡ landed (op_next (seen self.old payload.now)) taken buf.old) }
@@ -192,8 +192,8 @@ impl<'p> End<'p> {
         ensures begun { self.new.begun ≡ None }
         ensures payload { HasPayload self.new.side payload.now }
         ensures idle { IsSome result ↔ IsIdle self.new.machine }
-        ensures out { out_of self.new.machine ≤ out_of self.old.machine }
-        ensures into { into_of self.new.machine ≤ into_of self.old.machine }
+        ensures out { payload_needed self.new.machine ≤ payload_needed self.old.machine }
+        ensures into { buffer_needed self.new.machine ≤ buffer_needed self.old.machine }
     {
         let op = self.machine.next();
         let value = perform::<Brand>(
@@ -216,16 +216,16 @@ impl<'p> End<'p> {
     fn move_bytes(&mut self, payload: &[u8], buf: &mut [u8]) -> u32
         requires busy { ¬ IsIdle self.old.machine }
         requires begun { self.old.begun ≡ None }
-        requires out { out_of self.old.machine ≤ length payload.now }
-        requires into { into_of self.old.machine ≤ length buf.old }
+        requires out { payload_needed self.old.machine ≤ length payload.now }
+        requires into { buffer_needed self.old.machine ≤ length buf.old }
         requires payload { HasPayload self.old.side payload.now }
         ensures same { IsSameEnd self.old self.new }
         ensures along { GoesAlong result self.old.side buf.old self.new.side buf.new }
         ensures busy { ¬ IsIdle self.new.machine }
         ensures begun { self.new.begun ≡ None }
         ensures payload { HasPayload self.new.side payload.now }
-        ensures out { out_of self.new.machine ≤ out_of self.old.machine }
-        ensures into { into_of self.new.machine ≤ into_of self.old.machine }
+        ensures out { payload_needed self.new.machine ≤ payload_needed self.old.machine }
+        ensures into { buffer_needed self.new.machine ≤ buffer_needed self.old.machine }
     {
         match self.machine.ahead() {
             Ahead::Puts(span) => {

@@ -2,8 +2,8 @@
 ghost use Rattle.std.specs.Prelude.{◌≡◌, None, IfOk};
 ghost use Rattle.ring_words.specs.declared.page.Role.TheVariants.{Server, Client};
 ghost use Rattle.end_view.specs.Settled.{IsSettled, settled_view};
-ghost use Rattle.vchan_protocol.specs.Core.{new_side};
-ghost use Rattle.vchan_core.specs.Phases.{IsIdle};
+ghost use Rattle.vchan_protocol.specs.History.Core.{new_side};
+ghost use Rattle.vchan_core.specs.OneMachine.Phases.{IsIdle};
 ghost use Rattle.vchan_rule.specs.Rule.{first_state};
 
 use crate::end::End;
@@ -47,7 +47,7 @@ pub struct IdleSeat {
 
 impl Model for IdleSeat {
     ghost use Rattle.std.specs.Prelude.{◌≡◌, [], ◌∷◌};
-    ghost use Rattle.vchan_protocol.specs.Core.{new_side};
+    ghost use Rattle.vchan_protocol.specs.History.Core.{new_side};
     ghost use Rattle.vchan_rule.specs.Seated.{SeatView};
     ghost use Rattle.vchan_rule.specs.Rule.{first_state};
     ghost use Rattle.vchan_rule.specs.declared.rule.View.TheVariants.{One};

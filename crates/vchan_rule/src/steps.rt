@@ -1,13 +1,13 @@
 //! One event of an end, as one step of the table.
 ghost use Rattle.std.specs.Prelude.{◌≡◌, ◌≢◌, ◌<◌, ◌≤◌, ◌-◌, ◌^◌, true, false, [], ◌∷◌, length, slice_index, ℕ, List, None};
 ghost use Rattle.ring_words.specs.Page.{word_count, index_of, Has};
-ghost use Rattle.vchan_protocol.specs.Apply.{Fits, leaves};
-ghost use Rattle.vchan_protocol.specs.Plan.{GoesOn};
-ghost use Rattle.vchan_protocol.specs.Core.{op_next, plan_left, side_after};
-ghost use Rattle.vchan_protocol.specs.OneEnd.{Enters};
-ghost use Rattle.vchan_protocol.specs.Turned.{turns, strays};
-ghost use Rattle.vchan_core.specs.Ahead.{IsPut, IsTake, put_at, take_at};
-ghost use Rattle.vchan_core.specs.Past.{HasPayload};
+ghost use Rattle.vchan_protocol.specs.Table.Apply.{Fits, leaves};
+ghost use Rattle.vchan_protocol.specs.Table.Plan.{GoesOn};
+ghost use Rattle.vchan_protocol.specs.History.Core.{op_next, plan_left, side_after};
+ghost use Rattle.vchan_protocol.specs.OneEnd.OneEnd.{Enters};
+ghost use Rattle.vchan_protocol.specs.Hostile.Turned.{turns, strays};
+ghost use Rattle.vchan_core.specs.OneMachine.Ahead.{IsPut, IsTake, put_at, take_at};
+ghost use Rattle.vchan_core.specs.Page.StandsFor.{HasPayload};
 ghost use Rattle.vchan_rule.specs.Ends.{end_in, Agrees};
 ghost use Rattle.vchan_rule.specs.Along.{GoesAlong};
 ghost use Rattle.vchan_rule.specs.declared.rule.View.TheVariants.{One};

@@ -1,7 +1,7 @@
 //! An end that was given up to a hostile user, and an end that makes no event any more.
 ghost use Rattle.std.specs.Prelude.{◌≡◌, true};
-ghost use Rattle.vchan_protocol.specs.Ends.{peer_pending, own_gone};
-ghost use Rattle.vchan_protocol.specs.Turned.{strays, MayPoke};
+ghost use Rattle.vchan_protocol.specs.Table.Ends.{peer_pending, own_gone};
+ghost use Rattle.vchan_protocol.specs.Hostile.Turned.{strays, MayPoke};
 
 use crate::rule::{PageWords, Place};
 use crate::steps::{stray_load, stray_store};

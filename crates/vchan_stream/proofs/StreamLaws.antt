@@ -4,11 +4,11 @@ use Rattle.vchan_protocol.specs.declared.call.Answer.{Answer}
 use Rattle.vchan_protocol.specs.declared.call.Answer.TheVariants.{Wrote, Full, Got, Empty, PeerClosed}
 use Rattle.vchan_protocol.specs.declared.call.Call.TheVariants.{Write, Read}
 use Rattle.vchan_protocol.specs.declared.op.PastEvent.{PastEvent}
-use Rattle.vchan_protocol.specs.Ends.{Standing}
-use Rattle.vchan_protocol.specs.Calls.{Trace}
-use Rattle.vchan_protocol.specs.Causes.{WriteCause, write_closed, wrote_none, write_full, wrote_some, ReadCause, read_got, read_closed, read_empty}
-use Rattle.vchan_protocol.specs.Loads.{loads_of}
-use Rattle.vchan_protocol.proofs.AnswerLaws.{has_cause, each_cause}
+use Rattle.vchan_protocol.specs.Table.Ends.{Standing}
+use Rattle.vchan_protocol.specs.Table.Calls.{Trace}
+use Rattle.vchan_protocol.specs.Answering.Causes.{WriteCause, write_closed, wrote_none, write_full, wrote_some, ReadCause, read_got, read_closed, read_empty}
+use Rattle.vchan_protocol.specs.Answering.Loads.{loads_of}
+use Rattle.vchan_protocol.proofs.Answering.AnswerLaws.{has_cause, each_cause}
 use Rattle.vchan_stream.specs.declared.WriteAnswer.{WriteAnswer}
 use Rattle.vchan_stream.specs.declared.WriteAnswer.TheVariants.{Wrote as HasWritten, Full as IsFull, PeerClosed as WriteClosed}
 use Rattle.vchan_stream.specs.declared.ReadAnswer.{ReadAnswer}

@@ -7,11 +7,11 @@
 
 ghost use Rattle.std.specs.Prelude.{◌≡◌, ◌↔◌, ◌≤◌, ℕ, min, length};
 ghost use Rattle.vchan_protocol.specs.declared.call.Call.TheVariants.{Write, Read};
-ghost use Rattle.vchan_protocol.specs.Apply.{filled};
-ghost use Rattle.vchan_protocol.specs.Calls.{Trace};
-ghost use Rattle.vchan_protocol.specs.Causes.{WriteCause, ReadCause};
-ghost use Rattle.vchan_protocol.specs.Core.{standing_of, bytes_loaded};
-ghost use Rattle.vchan_protocol.specs.Loads.{loads_of};
+ghost use Rattle.vchan_protocol.specs.Table.Apply.{filled};
+ghost use Rattle.vchan_protocol.specs.Table.Calls.{Trace};
+ghost use Rattle.vchan_protocol.specs.Answering.Causes.{WriteCause, ReadCause};
+ghost use Rattle.vchan_protocol.specs.History.Core.{standing_of, bytes_loaded};
+ghost use Rattle.vchan_protocol.specs.Answering.Loads.{loads_of};
 ghost use Rattle.vchan_rule.specs.Seated.{view, IsOpen};
 ghost use Rattle.vchan_rule.specs.Ends.{IsSameEnd};
 ghost use Rattle.vchan_stream.specs.Stream.{most_asked, AnswersWrite, AnswersRead, write_told, read_told, wrote_to, read_from};

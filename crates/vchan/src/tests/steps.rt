@@ -120,7 +120,7 @@ const CALLS_IN_PARTS: [Row; 4] = [
     },
 ];
 
-/// Ends that are given up to a hostile user.
+/// Ends that are turned over to a hostile user.
 const HOSTILE_ENDS: [Row; 6] = [
     Row {
         script: "open 10 11\nclient poke left_prod 2000\nserver read 5\nclient read 1\n",

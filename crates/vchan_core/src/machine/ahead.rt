@@ -1,6 +1,6 @@
 //! The bytes that come next in a put or a take, for a caller that moves them all by itself.
 ghost use Rattle.std.specs.Prelude.{◌≡◌};
-ghost use Rattle.vchan_core.specs.Ahead.{IsAhead, put_at, take_at};
+ghost use Rattle.vchan_core.specs.OneMachine.Ahead.{IsAhead, put_at, take_at};
 
 use super::Machine;
 use crate::phase::Phase;

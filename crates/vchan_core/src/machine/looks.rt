@@ -7,14 +7,14 @@ ghost use Rattle.ring_words.specs.Page.{Has, index_of};
 ghost use Rattle.ring_words.specs.declared.page.WordName.{WordName};
 ghost use Rattle.vchan_protocol.specs.declared.op.Op.TheVariants.{Load};
 ghost use Rattle.vchan_core.specs.declared.phase.Phase.{Phase};
-ghost use Rattle.vchan_protocol.specs.Plan.{Plan, does};
-ghost use Rattle.vchan_protocol.specs.Ends.{peer_live, read_size};
-ghost use Rattle.vchan_core.specs.Phases.{standing, at_phase, rest_at, plan_at, out_at, into_at, out_move, into_move};
-ghost use Rattle.vchan_core.specs.Pieces.{MakesEvents};
+ghost use Rattle.vchan_protocol.specs.Table.Plan.{Plan, does};
+ghost use Rattle.vchan_protocol.specs.Table.Ends.{peer_live, read_size};
+ghost use Rattle.vchan_core.specs.OneMachine.Phases.{standing, at_phase, rest_at, plan_at, payload_at, buffer_at, payload_next, buffer_next};
+ghost use Rattle.vchan_core.specs.WholeCall.EventsMade.{MakesEvents};
 
 use super::Machine;
 use super::moves::if_alive;
-use crate::phase::{Move, Phase};
+use crate::phase::{Next, Phase};
 use crate::words::{cons_word, low32, prod_word};
 use ring_words::{Role, WordName, Words};
 
@@ -72,7 +72,7 @@ impl Machine {
         ensures events { (payload : List ℕ) → (buffer : List ℕ) → MakesEvents result.0 self.now.orders payload (at_phase self.now (Phase.WriteLive len)) words.now.list buffer (at_phase self.now result.1) words.now.list buffer }
     {
         let live = words.load(self.live_word(role));
-        let next = if_alive(live, Move::To(Phase::WriteLook { len }));
+        let next = if_alive(live, Next::To(Phase::WriteLook { len }));
         self.seen(Phase::WriteLive { len }, next)
     }
 
@@ -105,17 +105,17 @@ impl Machine {
     /// Moves on after a load, unless it gives the call's answer: then the phase stays, and the event
     /// is still to come. It answers how many events it made, 1 or 0, and the phase then.
     #[inline(always)]
-    fn seen(&self, at: Phase, next: Move) -> (u32, Phase)
+    fn seen(&self, at: Phase, next: Next) -> (u32, Phase)
         ensures most { result.0 ≤ 1 }
         ensures events { (word : WordName) → (then : ℕ → Plan) → (list payload buffer : List ℕ)
             → rest_at (standing self.now) at ≡ does (Load word) then → Has self.now.orders word
             → plan_at (standing self.now) next ≡ then (slice_index list (index_of self.now.orders word))
-            → out_move next ≤ out_at at → into_move (read_size (standing self.now)) next ≤ into_at (read_size (standing self.now)) at
+            → payload_next next ≤ payload_at at → buffer_next (read_size (standing self.now)) next ≤ buffer_at (read_size (standing self.now)) at
             → MakesEvents result.0 self.now.orders payload (at_phase self.now at) list buffer (at_phase self.now result.1) list buffer }
     {
         match next {
-            Move::To(phase) => (1, phase),
-            Move::Done(_) => (0, at),
+            Next::To(phase) => (1, phase),
+            Next::Done(_) => (0, at),
         }
     }
 

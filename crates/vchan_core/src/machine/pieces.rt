@@ -3,11 +3,11 @@
 //! They are the events that the machine would make one by one; a page in memory, which no other
 //! thread sees, can't tell the difference.
 ghost use Rattle.std.specs.Prelude.{◌≡◌, ◌<◌, ◌≤◌, ◌+◌, ◌^◌, ℕ, List, length};
-ghost use Rattle.vchan_protocol.specs.Ends.{read_size};
-ghost use Rattle.vchan_core.specs.Phases.{standing, at_phase, out_at, into_at};
+ghost use Rattle.vchan_protocol.specs.Table.Ends.{read_size};
+ghost use Rattle.vchan_core.specs.OneMachine.Phases.{standing, at_phase, payload_at, buffer_at};
 ghost use Rattle.vchan_protocol.specs.declared.call.Answer.{Answer};
 ghost use Rattle.vchan_core.specs.declared.phase.Phase.{Phase};
-ghost use Rattle.vchan_core.specs.Pieces.{MakesEvents};
+ghost use Rattle.vchan_core.specs.WholeCall.EventsMade.{MakesEvents};
 
 use super::Machine;
 use crate::phase::Phase;
@@ -27,8 +27,8 @@ impl Machine {
     ) -> (u32, Phase)
         requires role { self.now.role ≡ role }
         requires orders { words.old.orders ≡ self.now.orders }
-        requires payload { out_at phase ≤ length payload.now }
-        requires buf { into_at (read_size (standing self.now)) phase ≤ length buf.old }
+        requires payload { payload_at phase ≤ length payload.now }
+        requires buf { buffer_at (read_size (standing self.now)) phase ≤ length buf.old }
         ensures orders { words.new.orders ≡ words.old.orders }
         ensures events { MakesEvents result.0 self.now.orders payload.now (at_phase self.now phase) words.old.list buf.old (at_phase self.now result.1) words.new.list buf.new }
         ensures low { ((standing self.now).prod < 2 ^ 32) × ((standing self.now).cons < 2 ^ 32) }

@@ -1,8 +1,8 @@
 use Rattle.std.proofs.Common.{subst, ◌∙◌}
 use Rattle.vchan_protocol.specs.declared.call.Answer.{Answer}
 use Rattle.vchan_protocol.specs.declared.call.Call.TheVariants.{Close}
-use Rattle.vchan_protocol.specs.Calls.{Trace}
-use Rattle.vchan_protocol.specs.Core.{standing_of}
+use Rattle.vchan_protocol.specs.Table.Calls.{Trace}
+use Rattle.vchan_protocol.specs.History.Core.{standing_of}
 use Rattle.vchan_rule.specs.Seated.{view}
 use Rattle.vchan_lifecycle.proofs.LifecycleLaws.{close_done, close_events, close_view}
 use Rattle.vchan_lifecycle.proofs.close.Goals as goal

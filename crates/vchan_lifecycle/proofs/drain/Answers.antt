@@ -1,8 +1,8 @@
 use Rattle.std.proofs.Common.{ℕ, sym, subst, arith}
 use Rattle.vchan_protocol.specs.declared.call.Answer.{Answer}
 use Rattle.vchan_protocol.specs.declared.call.Call.TheVariants.{Drain}
-use Rattle.vchan_protocol.specs.Calls.{Trace}
-use Rattle.vchan_protocol.specs.Core.{standing_of}
+use Rattle.vchan_protocol.specs.Table.Calls.{Trace}
+use Rattle.vchan_protocol.specs.History.Core.{standing_of}
 use Rattle.vchan_lifecycle.specs.Lifecycle.{most_asked}
 use Rattle.vchan_lifecycle.proofs.LifecycleLaws.{drain_answers, drain_cause, drain_some}
 use Rattle.vchan_lifecycle.proofs.drain.Goals as goal

@@ -3,8 +3,8 @@ use Rattle.vchan_protocol.specs.declared.call.Answer.{Answer}
 use Rattle.vchan_protocol.specs.declared.call.Answer.TheVariants.{Done}
 use Rattle.vchan_protocol.specs.declared.call.Call.TheVariants.{Retire}
 use Rattle.vchan_protocol.specs.declared.side.Side.{Side}
-use Rattle.vchan_protocol.specs.Calls.{Trace}
-use Rattle.vchan_protocol.specs.Core.{standing_of}
+use Rattle.vchan_protocol.specs.Table.Calls.{Trace}
+use Rattle.vchan_protocol.specs.History.Core.{standing_of}
 use Rattle.vchan_rule.specs.Seated.{view}
 use Rattle.vchan_lifecycle.specs.Lifecycle.{ops}
 use Rattle.vchan_lifecycle.proofs.LifecycleLaws.{retire_done, retire_events, retire_view, rest_view}

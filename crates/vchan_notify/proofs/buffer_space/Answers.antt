@@ -1,9 +1,9 @@
 use Rattle.std.proofs.Common.{sym, subst}
 use Rattle.vchan_protocol.specs.declared.call.Answer.{Answer}
 use Rattle.vchan_protocol.specs.declared.call.Call.TheVariants.{BufferSpace}
-use Rattle.vchan_protocol.specs.Calls.{Trace}
-use Rattle.vchan_protocol.specs.Core.{standing_of}
-use Rattle.vchan_protocol.proofs.AnswerLaws.{has_cause}
+use Rattle.vchan_protocol.specs.Table.Calls.{Trace}
+use Rattle.vchan_protocol.specs.History.Core.{standing_of}
+use Rattle.vchan_protocol.proofs.Answering.AnswerLaws.{has_cause}
 use Rattle.vchan_notify.proofs.NotifyLaws.{space_answers}
 use Rattle.vchan_notify.proofs.buffer_space.Goals as goal
 

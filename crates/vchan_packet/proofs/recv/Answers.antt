@@ -1,9 +1,9 @@
 use Rattle.std.proofs.Common.{◌≡◌, ◌||◌, ℕ, take, sym, subst, ap, ◌∙◌}
 use Rattle.vchan_protocol.specs.declared.call.Answer.{Answer}
 use Rattle.vchan_protocol.specs.declared.call.Call.TheVariants.{Recv}
-use Rattle.vchan_protocol.specs.Calls.{Trace}
-use Rattle.vchan_protocol.specs.Core.{standing_of}
-use Rattle.vchan_protocol.specs.EndingLaw.{tells_end}
+use Rattle.vchan_protocol.specs.Table.Calls.{Trace}
+use Rattle.vchan_protocol.specs.History.Core.{standing_of}
+use Rattle.vchan_protocol.specs.OneEnd.EndingLaw.{tells_end}
 use Rattle.end_view.specs.AfterCall.{answered_view}
 use Rattle.vchan_rule.specs.Seated.{view}
 use Rattle.vchan_packet.specs.Packet.{most_asked, recv_told, told_recv}

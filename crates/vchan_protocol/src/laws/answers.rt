@@ -1,6 +1,6 @@
 //! Laws of what an answer says of its call, whatever values its events take.
-ghost use Rattle.vchan_protocol.specs.AnswerLaw.{EachAnswerTellsItsTransfer, EachAnswerHasItsCause, EachAnswerHasItsTrace};
-ghost use Rattle.vchan_protocol.specs.IndexLaw.{IndicesAreOwnCounts};
+ghost use Rattle.vchan_protocol.specs.Answering.AnswerLaw.{EachAnswerTellsItsTransfer, EachAnswerHasItsCause, EachAnswerHasItsTrace};
+ghost use Rattle.vchan_protocol.specs.OneEnd.IndexLaw.{IndicesAreOwnCounts};
 
 /// A call has moved what its answer says. After `Wrote` of at least one byte, and after `Sent`, it
 /// has stored just so many bytes and loaded none, and has stored its own producer index once, as

@@ -1,5 +1,5 @@
 //! Laws of what an honest end notes of its peer's end, whatever the peer does.
-ghost use Rattle.vchan_protocol.specs.EndingLaws.{StepKeepsNotes, AnswerIsNoted, EachEndingIsNoted, EachStoreTakesNothing};
+ghost use Rattle.vchan_protocol.specs.OneEnd.EndingLaws.{StepKeepsNotes, AnswerIsNoted, EachEndingIsNoted, EachStoreTakesNothing};
 
 /// `saw`, `ended` and `drained` of an end hang together after each event of its call, whatever
 /// value the event takes.

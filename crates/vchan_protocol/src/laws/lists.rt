@@ -1,5 +1,5 @@
 //! Laws of whole calls, which an end makes while its peer makes no event.
-ghost use Rattle.vchan_protocol.specs.ListLaw.{WholeCallsFollowLists, CallsInARowFollowLists, CallsFromTheOpeningFollowLists};
+ghost use Rattle.vchan_protocol.specs.Lists.ListLaw.{WholeCallsFollowLists, CallsInARowFollowLists, CallsFromTheOpeningFollowLists};
 
 /// Between two honest ends each whole call is a call on lists: it answers what the lists of what
 /// was sent and got tell, moves what they say, and the bytes that it loads are the first ones that

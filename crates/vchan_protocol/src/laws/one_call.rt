@@ -1,6 +1,6 @@
 //! Laws of a call of one end by its own events, whatever values these took: so whatever its peer,
 //! honest or hostile, does between them.
-ghost use Rattle.vchan_protocol.specs.OneCall.{AnswersTellBytes, WayBegins, EachWayGoesOn, EachOverTells};
+ghost use Rattle.vchan_protocol.specs.OneEnd.OneCall.{AnswersTellBytes, WayBegins, EachWayGoesOn, EachOverTells};
 
 /// A whole call sends as many of the first bytes of its payload as its answer says, which are all
 /// that it stored, and gets all the bytes that it loaded, which are as many as its answer says.

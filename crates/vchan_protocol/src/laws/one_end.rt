@@ -1,14 +1,14 @@
 //! What one end can know of a page that others write: each of its steps changes its own part by
 //! that part and one value taken, and keeps what holds of the page, whatever its peer is.
-ghost use Rattle.vchan_protocol.specs.OneEnd.{EachCoreIsBetween, EachStepIsOwn, EachStepKeeps};
-ghost use Rattle.vchan_protocol.specs.OneEndLaw.{OwnAtOpening, BeginKeepsOwn, StepKeepsOwn, EachOwnIsLawful};
+ghost use Rattle.vchan_protocol.specs.OneEnd.OneEnd.{EachCoreIsBetween, EachStepIsOwn, EachStepKeeps};
+ghost use Rattle.vchan_protocol.specs.OneEnd.OneEndLaw.{OwnAtOpening, BeginKeepsOwn, StepKeepsOwn, EachOwnIsLawful};
 
 /// Each core state is the words, one of its ends and that end's peer.
 pub fn each_core_is_between()
     ensures { EachCoreIsBetween }
 {}
 
-/// An end's begin of a call, its events, its being given up and its hostile user's events leave its
+/// An end's begin of a call, its events, its being turned and its hostile user's events leave its
 /// peer as it is, and make of its own part what that part and one value make: the word that an
 /// event is on, and for a turn how much the peer has got.
 pub fn each_step_is_own()

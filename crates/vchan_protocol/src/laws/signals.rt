@@ -1,6 +1,6 @@
 //! Laws of signals: between two honest ends none is lost, so an end that asked to be woken, found
 //! nothing and waits is woken once there is something.
-ghost use Rattle.vchan_protocol.specs.SignalLaw.{SignalsAtOpening, BeginKeepsSignals, EventKeepsSignals, CallKeepsSignals, NoSignalIsLost, WaitMissesNothing};
+ghost use Rattle.vchan_protocol.specs.Signals.SignalLaw.{SignalsAtOpening, BeginKeepsSignals, EventKeepsSignals, CallKeepsSignals, NoSignalIsLost, WaitMissesNothing};
 
 /// On a page on which nothing has happened yet no signal is lost.
 pub fn no_signal_lost_at_opening()

@@ -1,8 +1,8 @@
 use Rattle.std.proofs.Common.{ℕ, sym, subst}
 use Rattle.vchan_protocol.specs.declared.call.Answer.{Answer}
 use Rattle.vchan_protocol.specs.declared.call.Call.TheVariants.{Write}
-use Rattle.vchan_protocol.specs.Calls.{Trace}
-use Rattle.vchan_protocol.specs.Core.{standing_of}
+use Rattle.vchan_protocol.specs.Table.Calls.{Trace}
+use Rattle.vchan_protocol.specs.History.Core.{standing_of}
 use Rattle.vchan_stream.specs.Stream.{most_asked}
 use Rattle.vchan_stream.proofs.StreamLaws.{write_answers, write_cause}
 use Rattle.vchan_stream.proofs.write.Goals as goal

@@ -1,13 +1,13 @@
 use Rattle.std.proofs.Common.{◌≡◌, ℕ, ◌+◌, ◌<◌, suc, List, [], ◌∷◌, drop, length, sym, ◌∙◌, ap, subst, add-one, drop-cons, slice_index_or}
 use Rattle.std.proofs.Math.ListN.{drop_of_length-le}
 use Rattle.step_script.specs.declared.script.ScriptLine.{ScriptLine}
-use Rattle.vchan_core.specs.Past.{orders_of}
-use Rattle.step_script.specs.Played.{line_done}
-use Rattle.step_script.specs.Players.{Plays}
-use Rattle.step_script.specs.Script.{LineFits}
-use Rattle.step_script.specs.ScriptLines.{line_seen, line_with, lines_seen}
-use Rattle.step_script.proofs.PlayerLaws.{IsPlaying, playing_first, playing_fits, playing_on}
-use Rattle.step_script.proofs.ListScriptLaws.{script_text}
+use Rattle.vchan_core.specs.Page.StandsFor.{orders_of}
+use Rattle.step_script.specs.Meaning.Played.{line_done}
+use Rattle.step_script.specs.Parts.Players.{Plays}
+use Rattle.step_script.specs.Language.Script.{LineFits}
+use Rattle.step_script.specs.Parts.ScriptLines.{line_seen, line_with, lines_seen}
+use Rattle.step_script.proofs.Parts.PlayerLaws.{IsPlaying, playing_first, playing_fits, playing_on}
+use Rattle.step_script.proofs.Meaning.ListScriptLaws.{script_text}
 use Rattle.step_script.proofs.player.play.Goals as goal
 
 pub loop-line-init : goal.loop-line-init

@@ -1,42 +1,42 @@
 use Rattle.std.proofs.Common.{◌≡◌, ℕ, List, ap, sym, subst, arith}
 use Rattle.std.proofs.lemmas.Result.{err_from_is_err_and}
-use Rattle.step_script.specs.Grammar.{script_of_lines}
-use Rattle.step_script.specs.LinesLeft.{lines_left}
-use Rattle.vchan_core.specs.Past.{orders_of}
-use Rattle.step_script.specs.Played.{line_done}
-use Rattle.step_script.specs.Players.{Plays}
-use Rattle.step_script.specs.Script.{LineFits}
-use Rattle.step_script.specs.ScriptLines.{line_with, payload_len}
-use Rattle.step_script.proofs.RunningLaws.{running_first, running_fits, running_next, running_refused, running_last}
-use Rattle.step_script.proofs.ScriptLaws.{next_line, next_end, refused_line, refused_next}
+use Rattle.step_script.specs.Language.Grammar.{script_of_lines}
+use Rattle.step_script.specs.Parts.LinesLeft.{lines_left}
+use Rattle.vchan_core.specs.Page.StandsFor.{orders_of}
+use Rattle.step_script.specs.Meaning.Played.{line_done}
+use Rattle.step_script.specs.Parts.Players.{Plays}
+use Rattle.step_script.specs.Language.Script.{LineFits}
+use Rattle.step_script.specs.Parts.ScriptLines.{line_with, payload_len}
+use Rattle.step_script.proofs.Parts.RunningLaws.{running_first, running_fits, running_next, running_refused, running_last}
+use Rattle.step_script.proofs.Language.ScriptLaws.{next_line, next_end, refused_line, refused_next}
 use Rattle.step_script.proofs.running.script_text.Goals as goal
 
 pub loop-payload-init : goal.loop-payload-init
 loop-payload-init c = record {
-  so_far = running_first c.args.bytes.now c.in_ok-opening.opening c.in_ok-player.player (lines_left c.of-reader.result) _ (ap script_of_lines (sym c.of-reader.ensures)) c.in_ok-opening.ensures.opening c.in_ok-player.ensures.at c.in_ok-player.ensures.text;
+  summary = running_first c.args.bytes.now c.in_ok-opening.opening c.in_ok-player.player (lines_left c.of-reader.result) _ (ap script_of_lines (sym c.of-reader.ensures)) c.in_ok-opening.ensures.opening c.in_ok-player.ensures.at c.in_ok-player.ensures.text;
   room = omega arith;
 }
 
 pub returns-in_err-number-clause-bad : goal.returns-in_err-number-clause-bad
 returns-in_err-number-clause-bad c =
     let p = err_from_is_err_and c.from_residual-in_err-number.result c.from_residual-in_err-number.ensures.1 in
-    let so_far = c.loop-payload.invariant.so_far in
-    rw (p.1, p.2) (running_refused _ _ _ _ _ _ so_far (refused_next _ so_far.front _ _ _ _ so_far.due so_far.read c.in_err-number.ensures))
+    let summary = c.loop-payload.invariant.summary in
+    rw (p.1, p.2) (running_refused _ _ _ _ _ _ summary (refused_next _ summary.front _ _ _ _ summary.due summary.read c.in_err-number.ensures))
 
 pub returns-in_err-line-clause-bad : goal.returns-in_err-line-clause-bad
 returns-in_err-line-clause-bad c =
     let p = err_from_is_err_and c.from_residual-in_err-line.result c.from_residual-in_err-line.ensures.1 in
-    let so_far = c.loop-payload.invariant.so_far in
+    let summary = c.loop-payload.invariant.summary in
     let next = next_line _ _ _ _ _ c.in_ok-number.ensures c.in-Line.is in
-    rw (p.1, p.2) (running_refused _ _ _ _ _ _ so_far (refused_line _ so_far.front _ _ _ _ _ _ so_far.due so_far.read next c.in_err-line.ensures.line))
+    rw (p.1, p.2) (running_refused _ _ _ _ _ _ summary (refused_line _ summary.front _ _ _ _ _ _ summary.due summary.read next c.in_err-line.ensures.line))
 
 pub play_line-requires-clause-known : goal.play_line-requires-clause-known
-play_line-requires-clause-known c = (c.loop-payload.invariant.so_far.core, c.loop-payload.invariant.so_far.to)
+play_line-requires-clause-known c = (c.loop-payload.invariant.summary.core, c.loop-payload.invariant.summary.to)
 
 pub play_line-requires-clause-fits : goal.play_line-requires-clause-fits
 play_line-requires-clause-fits c =
     subst (λ (l : List ℕ). LineFits (orders_of c.loop-payload.player.page) (line_with c.in_ok-line.line l)) (sym c.as_slice.ensures.value)
-    (running_fits _ _ _ _ _ _ c.loop-payload.invariant.so_far c.in_ok-line.ensures.fits.0)
+    (running_fits _ _ _ _ _ _ c.loop-payload.invariant.summary c.in_ok-line.ensures.fits.0)
 
 pub loop-payload-preserved : goal.loop-payload-preserved
 loop-payload-preserved c =
@@ -47,4 +47,4 @@ loop-payload-preserved c =
 
 pub returns-clause-text : goal.returns-clause-text
 returns-clause-text c =
-    running_last _ _ _ _ _ _ _ c.loop-payload.invariant.so_far (next_end _ _ _ _ c.in_ok-number.ensures c.in_default.is) c.in_ok-player.ensures.opens c.in_ok-text.ensures
+    running_last _ _ _ _ _ _ _ c.loop-payload.invariant.summary (next_end _ _ _ _ c.in_ok-number.ensures c.in_default.is) c.in_ok-player.ensures.opens c.in_ok-text.ensures

@@ -1,9 +1,9 @@
 use Rattle.std.proofs.Common.{◌≡◌, ℕ, List, Result, Ok, subst, sym, ◌∙◌}
 use Rattle.step_script.specs.declared.error.ScriptKind.{ScriptKind}
-use Rattle.step_script.specs.Grammar.{script_of}
-use Rattle.step_script.specs.Script.{StepLine}
-use Rattle.step_script.specs.ListScript.{ToldByLists}
-use Rattle.step_script.specs.ScriptText.{IsTextOf}
+use Rattle.step_script.specs.Language.Grammar.{script_of}
+use Rattle.step_script.specs.Language.Script.{StepLine}
+use Rattle.step_script.specs.Meaning.ListScript.{ToldByLists}
+use Rattle.step_script.specs.Meaning.ScriptText.{IsTextOf}
 use Rattle.vchan.proofs.output.step.Goals as goal
 
 read_once : (one other : List StepLine) → ◌≡◌ {A = Result (List StepLine) (ℕ × ScriptKind)} (Ok one) (Ok other) → one ≡ other

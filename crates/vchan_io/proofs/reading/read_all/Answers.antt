@@ -1,5 +1,5 @@
 -- What a read puts after the filled part of the vector is taken too.
-use Rattle.std.proofs.Common.{◌≡◌, ◌++◌, length, take, drop, arith, rules}
+use Rattle.std.proofs.Common.{◌≡◌, ◌∙◌, ◌++◌, length, take, drop, arith, rules}
 use Rattle.std.proofs.lemmas.Grind.{common_steps}
 use Rattle.std.proofs.lemmas.List.{take_at}
 use Rattle.vchan_io.proofs.Streaming.{Takes-filled}
@@ -15,5 +15,5 @@ loop-filled-preserved g c =
       within = search rules;
       bounded = search rules;
       takes = rw whole (Takes-filled _ _ _ _ after _ _ kept c.loop-filled.invariant.takes (search rules));
-      counted = search rules;
+      unfaulted = c.in_ok-count.ensures.unfaulted ∙ c.loop-filled.invariant.unfaulted;
     }

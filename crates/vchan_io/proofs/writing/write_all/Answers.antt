@@ -1,5 +1,5 @@
 -- What a write takes of the bytes that are left is appended too.
-use Rattle.std.proofs.Common.{rules}
+use Rattle.std.proofs.Common.{◌∙◌, rules}
 use Rattle.std.proofs.lemmas.List.{take_rest}
 use Rattle.vchan_io.proofs.Streaming.{Appends-front}
 use Rattle.vchan_io.proofs.writing.write_all.Goals as goal
@@ -9,5 +9,5 @@ loop-written-preserved g c =
     record {
       within = search rules;
       appends = Appends-front _ _ _ c.args.bytes.now c.loop-written.written _ c.loop-written.invariant.appends (rw take_rest at c.in-Ok.ensures.appended);
-      counted = search rules;
+      unfaulted = c.in-Ok.ensures.unfaulted ∙ c.loop-written.invariant.unfaulted;
     }

@@ -1,4 +1,4 @@
-use Rattle.vchan_protocol.proofs.WholeCalls.{reached_called}
+use Rattle.vchan_protocol.proofs.History.WholeCallSteps.{reached_called}
 use Rattle.vchan_protocol.proofs.laws.calls_are_reached.Goals as goal
 
 pub returns : goal.returns

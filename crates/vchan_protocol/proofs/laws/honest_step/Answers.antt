@@ -1,4 +1,4 @@
-use Rattle.vchan_protocol.proofs.LawfulSteps.{lawful_event}
+use Rattle.vchan_protocol.proofs.Honest.LawfulSteps.{lawful_event}
 use Rattle.vchan_protocol.proofs.laws.honest_step.Goals as goal
 
 pub returns : goal.returns

@@ -1,4 +1,4 @@
-use Rattle.vchan_protocol.proofs.LawfulSteps.{lawful_begun}
+use Rattle.vchan_protocol.proofs.Honest.LawfulSteps.{lawful_begun}
 use Rattle.vchan_protocol.proofs.laws.lawful_begin.Goals as goal
 
 pub returns : goal.returns

@@ -1,4 +1,4 @@
-use Rattle.vchan_protocol.proofs.WholeCalls.{lawful_called}
+use Rattle.vchan_protocol.proofs.History.WholeCallSteps.{lawful_called}
 use Rattle.vchan_protocol.proofs.laws.lawful_call.Goals as goal
 
 pub returns : goal.returns

@@ -1,4 +1,4 @@
-use Rattle.vchan_protocol.proofs.LawfulSteps.{lawful_opened}
+use Rattle.vchan_protocol.proofs.Honest.LawfulSteps.{lawful_opened}
 use Rattle.vchan_protocol.proofs.laws.lawful_opening.Goals as goal
 
 pub returns : goal.returns

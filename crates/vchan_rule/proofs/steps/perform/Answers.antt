@@ -1,5 +1,5 @@
 use Rattle.std.proofs.Common.{rules, ◌≡◌, ◌∙◌, sym, refl, subst}
-use Rattle.vchan_protocol.specs.Apply.{leaves}
+use Rattle.vchan_protocol.specs.Table.Apply.{leaves}
 use Rattle.vchan_protocol.specs.declared.op.Op.{Op}
 use Rattle.vchan_protocol.specs.declared.op.Op.TheVariants.{Load, LoadByte, Store, StoreByte, Or, And, Swap}
 use Rattle.vchan_rule.proofs.Keeps.{allows_at}

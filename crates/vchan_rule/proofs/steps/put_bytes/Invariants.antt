@@ -1,7 +1,7 @@
 use Rattle.std.proofs.Common.{◌≡◌, ◌≤◌, ◌-◌, [], ℕ, List, None}
 use Rattle.vchan_protocol.specs.declared.op.Op.TheVariants.{Nothing}
-use Rattle.vchan_core.specs.Ahead.{put_at}
-use Rattle.vchan_core.specs.Past.{HasPayload}
+use Rattle.vchan_core.specs.OneMachine.Ahead.{put_at}
+use Rattle.vchan_core.specs.Page.StandsFor.{HasPayload}
 use Rattle.vchan_rule.specs.Ends.{end_in, Agrees}
 use Rattle.vchan_rule.specs.Along.{GoesAlong}
 use Rattle.vchan_rule.specs.declared.rule.View.TheVariants.{One}

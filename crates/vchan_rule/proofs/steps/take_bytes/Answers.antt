@@ -4,11 +4,11 @@ use Rattle.ring_words.specs.declared.page.WordName.TheVariants.{RingByte}
 use Rattle.vchan_protocol.specs.declared.op.Op.TheVariants.{LoadByte}
 use Rattle.vchan_protocol.specs.declared.side.Side.{Side}
 use Rattle.vchan_core.specs.declared.machine.Machine.{Machine}
-use Rattle.vchan_core.specs.Ahead.{take_at}
-use Rattle.vchan_core.specs.Past.{HasPayload}
+use Rattle.vchan_core.specs.OneMachine.Ahead.{take_at}
+use Rattle.vchan_core.specs.Page.StandsFor.{HasPayload}
 use Rattle.vchan_rule.specs.Ends.{end_in, Agrees}
 use Rattle.vchan_rule.specs.Along.{GoesAlong}
-use Rattle.vchan_protocol.specs.Core.{side_after}
+use Rattle.vchan_protocol.specs.History.Core.{side_after}
 use Rattle.vchan_rule.specs.declared.rule.View.TheVariants.{One}
 use Rattle.vchan_rule.proofs.ByteLaws.{take_next, take_has, number_from, number_within, some_size, byte_next, byte_goes_on, byte_agrees, byte_pays, byte_along, along_none, along_more}
 use Rattle.vchan_rule.proofs.steps.take_bytes.Goals as goal

@@ -1,10 +1,10 @@
 use Rattle.std.proofs.Common.{refl}
 use Rattle.step_script.specs.declared.player.Player.{Player}
-use Rattle.step_script.specs.Played.{line_done}
-use Rattle.step_script.specs.Script.{begins}
-use Rattle.step_script.specs.ScriptLines.{call_with}
-use Rattle.step_script.proofs.DoesLaws.{on_ok_map}
-use Rattle.step_script.proofs.PlayerLaws.{keeps_begin, known_as_client, known_as_server, plays_as_client, plays_as_server}
+use Rattle.step_script.specs.Meaning.Played.{line_done}
+use Rattle.step_script.specs.Language.Script.{begins}
+use Rattle.step_script.specs.Parts.ScriptLines.{call_with}
+use Rattle.step_script.proofs.Parts.DoesLaws.{on_ok_map}
+use Rattle.step_script.proofs.Parts.PlayerLaws.{keeps_begin, known_as_client, known_as_server, plays_as_client, plays_as_server}
 use Rattle.step_script.proofs.player.Player.begin.Goals as goal
 
 pub begin-requires-clause-known : goal.begin-requires-clause-known

@@ -1,7 +1,7 @@
 use Rattle.std.proofs.Common.{sym, subst}
-use Rattle.vchan_core.specs.Past.{StandsFor}
+use Rattle.vchan_core.specs.Page.StandsFor.{StandsFor}
 use Rattle.vchan_core.specs.declared.plain.Plain.{Plain}
-use Rattle.step_script.proofs.PlayerLaws.{ended}
+use Rattle.step_script.proofs.Parts.PlayerLaws.{ended}
 use Rattle.step_script.proofs.player.Player.end.Goals as goal
 
 pub returns : goal.returns

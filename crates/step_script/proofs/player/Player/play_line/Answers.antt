@@ -1,11 +1,11 @@
 use Rattle.std.proofs.Common.{sym, subst}
-use Rattle.vchan_protocol.specs.Ends.{peer_pending}
+use Rattle.vchan_protocol.specs.Table.Ends.{peer_pending}
 use Rattle.step_script.specs.declared.player.Player.{Player}
 use Rattle.step_script.specs.declared.script.Line.{Line}
-use Rattle.step_script.specs.Played.{line_done}
-use Rattle.step_script.specs.Players.{Plays}
-use Rattle.step_script.specs.ScriptLines.{line_with}
-use Rattle.step_script.proofs.PlayerLaws.{plays_stray}
+use Rattle.step_script.specs.Meaning.Played.{line_done}
+use Rattle.step_script.specs.Parts.Players.{Plays}
+use Rattle.step_script.specs.Parts.ScriptLines.{line_with}
+use Rattle.step_script.proofs.Parts.PlayerLaws.{plays_stray}
 use Rattle.step_script.proofs.player.Player.play_line.Goals as goal
 
 pub returns-in-Poke : goal.returns-in-Poke

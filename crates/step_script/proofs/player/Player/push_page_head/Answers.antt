@@ -3,11 +3,11 @@ use Rattle.ring_words.specs.declared.order.Orders.{Orders}
 use Rattle.ring_words.specs.Image.{image_of}
 use Rattle.ring_words.specs.PageWords.{PageWords}
 use Rattle.step_script.specs.declared.player.Player.{Player}
-use Rattle.step_script.specs.Output.{heads}
-use Rattle.step_script.specs.Played.{line_done, prints}
-use Rattle.step_script.specs.Script.{head}
-use Rattle.step_script.proofs.DoesLaws.{on_ok_map}
-use Rattle.step_script.proofs.PlayerLaws.{plays_print}
+use Rattle.step_script.specs.Meaning.Output.{heads}
+use Rattle.step_script.specs.Meaning.Played.{line_done, prints}
+use Rattle.step_script.specs.Language.Script.{head}
+use Rattle.step_script.proofs.Parts.DoesLaws.{on_ok_map}
+use Rattle.step_script.proofs.Parts.PlayerLaws.{plays_print}
 use Rattle.step_script.proofs.player.Player.push_page_head.Goals as goal
 
 same_words : (page : PageWords) (orders : Orders) (words : List ℕ) → page.orders ≡ orders → page.list ≡ words → page ≡ record { orders = orders; list = words }

@@ -1,9 +1,9 @@
 use Rattle.std.proofs.Common.{refl}
 use Rattle.step_script.specs.declared.player.Player.{Player}
-use Rattle.step_script.specs.Played.{line_done}
-use Rattle.step_script.specs.Script.{steps}
-use Rattle.step_script.proofs.DoesLaws.{on_ok_map}
-use Rattle.step_script.proofs.PlayerLaws.{keeps_step, known_as_client, known_as_server, plays_as_client, plays_as_server}
+use Rattle.step_script.specs.Meaning.Played.{line_done}
+use Rattle.step_script.specs.Language.Script.{steps}
+use Rattle.step_script.proofs.Parts.DoesLaws.{on_ok_map}
+use Rattle.step_script.proofs.Parts.PlayerLaws.{keeps_step, known_as_client, known_as_server, plays_as_client, plays_as_server}
 use Rattle.step_script.proofs.player.Player.step.Goals as goal
 
 pub step-requires : goal.step-requires

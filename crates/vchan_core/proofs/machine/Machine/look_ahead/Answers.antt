@@ -1,5 +1,5 @@
-use Rattle.vchan_core.specs.Phases.{at_phase}
-use Rattle.vchan_core.proofs.LookLaws.{makes_all}
+use Rattle.vchan_core.specs.OneMachine.Phases.{at_phase}
+use Rattle.vchan_core.proofs.WholeCall.LookLaws.{makes_all}
 use Rattle.vchan_core.proofs.machine.Machine.look_ahead.Goals as goal
 
 pub returns-clause-events : goal.returns-clause-events

@@ -8,10 +8,10 @@ use Rattle.ring_words.specs.declared.order.Orders.{Orders}
 use Rattle.ring_words.specs.declared.page.Ring.{Ring}
 use Rattle.ring_words.specs.declared.page.WordName.TheVariants.{RingByte}
 use Rattle.ring_words.proofs.RingLaws.{place_wraps, place_on}
-use Rattle.vchan_protocol.specs.Ends.{write_order, written_ring}
-use Rattle.vchan_core.specs.Phases.{standing}
-use Rattle.vchan_core.specs.Pieces.{MakesEvents}
-use Rattle.vchan_core.proofs.PieceLaws.{put_piece, at_put, put_place}
+use Rattle.vchan_protocol.specs.Table.Ends.{write_order, written_ring}
+use Rattle.vchan_core.specs.OneMachine.Phases.{standing}
+use Rattle.vchan_core.specs.WholeCall.EventsMade.{MakesEvents}
+use Rattle.vchan_core.proofs.WholeCall.PieceLaws.{put_piece, at_put, put_place}
 use Rattle.vchan_core.proofs.machine.Machine.put_piece.Goals as goal
 
 pub returns-clause-events : goal.returns-clause-events

@@ -3,10 +3,10 @@ use Rattle.ring_words.specs.Page.{index_of}
 use Rattle.ring_words.specs.declared.order.Orders.{Orders}
 use Rattle.ring_words.specs.declared.page.Ring.{Ring}
 use Rattle.ring_words.specs.declared.page.WordName.{WordName}
-use Rattle.vchan_protocol.specs.Ends.{prod_word, read_ring, low32}
-use Rattle.vchan_core.specs.Phases.{standing}
-use Rattle.vchan_protocol.proofs.Counted.{has_look_read}
-use Rattle.vchan_core.proofs.LookLaws.{read_next, read_is}
+use Rattle.vchan_protocol.specs.Table.Ends.{prod_word, read_ring, low32}
+use Rattle.vchan_core.specs.OneMachine.Phases.{standing}
+use Rattle.vchan_protocol.proofs.Table.Counted.{has_look_read}
+use Rattle.vchan_core.proofs.WholeCall.LookLaws.{read_next, read_is}
 use Rattle.vchan_core.proofs.machine.Machine.read_look.Goals as goal
 
 pub returns-clause-events : goal.returns-clause-events
@@ -21,4 +21,4 @@ returns-clause-events c = λ payload buffer.
     c.seen.ensures.events (prod_word (read_ring m.role)) (λ v. read_next e n (low32 v)) list payload buffer
     (read_is e n) (has_look_read m.orders m.role)
     (c.read_found-next.ensures.plan ∙ ap (λ (v : ℕ). read_next e n v) (c.low32.ensures ∙ ap (λ (v : ℕ). low32 v) value))
-    (omega (arith, c.read_found-next.ensures.out)) c.read_found-next.ensures.into
+    (omega (arith, c.read_found-next.ensures.payload_left)) c.read_found-next.ensures.buffer_left

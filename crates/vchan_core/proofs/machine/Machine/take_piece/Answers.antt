@@ -9,10 +9,10 @@ use Rattle.ring_words.specs.declared.page.Ring.{Ring}
 use Rattle.ring_words.specs.declared.page.WordName.TheVariants.{RingByte}
 use Rattle.ring_words.proofs.RingLaws.{place_wraps, place_on}
 use Rattle.ring_words.proofs.LaidLaws.{laid_is, length-low_bytes}
-use Rattle.vchan_protocol.specs.Ends.{read_order, read_ring}
-use Rattle.vchan_core.specs.Phases.{standing}
-use Rattle.vchan_core.specs.Pieces.{MakesEvents}
-use Rattle.vchan_core.proofs.PieceLaws.{take_piece, at_take, take_place}
+use Rattle.vchan_protocol.specs.Table.Ends.{read_order, read_ring}
+use Rattle.vchan_core.specs.OneMachine.Phases.{standing}
+use Rattle.vchan_core.specs.WholeCall.EventsMade.{MakesEvents}
+use Rattle.vchan_core.proofs.WholeCall.PieceLaws.{take_piece, at_take, take_place}
 use Rattle.vchan_core.proofs.machine.Machine.take_piece.Goals as goal
 
 pub returns-clause-events : goal.returns-clause-events

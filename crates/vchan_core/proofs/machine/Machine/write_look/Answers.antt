@@ -3,10 +3,10 @@ use Rattle.ring_words.specs.Page.{index_of}
 use Rattle.ring_words.specs.declared.order.Orders.{Orders}
 use Rattle.ring_words.specs.declared.page.Ring.{Ring}
 use Rattle.ring_words.specs.declared.page.WordName.{WordName}
-use Rattle.vchan_protocol.specs.Ends.{cons_word, written_ring, low32}
-use Rattle.vchan_core.specs.Phases.{standing}
-use Rattle.vchan_protocol.proofs.Counted.{has_look_write}
-use Rattle.vchan_core.proofs.LookLaws.{write_next, write_is}
+use Rattle.vchan_protocol.specs.Table.Ends.{cons_word, written_ring, low32}
+use Rattle.vchan_core.specs.OneMachine.Phases.{standing}
+use Rattle.vchan_protocol.proofs.Table.Counted.{has_look_write}
+use Rattle.vchan_core.proofs.WholeCall.LookLaws.{write_next, write_is}
 use Rattle.vchan_core.proofs.machine.Machine.write_look.Goals as goal
 
 pub returns-clause-events : goal.returns-clause-events
@@ -21,4 +21,4 @@ returns-clause-events c = λ payload buffer.
     c.seen.ensures.events (cons_word (written_ring m.role)) (λ v. write_next e n (low32 v)) list payload buffer
     (write_is e n) (has_look_write m.orders m.role)
     (c.write_found-next.ensures.plan ∙ ap (λ (v : ℕ). write_next e n v) (c.low32.ensures ∙ ap (λ (v : ℕ). low32 v) value))
-    c.write_found-next.ensures.out (omega (arith, c.write_found-next.ensures.into))
+    c.write_found-next.ensures.payload_left (omega (arith, c.write_found-next.ensures.buffer_left))

@@ -1,9 +1,9 @@
 use Rattle.std.proofs.Common.{◌∙◌, sym, subst, refl, Option, IsNone}
 use Rattle.ring_words.specs.declared.page.Role.{Role}
 use Rattle.vchan_core.specs.declared.phase.Phase.{Phase}
-use Rattle.vchan_core.specs.Past.{machine_of, orders_of, words_of}
-use Rattle.vchan_core.specs.Phases.{IsIdle}
-use Rattle.vchan_core.proofs.StepLaws.{DoesAt, stands_server_at, stands_client_at, keeps_orders, keeps_role}
+use Rattle.vchan_core.specs.Page.StandsFor.{machine_of, orders_of, words_of}
+use Rattle.vchan_core.specs.OneMachine.Phases.{IsIdle}
+use Rattle.vchan_core.proofs.Page.StepLaws.{DoesAt, stands_server_at, stands_client_at, keeps_orders, keeps_role}
 use Rattle.vchan_core.proofs.plain.Plain.event.Goals as goal
 
 pub invariant_of-self : goal.invariant_of-self

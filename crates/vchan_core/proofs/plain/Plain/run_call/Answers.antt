@@ -1,12 +1,12 @@
 use Rattle.std.proofs.Common.{ℕ, ◌<◌, ◌+◌, arith, subst}
 use Rattle.std.proofs.lemmas.List.Elements.{All-from_get_or}
 use Rattle.vchan_core.specs.declared.phase.Phase.{Phase}
-use Rattle.vchan_core.specs.declared.phase.Move.TheVariants.{To, Done}
+use Rattle.vchan_core.specs.declared.phase.Next.TheVariants.{To, Done}
 use Rattle.vchan_core.specs.declared.phase.Phase.TheVariants.{Notify}
-use Rattle.vchan_core.specs.Midway.{page_at}
-use Rattle.vchan_core.proofs.LoopLaws.{InLoop, MovesAt, IsEnded, loop_first, loop_seen, loop_moved, loop_out, loop_into, loop_to, loop_done, loop_short}
-use Rattle.vchan_core.proofs.PlainLaws.{kept_call}
-use Rattle.vchan_core.proofs.PlainLaws.{page_follows_lists}
+use Rattle.vchan_core.specs.WholeCall.AtPhase.{page_at}
+use Rattle.vchan_core.proofs.WholeCall.LoopLaws.{InLoop, MovesAt, IsEnded, loop_first, loop_seen, loop_moved, loop_payload, loop_buffer, loop_to, loop_done, loop_short}
+use Rattle.vchan_core.proofs.Page.PlainLaws.{invariant_call}
+use Rattle.vchan_core.proofs.Page.PlainLaws.{page_follows_lists}
 use Rattle.vchan_core.proofs.plain.Plain.run_call.Given.{Over}
 use Rattle.vchan_core.proofs.plain.Plain.run_call.Goals as goal
 
@@ -14,7 +14,7 @@ pub events-init : goal.events-init
 events-init g c = (
   0,
   loop_first c.args.self.now c.args.who c.args.call c.args.payload.now c.args.buf.now c.first-phase.result c.requires.payload c.requires.buf
-      c.first-phase.ensures.stands c.first-phase.ensures.plan c.first-phase.ensures.out c.first-phase.ensures.into,
+      c.first-phase.ensures.stands c.first-phase.ensures.plan c.first-phase.ensures.payload_left c.first-phase.ensures.buffer_left,
   c.requires.allowed.0,
   omega arith,
 )
@@ -23,26 +23,26 @@ events-init g c = (
 
 pub move_piece-moved-requires-clause-payload : goal.move_piece-moved-requires-clause-payload
 move_piece-moved-requires-clause-payload g c =
-    loop_out c.args.self.now c.args.who c.args.call c.args.payload.now c.args.buf.now c.events.self c.look_ahead-looks.result.1 c.events.buf _
+    loop_payload c.args.self.now c.args.who c.args.call c.args.payload.now c.args.buf.now c.events.self c.look_ahead-looks.result.1 c.events.buf _
     (loop_seen c.args.self.now c.args.who c.args.call c.args.payload.now c.args.buf.now c.requires.payload c.look_ahead-looks.result.0 c.events.self c.events.phase c.look_ahead-looks.result.1 c.events.buf c.events.invariant.0
     c.events.invariant.1 c.look_ahead-looks.ensures.low (c.look_ahead-looks.ensures.events c.args.payload.now c.events.buf))
 
 pub move_piece-moved-requires-clause-buf : goal.move_piece-moved-requires-clause-buf
 move_piece-moved-requires-clause-buf g c =
-    loop_into c.args.self.now c.args.who c.args.call c.args.payload.now c.args.buf.now c.events.self c.look_ahead-looks.result.1 c.events.buf _
+    loop_buffer c.args.self.now c.args.who c.args.call c.args.payload.now c.args.buf.now c.events.self c.look_ahead-looks.result.1 c.events.buf _
     (loop_seen c.args.self.now c.args.who c.args.call c.args.payload.now c.args.buf.now c.requires.payload c.look_ahead-looks.result.0 c.events.self c.events.phase c.look_ahead-looks.result.1 c.events.buf c.events.invariant.0
     c.events.invariant.1 c.look_ahead-looks.ensures.low (c.look_ahead-looks.ensures.events c.args.payload.now c.events.buf))
 
 pub event-requires-clause-payload : goal.event-requires-clause-payload
 event-requires-clause-payload g c =
-    loop_out c.args.self.now c.args.who c.args.call c.args.payload.now c.args.buf.now c.move_piece-moved.new.self c.move_piece-moved.result.1 c.move_piece-moved.new.buf _
+    loop_payload c.args.self.now c.args.who c.args.call c.args.payload.now c.args.buf.now c.move_piece-moved.new.self c.move_piece-moved.result.1 c.move_piece-moved.new.buf _
     (loop_moved c.args.self.now c.args.who c.args.call c.args.payload.now c.args.buf.now c.requires.payload c.move_piece-moved.result.0 c.events.self c.move_piece-moved.new.self c.look_ahead-looks.result.1 c.move_piece-moved.result.1 c.events.buf c.move_piece-moved.new.buf _
     (loop_seen c.args.self.now c.args.who c.args.call c.args.payload.now c.args.buf.now c.requires.payload c.look_ahead-looks.result.0 c.events.self c.events.phase c.look_ahead-looks.result.1 c.events.buf c.events.invariant.0
     c.events.invariant.1 c.look_ahead-looks.ensures.low (c.look_ahead-looks.ensures.events c.args.payload.now c.events.buf)) c.move_piece-moved.ensures.low c.move_piece-moved.ensures.page c.move_piece-moved.ensures.machine c.move_piece-moved.ensures.events)
 
 pub event-requires-clause-buf : goal.event-requires-clause-buf
 event-requires-clause-buf g c =
-    loop_into c.args.self.now c.args.who c.args.call c.args.payload.now c.args.buf.now c.move_piece-moved.new.self c.move_piece-moved.result.1 c.move_piece-moved.new.buf _
+    loop_buffer c.args.self.now c.args.who c.args.call c.args.payload.now c.args.buf.now c.move_piece-moved.new.self c.move_piece-moved.result.1 c.move_piece-moved.new.buf _
     (loop_moved c.args.self.now c.args.who c.args.call c.args.payload.now c.args.buf.now c.requires.payload c.move_piece-moved.result.0 c.events.self c.move_piece-moved.new.self c.look_ahead-looks.result.1 c.move_piece-moved.result.1 c.events.buf c.move_piece-moved.new.buf _
     (loop_seen c.args.self.now c.args.who c.args.call c.args.payload.now c.args.buf.now c.requires.payload c.look_ahead-looks.result.0 c.events.self c.events.phase c.look_ahead-looks.result.1 c.events.buf c.events.invariant.0
     c.events.invariant.1 c.look_ahead-looks.ensures.low (c.look_ahead-looks.ensures.events c.args.payload.now c.events.buf)) c.move_piece-moved.ensures.low c.move_piece-moved.ensures.page c.move_piece-moved.ensures.machine c.move_piece-moved.ensures.events)
@@ -62,8 +62,8 @@ on_shown g c = record {
   buffers = c.event.ensures.buffer;
   leads = c.in-To-Notify.ensures.rest;
   idle = c.event.ensures.idle;
-  out = c.in-To-Notify.ensures.out;
-  into = c.in-To-Notify.ensures.into;
+  payload_left = c.in-To-Notify.ensures.payload_left;
+  buffer_left = c.in-To-Notify.ensures.buffer_left;
   other = c.event.ensures.other;
 }
 
@@ -79,8 +79,8 @@ on_made g c = record {
   buffers = c.event-in-To-Notify.ensures.buffer;
   leads = c.in-To-event.ensures.rest;
   idle = c.event-in-To-Notify.ensures.idle;
-  out = c.in-To-event.ensures.out;
-  into = c.in-To-event.ensures.into;
+  payload_left = c.in-To-event.ensures.payload_left;
+  buffer_left = c.in-To-event.ensures.buffer_left;
   other = c.event-in-To-Notify.ensures.other;
 }
 
@@ -112,8 +112,8 @@ told_shown g c = record {
   buffers = c.event.ensures.buffer;
   leads = c.in-To-Notify.ensures.rest;
   idle = c.event.ensures.idle;
-  out = c.in-To-Notify.ensures.out;
-  into = c.in-To-Notify.ensures.into;
+  payload_left = c.in-To-Notify.ensures.payload_left;
+  buffer_left = c.in-To-Notify.ensures.buffer_left;
   other = c.event.ensures.other;
 }
 
@@ -129,8 +129,8 @@ told_made g c = record {
   buffers = c.event-in-To-Notify.ensures.buffer;
   leads = c.in-Done-event.ensures.rest;
   idle = c.event-in-To-Notify.ensures.idle;
-  out = c.in-Done-event.ensures.out;
-  into = c.in-Done-event.ensures.into;
+  payload_left = c.in-Done-event.ensures.payload_left;
+  buffer_left = c.in-Done-event.ensures.buffer_left;
   other = c.event-in-To-Notify.ensures.other;
 }
 
@@ -156,11 +156,11 @@ returns-in-Done-event-clause-bound g c = let ended = told_ended g c in
 
 pub returns-in-Done-event-clause-trace : goal.returns-in-Done-event-clause-trace
 returns-in-Done-event-clause-trace g c = let t = (told_ended g c).trace in
-    (t.0, t.1, omega (arith, t.2, c.events.invariant.3, c.add.ensures, c.add-in-events.ensures, c.tick.ensures, c.tick-in-To-Notify.ensures))
+    (t.0, t.1, omega (arith, t.2, c.events.invariant.3, c.add.ensures, c.add-in-events.ensures, c.tick.ensures, c.tick-in-To-Notify.ensures), t.3)
 
-pub returns-in-Done-event-clause-kept : goal.returns-in-Done-event-clause-kept
-returns-in-Done-event-clause-kept g c = λ core h kept.
-    kept_call core c.args.self.now c.args.who c.args.call c.args.payload.now h c.requires.honest c.requires.allowed c.requires.payload (λ k. omega (arith, c.type_inv.payload k)) kept
+pub returns-in-Done-event-clause-invariant : goal.returns-in-Done-event-clause-invariant
+returns-in-Done-event-clause-invariant g c = λ core h kept.
+    invariant_call core c.args.self.now c.args.who c.args.call c.args.payload.now h c.requires.honest c.requires.allowed c.requires.payload (λ k. omega (arith, c.type_inv.payload k)) kept
 
 pub returns-in-Done-event-clause-lists : goal.returns-in-Done-event-clause-lists
 returns-in-Done-event-clause-lists g c = λ core h lawful.
@@ -182,8 +182,8 @@ then_made g c = record {
   buffers = c.event.ensures.buffer;
   leads = c.in-To.ensures.rest;
   idle = c.event.ensures.idle;
-  out = c.in-To.ensures.out;
-  into = c.in-To.ensures.into;
+  payload_left = c.in-To.ensures.payload_left;
+  buffer_left = c.in-To.ensures.buffer_left;
   other = c.event.ensures.other;
 }
 
@@ -215,8 +215,8 @@ last_made g c = record {
   buffers = c.event.ensures.buffer;
   leads = c.in-Done.ensures.rest;
   idle = c.event.ensures.idle;
-  out = c.in-Done.ensures.out;
-  into = c.in-Done.ensures.into;
+  payload_left = c.in-Done.ensures.payload_left;
+  buffer_left = c.in-Done.ensures.buffer_left;
   other = c.event.ensures.other;
 }
 
@@ -242,11 +242,11 @@ returns-in-Done-clause-bound g c = let ended = last_ended g c in
 
 pub returns-in-Done-clause-trace : goal.returns-in-Done-clause-trace
 returns-in-Done-clause-trace g c = let t = (last_ended g c).trace in
-    (t.0, t.1, omega (arith, t.2, c.events.invariant.3, c.add.ensures, c.add-in-events.ensures, c.tick.ensures))
+    (t.0, t.1, omega (arith, t.2, c.events.invariant.3, c.add.ensures, c.add-in-events.ensures, c.tick.ensures), t.3)
 
-pub returns-in-Done-clause-kept : goal.returns-in-Done-clause-kept
-returns-in-Done-clause-kept g c = λ core h kept.
-    kept_call core c.args.self.now c.args.who c.args.call c.args.payload.now h c.requires.honest c.requires.allowed c.requires.payload (λ k. omega (arith, c.type_inv.payload k)) kept
+pub returns-in-Done-clause-invariant : goal.returns-in-Done-clause-invariant
+returns-in-Done-clause-invariant g c = λ core h kept.
+    invariant_call core c.args.self.now c.args.who c.args.call c.args.payload.now h c.requires.honest c.requires.allowed c.requires.payload (λ k. omega (arith, c.type_inv.payload k)) kept
 
 pub returns-in-Done-clause-lists : goal.returns-in-Done-clause-lists
 returns-in-Done-clause-lists g c = λ core h lawful.

@@ -1,9 +1,9 @@
 use Rattle.std.proofs.Common.{◌≡◌, ℕ, ◌+◌, ◌-◌}
-use Rattle.vchan_protocol.specs.Calls.{most_events}
-use Rattle.vchan_core.specs.Phases.{standing, IsIdle}
-use Rattle.vchan_core.specs.Past.{machine_of}
-use Rattle.vchan_core.specs.Midway.{page_at}
-use Rattle.vchan_core.proofs.LoopLaws.{InLoop}
+use Rattle.vchan_protocol.specs.Table.Calls.{most_events}
+use Rattle.vchan_core.specs.OneMachine.Phases.{standing, IsIdle}
+use Rattle.vchan_core.specs.Page.StandsFor.{machine_of}
+use Rattle.vchan_core.specs.WholeCall.AtPhase.{page_at}
+use Rattle.vchan_core.proofs.WholeCall.LoopLaws.{InLoop}
 use Rattle.vchan_core.proofs.plain.Plain.run_call.Given as goal
 
 abbrev pub invariant-events : goal.invariant-events

@@ -4,26 +4,26 @@ use Rattle.ring_words.specs.declared.page.WordName.{WordName}
 use Rattle.ring_words.specs.PageWords.{PageWords}
 use Rattle.ring_words.specs.declared.order.Orders.{Orders}
 use Rattle.vchan_protocol.specs.declared.op.Op.TheVariants.{Store}
-use Rattle.vchan_protocol.specs.Ends.{peer_pending}
-use Rattle.vchan_core.proofs.TurnLaws.{stands_strayed}
-use Rattle.vchan_protocol.proofs.KeptSteps.{kept_strayed}
+use Rattle.vchan_protocol.specs.Table.Ends.{peer_pending}
+use Rattle.vchan_core.proofs.Page.TurnLaws.{stands_strayed}
+use Rattle.vchan_protocol.proofs.Always.InvariantSteps.{invariant_strayed}
 use Rattle.vchan_core.proofs.plain.Plain.signal.Goals as goal
 
 pub returns-clause-stands : goal.returns-clause-stands
-returns-clause-stands c = λ core h. stands_strayed core c.args.who (Store (peer_pending c.args.who) 1) c.args.self.now c.give_up.new.self _ h (record {
-  idle = c.give_up.ensures.idle;
-  stands = c.give_up.ensures.standing;
-  other = c.give_up.ensures.other;
-  turned = c.give_up.ensures.turned;
-  other_turned = c.give_up.ensures.other_turned;
-  left = c.give_up.ensures.left;
-  right = c.give_up.ensures.right;
+returns-clause-stands c = λ core h. stands_strayed core c.args.who (Store (peer_pending c.args.who) 1) c.args.self.now c.turn.new.self _ h (record {
+  idle = c.turn.ensures.idle;
+  stands = c.turn.ensures.standing;
+  other = c.turn.ensures.other;
+  turned = c.turn.ensures.turned;
+  other_turned = c.turn.ensures.other_turned;
+  left = c.turn.ensures.left;
+  right = c.turn.ensures.right;
   words =
       ap (λ (w : PageWords). w.list) c.store.ensures.words
-      ∙ ap (λ (w : WordName). slice_set c.give_up.new.self.words.list (index_of c.give_up.new.self.words.orders w) 1) c.peer_pending.ensures
-      ∙ ap (λ (o : Orders). slice_set c.give_up.new.self.words.list (index_of o (peer_pending c.args.who)) 1) c.give_up.ensures.orders
-      ∙ ap (λ (l : List ℕ). slice_set l (index_of c.args.self.now.words.orders (peer_pending c.args.who)) 1) c.give_up.ensures.words;
-  orders = ap (λ (w : PageWords). w.orders) c.store.ensures.words ∙ c.give_up.ensures.orders;
+      ∙ ap (λ (w : WordName). slice_set c.turn.new.self.words.list (index_of c.turn.new.self.words.orders w) 1) c.peer_pending.ensures
+      ∙ ap (λ (o : Orders). slice_set c.turn.new.self.words.list (index_of o (peer_pending c.args.who)) 1) c.turn.ensures.orders
+      ∙ ap (λ (l : List ℕ). slice_set l (index_of c.args.self.now.words.orders (peer_pending c.args.who)) 1) c.turn.ensures.words;
+  orders = ap (λ (w : PageWords). w.orders) c.store.ensures.words ∙ c.turn.ensures.orders;
   server_is = refl;
   client_is = refl;
   left_is = refl;
@@ -32,5 +32,5 @@ returns-clause-stands c = λ core h. stands_strayed core c.args.who (Store (peer
   client_turned_is = refl;
 })
 
-pub returns-clause-kept : goal.returns-clause-kept
-returns-clause-kept c = λ core h kept. kept_strayed core c.args.who (Store (peer_pending c.args.who) 1) kept
+pub returns-clause-invariant : goal.returns-clause-invariant
+returns-clause-invariant c = λ core h kept. invariant_strayed core c.args.who (Store (peer_pending c.args.who) 1) kept

@@ -4,14 +4,14 @@ use Rattle.ring_words.specs.declared.page.Role.{Role}
 use Rattle.ring_words.specs.declared.page.Role.TheVariants.{Server, Client}
 use Rattle.vchan_protocol.specs.declared.op.Op.{Op}
 use Rattle.vchan_core.specs.declared.machine.Machine.{Machine}
-use Rattle.vchan_protocol.specs.Plan.{next_op, after}
-use Rattle.vchan_protocol.specs.Apply.{Fits, words_after, value_taken}
-use Rattle.vchan_protocol.specs.Core.{Core, answer_in, plan_next}
-use Rattle.vchan_core.specs.Past.{machine_of, orders_of, words_of, StandsFor}
-use Rattle.vchan_core.specs.Phases.{rest, IsIdle, out_of, into_of}
-use Rattle.vchan_protocol.proofs.EventLaws.{Fits-more}
-use Rattle.vchan_core.proofs.StepLaws.{DoesEvent, stands_server, stands_client, answer_is, keeps_orders, keeps_role}
-use Rattle.vchan_core.proofs.PlainLaws.{kept_step}
+use Rattle.vchan_protocol.specs.Table.Plan.{next_op, after}
+use Rattle.vchan_protocol.specs.Table.Apply.{Fits, words_after, value_taken}
+use Rattle.vchan_protocol.specs.History.Core.{Core, answer_in, plan_next}
+use Rattle.vchan_core.specs.Page.StandsFor.{machine_of, orders_of, words_of, StandsFor}
+use Rattle.vchan_core.specs.OneMachine.Phases.{rest, IsIdle, payload_needed, buffer_needed}
+use Rattle.vchan_protocol.proofs.History.EventLaws.{Fits-more}
+use Rattle.vchan_core.proofs.Page.StepLaws.{DoesEvent, stands_server, stands_client, answer_is, keeps_orders, keeps_role}
+use Rattle.vchan_core.proofs.Page.PlainLaws.{invariant_step}
 use Rattle.vchan_core.proofs.plain.Plain.step.Goals as goal
 
 pub invariant_of-self : goal.invariant_of-self
@@ -94,26 +94,26 @@ pub returns-in-Server-clause-footprint : goal.returns-in-Server-clause-footprint
 returns-in-Server-clause-footprint c =
     let page = c.args.self.now in
     let whole : c.machine.result.now ≡ page.server = c.machine.ensures ∙ ap (λ (who : Role). machine_of page who) c.in-Server.is in
-    let here = subst (λ (m : Machine). Fits m.orders (out_of m) (into_of m) c.next-op.result) whole c.next-op.ensures.fits in
-    let there = subst (λ (orders : Orders). Fits orders (out_of page.server) (into_of page.server) c.next-op.result) page.server_orders here in
-    let out = subst (λ (who : Role). out_of (machine_of page who) ≤ length c.args.payload.now) c.in-Server.is c.requires.payload in
-    let into = subst (λ (who : Role). into_of (machine_of page who) ≤ length c.args.buf.now) c.in-Server.is c.requires.buf in
-    let more = Fits-more (orders_of page) (out_of page.server) (into_of page.server) (length c.args.payload.now) (length c.args.buf.now) c.next-op.result out into there in
+    let here = subst (λ (m : Machine). Fits m.orders (payload_needed m) (buffer_needed m) c.next-op.result) whole c.next-op.ensures.fits in
+    let there = subst (λ (orders : Orders). Fits orders (payload_needed page.server) (buffer_needed page.server) c.next-op.result) page.server_orders here in
+    let out = subst (λ (who : Role). payload_needed (machine_of page who) ≤ length c.args.payload.now) c.in-Server.is c.requires.payload in
+    let into = subst (λ (who : Role). buffer_needed (machine_of page who) ≤ length c.args.buf.now) c.in-Server.is c.requires.buf in
+    let more = Fits-more (orders_of page) (payload_needed page.server) (buffer_needed page.server) (length c.args.payload.now) (length c.args.buf.now) c.next-op.result out into there in
     subst (λ (op : Op). Fits (orders_of page) (length c.args.payload.now) (length c.args.buf.now) op) (c.next-op.ensures.op ∙ ap (λ (m : Machine). next_op (rest m)) c.machine.ensures) more
 
 pub returns-in-Client-clause-footprint : goal.returns-in-Client-clause-footprint
 returns-in-Client-clause-footprint c =
     let page = c.args.self.now in
     let whole : c.machine.result.now ≡ page.client = c.machine.ensures ∙ ap (λ (who : Role). machine_of page who) c.in-Client.is in
-    let here = subst (λ (m : Machine). Fits m.orders (out_of m) (into_of m) c.next-op.result) whole c.next-op.ensures.fits in
-    let there = subst (λ (orders : Orders). Fits orders (out_of page.client) (into_of page.client) c.next-op.result) page.client_orders here in
-    let out = subst (λ (who : Role). out_of (machine_of page who) ≤ length c.args.payload.now) c.in-Client.is c.requires.payload in
-    let into = subst (λ (who : Role). into_of (machine_of page who) ≤ length c.args.buf.now) c.in-Client.is c.requires.buf in
-    let more = Fits-more (orders_of page) (out_of page.client) (into_of page.client) (length c.args.payload.now) (length c.args.buf.now) c.next-op.result out into there in
+    let here = subst (λ (m : Machine). Fits m.orders (payload_needed m) (buffer_needed m) c.next-op.result) whole c.next-op.ensures.fits in
+    let there = subst (λ (orders : Orders). Fits orders (payload_needed page.client) (buffer_needed page.client) c.next-op.result) page.client_orders here in
+    let out = subst (λ (who : Role). payload_needed (machine_of page who) ≤ length c.args.payload.now) c.in-Client.is c.requires.payload in
+    let into = subst (λ (who : Role). buffer_needed (machine_of page who) ≤ length c.args.buf.now) c.in-Client.is c.requires.buf in
+    let more = Fits-more (orders_of page) (payload_needed page.client) (buffer_needed page.client) (length c.args.payload.now) (length c.args.buf.now) c.next-op.result out into there in
     subst (λ (op : Op). Fits (orders_of page) (length c.args.payload.now) (length c.args.buf.now) op) (c.next-op.ensures.op ∙ ap (λ (m : Machine). next_op (rest m)) c.machine.ensures) more
 
-pub returns-in-Server-clause-kept : goal.returns-in-Server-clause-kept
-returns-in-Server-clause-kept c = λ core h honest kept. kept_step core c.args.self.now c.args.who h honest c.requires.busy kept
+pub returns-in-Server-clause-invariant : goal.returns-in-Server-clause-invariant
+returns-in-Server-clause-invariant c = λ core h honest kept. invariant_step core c.args.self.now c.args.who h honest c.requires.busy kept
 
-pub returns-in-Client-clause-kept : goal.returns-in-Client-clause-kept
-returns-in-Client-clause-kept c = λ core h honest kept. kept_step core c.args.self.now c.args.who h honest c.requires.busy kept
+pub returns-in-Client-clause-invariant : goal.returns-in-Client-clause-invariant
+returns-in-Client-clause-invariant c = λ core h honest kept. invariant_step core c.args.self.now c.args.who h honest c.requires.busy kept

@@ -1,4 +1,4 @@
-use Rattle.vchan_protocol.proofs.AnswerLaws.{each_trace}
+use Rattle.vchan_protocol.proofs.Answering.AnswerLaws.{each_trace}
 use Rattle.vchan_protocol.proofs.laws.answers.each_answer_has_its_trace.Goals as goal
 
 pub returns : goal.returns

@@ -1,4 +1,4 @@
-use Rattle.vchan_protocol.proofs.IndexLaws.{keeps_indices}
+use Rattle.vchan_protocol.proofs.OneEnd.IndexLaws.{keeps_indices}
 use Rattle.vchan_protocol.proofs.laws.answers.indices_are_own_counts.Goals as goal
 
 pub returns : goal.returns

@@ -1,4 +1,4 @@
-use Rattle.vchan_protocol.proofs.EndingSteps.{answer_noted}
+use Rattle.vchan_protocol.proofs.OneEnd.EndingSteps.{answer_noted}
 use Rattle.vchan_protocol.proofs.laws.endings.answer_is_noted.Goals as goal
 
 pub returns : goal.returns

@@ -1,4 +1,4 @@
-use Rattle.vchan_protocol.proofs.SideSteps.{each_ending}
+use Rattle.vchan_protocol.proofs.OneEnd.SideSteps.{each_ending}
 use Rattle.vchan_protocol.proofs.laws.endings.each_ending_is_noted.Goals as goal
 
 pub returns : goal.returns

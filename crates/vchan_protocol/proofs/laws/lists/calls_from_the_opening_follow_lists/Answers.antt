@@ -1,6 +1,6 @@
-use Rattle.vchan_protocol.specs.Core.{opened}
-use Rattle.vchan_protocol.proofs.LawfulSteps.{lawful_opened}
-use Rattle.vchan_protocol.proofs.ListWhole.{tells_lists, all_follow_lists}
+use Rattle.vchan_protocol.specs.History.Core.{opened}
+use Rattle.vchan_protocol.proofs.Honest.LawfulSteps.{lawful_opened}
+use Rattle.vchan_protocol.proofs.Lists.ListWhole.{tells_lists, all_follow_lists}
 use Rattle.vchan_protocol.proofs.laws.lists.calls_from_the_opening_follow_lists.Goals as goal
 
 pub returns : goal.returns

@@ -1,4 +1,4 @@
-use Rattle.vchan_protocol.proofs.ListWhole.{tells_lists, all_follow_lists}
+use Rattle.vchan_protocol.proofs.Lists.ListWhole.{tells_lists, all_follow_lists}
 use Rattle.vchan_protocol.proofs.laws.lists.calls_in_a_row_follow_lists.Goals as goal
 
 pub returns : goal.returns

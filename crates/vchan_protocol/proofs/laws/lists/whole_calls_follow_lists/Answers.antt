@@ -1,4 +1,4 @@
-use Rattle.vchan_protocol.proofs.ListWhole.{tells_lists, follows_lists, may_there}
+use Rattle.vchan_protocol.proofs.Lists.ListWhole.{tells_lists, follows_lists, may_there}
 use Rattle.vchan_protocol.proofs.laws.lists.whole_calls_follow_lists.Goals as goal
 
 pub returns : goal.returns

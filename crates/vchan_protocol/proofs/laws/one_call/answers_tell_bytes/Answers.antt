@@ -1,4 +1,4 @@
-use Rattle.vchan_protocol.proofs.OneCallBytes.{answers_tell}
+use Rattle.vchan_protocol.proofs.OneEnd.OneCallBytes.{answers_tell}
 use Rattle.vchan_protocol.proofs.laws.one_call.answers_tell_bytes.Goals as goal
 
 pub returns : goal.returns

@@ -1,4 +1,4 @@
-use Rattle.vchan_protocol.proofs.SignalLaws.{call_keeps}
+use Rattle.vchan_protocol.proofs.Signals.SignalLaws.{call_keeps}
 use Rattle.vchan_protocol.proofs.laws.signals.call_keeps_signals.Goals as goal
 
 pub returns : goal.returns

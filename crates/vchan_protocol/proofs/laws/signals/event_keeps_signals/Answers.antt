@@ -1,4 +1,4 @@
-use Rattle.vchan_protocol.proofs.SignalLaws.{event_keeps}
+use Rattle.vchan_protocol.proofs.Signals.SignalLaws.{event_keeps}
 use Rattle.vchan_protocol.proofs.laws.signals.event_keeps_signals.Goals as goal
 
 pub returns : goal.returns

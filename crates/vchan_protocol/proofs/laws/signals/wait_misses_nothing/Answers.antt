@@ -1,4 +1,4 @@
-use Rattle.vchan_protocol.proofs.SignalLaws.{misses_nothing}
+use Rattle.vchan_protocol.proofs.Signals.SignalLaws.{misses_nothing}
 use Rattle.vchan_protocol.proofs.laws.signals.wait_misses_nothing.Goals as goal
 
 pub returns : goal.returns

@@ -1,4 +1,4 @@
-use Rattle.vchan_protocol.proofs.OneEndSteps.{turn_stands}
+use Rattle.vchan_protocol.proofs.OneEnd.OneEndSteps.{turn_stands}
 use Rattle.vchan_protocol.proofs.laws.turned.each_turn_stands.Goals as goal
 
 pub returns : goal.returns

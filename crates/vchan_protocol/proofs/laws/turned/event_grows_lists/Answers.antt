@@ -1,4 +1,4 @@
-use Rattle.vchan_protocol.proofs.TurnedSteps.{event_grows}
+use Rattle.vchan_protocol.proofs.Hostile.TurnedSteps.{event_grows}
 use Rattle.vchan_protocol.proofs.laws.turned.event_grows_lists.Goals as goal
 
 pub returns : goal.returns

@@ -1,4 +1,4 @@
-use Rattle.vchan_protocol.proofs.TurnedSteps.{stray_again}
+use Rattle.vchan_protocol.proofs.Hostile.TurnedSteps.{stray_again}
 use Rattle.vchan_protocol.proofs.laws.turned.stray_event.Goals as goal
 
 pub returns : goal.returns

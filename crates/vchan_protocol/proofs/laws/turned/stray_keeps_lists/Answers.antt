@@ -1,4 +1,4 @@
-use Rattle.vchan_protocol.proofs.TurnedSteps.{stray_keeps}
+use Rattle.vchan_protocol.proofs.Hostile.TurnedSteps.{stray_keeps}
 use Rattle.vchan_protocol.proofs.laws.turned.stray_keeps_lists.Goals as goal
 
 pub returns : goal.returns

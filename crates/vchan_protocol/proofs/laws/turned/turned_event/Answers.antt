@@ -1,4 +1,4 @@
-use Rattle.vchan_protocol.proofs.TurnedSteps.{turned_event}
+use Rattle.vchan_protocol.proofs.Hostile.TurnedSteps.{turned_event}
 use Rattle.vchan_protocol.proofs.laws.turned.turned_event.Goals as goal
 
 pub returns : goal.returns

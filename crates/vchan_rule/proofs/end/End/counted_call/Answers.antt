@@ -1,12 +1,12 @@
-use Rattle.vchan_core.specs.Phases.{IsIdle}
+use Rattle.vchan_core.specs.OneMachine.Phases.{IsIdle}
 use Rattle.std.proofs.Common.{◌≡◌, Option, None, IsSome, length, refl, ap, ◌∙◌, subst, arith}
 use Rattle.std.proofs.lemmas.Bool.{false≢true}
 use Rattle.vchan_protocol.specs.declared.call.Answer.{Answer}
 use Rattle.vchan_protocol.specs.declared.side.Side.{Side}
 use Rattle.vchan_rule.specs.Ends.{seen}
 use Rattle.vchan_rule.proofs.CallLaws.{few_left, call_over, call_on, call_along, made_long, one_longer, seen_now, MakesOne, called_view, called_saw, own_of}
-use Rattle.vchan_protocol.proofs.OneCallBytes.{answers_tell}
-use Rattle.vchan_protocol.proofs.OneCallWay.{over_tells}
+use Rattle.vchan_protocol.proofs.OneEnd.OneCallBytes.{answers_tell}
+use Rattle.vchan_protocol.proofs.OneEnd.OneCallWay.{over_tells}
 use Rattle.vchan_rule.proofs.end.End.counted_call.Goals as goal
 
 pub returns-in-Some-clause-over : goal.returns-in-Some-clause-over

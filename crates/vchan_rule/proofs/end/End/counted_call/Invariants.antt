@@ -1,6 +1,6 @@
 use Rattle.std.proofs.Common.{◌≡◌, ◌+◌, ◌-◌, length}
-use Rattle.vchan_protocol.specs.Calls.{most_events}
-use Rattle.vchan_protocol.specs.Core.{standing_of}
+use Rattle.vchan_protocol.specs.Table.Calls.{most_events}
+use Rattle.vchan_protocol.specs.History.Core.{standing_of}
 use Rattle.vchan_rule.specs.Ends.{seen}
 use Rattle.vchan_rule.proofs.CallLaws.{InCalls}
 use Rattle.vchan_rule.proofs.end.End.counted_call.Given as goal

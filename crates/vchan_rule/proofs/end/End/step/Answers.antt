@@ -2,20 +2,20 @@ use Rattle.std.proofs.Common.{rules, ◌≡◌, ◌||◌, [], length, sym, ap, �
 use Rattle.ring_words.specs.declared.order.Orders.{Orders}
 use Rattle.vchan_protocol.specs.declared.op.Op.{Op}
 use Rattle.vchan_protocol.specs.declared.side.Side.{Side}
-use Rattle.vchan_protocol.specs.Plan.{after, next_op, GoesOn}
-use Rattle.vchan_core.specs.Past.{HasPayload}
-use Rattle.vchan_protocol.specs.Apply.{Fits}
-use Rattle.vchan_protocol.specs.Core.{op_next, plan_left, answer_in, sets_gone}
-use Rattle.vchan_core.specs.Phases.{out_of, into_of}
-use Rattle.vchan_protocol.proofs.EventLaws.{Fits-more}
+use Rattle.vchan_protocol.specs.Table.Plan.{after, next_op, GoesOn}
+use Rattle.vchan_core.specs.Page.StandsFor.{HasPayload}
+use Rattle.vchan_protocol.specs.Table.Apply.{Fits}
+use Rattle.vchan_protocol.specs.History.Core.{op_next, plan_left, answer_in, sets_gone}
+use Rattle.vchan_core.specs.OneMachine.Phases.{payload_needed, buffer_needed}
+use Rattle.vchan_protocol.proofs.History.EventLaws.{Fits-more}
 use Rattle.vchan_rule.specs.declared.rule.View.TheVariants.{One}
-use Rattle.vchan_protocol.specs.Core.{side_after}
+use Rattle.vchan_protocol.specs.History.Core.{side_after}
 use Rattle.vchan_rule.specs.Ends.{end_in, seen, seen_by, Agrees}
-use Rattle.vchan_protocol.specs.OneCall.{landed}
+use Rattle.vchan_protocol.specs.OneEnd.OneCall.{landed}
 use Rattle.vchan_rule.specs.Seated.{SeatedEnd}
 use Rattle.vchan_rule.proofs.EndLaws.{inside, plan_is, goes_on, stores_own, after_step, machine_orders, keeps_payload, lies}
-use Rattle.vchan_protocol.specs.TurnedLaw.{LiesAtCount}
-use Rattle.vchan_protocol.specs.OneEndLaw.{OwnLawful}
+use Rattle.vchan_protocol.specs.Hostile.TurnedLaw.{LiesAtCount}
+use Rattle.vchan_protocol.specs.OneEnd.OneEndLaw.{OwnLawful}
 use Rattle.vchan_rule.proofs.end.End.step.Goals as goal
 
 pub perform-value-requires-clause-seat : goal.perform-value-requires-clause-seat
@@ -29,9 +29,9 @@ perform-value-requires-clause-fits c =
     let v = c.self.invariant in
     let m = c.self.inside.machine in
     let h = inside c.self.inside.words.now.key.start c.self.inside.begun.value m (end_in c.self.inside.seat.me.0) c.args.payload.now v.6 (search rules) (λ i. let low = c.type_inv.payload i in omega (arith, low)) in (
-      into_of m,
-      subst (λ (o : Orders). Fits o (length c.args.payload.now) (into_of m) c.next-op.result) (machine_orders _ m _ _ _ h ∙ v.4)
-          (Fits-more m.orders (out_of m) (into_of m) (length c.args.payload.now) (into_of m) c.next-op.result (search rules) (omega arith) c.next-op.ensures.fits),
+      buffer_needed m,
+      subst (λ (o : Orders). Fits o (length c.args.payload.now) (buffer_needed m) c.next-op.result) (machine_orders _ m _ _ _ h ∙ v.4)
+          (Fits-more m.orders (payload_needed m) (buffer_needed m) (length c.args.payload.now) (buffer_needed m) c.next-op.result (search rules) (omega arith) c.next-op.ensures.fits),
     )
 
 pub perform-value-requires-clause-payload : goal.perform-value-requires-clause-payload
@@ -80,7 +80,7 @@ returns-clause-event c =
 pub land-requires : goal.land-requires
 land-requires c =
     let m = c.self.inside.machine in
-    (m.orders, out_of m, Fits-more m.orders (out_of m) (into_of m) (out_of m) (length c.args.buf.now) c.next-op.result (omega arith) (search rules) c.next-op.ensures.fits)
+    (m.orders, payload_needed m, Fits-more m.orders (payload_needed m) (buffer_needed m) (payload_needed m) (length c.args.buf.now) c.next-op.result (omega arith) (search rules) c.next-op.ensures.fits)
 
 pub returns-clause-goes_on : goal.returns-clause-goes_on
 returns-clause-goes_on c =

@@ -1,0 +1,86 @@
+-- Which domains a pair takes for dropped: those that an event dropped.
+use Rattle.std.proofs.Common.{◌≡◌, ℕ, List, [], ◌∷◌, ◌++◌, refl, ap, sym, ◌∙◌, arith}
+use Rattle.std.specs.Prelude.{true, false, Bool, ◌==◌, ◌||◌, if◌then◌else◌}
+use Rattle.std.specs.List.{list_any}
+use Rattle.std.proofs.lemmas.Bool.Decides.{nat_tests}
+use Rattle.call_broker.specs.declared.event.Event.{Event}
+use Rattle.call_broker.specs.declared.event.Event.TheVariants.{Trigger, Terminated, Dropped}
+use Rattle.call_broker.specs.declared.decision.Decision.{Decision}
+use Rattle.call_broker.specs.declared.decision.Decision.TheVariants.{Accepted, Refused, Ended, PassedOver}
+use Rattle.call_broker.specs.Domains.{Domains}
+use Rattle.call_broker.specs.Pair.{Pair, PairState, has, is_of, belongs, decides, settles, step, run_on, state_after, at_first}
+use Rattle.call_broker.specs.Journal.{drops}
+
+or-assoc : (a b c : Bool) → ((a || b) || c) ≡ (b || (a || c))
+or-assoc true true c = refl
+or-assoc true false c = refl
+or-assoc false b c = refl
+
+settles-dropped : (d : ℕ) (s : PairState) (e : Event) (decision : Decision) → has d (settles s e decision).dropped ≡ (drops d e || has d s.dropped)
+settles-dropped d s (Dropped domain) decision = refl
+settles-dropped d s (Trigger from target service ident) (Accepted to port) = refl
+settles-dropped d s (Trigger from target service ident) (Refused cause) = refl
+settles-dropped d s (Trigger from target service ident) (Ended a b port) = refl
+settles-dropped d s (Trigger from target service ident) PassedOver = refl
+settles-dropped d s (Terminated from other q) (Accepted to port) = refl
+settles-dropped d s (Terminated from other q) (Refused cause) = refl
+settles-dropped d s (Terminated from other q) (Ended a b port) = refl
+settles-dropped d s (Terminated from other q) PassedOver = refl
+
+-- a domain that is none of a pair's isn't one that is
+apart-from : (d domain : ℕ) (pair : Pair) → is_of d pair ≡ true → is_of domain pair ≡ false → (domain == d) ≡ false
+apart-from d domain pair mine none = by_test (domain == d) refl
+  where
+    by_test : (b : Bool) → (domain == d) ≡ b → (domain == d) ≡ false
+    by_test true same = let e : domain ≡ d = grind (arith, nat_tests) in let here : is_of domain pair ≡ is_of d pair = ap (λ x. is_of x pair) e in absurd (cc)
+    by_test false apart = apart
+
+step-dropped : (hub : Domains) (pair : Pair) (d : ℕ) (s : PairState) (e : Event) → is_of d pair ≡ true → has d (step hub pair s e).dropped ≡ (drops d e || has d s.dropped)
+step-dropped hub pair d s (Dropped domain) mine = by_own (is_of domain pair) refl
+  where
+    by_own : (b : Bool) → is_of domain pair ≡ b → has d (if is_of domain pair then settles s (Dropped domain) (decides hub pair s (Dropped domain)) else s).dropped ≡ (domain == d || has d s.dropped)
+    by_own true own = rw own refl
+    by_own false none = rw (none, apart-from d domain pair mine none) refl
+step-dropped hub pair d s (Trigger from target service ident) mine = by_own (belongs hub pair (Trigger from target service ident))
+  where
+    by_own : (b : Bool) → has d (if b then settles s (Trigger from target service ident) (decides hub pair s (Trigger from target service ident)) else s).dropped ≡ has d s.dropped
+    by_own true = settles-dropped d s (Trigger from target service ident) (decides hub pair s (Trigger from target service ident))
+    by_own false = refl
+step-dropped hub pair d s (Terminated from other q) mine = by_own (belongs hub pair (Terminated from other q))
+  where
+    by_own : (b : Bool) → has d (if b then settles s (Terminated from other q) (decides hub pair s (Terminated from other q)) else s).dropped ≡ has d s.dropped
+    by_own true = settles-dropped d s (Terminated from other q) (decides hub pair s (Terminated from other q))
+    by_own false = refl
+
+run-dropped : (hub : Domains) (pair : Pair) (d : ℕ) (s : PairState) (es : List Event) → is_of d pair ≡ true → has d (run_on hub pair s es).dropped ≡ (list_any (drops d) es || has d s.dropped)
+run-dropped hub pair d s [] mine = refl
+run-dropped hub pair d s (e ∷ es) mine =
+    run-dropped hub pair d (step hub pair s e) es mine
+    ∙ ap (λ b. list_any (drops d) es || b) (step-dropped hub pair d s e mine)
+    ∙ sym (or-assoc (drops d e) (list_any (drops d) es) (has d s.dropped))
+
+or-false : (a : Bool) → (a || false) ≡ a
+or-false true = refl
+or-false false = refl
+
+-- a pair takes a domain of its own for dropped exactly where an event dropped it
+pub dropped-is : (hub : Domains) (pair : Pair) (d : ℕ) (es : List Event) → is_of d pair ≡ true → has d (state_after hub es pair).dropped ≡ list_any (drops d) es
+dropped-is hub pair d es mine = run-dropped hub pair d at_first es mine ∙ or-false (list_any (drops d) es)
+
+pub any-append : {X : Type 0} (p : X → Bool) (xs ys : List X) → list_any p (xs ++ ys) ≡ (list_any p xs || list_any p ys)
+any-append p [] ys = refl
+any-append p (x ∷ xs) ys = ap (λ b. p x || b) (any-append p xs ys) ∙ or-shift (p x) (list_any p xs) (list_any p ys)
+  where
+    or-shift : (a b c : Bool) → (a || (b || c)) ≡ ((a || b) || c)
+    or-shift true b c = refl
+    or-shift false b c = refl
+
+-- who is dropped after one more event
+pub dropped-more : (d : ℕ) (es : List Event) (e : Event) → list_any (drops d) (es ++ e ∷ []) ≡ (drops d e || list_any (drops d) es)
+dropped-more d es e = any-append (drops d) es (e ∷ []) ∙ turned (drops d e) (list_any (drops d) es)
+  where
+    turned : (a b : Bool) → (b || (a || false)) ≡ (a || b)
+    turned true true = refl
+    turned true false = refl
+    turned false true = refl
+    turned false false = refl

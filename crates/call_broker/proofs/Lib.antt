@@ -1,0 +1,12 @@
+pub mod Rows
+pub mod TableLaws
+pub mod AloneLaws
+pub mod BrokerLaws
+pub mod AnswerLaws
+pub mod TabledLaws
+pub mod OpenLaws
+pub mod DroppedLaws
+pub mod IndexLaws
+pub mod PortLaws
+pub mod Decided
+pub mod StateLaws

@@ -1,0 +1,4 @@
+pub mod Rows
+pub mod StreamRows
+pub mod PieceLaws
+pub mod SessionLaws

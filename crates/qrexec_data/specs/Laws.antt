@@ -1,0 +1,76 @@
+-- What one side sees of what the other may send, and what more bytes change of it.
+use Rattle.std.specs.Prelude.{◌≡◌, ℕ, ◌<◌, ◌≤◌, ◌^◌, ◌⊎◌, true, false, List, ◌∷◌, ◌++◌, length, map, None}
+use Rattle.std.specs.Int.{w32}
+use Rattle.std.specs.Int.RustNames.{FitsSigned}
+use Rattle.std.specs.List.{flat_map}
+use Rattle.qrexec_frame.specs.declared.channel.Channel.{Channel}
+use Rattle.qrexec_frame.specs.declared.message.Message.{Message}
+use Rattle.qrexec_frame.specs.declared.message.Message.TheVariants.{Hello}
+use Rattle.qrexec_frame.specs.Messages.{written, IsSpellable, GoesOn}
+use Rattle.qrexec_frame.specs.Fronts.{front, reading}
+use Rattle.qrexec_frame.specs.Streams.{Each, IsPrefixOf, Begins, Extends, messages}
+use Rattle.service_gate.specs.Triple.{Triple}
+use Rattle.qrexec_data.specs.Pieces.{Piece, message_of, ArePieces, is_output}
+use Rattle.qrexec_data.specs.Seeing.{Undecided, Exited, CallerSeen, caller_sees, ServingSeen, serving_sees}
+use Rattle.qrexec_data.specs.Sending.{IsCallerStream, IsServingStream}
+
+-- a message that has a spelling, of a channel
+abbrev pub IsGood : Channel → Message → Type 0
+IsGood channel message = IsSpellable message × GoesOn channel message
+
+-- a version that a side may announce
+pub record IsVersion (own : ℕ) : Type 0 where
+  pub least : 2 ≤ own
+  pub small : own < 2 ^ 32
+
+-- ---- streams of any messages
+
+-- a beginning of written messages reads without fault, as the first of them
+abbrev pub WrittenBeginnings : Type 0
+WrittenBeginnings = (channel : Channel) (stream : List Message) (got : List ℕ) → Each (IsGood channel) stream → IsPrefixOf got (flat_map written stream)
+    → Begins (front channel) written stream got 0
+
+-- where as many messages were read as were written, all the bytes came
+abbrev pub WholeStreams : Type 0
+WholeStreams = (channel : Channel) (stream : List Message) (got : List ℕ) → Each (IsGood channel) stream → IsPrefixOf got (flat_map written stream)
+    → length stream ≤ length (messages (reading channel got)) → got ≡ flat_map written stream
+
+-- more bytes only extend a reading, and a fault stays
+abbrev pub LongerStreams : Type 0
+LongerStreams = (channel : Channel) (got more : List ℕ) → Extends (reading channel got) (reading channel (got ++ more))
+
+-- ---- the two sides
+
+-- a caller has seen nothing that decides, or the whole triple
+abbrev pub FitsTriple : Triple → CallerSeen → Type 0
+FitsTriple t seen = (seen.verdict ≡ Undecided) ⊎ (seen ≡ record { verdict = Exited t.code; stdout = t.stdout; stderr = t.stderr })
+
+-- a side that serves has seen no fault, and once the input has ended it has all of it
+pub record ReadsInput (input : List ℕ) (seen : ServingSeen) : Type 0 where
+  pub fault : seen.fault ≡ None
+  pub whole : seen.ended ≡ true → seen.input ≡ input
+
+-- the exit code comes only behind the whole streams of the triple
+abbrev pub CallersSeeTriples : Type 0
+CallersSeeTriples = (own limit : ℕ) (t : Triple) (stream : List Message) (got : List ℕ) → IsVersion own → limit ≤ 65536 → FitsSigned w32 t.code
+    → IsServingStream own limit t stream → IsPrefixOf got (flat_map written stream) → FitsTriple t (caller_sees got)
+
+-- a caller that got a whole stream has read the exit code
+abbrev pub CallersAreDone : Type 0
+CallersAreDone = (own limit : ℕ) (t : Triple) (stream : List Message) → IsVersion own → limit ≤ 65536 → FitsSigned w32 t.code
+    → IsServingStream own limit t stream → (caller_sees (flat_map written stream)).verdict ≡ Exited t.code
+
+-- before the ends of the outputs nothing decides
+abbrev pub CallersWait : Type 0
+CallersWait = (own limit : ℕ) (pieces : List Piece) (got : List ℕ) → IsVersion own → limit ≤ 65536 → ArePieces is_output limit pieces
+    → IsPrefixOf got (flat_map written (Hello own ∷ map message_of pieces)) → (caller_sees got).verdict ≡ Undecided
+
+-- of a caller's stream the side that serves sees no fault, and its input where that has ended
+abbrev pub InputsAreRead : Type 0
+InputsAreRead = (own limit : ℕ) (input : List ℕ) (stream : List Message) (got : List ℕ) → IsVersion own → limit ≤ 65536
+    → IsCallerStream own limit input stream → IsPrefixOf got (flat_map written stream) → ReadsInput input (serving_sees got)
+
+-- a greeting alone, or a part of it, is no fault and ends no input
+abbrev pub GreetingsAreNoFault : Type 0
+GreetingsAreNoFault = (own : ℕ) (got : List ℕ) → IsVersion own → IsPrefixOf got (written (Hello own))
+    → ((serving_sees got).fault ≡ None) × ((serving_sees got).ended ≡ false)

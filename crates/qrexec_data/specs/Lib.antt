@@ -1,0 +1,5 @@
+pub mod Pieces
+pub mod Seeing
+pub mod Sending
+pub mod Fitting
+pub mod Laws

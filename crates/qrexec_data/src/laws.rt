@@ -1,0 +1,45 @@
+//! Laws of what one side of a call sees of what the other sends. A law is a function with no body, whose
+//! contract states it.
+ghost use Rattle.qrexec_data.specs.Laws.{WrittenBeginnings, WholeStreams, LongerStreams, CallersSeeTriples, CallersAreDone, CallersWait, InputsAreRead, GreetingsAreNoFault};
+
+/// A beginning of written messages reads without fault, as the first of them.
+pub fn written_beginnings()
+    ensures { WrittenBeginnings }
+{}
+
+/// Where as many messages were read as were written, all the bytes came.
+pub fn whole_streams()
+    ensures { WholeStreams }
+{}
+
+/// More bytes only extend a reading: the messages before stay, and so does a fault.
+pub fn longer_streams()
+    ensures { LongerStreams }
+{}
+
+/// What a caller sees of a beginning of a serving stream: nothing that decides, or the exit code behind
+/// the whole of both outputs.
+pub fn callers_see_triples()
+    ensures { CallersSeeTriples }
+{}
+
+/// A caller that got a whole serving stream has its exit code.
+pub fn callers_are_done()
+    ensures { CallersAreDone }
+{}
+
+/// Before the outputs have ended nothing decides.
+pub fn callers_wait()
+    ensures { CallersWait }
+{}
+
+/// What a side that serves sees of a beginning of a caller's stream: no fault, and the whole input where
+/// it has ended.
+pub fn inputs_are_read()
+    ensures { InputsAreRead }
+{}
+
+/// A greeting alone, or a part of it, is no fault and ends no input.
+pub fn greetings_are_no_fault()
+    ensures { GreetingsAreNoFault }
+{}

@@ -1,0 +1,155 @@
+-- The generated scenario is a scenario.
+use Rattle.std.proofs.Common.{◌≡◌, ℕ, ◌+◌, ◌-◌, ◌*◌, ◌%◌, ◌<◌, ◌≤◌, suc, zero, List, [], ◌∷◌, ◌++◌, length, drop, map, refl, ap, sym, ◌∙◌, append_assoc, append-nil, arith, Option, Some, None, inr, true, false, Bool}
+use Rattle.std.specs.Prelude.{bytes_eq, sum_by, count_by, nat_lt}
+use Rattle.std.specs.List.{All, range_with_len}
+use Rattle.std.proofs.lemmas.Bool.Decides.{nat_tests}
+use Rattle.std.proofs.lemmas.List.Elements.{All-nil, All-cons, All-map, All-from_recursion}
+use Rattle.std.proofs.lemmas.List.FromFn.{length-map-range_with_len}
+use Rattle.std.proofs.lemmas.List.Sums.{sum_by-cons, count_by-le-length}
+use Rattle.ring_words.specs.declared.order.Orders.{Orders}
+use Rattle.ring_words.specs.Page.{word_count}
+use Rattle.ring_words.specs.Rings.{number_of, size}
+use Rattle.scenario_file.specs.declared.scenario.Domain.{Domain}
+use Rattle.scenario_file.specs.declared.scenario.CallPlan.{CallPlan}
+use Rattle.scenario_file.specs.Names.{is_name, is_service}
+use Rattle.scenario_file.specs.Scenario.{Plan, hostile_pages, lays_page, data_pages, word_total, stdin_total, AreApart, CallFits, DomainFits, IsHonest, IsScenario, Rises}
+use Rattle.scenario_file.specs.Generator.{next_number, fill, generated_names, generated_services, text_at, generated_domain, other_place, generated_call, call_from, after_call, generated_calls}
+
+-- the generated domains
+abbrev pub made_domains : List Domain
+made_domains = map generated_domain generated_names
+
+pub names-fit : (k : ℕ) → k < 4 → is_name (text_at generated_names k) ≡ true
+names-fit zero h = refl
+names-fit (suc zero) h = refl
+names-fit (suc (suc zero)) h = refl
+names-fit (suc (suc (suc zero))) h = refl
+names-fit (suc (suc (suc (suc k)))) h = absurd (omega (arith, h))
+
+pub services-fit : (k : ℕ) → k < 6 → is_service (text_at generated_services k) ≡ true
+services-fit zero h = refl
+services-fit (suc zero) h = refl
+services-fit (suc (suc zero)) h = refl
+services-fit (suc (suc (suc zero))) h = refl
+services-fit (suc (suc (suc (suc zero)))) h = refl
+services-fit (suc (suc (suc (suc (suc zero))))) h = refl
+services-fit (suc (suc (suc (suc (suc (suc k)))))) h = absurd (omega (arith, h))
+
+places-honest : (k : ℕ) → k < 4 → IsHonest made_domains (k + 1)
+places-honest zero h = refl
+places-honest (suc zero) h = refl
+places-honest (suc (suc zero)) h = refl
+places-honest (suc (suc (suc zero))) h = refl
+places-honest (suc (suc (suc (suc k)))) h = absurd (omega (arith, h))
+
+pub other-within : (caller number : ℕ) → number < 3 → other_place caller number < 4
+other-within caller number h = grind (arith, nat_tests)
+
+pub length-fill : (count : ℕ) → length (fill count) ≡ count
+unfolding fill
+length-fill count = length-map-range_with_len (λ i. i % 251) 0 count
+
+call-fits : (number caller target service stdin : ℕ) → CallFits made_domains (generated_call number caller target service stdin)
+call-fits number caller target service stdin = record {
+  caller = places-honest (caller % 4) (omega arith);
+  target = names-fit (other_place (caller % 4) (target % 3)) (other-within (caller % 4) (target % 3) (omega arith));
+  service = services-fit (service % 6) (omega arith);
+  stdin = omega (arith, length-fill (stdin % 2049));
+}
+
+calls-fit : (number x count : ℕ) → All (CallFits made_domains) (generated_calls number x count)
+unfolding generated_calls
+calls-fit number x zero = All-nil (CallFits made_domains)
+calls-fit number x (suc count) = All-cons (CallFits made_domains) (call_from number x) (generated_calls (number + 1) (after_call x) count) (call-fits number _ _ _ _) (calls-fit (number + 1) (after_call x) count)
+
+length-calls : (number x count : ℕ) → length (generated_calls number x count) ≡ count
+unfolding generated_calls
+length-calls number x zero = refl
+length-calls number x (suc count) = ap suc (length-calls (number + 1) (after_call x) count)
+
+rise : (below number x count : ℕ) → below < number → Rises below (generated_calls number x count)
+unfolding generated_calls
+rise below number x zero h = tt
+rise below number x (suc count) h = (h, rise number (number + 1) (after_call x) count (omega arith))
+
+few-bytes : (number x count : ℕ) → stdin_total (generated_calls number x count) ≤ count * 2048
+unfolding generated_calls
+few-bytes number x zero = omega arith
+few-bytes number x (suc count) =
+    let more = few-bytes (number + 1) (after_call x) count in
+    let first = sum_by-cons (λ (call : CallPlan). length call.stdin) (call_from number x) (generated_calls (number + 1) (after_call x) count) in
+    let here = (call-fits' number x) in
+    omega (arith, more, first, here)
+  where
+    call-fits' : (number x : ℕ) → length (call_from number x).stdin ≤ 2048
+    call-fits' number x = omega (arith, length-fill ((after_call x) % 2049))
+
+words-are : (orders : Orders) → number_of orders.left ≡ 10 → number_of orders.right ≡ 11 → word_count orders ≡ 3086
+unfolding size
+words-are orders left right = rw (left, right) refl
+
+domain-fits : (k : ℕ) → k < 4 → DomainFits (generated_domain (text_at generated_names k))
+domain-fits k h = record { name = names-fit k h; kind = (refl, inr refl) }
+
+domains-fit : All DomainFits made_domains
+domains-fit = All-from_recursion DomainFits made_domains
+    (domain-fits 0 (omega arith), (domain-fits 1 (omega arith), (domain-fits 2 (omega arith), (domain-fits 3 (omega arith), tt))))
+
+-- another name than that of this place
+abbrev Differs : ℕ → Domain → Type 0
+Differs k other = bytes_eq (text_at generated_names k) other.name ≡ false
+
+apart : AreApart made_domains
+apart = (
+  All-from_recursion (Differs 0) (drop 1 made_domains) (refl, (refl, (refl, tt))),
+  (
+    All-from_recursion (Differs 1) (drop 2 made_domains) (refl, (refl, tt)),
+    (
+      All-from_recursion (Differs 2) (drop 3 made_domains) (refl, tt),
+      (All-nil (Differs 3), tt),
+    ),
+  ),
+)
+
+-- so many generated calls between the generated domains make a scenario
+pub generated_is_scenario : (seed calls : ℕ) (orders : Orders) → number_of orders.left ≡ 10 → number_of orders.right ≡ 11 → calls ≤ 2000
+    → IsScenario (record { control = orders; payload = orders; start = 0; domains = made_domains; calls = generated_calls 1 seed calls })
+generated_is_scenario seed calls orders left right few = record {
+  few_domains = omega arith;
+  few_calls = omega (arith, length-calls 1 seed calls);
+  domains_fit = domains-fit;
+  apart = apart;
+  calls_fit = calls-fit 1 seed calls;
+  rising = rise 0 1 seed calls (omega arith);
+  stdin = omega (arith, few-bytes 1 seed calls);
+  words =
+      let count = words-are orders left right in
+      let laid = count_by-le-length (lays_page made_domains) (generated_calls 1 seed calls) in
+      let all = length-calls 1 seed calls in
+      rw count (omega (arith, laid, all));
+}
+
+-- the first of so many calls
+pub generated_step : (number x count : ℕ) → 0 < count → generated_calls number x count ≡ call_from number x ∷ generated_calls (number + 1) (after_call x) (count - 1)
+unfolding generated_calls
+generated_step number x zero h = absurd (omega arith)
+generated_step number x (suc count) h = let less : suc count - 1 ≡ count = omega arith in rw less refl
+
+pub generated_none : (number x count : ℕ) → count ≡ 0 → generated_calls number x count ≡ []
+unfolding generated_calls
+generated_none number x zero h = refl
+generated_none number x (suc count) h = absurd (omega arith)
+
+-- a call behind those before
+pub generated_more : (done : List CallPlan) (call : CallPlan) (number x last left less : ℕ) (all : List CallPlan) → 0 < left → less ≡ left - 1
+    → call ≡ call_from number x → last ≡ after_call x → done ++ generated_calls number x left ≡ all
+    → (done ++ call ∷ []) ++ generated_calls (number + 1) last less ≡ all
+generated_more done call number x last left less all some one made after so_far =
+    rw (append_assoc, made, after, one, ← generated_step number x left some) so_far
+
+-- no call is left
+pub generated_done : (done : List CallPlan) (number x left : ℕ) (all : List CallPlan) → left ≡ 0 → done ++ generated_calls number x left ≡ all → done ≡ all
+generated_done done number x left all none so_far =
+    let nothing = generated_none number x left none in
+    let whole = rw nothing at so_far in
+    sym (append-nil done) ∙ whole

@@ -1,0 +1,4 @@
+pub mod PlaceLaws
+pub mod WithoutLaws
+pub mod KeptLaws
+pub mod GeneratedLaws

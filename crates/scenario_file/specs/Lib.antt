@@ -1,0 +1,5 @@
+pub mod Names
+pub mod Acts
+pub mod Scenario
+pub mod Lines
+pub mod Generator

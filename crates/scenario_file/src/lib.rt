@@ -1,0 +1,25 @@
+//! The scenario: which domains there are, which of them are hostile, and which calls are made.
+//!
+//! A scenario stands in a file of TOML, whose form is this project's own, or is generated from a
+//! seed. The crates that run it rely on what holds of every scenario. What comes of the calls between
+//! honest domains is said here too, by the services and the names alone.
+#![tactic(auto)]
+
+mod acts;
+mod copies;
+mod generator;
+mod laws;
+mod line;
+mod lookup;
+mod outcomes;
+mod scenario;
+mod text;
+mod without;
+
+pub use acts::{Act, ActPage, Acts};
+pub use generator::{generate, next_number};
+pub use laws::lines_stay_without_hostile;
+pub use line::{Line, LineCause, LineResult};
+pub use outcomes::honest_lines;
+pub use scenario::{CallPlan, Domain, Scenario};
+pub use without::without_hostile;

@@ -1,0 +1,5 @@
+-- The readers of words and lines read the language.
+pub mod OrdersLaws
+pub mod NameLaws
+pub mod KeptLinesLaws
+pub mod ScriptLaws

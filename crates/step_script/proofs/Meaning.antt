@@ -1,0 +1,4 @@
+-- What calls and scripts come to.
+pub mod GotLaws
+pub mod FinishLaws
+pub mod ListScriptLaws

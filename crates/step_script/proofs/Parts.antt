@@ -1,0 +1,7 @@
+-- The parts of the reader and of the player.
+pub mod HexLaws
+pub mod SpacedLaws
+pub mod EndPlayerLaws
+pub mod DoesLaws
+pub mod PlayerLaws
+pub mod RunningLaws

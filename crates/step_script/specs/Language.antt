@@ -1,0 +1,8 @@
+-- The language: which bytes are a script, and its lines as values.
+pub mod Tables
+pub mod Operands
+pub mod KeptLines
+pub mod Pokes
+pub mod Opening
+pub mod Script
+pub mod Grammar

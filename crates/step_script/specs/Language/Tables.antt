@@ -1,0 +1,79 @@
+-- The words of a script, and what each stands for.
+-- Source: this project's own; the calls are those of libxenvchan.h with three more, the fields those of
+-- struct vchan_interface in public/io/libxenvchan.h.
+use Rattle.std.specs.Prelude.{ℕ, List, [], ◌∷◌, Option, None, codes, bytes_eq}
+use Rattle.std.specs.Map.{lookup}
+use Rattle.std.specs.Option.{option_map}
+use Rattle.ring_words.specs.declared.page.Role.{Role}
+use Rattle.ring_words.specs.declared.page.Role.TheVariants.{Server, Client}
+use Rattle.ring_words.specs.declared.page.WordName.{WordName}
+use Rattle.ring_words.specs.declared.page.WordName.TheVariants.{LeftCons, LeftProd, RightCons, RightProd, LeftOrder, RightOrder, CliLive, SrvLive, CliNotify, SrvNotify}
+use Rattle.vchan_protocol.specs.declared.call.Call.TheVariants.{DataReady, BufferSpace, Connect, Close, TakeEvent, PeerGone, Retire}
+use Rattle.step_script.specs.declared.read.forms.CallForm.{CallForm}
+use Rattle.step_script.specs.declared.read.forms.CallForm.TheVariants.{Write, Send, Read, Recv, Drain, Bare}
+use Rattle.step_script.specs.Language.Script.{StepLine, head, image}
+use Rattle.step_script.specs.declared.read.forms.Act.{Act}
+use Rattle.step_script.specs.declared.read.forms.Act.TheVariants.{Begin, Step, Finish, Poke, Signal}
+
+-- what a word stands for in a table
+abbrev pub meaning_in : {A : Type 0} → List (List ℕ × A) → List ℕ → Option A
+meaning_in table word = lookup (bytes_eq word) table
+
+-- what the first of these words stands for in a table, and the words behind it
+abbrev pub meaning_first : {A : Type 0} → List (List ℕ × A) → List (List ℕ) → Option (A × List (List ℕ))
+meaning_first table [] = None
+meaning_first table (word ∷ more) = option_map (λ x. (x, more)) (meaning_in table word)
+
+-- the ends
+abbrev pub ends : List (List ℕ × Role)
+ends = (codes "server", Server) ∷ (codes "client", Client) ∷ []
+
+-- the calls that both ends may make
+abbrev pub common_calls : List (List ℕ × CallForm)
+common_calls =
+    (codes "write", Write) ∷
+    (codes "read", Read) ∷
+    (codes "send", Send) ∷
+    (codes "recv", Recv) ∷
+    (codes "drain", Drain) ∷
+    (codes "ready", Bare DataReady) ∷
+    (codes "space", Bare BufferSpace) ∷
+    (codes "close", Bare Close) ∷
+    (codes "event", Bare TakeEvent) ∷
+    (codes "gone", Bare PeerGone) ∷
+    (codes "retire", Bare Retire) ∷
+    []
+
+-- the calls of an end: only a client connects
+abbrev pub calls_of : Role → List (List ℕ × CallForm)
+calls_of Server = common_calls
+calls_of Client = (codes "connect", Bare Connect) ∷ common_calls
+
+-- what an end does that is no whole call
+abbrev pub acts : List (List ℕ × Act)
+acts =
+    (codes "begin", Begin) ∷
+    (codes "step", Step) ∷
+    (codes "finish", Finish) ∷
+    (codes "poke", Poke) ∷
+    (codes "signal", Signal) ∷
+    []
+
+-- the lines that print bytes of the page
+abbrev pub page_lines : List (List ℕ × StepLine)
+page_lines = (codes "head", head) ∷ (codes "image", image) ∷ []
+
+-- the header fields of a page
+abbrev pub fields : List (List ℕ × WordName)
+fields =
+    (codes "left_cons", LeftCons) ∷
+    (codes "left_prod", LeftProd) ∷
+    (codes "right_cons", RightCons) ∷
+    (codes "right_prod", RightProd) ∷
+    (codes "left_order", LeftOrder) ∷
+    (codes "right_order", RightOrder) ∷
+    (codes "cli_live", CliLive) ∷
+    (codes "srv_live", SrvLive) ∷
+    (codes "cli_notify", CliNotify) ∷
+    (codes "srv_notify", SrvNotify) ∷
+    []

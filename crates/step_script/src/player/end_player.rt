@@ -1,0 +1,375 @@
+//! One end as a script plays it: its calls, whole or event by event.
+ghost use Rattle.std.specs.Prelude.{◌≡◌, ◌<◌, ◌≤◌, ◌↔◌, [], length, IfSome, IsSome, OnOk, None, false, take};
+ghost use Rattle.vchan_protocol.specs.History.WholeCall.{alone, call_answer, called};
+ghost use Rattle.vchan_protocol.specs.Table.Apply.{filled};
+ghost use Rattle.vchan_protocol.specs.Table.Calls.{IsAllowed, loaded_most, payload_of};
+ghost use Rattle.vchan_protocol.specs.History.Core.{Core, answer_in, bytes_loaded, event as event_of, plan_left, plan_next, side_of};
+ghost use Rattle.vchan_core.specs.Page.StandsFor.{StandsFor, machine_of, other_of, turned_of};
+ghost use Rattle.vchan_core.specs.OneMachine.Phases.{Allows, IsIdle, standing};
+ghost use Rattle.step_script.specs.Meaning.Played.{begins_call, call_refusal as call_refusal_of, finished, has_retired as has_retired_of, line_done, makes_call, state_refusal as state_refusal_of, step_refusal as step_refusal_of, stepped, unless_refused};
+ghost use Rattle.step_script.specs.Language.Script.{CallFits, CanSay, begins, calls, finishes, steps};
+ghost use Rattle.step_script.specs.Parts.ScriptLines.{call_with};
+
+use crate::player::printer::{push_answer, push_refusal};
+use crate::player::refusal::Refusal;
+use ring_words::{Ring, Role, WordName};
+use std::alloc::{AllocError, Global};
+use std::marker::Brand;
+use std::sync::ledger::{Blank, Ledger};
+use vchan_core::{Answer, Call, EndState, Plain, Steps};
+
+/// More events than any call makes.
+const ALL_EVENTS: u32 = u32::MAX;
+
+/// What is kept for one end: the call that it is inside, the bytes that this call writes or sends,
+/// and the buffer for those that it takes. The buffer serves all calls of the end, and grows where
+/// it is too short for one. A call that is begun outlives its line, so its bytes are kept here; a
+/// whole call needs them in its line alone.
+#[derive(Drop)]
+pub(crate) struct EndPlayer {
+    call: Call,
+    payload: Vec<u8>,
+    buffer: Vec<u8>,
+}
+
+impl EndPlayer {
+    ghost use Rattle.step_script.specs.Parts.Players.{Does, IsAt, IsKnown, IsTaken};
+
+    /// What is kept for an end that has made no call yet.
+    pub(crate) fn new(alloc: Global) -> EndPlayer
+        ensures { result.buffer.items ≡ [] }
+    {
+        EndPlayer {
+            call: Call::Retire,
+            payload: Vec::new(alloc),
+            buffer: Vec::new(alloc),
+        }
+    }
+
+    /// A whole call. The call that the end is inside is finished first.
+    pub(crate) fn call(
+        &mut self,
+        page: &mut Plain,
+        who: Role,
+        call: Call,
+        payload: &[u8],
+        text: &mut Vec<u8>,
+    ) -> Result<(), AllocError>
+        requires known { IsKnown who page.old self.old }
+        requires fits { CallFits who (call_with call payload.now) }
+        ensures { OnOk result (Does who (line_done (calls who (call_with call payload.now))) page.old page.new self.old self.new text.old.items text.new.items) }
+    {
+        self.finish_call(page, who, text)?;
+        self.make(page, who, call, payload, text)
+    }
+
+    /// The begin of a call, which makes no event. The call that the end is inside is finished
+    /// first.
+    pub(crate) fn begin(
+        &mut self,
+        page: &mut Plain,
+        who: Role,
+        call: Call,
+        payload: &[u8],
+        text: &mut Vec<u8>,
+    ) -> Result<(), AllocError>
+        requires known { IsKnown who page.old self.old }
+        requires fits { CallFits who (call_with call payload.now) }
+        ensures { OnOk result (Does who (line_done (begins who (call_with call payload.now))) page.old page.new self.old self.new text.old.items text.new.items) }
+    {
+        self.finish_call(page, who, text)?;
+        self.enter(page, who, call, payload, text)
+    }
+
+    /// At most so many events of the call that the end is inside, up to its answer.
+    pub(crate) fn step(
+        &mut self,
+        page: &mut Plain,
+        who: Role,
+        most: u32,
+        text: &mut Vec<u8>,
+    ) -> Result<(), AllocError>
+        requires known { IsKnown who page.old self.old }
+        ensures { OnOk result (Does who (line_done (steps who most)) page.old page.new self.old self.new text.old.items text.new.items) }
+    {
+        if let Some(why) = step_refusal(page, who) {
+            return push_refusal(text, who, why);
+        }
+        let Some(answer) = self.advance(page, who, most) else {
+            return Ok(());
+        };
+        push_answer(text, who, self.call, answer, self.buffer.as_slice())
+    }
+
+    /// The events of the call that the end is inside, up to its answer.
+    pub(crate) fn finish(
+        &mut self,
+        page: &mut Plain,
+        who: Role,
+        text: &mut Vec<u8>,
+    ) -> Result<(), AllocError>
+        requires known { IsKnown who page.old self.old }
+        ensures { OnOk result (Does who (line_done (finishes who)) page.old page.new self.old self.new text.old.items text.new.items) }
+    {
+        if let Some(why) = step_refusal(page, who) {
+            return push_refusal(text, who, why);
+        }
+        self.finish_call(page, who, text)
+    }
+
+    /// Finishes the call that the end is inside, if it is inside one.
+    fn finish_call(
+        &mut self,
+        page: &mut Plain,
+        who: Role,
+        text: &mut Vec<u8>,
+    ) -> Result<(), AllocError>
+        requires known { IsKnown who page.old self.old }
+        ensures does { OnOk result (Does who (finished who) page.old page.new self.old self.new text.old.items text.new.items) }
+        ensures idle { OnOk result (IsIdle (machine_of page.new who)) }
+    {
+        if page.machine(who).idle() {
+            return Ok(());
+        }
+        let answer = self.advance_to_answer(page, who);
+        push_answer(text, who, self.call, answer, self.buffer.as_slice())
+    }
+
+    /// A whole call of an end between two calls, or the line that says why it can't make it.
+    fn make(
+        &mut self,
+        page: &mut Plain,
+        who: Role,
+        call: Call,
+        payload: &[u8],
+        text: &mut Vec<u8>,
+    ) -> Result<(), AllocError>
+        requires known { IsKnown who page.old self.old }
+        requires idle { IsIdle (machine_of page.old who) }
+        requires fits { CallFits who (call_with call payload.now) }
+        ensures { let c = call_with call payload.now in
+            OnOk result (Does who (λ core. unless_refused (call_refusal_of core who c.call) who core (makes_call who c))
+            page.old page.new self.old self.new text.old.items text.new.items) }
+    {
+        if let Some(why) = call_refusal(page, who, call) {
+            return push_refusal(text, who, why);
+        }
+        self.make_room(page, who, call)?;
+        let answer = run_call(page, who, call, payload, self.buffer.as_mut_slice());
+        push_answer(text, who, call, answer, self.buffer.as_slice())
+    }
+
+    /// Begins a call of an end between two calls, or says why it can't make it.
+    fn enter(
+        &mut self,
+        page: &mut Plain,
+        who: Role,
+        call: Call,
+        payload: &[u8],
+        text: &mut Vec<u8>,
+    ) -> Result<(), AllocError>
+        requires known { IsKnown who page.old self.old }
+        requires idle { IsIdle (machine_of page.old who) }
+        requires fits { CallFits who (call_with call payload.now) }
+        ensures { let c = call_with call payload.now in
+            OnOk result (Does who (λ core. unless_refused (call_refusal_of core who c.call) who core (begins_call who c))
+            page.old page.new self.old self.new text.old.items text.new.items) }
+    {
+        if let Some(why) = call_refusal(page, who, call) {
+            return push_refusal(text, who, why);
+        }
+        self.make_room(page, who, call)?;
+        self.call = call;
+        self.payload.clear();
+        self.payload.extend_from_slice(payload)?;
+        page.begin(who, call);
+        Ok(())
+    }
+
+    /// Makes the buffer long enough for the bytes that a call may take.
+    fn make_room(&mut self, page: &Plain, who: Role, call: Call) -> Result<(), AllocError>
+        ensures room { OnOk result (loaded_most (standing (machine_of page.now who)) call ≤ length self.new.buffer.items) }
+        ensures payload { self.new.payload ≡ self.old.payload }
+        ensures call { self.new.call ≡ self.old.call }
+    {
+        let most = most_taken(page, who, call);
+        if self.buffer.len() < most {
+            self.buffer.resize(most, 0)?;
+        }
+        Ok(())
+    }
+
+    /// The events of the call that the end is inside, up to its answer.
+    fn advance_to_answer(&mut self, page: &mut Plain, who: Role) -> Answer
+        requires known { IsKnown who page.old self.old }
+        requires busy { ¬ IsIdle (machine_of page.old who) }
+        ensures at { (core : Core) → IsAt core who page.old self.old
+            → IsAt (alone core who (plan_left (side_of core who))).0 who page.new self.new }
+        ensures answer { (core : Core) → IsAt core who page.old self.old
+            → result ≡ (alone core who (plan_left (side_of core who))).1 }
+        ensures taken { (core : Core) → IsAt core who page.old self.old
+            → IsTaken result (side_of (alone core who (plan_left (side_of core who))).0 who).trail self.new.buffer.items }
+        ensures idle { IsIdle (machine_of page.new who) }
+        ensures call { self.new.call ≡ self.old.call }
+        ensures other { other_of page.new who ≡ other_of page.old who }
+    {
+        if let Some(answer) = self.advance(page, who, ALL_EVENTS) {
+            return answer;
+        }
+        unreachable!()
+    }
+
+    /// At most so many events of the call that the end is inside, up to its answer.
+    fn advance(&mut self, page: &mut Plain, who: Role, most: u32) -> Option<Answer>
+        requires known { IsKnown who page.old self.old }
+        requires busy { ¬ IsIdle (machine_of page.old who) }
+        ensures at { (core : Core) → IsAt core who page.old self.old → IsAt (stepped most core who).0 who page.new self.new }
+        ensures answer { (core : Core) → IsAt core who page.old self.old → result ≡ (stepped most core who).1 }
+        ensures taken { IfSome result (λ answer. (core : Core) → IsAt core who page.old self.old
+            → IsTaken answer (side_of (stepped most core who).0 who).trail self.new.buffer.items) }
+        ensures idle { IfSome result (λ _. IsIdle (machine_of page.new who)) }
+        ensures call { self.new.call ≡ self.old.call }
+        ensures other { other_of page.new who ≡ other_of page.old who }
+    {
+        for made in 0..most {
+            if let Some(answer) = self.event(page, who) {
+                return Some(answer);
+            }
+        }
+        None
+    }
+
+    /// One event of the call that the end is inside, and the answer where it comes with it.
+    fn event(&mut self, page: &mut Plain, who: Role) -> Option<Answer>
+        requires known { IsKnown who page.old self.old }
+        requires busy { ¬ IsIdle (machine_of page.old who) }
+        ensures at { (core : Core) → IsAt core who page.old self.old → IsAt (event_of core who) who page.new self.new }
+        ensures answer { (core : Core) → IsAt core who page.old self.old → result ≡ answer_in (plan_next core who) }
+        ensures taken { IfSome result (λ answer. (core : Core) → IsAt core who page.old self.old
+            → IsTaken answer (side_of (event_of core who) who).trail self.new.buffer.items) }
+        ensures idle { IsSome result ↔ IsIdle (machine_of page.new who) }
+        ensures call { self.new.call ≡ self.old.call }
+        ensures other { other_of page.new who ≡ other_of page.old who }
+    {
+        page.step(who, self.payload.as_slice(), self.buffer.as_mut_slice())
+    }
+}
+
+/// Makes a whole call, whose events nobody counts.
+fn run_call(page: &mut Plain, who: Role, call: Call, payload: &[u8], buffer: &mut [u8]) -> Answer
+    requires honest { turned_of page.old who ≡ false }
+    requires allowed { Allows (machine_of page.old who) call }
+    requires payload { payload_of call ≤ length payload.now }
+    requires buffer { loaded_most (standing (machine_of page.old who)) call ≤ length buffer.old }
+    ensures stands { (core : Core) → StandsFor core page.old
+        → StandsFor (called core who call (take (payload_of call) payload.now)) page.new }
+    ensures answer { (core : Core) → StandsFor core page.old
+        → result ≡ call_answer core who call (take (payload_of call) payload.now) }
+    ensures buffer { (core : Core) → StandsFor core page.old
+        → buffer.new ≡ filled buffer.old (bytes_loaded (side_of (called core who call (take (payload_of call) payload.now)) who).trail) }
+    ensures idle { IsIdle (machine_of page.new who) }
+    ensures other { other_of page.new who ≡ other_of page.old who }
+{
+    run_counted::<Brand>(page, who, call, payload, buffer, Blank::new(1))
+}
+
+/// Makes a whole call, whose events are counted in the ledger that `blank` opens.
+fn run_counted<L: Ledger>(
+    page: &mut Plain,
+    who: Role,
+    call: Call,
+    payload: &[u8],
+    buffer: &mut [u8],
+    blank: Blank,
+) -> Answer
+    requires name { blank.name ≡ L.name }
+    requires parts { blank.parts ≡ L.parts }
+    requires some { 0 < blank.parts }
+    requires honest { turned_of page.old who ≡ false }
+    requires allowed { Allows (machine_of page.old who) call }
+    requires payload { payload_of call ≤ length payload.now }
+    requires buffer { loaded_most (standing (machine_of page.old who)) call ≤ length buffer.old }
+    ensures stands { (core : Core) → StandsFor core page.old
+        → StandsFor (called core who call (take (payload_of call) payload.now)) page.new }
+    ensures answer { (core : Core) → StandsFor core page.old
+        → result ≡ call_answer core who call (take (payload_of call) payload.now) }
+    ensures buffer { (core : Core) → StandsFor core page.old
+        → buffer.new ≡ filled buffer.old (bytes_loaded (side_of (called core who call (take (payload_of call) payload.now)) who).trail) }
+    ensures idle { IsIdle (machine_of page.new who) }
+    ensures other { other_of page.new who ≡ other_of page.old who }
+{
+    page.run_call(who, call, payload, buffer, &mut Steps::<L>::new(blank))
+}
+
+/// Why an end can't make a call now: the first reason that applies.
+fn call_refusal(page: &Plain, who: Role, call: Call) -> Option<Refusal>
+    requires { CanSay who call }
+    ensures refusal { (core : Core) → StandsFor core page.now → result ≡ call_refusal_of core who call }
+    ensures honest { result ≡ None → turned_of page.now who ≡ false }
+    ensures allowed { result ≡ None → IsAllowed who (standing (machine_of page.now who)).state call }
+{
+    if page.turned(who) {
+        return Some(Refusal::Turned);
+    }
+    match page.machine(who).state() {
+        EndState::Open if !matches!(call, Call::Connect) => None,
+        state => state_refusal(state, has_retired(page, who), call),
+    }
+}
+
+/// Why an end in this state can't make a call, where it has retired or not.
+fn state_refusal(state: EndState, retired: bool, call: Call) -> Option<Refusal>
+    ensures refusal { result ≡ state_refusal_of state retired call }
+    ensures allowed { result ≡ None → (who : Role) → CanSay who call → IsAllowed who state call }
+{
+    match (state, call) {
+        (EndState::Shut, Call::Retire) if !retired => None,
+        (EndState::Shut, _) => Some(Refusal::Shut),
+        (EndState::Fresh, Call::Connect | Call::Close | Call::Retire) => None,
+        (EndState::Fresh, _) => Some(Refusal::Unconnected),
+        (EndState::Open, Call::Connect) => Some(Refusal::Idle),
+        (EndState::Open, _) => None,
+    }
+}
+
+/// Whether an end has retired: its gone word is set.
+fn has_retired(page: &Plain, who: Role) -> bool
+    ensures { (core : Core) → StandsFor core page.now → result ≡ has_retired_of core who }
+{
+    let gone = match who {
+        Role::Server => WordName::SrvGone,
+        Role::Client => WordName::CliGone,
+    };
+    page.words().load(gone) != 0
+}
+
+/// Why an end can't go on with a call now: the first reason that applies.
+fn step_refusal(page: &Plain, who: Role) -> Option<Refusal>
+    ensures refusal { (core : Core) → StandsFor core page.now → result ≡ step_refusal_of (side_of core who) }
+    ensures busy { result ≡ None → ¬ IsIdle (machine_of page.now who) }
+{
+    if page.turned(who) {
+        return Some(Refusal::Turned);
+    }
+    if page.machine(who).idle() {
+        return Some(Refusal::Idle);
+    }
+    None
+}
+
+/// The most bytes that a call can take from the ring that its end reads.
+fn most_taken(page: &Plain, who: Role, call: Call) -> usize
+    ensures { result ≡ loaded_most (standing (machine_of page.now who)) call }
+{
+    let most = match call {
+        Call::Read { most } => most,
+        Call::Recv { len } => len,
+        Call::Drain { most } => most,
+        _ => return 0,
+    };
+    let ring = match who {
+        Role::Server => Ring::Left,
+        Role::Client => Ring::Right,
+    };
+    most.min(page.words().orders().order_of(ring).size()) as usize
+}

@@ -1,0 +1,180 @@
+//! What the words of a script stand for.
+ghost use Rattle.std.specs.Prelude.{◌≡◌, drop, IfSome};
+ghost use Rattle.ring_words.specs.declared.page.Role.{Role};
+ghost use Rattle.script_words.specs.WordsLeft.{words_left};
+ghost use Rattle.step_script.specs.Parts.Forms.{FormFits, found_in};
+ghost use Rattle.step_script.specs.Language.Tables.{meaning_in, meaning_first, ends, calls_of, common_calls, acts, fields};
+
+use ring_words::{Role, WordName};
+use script_words::Words;
+use vchan_core::Call;
+
+/// A call as its word names it, and with that the form of the words behind it.
+#[derive(Clone, Copy, Debug, PartialEq, Eq)]
+pub(crate) enum CallForm {
+    /// `write BYTES`.
+    Write,
+    /// `send BYTES`.
+    Send,
+    /// `read N`.
+    Read,
+    /// `recv N`.
+    Recv,
+    /// `drain N`.
+    Drain,
+    /// A call with no word behind it.
+    Bare(Call),
+}
+
+/// What an end does that is no whole call.
+#[derive(Clone, Copy, Debug, PartialEq, Eq)]
+pub(crate) enum Act {
+    /// `begin CALL`.
+    Begin,
+    /// `step N`.
+    Step,
+    /// `finish`.
+    Finish,
+    /// `poke WORD VALUE`.
+    Poke,
+    /// `signal`.
+    Signal,
+}
+
+/// The end that the first of these words names, and the words behind it.
+#[inline(always)]
+#[tactic(auto, using(crate::proofs::Language::NameLaws::unnamed))]
+pub(crate) fn end_in<'a>(words: &Words<'a>) -> Option<(Role, Words<'a>)>
+    ensures { found_in result ≡ meaning_first ends (words_left words.now) }
+{
+    if let Some(rest) = words.behind(b"client") {
+        Some((Role::Client, rest))
+    } else if let Some(rest) = words.behind(b"server") {
+        Some((Role::Server, rest))
+    } else {
+        None
+    }
+}
+
+/// The call of this end that the first of these words names, and the words behind it.
+#[inline(always)]
+pub(crate) fn call_in<'a>(who: Role, words: &Words<'a>) -> Option<(CallForm, Words<'a>)>
+    ensures form { found_in result ≡ meaning_first (calls_of who) (words_left words.now) }
+    ensures fits { IfSome result (λ found. FormFits who found.0) }
+{
+    match who {
+        Role::Server => common_call_in(words),
+        Role::Client => client_call_in(words),
+    }
+}
+
+/// The call of a client that the first of these words names, and the words behind it.
+#[inline(always)]
+#[tactic(auto, using(crate::proofs::Language::NameLaws::past_name))]
+fn client_call_in<'a>(words: &Words<'a>) -> Option<(CallForm, Words<'a>)>
+    ensures form { found_in result ≡ meaning_first (calls_of Role.Client) (words_left words.now) }
+    ensures fits { IfSome result (λ found. FormFits Role.Client found.0) }
+{
+    if let Some(rest) = words.behind(b"connect") {
+        Some((CallForm::Bare(Call::Connect), rest))
+    } else {
+        common_call_in(words)
+    }
+}
+
+/// The call of either end that the first of these words names, and the words behind it. The two
+/// calls that scripts have most are looked for where this is called.
+#[inline(always)]
+#[tactic(auto, using(crate::proofs::Language::NameLaws::past_name))]
+fn common_call_in<'a>(words: &Words<'a>) -> Option<(CallForm, Words<'a>)>
+    ensures form { found_in result ≡ meaning_first common_calls (words_left words.now) }
+    ensures fits { (who : Role) → IfSome result (λ found. FormFits who found.0) }
+{
+    if let Some(rest) = words.behind(b"write") {
+        Some((CallForm::Write, rest))
+    } else if let Some(rest) = words.behind(b"read") {
+        Some((CallForm::Read, rest))
+    } else {
+        further_call_in(words)
+    }
+}
+
+/// The call of either end, but for `write` and `read`, that the first of these words names, and the
+/// words behind it.
+#[inline(never)]
+#[tactic(auto, using(crate::proofs::Language::NameLaws::unnamed))]
+fn further_call_in<'a>(words: &Words<'a>) -> Option<(CallForm, Words<'a>)>
+    ensures form { found_in result ≡ meaning_first (drop 2 common_calls) (words_left words.now) }
+    ensures fits { (who : Role) → IfSome result (λ found. FormFits who found.0) }
+{
+    if let Some(rest) = words.behind(b"send") {
+        Some((CallForm::Send, rest))
+    } else if let Some(rest) = words.behind(b"recv") {
+        Some((CallForm::Recv, rest))
+    } else if let Some(rest) = words.behind(b"drain") {
+        Some((CallForm::Drain, rest))
+    } else if let Some(rest) = words.behind(b"ready") {
+        Some((CallForm::Bare(Call::DataReady), rest))
+    } else if let Some(rest) = words.behind(b"space") {
+        Some((CallForm::Bare(Call::BufferSpace), rest))
+    } else if let Some(rest) = words.behind(b"close") {
+        Some((CallForm::Bare(Call::Close), rest))
+    } else if let Some(rest) = words.behind(b"event") {
+        Some((CallForm::Bare(Call::TakeEvent), rest))
+    } else if let Some(rest) = words.behind(b"gone") {
+        Some((CallForm::Bare(Call::PeerGone), rest))
+    } else if let Some(rest) = words.behind(b"retire") {
+        Some((CallForm::Bare(Call::Retire), rest))
+    } else {
+        None
+    }
+}
+
+/// The act that the first of these words names, and the words behind it.
+#[tactic(auto, using(crate::proofs::Language::NameLaws::unnamed))]
+pub(crate) fn act_in<'a>(words: &Words<'a>) -> Option<(Act, Words<'a>)>
+    ensures { found_in result ≡ meaning_first acts (words_left words.now) }
+{
+    if let Some(rest) = words.behind(b"begin") {
+        Some((Act::Begin, rest))
+    } else if let Some(rest) = words.behind(b"step") {
+        Some((Act::Step, rest))
+    } else if let Some(rest) = words.behind(b"finish") {
+        Some((Act::Finish, rest))
+    } else if let Some(rest) = words.behind(b"poke") {
+        Some((Act::Poke, rest))
+    } else if let Some(rest) = words.behind(b"signal") {
+        Some((Act::Signal, rest))
+    } else {
+        None
+    }
+}
+
+/// The header field that a word names.
+pub(crate) fn field_named(word: &[u8]) -> Option<WordName>
+    ensures { result ≡ meaning_in fields word.now }
+{
+    if word == b"left_cons".as_slice() {
+        Some(WordName::LeftCons)
+    } else if word == b"left_prod".as_slice() {
+        Some(WordName::LeftProd)
+    } else if word == b"right_cons".as_slice() {
+        Some(WordName::RightCons)
+    } else if word == b"right_prod".as_slice() {
+        Some(WordName::RightProd)
+    } else if word == b"left_order".as_slice() {
+        Some(WordName::LeftOrder)
+    } else if word == b"right_order".as_slice() {
+        Some(WordName::RightOrder)
+    } else if word == b"cli_live".as_slice() {
+        Some(WordName::CliLive)
+    } else if word == b"srv_live".as_slice() {
+        Some(WordName::SrvLive)
+    } else if word == b"cli_notify".as_slice() {
+        Some(WordName::CliNotify)
+    } else if word == b"srv_notify".as_slice() {
+        Some(WordName::SrvNotify)
+    } else {
+        None
+    }
+}

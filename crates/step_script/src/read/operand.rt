@@ -1,0 +1,120 @@
+//! The words behind a verb.
+ghost use Rattle.std.specs.Prelude.{◌≡◌, ◌≤◌, nat_lt, [], length, IfOk};
+ghost use Rattle.script_words.specs.WordsLeft.{words_left};
+ghost use Rattle.vchan_protocol.specs.Honest.RingLaw.{AreBytes};
+ghost use Rattle.step_script.specs.Language.Operands.{given, operand_of, alone, number_between, count_of, payload_of};
+ghost use Rattle.step_script.specs.Parts.Readings.{Gives};
+
+use crate::error::LineError;
+use script_words::{Words, parse_number, push_bytes};
+
+/// The most that a count of bytes or of events may say.
+const MOST_COUNT: u32 = 2_147_483_647;
+
+/// A word that has a byte.
+///
+/// # Errors
+///
+/// A bad line where it is empty.
+pub(crate) fn read_given(word: &[u8]) -> Result<&[u8], LineError>
+    ensures { Gives (λ word. word.now) result (given word.now) }
+{
+    if word.is_empty() {
+        Err(LineError::BAD_LINE)
+    } else {
+        Ok(word)
+    }
+}
+
+/// The only word that is left.
+///
+/// # Errors
+///
+/// A bad line where it isn't the only one, or is empty.
+pub(crate) fn read_operand<'a>(words: Words<'a>) -> Result<&'a [u8], LineError>
+    ensures { Gives (λ word. word.now) result (operand_of (words_left words.entry)) }
+{
+    read_given(words.only().ok_or(LineError::BAD_LINE)?)
+}
+
+/// Whether no word is left.
+///
+/// # Errors
+///
+/// A bad line where one is.
+pub(crate) fn read_nothing(mut words: Words) -> Result<(), LineError>
+    ensures { Gives (λ x. x) result (alone tt (words_left words.entry)) }
+{
+    match words.next() {
+        None => Ok(()),
+        Some(_) => Err(LineError::BAD_LINE),
+    }
+}
+
+/// The number of a word, from `least` to `most`.
+///
+/// # Errors
+///
+/// A bad number where the word is no such number.
+pub(crate) fn read_number(word: &[u8], least: u64, most: u64) -> Result<u64, LineError>
+    ensures number { Gives (λ number. number) result (number_between least most word.now) }
+    ensures within { IfOk result (λ number. (least ≤ number) × (number ≤ most)) }
+{
+    let number = parse_number(word, most).ok_or(LineError::BAD_NUMBER)?;
+    if number < least {
+        Err(LineError::BAD_NUMBER)
+    } else {
+        Ok(number)
+    }
+}
+
+/// A count of bytes or of events, from `least` on, as the only word that is left.
+///
+/// # Errors
+///
+/// A bad line where it isn't the only word or is empty; a bad number where it is no such number.
+#[inline(always)]
+pub(crate) fn read_count(words: Words, least: u32) -> Result<u32, LineError>
+    ensures count { Gives (λ count. count) result (count_of least 2147483647 (words_left words.entry)) }
+    ensures within { IfOk result (λ count. least ≤ count) }
+{
+    let word = read_operand(words)?;
+    let count = read_number(word, u64::from(least), u64::from(MOST_COUNT))?;
+    Ok(count as u32)
+}
+
+/// Takes the bytes of a byte string that is the only word that is left, at most `room` of them, to
+/// `payload`, which has none yet. It answers how many.
+///
+/// # Errors
+///
+/// A bad line where it isn't the only word or is empty; bad hex where it is no byte string; too
+/// many bytes; `Memory`.
+#[inline(always)]
+pub(crate) fn read_payload(
+    payload: &mut Vec<u8>,
+    words: Words,
+    room: usize,
+) -> Result<u32, LineError>
+    requires none { payload.old.items ≡ [] }
+    requires room { room ≤ 8388608 }
+    ensures payload { Gives (λ count. payload.new.items) result (payload_of room (words_left words.entry)) }
+    ensures count { IfOk result (λ count. count ≡ length payload.new.items) }
+    ensures within { IfOk result (λ count. length payload.new.items ≤ room) }
+    ensures bytes { IfOk result (λ count. AreBytes payload.new.items) }
+{
+    let word = read_operand(words)?;
+    push_bytes(payload, word)?;
+    if is_too_long(payload.as_slice(), room) {
+        return Err(LineError::TOO_MANY_BYTES);
+    }
+    Ok(payload.len() as u32)
+}
+
+/// Whether there are more bytes than there is room for.
+fn is_too_long(bytes: &[u8], room: usize) -> bool
+    ensures long { result ≡ nat_lt room (length bytes.now) }
+    ensures bytes { AreBytes bytes.now }
+{
+    bytes.len() > room
+}

@@ -1,0 +1,90 @@
+//! What the program says of itself, where its one word asks for it.
+//!
+//! The texts are the program's own and no contract has them: `main` writes them in place of a run of
+//! `top`, to which these words are bad ones.
+ghost use Rattle.std.specs.Prelude.{◌≡◌, map, string_bytes};
+ghost use Rattle.vchan_io.specs.Counts.{Rose};
+ghost use Rattle.vchan_io.specs.Streams.{Appends};
+ghost use Rattle.vchan.specs.About.{about_of, Tells};
+ghost use Rattle.vchan.specs.Status.{status_line};
+
+use crate::status::Status;
+use crate::top::report;
+use vchan_io::{Sink, WriteFault, write_all};
+
+/// What the program can say of itself.
+#[derive(Clone, Copy, Debug, PartialEq, Eq)]
+pub enum About {
+    /// Which words it takes, what it then reads and prints, and its statuses.
+    Help,
+    /// Its name and number, and the kit whose proofs stand behind it.
+    Version,
+}
+
+/// What these words ask the program to say of itself. It is `None` exactly where they aren't one of the
+/// two words, alone.
+pub fn about_in(words: &[String]) -> Option<About>
+    ensures { result ≡ about_of (map string_bytes words.now) }
+{
+    match words {
+        [word] if word.as_str() == "--help" => Some(About::Help),
+        [word] if word.as_str() == "--version" => Some(About::Version),
+        _ => None,
+    }
+}
+
+impl About {
+    /// The text, with a line feed behind each line.
+    pub fn text(self) -> &'static [u8] {
+        match self {
+            About::Help => HELP,
+            About::Version => VERSION,
+        }
+    }
+}
+
+/// Writes a text of the program's own to `out`. The status is `Done`, or `WriteFault` only where the
+/// count of `out` rose, and then a part of the text was written and `err` told so.
+pub fn tell<K: Sink, E: Sink>(text: &[u8], out: &mut K, err: &mut E) -> Status
+    ensures tells { Tells result text.now (K.held out.old) (K.held out.new) (K.faults out.old) (K.faults out.new) }
+    ensures line { (¬ Rose (E.faults err.old) (E.faults err.new)) → Appends (E.held err.old) (E.held err.new) (status_line result) }
+{
+    let status = match write_all(out, text) {
+        Ok(()) => Status::Done,
+        Err(WriteFault) => Status::WriteFault,
+    };
+    let _ = report(status, err);
+    status
+}
+
+const VERSION: &[u8] = b"vchan 0.1.0\nproved with rattle-kit-13f logic dac8208d650f15bf\n";
+
+const HELP: &[u8] = b"usage: vchan WORDS
+
+    step            reads a script of calls on one page with two ends, and prints
+                    what each call answers
+    decode control  reads a captured stream of a qrexec control channel, as byte
+                    strings, and prints its messages
+    decode data     the same of a data channel
+    --help          prints this text
+    --version       prints the version, and the kit that it is proved with
+
+A command reads standard input to its end, 4,194,304 bytes at most, and then
+writes its text to standard output. docs/SCRIPTS.md has the lines of a script,
+docs/DECODE.md those of a captured stream.
+
+statuses, each but 0 and 8 with a line on standard error:
+
+    0   the whole text was written
+    2   these words are no command's
+    3   standard input could not be read to its end
+    4   the input is too long
+    5   the input is no script, or no list of byte strings; the line has the
+        number of the first bad line, and what is wrong with it
+    6   standard output failed
+    7   out of memory
+    8   a word isn't UTF-8
+
+The launcher ./vchan has two of its own: 127 where the program has to be built
+and there is no command rt, and 70 where the build fails.
+";

@@ -1,0 +1,2 @@
+-- How a machine goes on.
+pub mod PhaseLaws

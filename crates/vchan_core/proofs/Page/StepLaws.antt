@@ -1,0 +1,402 @@
+-- A machine's event is the event of each end that it stands for.
+use Rattle.std.proofs.Common.{◌≡◌, ℕ, ◌+◌, ◌-◌, ◌%◌, ◌^◌, ◌<◌, ◌≤◌, ◌↔◌, min, Option, Some, None, IsSome, List, [], ◌∷◌, ◌++◌, length, take, slice_index, slice_set, refl, subst, sym, ap, ◌∙◌, arith}
+use Rattle.std.proofs.lemmas.List.{get_or-take, length-take, length-append}
+use Rattle.std.proofs.lemmas.Bool.{false≢true}
+use Rattle.std.proofs.lemmas.Bool.Decides.{nat_tests}
+use Rattle.ring_words.specs.Rings.{diff}
+use Rattle.ring_words.proofs.RingLaws.{diff-wraps}
+use Rattle.ring_words.specs.declared.order.Orders.{Orders}
+use Rattle.ring_words.specs.declared.page.Role.{Role}
+use Rattle.ring_words.specs.declared.page.Role.TheVariants.{Server, Client}
+use Rattle.ring_words.specs.declared.page.WordName.{WordName}
+use Rattle.ring_words.specs.declared.page.WordName.TheVariants.{LeftCons, LeftProd, RightCons, RightProd}
+use Rattle.ring_words.specs.Page.{index_of}
+use Rattle.vchan_protocol.specs.declared.op.Op.{Op}
+use Rattle.vchan_protocol.specs.declared.op.Op.TheVariants.{Load, LoadByte, Store, StoreByte, Or, And, Swap, Nothing}
+use Rattle.vchan_protocol.specs.declared.op.PastEvent.{PastEvent}
+use Rattle.vchan_protocol.specs.declared.call.Answer.{Answer}
+use Rattle.vchan_protocol.specs.declared.call.Answer.TheVariants.{Done}
+use Rattle.vchan_protocol.specs.declared.side.Side.{Side}
+use Rattle.vchan_protocol.specs.declared.side.Begun.{Begun}
+use Rattle.vchan_core.specs.declared.machine.Machine.{Machine}
+use Rattle.vchan_core.specs.declared.totals.Totals.{Totals}
+use Rattle.vchan_core.specs.declared.phase.Phase.{Phase}
+use Rattle.vchan_core.specs.declared.phase.Next.{Next}
+use Rattle.vchan_core.specs.declared.phase.Next.TheVariants.{To, Done as Ended}
+use Rattle.vchan_core.specs.declared.plain.Plain.{Plain}
+use Rattle.vchan_protocol.specs.Table.Plan.{Plan, answers, does, next_op, after, rest_after, past, Leads, GoesOn}
+use Rattle.vchan_protocol.specs.Table.Ends.{Standing, standing_after, prod_stored, cons_stored, prod_after, cons_after}
+use Rattle.vchan_protocol.specs.Table.Calls.{plan_of, payload_of, stored_most, loaded_most}
+use Rattle.vchan_protocol.specs.Table.Apply.{words_after, value_taken}
+use Rattle.vchan_core.specs.OneMachine.Phases.{standing, at_phase, rest, rest_at, plan_at, rest_or_answer, IsIdle}
+use Rattle.vchan_protocol.specs.History.Core.{Core, side_of, event, plan_next, begun_standing, standing_of, standing_along, plan_left, made, settled, answered, answer_in, count_stored, bytes_loaded, sent_stored, sent_after, got_stored, got_after}
+use Rattle.vchan_core.specs.Page.Counts.{capped}
+use Rattle.vchan_core.specs.WholeCall.AtPhase.{page_at, page_to}
+use Rattle.vchan_core.specs.Page.StandsFor.{IsInCall, IsMachineOf, HasPayload, StandsFor, orders_of, words_of}
+use Rattle.vchan_protocol.proofs.Table.PlanLaws.{Leads-more, rest_after-Leads}
+use Rattle.vchan_core.proofs.OneMachine.PhaseLaws.{GoesOn-machine}
+use Rattle.vchan_protocol.proofs.Table.Counted.{Counted, OwesIndex, counted_call, counts_within, Counted-Leads}
+use Rattle.vchan_protocol.proofs.History.EventLaws.{owes_next, stored_most-payload, most_small, OwesNext, settled-on, settled-sent, settled-got, settled-turned, standing_of-made, standing_along-push, prod-after, cons-after, diff-same, side_by, event_by}
+
+-- the call that a busy machine is in, as a record
+pub record InCall (s : Side) (m : Machine) : Type 0 where
+  pub begun : Begun
+  pub is : s.call ≡ Some begun
+  pub led : Leads (plan_of (begun_standing s begun) begun.call) s.trail (rest m)
+  pub pays : length s.payload ≡ payload_of begun.call
+  pub stands : standing_along (begun_standing s begun) s.trail ≡ standing_of s
+
+pub in_call : (s : Side) (m : Machine) → IsMachineOf s m → ¬ IsIdle m → InCall s m
+in_call s m h busy = go s.call refl h.in_call
+  where
+    go : (call : Option Begun) → s.call ≡ call → IsInCall s call m → InCall s m
+    go None e idle = absurd (busy idle)
+    go (Some b) e inside = record { begun = b; is = e; led = inside.1; pays = inside.2; stands = inside.3 }
+
+-- what is left of the end's call is what the machine has left
+pub plan_left-is : (s : Side) (m : Machine) → InCall s m → plan_left s ≡ rest m
+plan_left-is s m c =
+    subst (λ (call : Option Begun). elim call [ None ↦ answers Done | Some b ↦ rest_after (plan_of (begun_standing s b) b.call) s.trail ] ≡ rest m) (sym c.is)
+    (rest_after-Leads (plan_of (begun_standing s c.begun) c.begun.call) s.trail (rest m) c.led)
+
+-- ---- the next event, counted
+
+pub owed : (s : Side) (m : Machine) (c : InCall s m) → ¬ IsIdle m → OwesNext s c.begun (next_op (rest m))
+owed s m c busy =
+    let e = begun_standing s c.begun in
+    let out = stored_most e c.begun.call in
+    let into = loaded_most e c.begun.call in
+    let stored : 0 + count_stored s.trail ≡ count_stored s.trail = omega arith in
+    let loaded : 0 + length (bytes_loaded s.trail) ≡ length (bytes_loaded s.trail) = omega arith in
+    let there = Counted-Leads e out into e 0 0 (plan_of e c.begun.call) s.trail (rest m) (counted_call e c.begun.call) c.led in
+    let one = subst (λ (x : ℕ). Counted e out into (standing_along e s.trail) x (0 + length (bytes_loaded s.trail)) (rest m)) stored there in
+    let two = subst (λ (x : ℕ). Counted e out into (standing_along e s.trail) (count_stored s.trail) x (rest m)) loaded one in
+    let here = subst (λ (x : Standing). Counted e out into x (count_stored s.trail) (length (bytes_loaded s.trail)) (rest m)) c.stands two in
+    owes_next e out into (standing_of s) (count_stored s.trail) (length (bytes_loaded s.trail)) (rest m) here (GoesOn-machine m busy)
+
+-- ---- the words
+
+-- the bytes that an end stores are those of its payload
+pub words_same : (s : Side) (b : Begun) (orders : Orders) (words source : List ℕ) (op : Op) → length s.payload ≡ payload_of b.call → HasPayload s source → OwesNext s b op →
+    words_after orders words source op ≡ words_after orders words s.payload op
+words_same s b orders words source (StoreByte word at) pays has owes =
+    let within : at < length s.payload = omega (arith, owes.1, pays, stored_most-payload (begun_standing s b) b.call) in
+    let same : slice_index source at ≡ slice_index s.payload at = sym (get_or-take (length s.payload) source at 0 within) ∙ ap (λ (xs : List ℕ). slice_index xs at) has in
+    ap (λ (v : ℕ). slice_set words (index_of orders word) v) same
+words_same s b orders words source (Load word) pays has owes = refl
+words_same s b orders words source (LoadByte word at) pays has owes = refl
+words_same s b orders words source (Store word value) pays has owes = refl
+words_same s b orders words source (Or word bits) pays has owes = refl
+words_same s b orders words source (And word bits) pays has owes = refl
+words_same s b orders words source (Swap word value) pays has owes = refl
+words_same s b orders words source Nothing pays has owes = refl
+
+-- ---- the machine and its end
+
+-- the machine's event is one of the end: it stands for the end with that event, and with the answer that came
+pub made_stands : (s : Side) (m m' : Machine) (result : Option Answer) (taken : ℕ) → IsMachineOf s m → ¬ IsIdle m →
+    rest_or_answer result m' ≡ after (rest m) taken → (IsSome result ↔ IsIdle m') → standing m' ≡ standing_after (standing m) (next_op (rest m)) →
+    IsMachineOf (settled (made s (next_op (rest m)) taken) (after (rest m) taken)) m'
+made_stands s m m' result taken h busy leads idle stands = go result leads idle
+  where
+    op : Op
+    op = next_op (rest m)
+
+    c : InCall s m
+    c = in_call s m h busy
+
+    now : standing m' ≡ standing_of (made s (next_op (rest m)) taken)
+    now = stands ∙ ap (λ (e : Standing). standing_after e (next_op (rest m))) h.standing_is ∙ sym (standing_of-made s (next_op (rest m)) taken)
+
+    trail_leads : Leads (plan_of (begun_standing s c.begun) c.begun.call) (s.trail ++ past (next_op (rest m)) taken ∷ []) (after (rest m) taken)
+    trail_leads = Leads-more (plan_of (begun_standing s c.begun) c.begun.call) s.trail (rest m) taken (GoesOn-machine m busy) c.led
+
+    along : standing_along (begun_standing s c.begun) (s.trail ++ past (next_op (rest m)) taken ∷ []) ≡ standing_of (made s (next_op (rest m)) taken)
+    along =
+        standing_along-push (begun_standing s c.begun) s.trail (past (next_op (rest m)) taken) ∙ ap (λ (e : Standing). standing_after e (next_op (rest m))) c.stands
+        ∙ sym (standing_of-made s (next_op (rest m)) taken)
+
+    go : (r : Option Answer) → rest_or_answer r m' ≡ after (rest m) taken → (IsSome r ↔ IsIdle m') → IsMachineOf (settled (made s (next_op (rest m)) taken) (after (rest m) taken)) m'
+    go None same iff =
+        let awake : ¬ IsIdle m' = λ quiet. false≢true (iff.1 quiet) in
+        let on : GoesOn (after (rest m) taken) = subst GoesOn same (GoesOn-machine m' awake) in
+        let inside : IsInCall (made s (next_op (rest m)) taken) (Some c.begun) m' =
+        (awake, subst (λ (p : Plan). Leads (plan_of (begun_standing s c.begun) c.begun.call) (s.trail ++ past (next_op (rest m)) taken ∷ []) p) (sym same) trail_leads, c.pays, along) in
+        let there : IsMachineOf (made s (next_op (rest m)) taken) m' =
+        record { standing_is = now; in_call = subst (λ (call : Option Begun). IsInCall (made s (next_op (rest m)) taken) call m') (sym c.is) inside } in
+        subst (λ (x : Side). IsMachineOf x m') (sym (settled-on (made s (next_op (rest m)) taken) (after (rest m) taken) on)) there
+    go (Some answer) same iff =
+        let there : IsMachineOf (answered (made s (next_op (rest m)) taken) answer) m' = record { standing_is = now; in_call = iff.0 refl } in
+        subst (λ (p : Plan). IsMachineOf (settled (made s (next_op (rest m)) taken) p) m') same there
+
+-- ---- the counts
+
+capped_twice : (count more : ℕ) → capped (capped count + more) ≡ capped (count + more)
+capped_twice count more = omega arith
+
+-- an own index that moves on by so many bytes
+moves_on : (start count value : ℕ) → start < 2 ^ 32 → count < 2 ^ 32 → value ≡ (start + count) % 2 ^ 32 → diff (value % 2 ^ 32) start ≡ count
+unfolding diff
+moves_on start count value low few is = rw is (grind (arith, nat_tests))
+
+stays : (list : List ℕ) (count : ℕ) → capped (capped (length list) + diff count count) ≡ capped (length list)
+stays list count = ap (λ (d : ℕ). capped (capped (length list) + d)) (diff-same count) ∙ omega arith
+
+grows : (list more : List ℕ) (start value : ℕ) → start < 2 ^ 32 → length more < 2 ^ 32 → value ≡ (start + length more) % 2 ^ 32 →
+    capped (capped (length list) + diff (value % 2 ^ 32) start) ≡ capped (length (list ++ more))
+grows list more start value low few is =
+    ap (λ (d : ℕ). capped (capped (length list) + d)) (moves_on start (length more) value low few is) ∙ omega (arith, length-append list more)
+
+-- where the end stores a word, its counts and its lists grow alike
+sent_grows : (word : WordName) (role : Role) (now : Standing) (trail : List PastEvent) (payload sent : List ℕ) (l value : ℕ) → now.prod < 2 ^ 32 → count_stored trail ≤ length payload → count_stored trail < 2 ^ 32 →
+    OwesIndex word role now (count_stored trail) l value →
+    capped (capped (length sent) + diff (prod_stored word role value now.prod) now.prod) ≡ capped (length (sent_stored word role trail payload sent))
+sent_grows LeftProd Client now trail payload sent l value low has few owes =
+    let all : length (take (count_stored trail) payload) ≡ count_stored trail = omega (arith, length-take (count_stored trail) payload) in
+    grows sent (take (count_stored trail) payload) now.prod value low (omega (arith, all)) (owes ∙ ap (λ (n : ℕ). (now.prod + n) % 2 ^ 32) (sym all))
+sent_grows RightProd Server now trail payload sent l value low has few owes =
+    let all : length (take (count_stored trail) payload) ≡ count_stored trail = omega (arith, length-take (count_stored trail) payload) in
+    grows sent (take (count_stored trail) payload) now.prod value low (omega (arith, all)) (owes ∙ ap (λ (n : ℕ). (now.prod + n) % 2 ^ 32) (sym all))
+sent_grows _ _ now trail payload sent l value low has few owes = stays sent now.prod
+
+got_grows : (word : WordName) (role : Role) (now : Standing) (trail : List PastEvent) (got : List ℕ) (s value : ℕ) → now.cons < 2 ^ 32 → length (bytes_loaded trail) < 2 ^ 32 →
+    OwesIndex word role now s (length (bytes_loaded trail)) value →
+    capped (capped (length got) + diff (cons_stored word role value now.cons) now.cons) ≡ capped (length (got_stored word role trail got))
+got_grows LeftCons Server now trail got s value low few owes = grows got (bytes_loaded trail) now.cons value low few owes
+got_grows RightCons Client now trail got s value low few owes = grows got (bytes_loaded trail) now.cons value low few owes
+got_grows _ _ now trail got s value low few owes = stays got now.cons
+
+-- ---- an event of a page
+
+-- what the code of one event does: to the machine, to the words, and to the counts of its two rings
+pub record DoesEvent (orders : Orders) (words source : List ℕ) (m m' : Machine) (result : Option Answer) (words' : List ℕ) (writes reads writes' reads' : Totals) : Type 0 where
+  pub busy : ¬ IsIdle m
+  pub leads : rest_or_answer result m' ≡ after (rest m) (value_taken orders words (next_op (rest m)))
+  pub idle : IsSome result ↔ IsIdle m'
+  pub stands : standing m' ≡ standing_after (standing m) (next_op (rest m))
+  pub words_are : words' ≡ words_after orders words source (next_op (rest m))
+  pub writes_are : writes' ≡ record writes { sent = capped (writes.sent + diff (standing m').prod (standing m).prod) }
+  pub reads_are : reads' ≡ record reads { got = capped (reads.got + diff (standing m').cons (standing m).cons) }
+  pub low : ((standing m).prod < 2 ^ 32) × ((standing m).cons < 2 ^ 32)
+
+-- what is moved is few, and within the payload
+few_moved : (s : Side) (m : Machine) (c : InCall s m) → (count_stored s.trail ≤ length s.payload) × (count_stored s.trail < 2 ^ 32) × (length (bytes_loaded s.trail) < 2 ^ 32)
+few_moved s m c =
+    let e = begun_standing s c.begun in
+    let moved = counts_within e c.begun.call s.trail (rest m) c.led in
+    let small = most_small e c.begun.call in
+    (omega (arith, moved.0, c.pays, stored_most-payload e c.begun.call), omega (arith, moved.0, small.0), omega (arith, moved.1, small.1))
+
+pub side_steps : (orders : Orders) (words source : List ℕ) (s : Side) (m m' : Machine) (result : Option Answer) (words' : List ℕ) (writes reads writes' reads' : Totals) →
+    IsMachineOf s m → DoesEvent orders words source m m' result words' writes reads writes' reads' → IsMachineOf (side_by orders words s (rest m)) m'
+side_steps orders words source s m m' result words' writes reads writes' reads' h d =
+    made_stands s m m' result (value_taken orders words (next_op (rest m))) h d.busy d.leads d.idle d.stands
+
+pub words_step : (orders : Orders) (words source : List ℕ) (s : Side) (m m' : Machine) (result : Option Answer) (words' : List ℕ) (writes reads writes' reads' : Totals) →
+    IsMachineOf s m → HasPayload s source → DoesEvent orders words source m m' result words' writes reads writes' reads' → words' ≡ words_after orders words s.payload (next_op (rest m))
+words_step orders words source s m m' result words' writes reads writes' reads' h has d =
+    let c = in_call s m h d.busy in
+    d.words_are ∙ words_same s c.begun orders words source (next_op (rest m)) c.pays has (owed s m c d.busy)
+
+sent_of : (s : Side) (b : Begun) (op : Op) → OwesNext s b op → s.prod < 2 ^ 32 → count_stored s.trail ≤ length s.payload → count_stored s.trail < 2 ^ 32 →
+    capped (capped (length s.sent) + diff (prod_after op s.role s.prod) s.prod) ≡ capped (length (sent_after op s))
+sent_of s b (Store word value) owes low has few = sent_grows word s.role (standing_of s) s.trail s.payload s.sent (length (bytes_loaded s.trail)) value low has few owes.0
+sent_of s b (Load word) owes low has few = stays s.sent s.prod
+sent_of s b (LoadByte word at) owes low has few = stays s.sent s.prod
+sent_of s b (StoreByte word at) owes low has few = stays s.sent s.prod
+sent_of s b (Or word bits) owes low has few = stays s.sent s.prod
+sent_of s b (And word bits) owes low has few = stays s.sent s.prod
+sent_of s b (Swap word value) owes low has few = stays s.sent s.prod
+sent_of s b Nothing owes low has few = stays s.sent s.prod
+
+got_of : (s : Side) (b : Begun) (op : Op) → OwesNext s b op → s.cons < 2 ^ 32 → length (bytes_loaded s.trail) < 2 ^ 32 →
+    capped (capped (length s.got) + diff (cons_after op s.role s.cons) s.cons) ≡ capped (length (got_after op s))
+got_of s b (Store word value) owes low few = got_grows word s.role (standing_of s) s.trail s.got (count_stored s.trail) value low few owes.0
+got_of s b (Load word) owes low few = stays s.got s.cons
+got_of s b (LoadByte word at) owes low few = stays s.got s.cons
+got_of s b (StoreByte word at) owes low few = stays s.got s.cons
+got_of s b (Or word bits) owes low few = stays s.got s.cons
+got_of s b (And word bits) owes low few = stays s.got s.cons
+got_of s b (Swap word value) owes low few = stays s.got s.cons
+got_of s b Nothing owes low few = stays s.got s.cons
+
+pub sent_step : (orders : Orders) (words source : List ℕ) (s : Side) (m m' : Machine) (result : Option Answer) (words' : List ℕ) (writes reads writes' reads' : Totals) →
+    IsMachineOf s m → DoesEvent orders words source m m' result words' writes reads writes' reads' → writes.sent ≡ capped (length s.sent) →
+    writes'.sent ≡ capped (length (side_by orders words s (rest m)).sent)
+sent_step orders words source s m m' result words' writes reads writes' reads' h d was =
+    let c = in_call s m h d.busy in
+    let op = next_op (rest m) in
+    let few = few_moved s m c in
+    let same : standing m ≡ standing_of s = h.standing_is in
+    let low : s.prod < 2 ^ 32 = subst (λ (e : Standing). e.prod < 2 ^ 32) same d.low.0 in
+    let then_prod : (standing m').prod ≡ prod_after op s.role s.prod = ap (λ (e : Standing). e.prod) d.stands ∙ ap (λ (e : Standing). (standing_after e op).prod) same ∙ prod-after (standing_of s) op in
+    ap (λ (w : Totals). w.sent) d.writes_are
+    ∙ ap (λ (n : ℕ). capped (n + diff (standing m').prod (standing m).prod)) was
+    ∙ ap (λ (n : ℕ). capped (capped (length s.sent) + diff n (standing m).prod)) then_prod
+    ∙ ap (λ (e : Standing). capped (capped (length s.sent) + diff (prod_after op s.role s.prod) e.prod)) same
+    ∙ sent_of s c.begun op (owed s m c d.busy) low few.0 few.1
+    ∙ ap (λ (xs : List ℕ). capped (length xs)) (sym (settled-sent (made s op (value_taken orders words op)) (after (rest m) (value_taken orders words op))))
+
+pub got_step : (orders : Orders) (words source : List ℕ) (s : Side) (m m' : Machine) (result : Option Answer) (words' : List ℕ) (writes reads writes' reads' : Totals) →
+    IsMachineOf s m → DoesEvent orders words source m m' result words' writes reads writes' reads' → reads.got ≡ capped (length s.got) →
+    reads'.got ≡ capped (length (side_by orders words s (rest m)).got)
+got_step orders words source s m m' result words' writes reads writes' reads' h d was =
+    let c = in_call s m h d.busy in
+    let op = next_op (rest m) in
+    let few = few_moved s m c in
+    let same : standing m ≡ standing_of s = h.standing_is in
+    let low : s.cons < 2 ^ 32 = subst (λ (e : Standing). e.cons < 2 ^ 32) same d.low.1 in
+    let then_cons : (standing m').cons ≡ cons_after op s.role s.cons = ap (λ (e : Standing). e.cons) d.stands ∙ ap (λ (e : Standing). (standing_after e op).cons) same ∙ cons-after (standing_of s) op in
+    ap (λ (w : Totals). w.got) d.reads_are
+    ∙ ap (λ (n : ℕ). capped (n + diff (standing m').cons (standing m).cons)) was
+    ∙ ap (λ (n : ℕ). capped (capped (length s.got) + diff n (standing m).cons)) then_cons
+    ∙ ap (λ (e : Standing). capped (capped (length s.got) + diff (cons_after op s.role s.cons) e.cons)) same
+    ∙ got_of s c.begun op (owed s m c d.busy) low few.2
+    ∙ ap (λ (xs : List ℕ). capped (length xs)) (sym (settled-got (made s op (value_taken orders words op)) (after (rest m) (value_taken orders words op))))
+
+-- ---- the page after an event of its server, and of its client
+
+pub event-by : (core : Core) (who : Role) (m : Machine) → InCall (side_of core who) m → event core who ≡ event_by core who (rest m)
+unfolding event
+event-by core who m c = ap (λ (plan : Plan). event_by core who plan) (plan_left-is (side_of core who) m c)
+
+pub stands_server : (core : Core) (page page' : Plain) (source : List ℕ) (result : Option Answer) → StandsFor core page → HasPayload core.server source →
+    DoesEvent (orders_of page) (words_of page) source page.server page'.server result (words_of page') page.right page.left page'.right page'.left →
+    orders_of page' ≡ orders_of page → page'.client ≡ page.client → page'.server_turned ≡ page.server_turned → page'.client_turned ≡ page.client_turned →
+    StandsFor (event core Server) page'
+stands_server core page page' source result h has d orders other server_turned client_turned =
+    let here : DoesEvent core.orders core.words source page.server page'.server result (words_of page') page.right page.left page'.right page'.left =
+    subst (λ (o : Orders). DoesEvent o core.words source page.server page'.server result (words_of page') page.right page.left page'.right page'.left) h.orders
+    (subst (λ (w : List ℕ). DoesEvent (orders_of page) w source page.server page'.server result (words_of page') page.right page.left page'.right page'.left) h.words d) in
+    subst (λ (k : Core). StandsFor k page') (sym (event-by core Server page.server (in_call core.server page.server h.server d.busy))) (record {
+      orders = orders ∙ h.orders;
+      words = words_step core.orders core.words source core.server page.server page'.server result (words_of page') page.right page.left page'.right page'.left h.server has here;
+      server = side_steps core.orders core.words source core.server page.server page'.server result (words_of page') page.right page.left page'.right page'.left h.server here;
+      client = subst (λ (m : Machine). IsMachineOf core.client m) (sym other) h.client;
+      left = record {
+        sent = ap (λ (w : Totals). w.sent) here.reads_are ∙ h.left.sent;
+        got = got_step core.orders core.words source core.server page.server page'.server result (words_of page') page.right page.left page'.right page'.left h.server here h.left.got;
+      };
+      right = record {
+        sent = sent_step core.orders core.words source core.server page.server page'.server result (words_of page') page.right page.left page'.right page'.left h.server here h.right.sent;
+        got = ap (λ (w : Totals). w.got) here.writes_are ∙ h.right.got;
+      };
+      server_turned = server_turned ∙ h.server_turned ∙ sym (settled-turned (made core.server (next_op (rest page.server)) (value_taken core.orders core.words (next_op (rest page.server)))) (after (rest page.server) (value_taken core.orders core.words (next_op (rest page.server)))));
+      client_turned = client_turned ∙ h.client_turned;
+    })
+
+pub stands_client : (core : Core) (page page' : Plain) (source : List ℕ) (result : Option Answer) → StandsFor core page → HasPayload core.client source →
+    DoesEvent (orders_of page) (words_of page) source page.client page'.client result (words_of page') page.left page.right page'.left page'.right →
+    orders_of page' ≡ orders_of page → page'.server ≡ page.server → page'.server_turned ≡ page.server_turned → page'.client_turned ≡ page.client_turned →
+    StandsFor (event core Client) page'
+stands_client core page page' source result h has d orders other server_turned client_turned =
+    let here : DoesEvent core.orders core.words source page.client page'.client result (words_of page') page.left page.right page'.left page'.right =
+    subst (λ (o : Orders). DoesEvent o core.words source page.client page'.client result (words_of page') page.left page.right page'.left page'.right) h.orders
+    (subst (λ (w : List ℕ). DoesEvent (orders_of page) w source page.client page'.client result (words_of page') page.left page.right page'.left page'.right) h.words d) in
+    subst (λ (k : Core). StandsFor k page') (sym (event-by core Client page.client (in_call core.client page.client h.client d.busy))) (record {
+      orders = orders ∙ h.orders;
+      words = words_step core.orders core.words source core.client page.client page'.client result (words_of page') page.left page.right page'.left page'.right h.client has here;
+      server = subst (λ (m : Machine). IsMachineOf core.server m) (sym other) h.server;
+      client = side_steps core.orders core.words source core.client page.client page'.client result (words_of page') page.left page.right page'.left page'.right h.client here;
+      left = record {
+        sent = sent_step core.orders core.words source core.client page.client page'.client result (words_of page') page.left page.right page'.left page'.right h.client here h.left.sent;
+        got = ap (λ (w : Totals). w.got) here.writes_are ∙ h.left.got;
+      };
+      right = record {
+        sent = ap (λ (w : Totals). w.sent) here.reads_are ∙ h.right.sent;
+        got = got_step core.orders core.words source core.client page.client page'.client result (words_of page') page.left page.right page'.left page'.right h.client here h.right.got;
+      };
+      server_turned = server_turned ∙ h.server_turned;
+      client_turned = client_turned ∙ h.client_turned ∙ sym (settled-turned (made core.client (next_op (rest page.client)) (value_taken core.orders core.words (next_op (rest page.client)))) (after (rest page.client) (value_taken core.orders core.words (next_op (rest page.client)))));
+    })
+
+-- the answer of a step is what is left of the end's call
+pub answer_in-rest : (m' : Machine) (result : Option Answer) → (IsSome result ↔ IsIdle m') → answer_in (rest_or_answer result m') ≡ result
+answer_in-rest m' (Some answer) idle = refl
+answer_in-rest m' None idle = quiet (rest m') (GoesOn-machine m' (λ q. false≢true (idle.1 q)))
+  where
+    quiet : (plan : Plan) → GoesOn plan → answer_in plan ≡ None
+    quiet (answers answer) more = absurd more
+    quiet (does op next) more = refl
+
+pub answer_is : (core : Core) (who : Role) (orders : Orders) (words : List ℕ) (m m' : Machine) (result : Option Answer) → IsMachineOf (side_of core who) m → orders ≡ core.orders → words ≡ core.words → ¬ IsIdle m →
+    rest_or_answer result m' ≡ after (rest m) (value_taken orders words (next_op (rest m))) → (IsSome result ↔ IsIdle m') → result ≡ answer_in (plan_next core who)
+answer_is core who orders words m m' result h same_orders same_words busy leads idle =
+    let there : rest_or_answer result m' ≡ after (rest m) (value_taken core.orders core.words (next_op (rest m))) =
+    leads ∙ ap (λ (o : Orders). after (rest m) (value_taken o words (next_op (rest m)))) same_orders ∙ ap (λ (w : List ℕ). after (rest m) (value_taken core.orders w (next_op (rest m)))) same_words in
+    sym (answer_in-rest m' result idle) ∙ ap answer_in there
+    ∙ ap (λ (plan : Plan). answer_in (after plan (value_taken core.orders core.words (next_op plan)))) (sym (plan_left-is (side_of core who) m (in_call (side_of core who) m h busy)))
+
+-- ---- for the code
+
+-- a count that is raised by what the code subtracts with wrapping
+pub counts_on : (result was from x y before then_after : ℕ) → x ≡ then_after → y ≡ before → x < 2 ^ 32 → y < 2 ^ 32 → from ≡ (x + (4294967296 - y)) % 4294967296 → result ≡ min (was + from) 18446744073709551615 →
+    result ≡ capped (was + diff then_after before)
+counts_on result was from x y before then_after xs ys low_x low_y from_is is =
+    is ∙ ap (λ (n : ℕ). min (was + n) 18446744073709551615) (from_is ∙ diff-wraps x y low_x low_y ∙ ap (λ (n : ℕ). diff n y) xs ∙ ap (λ (n : ℕ). diff then_after n) ys)
+
+-- what a machine does at a phase that its page doesn't know of
+pub record DoesAt (orders : Orders) (words source : List ℕ) (m m' : Machine) (phase : Phase) (move : Next) (words' : List ℕ) (writes reads writes' reads' : Totals) : Type 0 where
+  pub leads : plan_at (standing m') move ≡ after (rest_at (standing m) phase) (value_taken orders words (next_op (rest_at (standing m) phase)))
+  pub idle : IsIdle m'
+  pub stands : standing m' ≡ standing_after (standing m) (next_op (rest_at (standing m) phase))
+  pub words_are : words' ≡ words_after orders words source (next_op (rest_at (standing m) phase))
+  pub writes_are : writes' ≡ record writes { sent = capped (writes.sent + diff (standing m').prod (standing m).prod) }
+  pub reads_are : reads' ≡ record reads { got = capped (reads.got + diff (standing m').cons (standing m).cons) }
+  pub low : ((standing m).prod < 2 ^ 32) × ((standing m).cons < 2 ^ 32)
+
+does_to : (orders : Orders) (words source : List ℕ) (m m' : Machine) (phase next : Phase) (words' : List ℕ) (writes reads writes' reads' : Totals) →
+    DoesAt orders words source m m' phase (To next) words' writes reads writes' reads' → DoesEvent orders words source (at_phase m phase) (at_phase m' next) None words' writes reads writes' reads'
+does_to orders words source m m' phase next words' writes reads writes' reads' d = record {
+  busy = λ idle. false≢true (sym idle);
+  leads = d.leads;
+  idle = (λ some. absurd (false≢true some), λ quiet. absurd (false≢true (sym quiet)));
+  stands = d.stands;
+  words_are = d.words_are;
+  writes_are = d.writes_are;
+  reads_are = d.reads_are;
+  low = d.low;
+}
+
+does_last : (orders : Orders) (words source : List ℕ) (m m' : Machine) (phase : Phase) (answer : Answer) (words' : List ℕ) (writes reads writes' reads' : Totals) →
+    DoesAt orders words source m m' phase (Ended answer) words' writes reads writes' reads' → DoesEvent orders words source (at_phase m phase) m' (Some answer) words' writes reads writes' reads'
+does_last orders words source m m' phase answer words' writes reads writes' reads' d = record {
+  busy = λ idle. false≢true (sym idle);
+  leads = d.leads;
+  idle = (λ some. d.idle, λ quiet. refl);
+  stands = d.stands;
+  words_are = d.words_are;
+  writes_are = d.writes_are;
+  reads_are = d.reads_are;
+  low = d.low;
+}
+
+pub stands_server_at : (core : Core) (page page' : Plain) (source : List ℕ) (phase : Phase) (move : Next) → StandsFor core (page_at page Server phase) → HasPayload core.server source →
+    DoesAt (orders_of page) (words_of page) source page.server page'.server phase move (words_of page') page.right page.left page'.right page'.left →
+    orders_of page' ≡ orders_of page → page'.client ≡ page.client → page'.server_turned ≡ page.server_turned → page'.client_turned ≡ page.client_turned →
+    StandsFor (event core Server) (page_to page' Server move)
+stands_server_at core page page' source phase (To next) h has d orders other server_turned client_turned =
+    stands_server core (page_at page Server phase) (page_at page' Server next) source None h has
+    (does_to (orders_of page) (words_of page) source page.server page'.server phase next (words_of page') page.right page.left page'.right page'.left d) orders other server_turned client_turned
+stands_server_at core page page' source phase (Ended answer) h has d orders other server_turned client_turned =
+    stands_server core (page_at page Server phase) page' source (Some answer) h has
+    (does_last (orders_of page) (words_of page) source page.server page'.server phase answer (words_of page') page.right page.left page'.right page'.left d) orders other server_turned client_turned
+
+pub stands_client_at : (core : Core) (page page' : Plain) (source : List ℕ) (phase : Phase) (move : Next) → StandsFor core (page_at page Client phase) → HasPayload core.client source →
+    DoesAt (orders_of page) (words_of page) source page.client page'.client phase move (words_of page') page.left page.right page'.left page'.right →
+    orders_of page' ≡ orders_of page → page'.server ≡ page.server → page'.server_turned ≡ page.server_turned → page'.client_turned ≡ page.client_turned →
+    StandsFor (event core Client) (page_to page' Client move)
+stands_client_at core page page' source phase (To next) h has d orders other server_turned client_turned =
+    stands_client core (page_at page Client phase) (page_at page' Client next) source None h has
+    (does_to (orders_of page) (words_of page) source page.client page'.client phase next (words_of page') page.left page.right page'.left page'.right d) orders other server_turned client_turned
+stands_client_at core page page' source phase (Ended answer) h has d orders other server_turned client_turned =
+    stands_client core (page_at page Client phase) page' source (Some answer) h has
+    (does_last (orders_of page) (words_of page) source page.client page'.client phase answer (words_of page') page.left page.right page'.left page'.right d) orders other server_turned client_turned
+
+pub keeps_orders : (m m' : Machine) (op : Op) → standing m' ≡ standing_after (standing m) op → m'.orders ≡ m.orders
+unfolding standing_after
+keeps_orders m m' op is = ap (λ (e : Standing). e.orders) is
+
+pub keeps_role : (m m' : Machine) (op : Op) → standing m' ≡ standing_after (standing m) op → m'.role ≡ m.role
+unfolding standing_after
+keeps_role m m' op is = ap (λ (e : Standing). e.role) is

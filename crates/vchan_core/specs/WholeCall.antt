@@ -1,0 +1,4 @@
+-- A whole call on a plain page, whose phase lies beside the page.
+pub mod AtPhase
+pub mod Beside
+pub mod EventsMade

@@ -1,0 +1,8 @@
+-- An interrupted write appends nothing.
+use Rattle.std.specs.Io.KnownBytes.{Keeps}
+use Rattle.vchan_io.proofs.std_sink.write_uninterrupted.Given as goal
+
+abbrev pub invariant-loop : goal.invariant-loop
+invariant-loop g l = record {
+  kept : Keeps (g.W.Write.contents l.initial.writer) (g.W.Write.contents l.writer);
+}

@@ -1,0 +1,2 @@
+-- Each step keeps what always holds.
+pub mod InvariantSteps

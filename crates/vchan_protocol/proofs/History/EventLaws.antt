@@ -1,0 +1,157 @@
+-- The next event of an end: what it owes, and how the end and the core state stand after it.
+use Rattle.std.proofs.Common.{◌≡◌, ℕ, ◌^◌, ◌<◌, ◌≤◌, List, [], ◌∷◌, ◌++◌, length, refl, sym, ap, ◌∙◌, arith}
+use Rattle.std.proofs.lemmas.Bool.Decides.{nat_tests}
+use Rattle.ring_words.specs.Rings.{diff}
+use Rattle.ring_words.proofs.RingLaws.{size-within}
+use Rattle.ring_words.specs.declared.order.Orders.{Orders}
+use Rattle.ring_words.specs.declared.page.Role.{Role}
+use Rattle.ring_words.specs.declared.page.Role.TheVariants.{Server, Client}
+use Rattle.vchan_protocol.specs.declared.op.Op.{Op}
+use Rattle.vchan_protocol.specs.declared.op.Op.TheVariants.{Load, LoadByte, Store, StoreByte, Or, And, Swap, Nothing}
+use Rattle.vchan_protocol.specs.declared.op.PastEvent.{PastEvent}
+use Rattle.vchan_protocol.specs.declared.call.Answer.{Answer}
+use Rattle.vchan_protocol.specs.declared.call.Call.{Call}
+use Rattle.vchan_protocol.specs.declared.call.Call.TheVariants.{Write, Send, Read, Recv, Drain, DataReady, BufferSpace, Connect, Close, TakeEvent, Retire, PeerGone}
+use Rattle.vchan_protocol.specs.declared.side.Side.{Side}
+use Rattle.vchan_protocol.specs.declared.side.Begun.{Begun}
+use Rattle.vchan_protocol.specs.Table.Plan.{Plan, answers, does, next_op, after, GoesOn}
+use Rattle.vchan_protocol.specs.Table.Ends.{Standing, read_order, write_order, standing_after, prod_after, cons_after}
+use Rattle.vchan_protocol.specs.Table.Calls.{payload_of, stored_most, loaded_most}
+use Rattle.vchan_protocol.specs.Table.Apply.{Fits, words_after, value_taken}
+use Rattle.vchan_protocol.specs.History.Core.{Core, side_of, with_side, event, begun_standing, standing_of, standing_along, made, settled, answered, count_stored, bytes_loaded}
+use Rattle.vchan_protocol.proofs.Table.Counted.{Counted, Owes}
+use Rattle.std.proofs.Common.{◌≡◌, ℕ, ◌<◌, ◌≤◌, List, [], ◌∷◌, ◌++◌, length, refl, sym, ap, ◌∙◌, arith}
+use Rattle.vchan_protocol.specs.Table.Ends.{Standing}
+use Rattle.vchan_protocol.specs.Table.Calls.{payload_of}
+use Rattle.vchan_protocol.specs.History.Core.{Core, side_of, with_side, event, made, settled, answered, carried_out, bytes_loaded}
+
+-- ---- what the next event owes
+
+pub owes_next : (e : Standing) (out into : ℕ) (now : Standing) (s l : ℕ) (plan : Plan) → Counted e out into now s l plan → GoesOn plan → Owes e out into now s l (next_op plan)
+unfolding Counted
+owes_next e out into now s l (answers answer) w more = absurd more
+owes_next e out into now s l (does op next) w more = w.0
+
+pub stored_most-payload : (e : Standing) (call : Call) → stored_most e call ≤ payload_of call
+stored_most-payload e (Write n) = omega arith
+stored_most-payload e (Send n) = omega arith
+stored_most-payload e (Read n) = omega arith
+stored_most-payload e (Recv n) = omega arith
+stored_most-payload e (Drain n) = omega arith
+stored_most-payload e DataReady = omega arith
+stored_most-payload e BufferSpace = omega arith
+stored_most-payload e Connect = omega arith
+stored_most-payload e Close = omega arith
+stored_most-payload e TakeEvent = omega arith
+stored_most-payload e PeerGone = omega arith
+stored_most-payload e Retire = omega arith
+
+-- a call moves no more than a ring holds
+pub most_small : (e : Standing) (call : Call) → (stored_most e call < 2 ^ 32) × (loaded_most e call < 2 ^ 32)
+most_small e (Write n) = let fits = size-within (write_order e) in (omega (arith, fits.1), omega arith)
+most_small e (Send n) = let fits = size-within (write_order e) in (omega (arith, fits.1), omega arith)
+most_small e (Read n) = let fits = size-within (read_order e) in (omega arith, omega (arith, fits.1))
+most_small e (Recv n) = let fits = size-within (read_order e) in (omega arith, omega (arith, fits.1))
+most_small e (Drain n) = let fits = size-within (read_order e) in (omega arith, omega (arith, fits.1))
+most_small e DataReady = (omega arith, omega arith)
+most_small e BufferSpace = (omega arith, omega arith)
+most_small e Connect = (omega arith, omega arith)
+most_small e Close = (omega arith, omega arith)
+most_small e TakeEvent = (omega arith, omega arith)
+most_small e PeerGone = (omega arith, omega arith)
+most_small e Retire = (omega arith, omega arith)
+
+-- what the next event owes, with the end's own standing now and what its trail has moved
+abbrev pub OwesNext : (s : Side) (b : Begun) → Op → Type 0
+OwesNext s b op =
+    Owes (begun_standing s b) (stored_most (begun_standing s b) b.call) (loaded_most (begun_standing s b) b.call) (standing_of s) (count_stored s.trail) (length (bytes_loaded s.trail)) op
+
+-- ---- an end after an event of its own
+
+pub settled-on : (s : Side) (plan : Plan) → GoesOn plan → settled s plan ≡ s
+settled-on s (answers answer) more = absurd more
+settled-on s (does op next) more = refl
+
+pub settled-sent : (s : Side) (plan : Plan) → (settled s plan).sent ≡ s.sent
+settled-sent s (answers answer) = refl
+settled-sent s (does op next) = refl
+
+pub settled-got : (s : Side) (plan : Plan) → (settled s plan).got ≡ s.got
+settled-got s (answers answer) = refl
+settled-got s (does op next) = refl
+
+pub settled-turned : (s : Side) (plan : Plan) → (settled s plan).turned ≡ s.turned
+settled-turned s (answers answer) = refl
+settled-turned s (does op next) = refl
+
+pub settled-payload : (s : Side) (plan : Plan) → (settled s plan).payload ≡ s.payload
+settled-payload s (answers answer) = refl
+settled-payload s (does op next) = refl
+
+pub settled-trail : (s : Side) (plan : Plan) → (settled s plan).trail ≡ s.trail
+settled-trail s (answers answer) = refl
+settled-trail s (does op next) = refl
+
+pub standing_of-made : (s : Side) (op : Op) (taken : ℕ) → standing_of (made s op taken) ≡ standing_after (standing_of s) op
+unfolding standing_after
+standing_of-made s op taken = refl
+
+pub standing_along-push : (e : Standing) (events : List PastEvent) (event : PastEvent) → standing_along e (events ++ event ∷ []) ≡ standing_after (standing_along e events) event.op
+standing_along-push e [] event = refl
+standing_along-push e (first ∷ events) event = standing_along-push (standing_after e first.op) events event
+
+-- the own counts, by the machine's event
+pub prod-after : (e : Standing) (op : Op) → (standing_after e op).prod ≡ prod_after op e.role e.prod
+unfolding standing_after
+prod-after e op = refl
+
+pub cons-after : (e : Standing) (op : Op) → (standing_after e op).cons ≡ cons_after op e.role e.cons
+unfolding standing_after
+cons-after e op = refl
+
+pub diff-same : (count : ℕ) → diff count count ≡ 0
+unfolding diff
+diff-same count = grind (arith, nat_tests)
+
+-- more payload and more buffer fit as well
+pub Fits-more : (orders : Orders) (out into out' into' : ℕ) (op : Op) → out ≤ out' → into ≤ into' → Fits orders out into op → Fits orders out' into' op
+Fits-more orders out into out' into' (Load word) a b f = f
+Fits-more orders out into out' into' (LoadByte word at) a b f = (f.0, omega (arith, f.1))
+Fits-more orders out into out' into' (Store word value) a b f = f
+Fits-more orders out into out' into' (StoreByte word at) a b f = (f.0, omega (arith, f.1))
+Fits-more orders out into out' into' (Or word bits) a b f = f
+Fits-more orders out into out' into' (And word bits) a b f = f
+Fits-more orders out into out' into' (Swap word value) a b f = f
+Fits-more orders out into out' into' Nothing a b f = f
+
+-- ---- a core state after an event of an end
+
+-- the end after an event by what is left of its call
+abbrev pub side_by : Orders → List ℕ → Side → Plan → Side
+side_by orders words s plan = settled (made s (next_op plan) (value_taken orders words (next_op plan))) (after plan (value_taken orders words (next_op plan)))
+
+abbrev pub event_by : Core → Role → Plan → Core
+event_by core who plan =
+    with_side (record core { words = words_after core.orders core.words (side_of core who).payload (next_op plan) }) who (side_by core.orders core.words (side_of core who) plan)
+
+pub side_of-with_side : (core : Core) (who : Role) (s : Side) → side_of (with_side core who s) who ≡ s
+side_of-with_side core Server s = refl
+side_of-with_side core Client s = refl
+
+with_side-twice : (core : Core) (who : Role) (s t : Side) → with_side (with_side core who s) who t ≡ with_side core who t
+with_side-twice core Server s t = refl
+with_side-twice core Client s t = refl
+
+pub event_by-on : (core : Core) (who : Role) (plan : Plan) → GoesOn (after plan (value_taken core.orders core.words (next_op plan))) → event_by core who plan ≡ carried_out core who (next_op plan)
+event_by-on core who plan on =
+    ap (λ (s : Side). with_side (record core { words = words_after core.orders core.words (side_of core who).payload (next_op plan) }) who s)
+    (settled-on (made (side_of core who) (next_op plan) (value_taken core.orders core.words (next_op plan))) (after plan (value_taken core.orders core.words (next_op plan))) on)
+
+pub event_by-answers : (core : Core) (who : Role) (plan : Plan) (answer : Answer) → after plan (value_taken core.orders core.words (next_op plan)) ≡ answers answer →
+    event_by core who plan ≡ with_side (carried_out core who (next_op plan)) who (answered (side_of (carried_out core who (next_op plan)) who) answer)
+event_by-answers core who plan answer is =
+    let value = value_taken core.orders core.words (next_op plan) in
+    let s = made (side_of core who) (next_op plan) value in
+    let new = record core { words = words_after core.orders core.words (side_of core who).payload (next_op plan) } in
+    ap (λ (p : Plan). with_side new who (settled s p)) is ∙ sym (with_side-twice new who s (answered s answer))
+    ∙ ap (λ (t : Side). with_side (with_side new who s) who (answered t answer)) (sym (side_of-with_side new who s))

@@ -1,0 +1,2 @@
+-- Each step keeps what holds beside a hostile end.
+pub mod TurnedSteps

@@ -1,0 +1,6 @@
+-- Whole calls are calls on lists.
+pub mod ListRows
+pub mod ListTells
+pub mod ListPieces
+pub mod ListCalls
+pub mod ListWhole

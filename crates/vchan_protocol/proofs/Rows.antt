@@ -1,0 +1,5 @@
+-- The worked rows, computed.
+pub mod WorkedRow
+pub mod WorkedEnd
+pub mod WorkedMore
+pub mod WorkedOneEnd

@@ -1,5 +1,0 @@
-use Rattle.vchan_protocol.proofs.LifeSteps.{gone_tells_retired}
-use Rattle.vchan_protocol.proofs.laws.kept.gone_tells_retired.Goals as goal
-
-pub returns : goal.returns
-returns c core who kept honest = gone_tells_retired core who (kept.lawful honest).lives

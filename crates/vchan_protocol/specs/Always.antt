@@ -1,0 +1,2 @@
+-- What holds of a page whatever comes.
+pub mod Invariant

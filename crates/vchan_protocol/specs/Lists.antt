@@ -1,0 +1,3 @@
+-- Whole calls as calls on lists.
+pub mod ListCall
+pub mod ListLaw

@@ -1,0 +1,2 @@
+-- That no signal is lost between two honest ends.
+pub mod SignalLaw

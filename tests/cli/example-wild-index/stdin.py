@@ -1,0 +1,1 @@
+print(open("../../../examples/wild-index.step").read(), end="")
