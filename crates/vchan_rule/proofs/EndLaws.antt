@@ -15,7 +15,7 @@ use Rattle.vchan_protocol.specs.Table.Ends.{Standing, standing_after}
 use Rattle.vchan_protocol.specs.Table.Calls.{payload_of, plan_of}
 use Rattle.vchan_protocol.specs.Table.Apply.{leaves}
 use Rattle.vchan_protocol.specs.History.Core.{begins, made, settled, standing_of, op_next, plan_left, answer_in, begun_standing, side_after, sets_gone}
-use Rattle.vchan_core.specs.OneMachine.Phases.{standing, rest, left, IsIdle}
+use Rattle.vchan_core.specs.OneMachine.Phases.{standing, rest, rest_or_answer, IsIdle}
 use Rattle.vchan_core.specs.Page.StandsFor.{IsMachineOf, HasPayload}
 use Rattle.vchan_protocol.specs.Honest.RingLaw.{AreBytes}
 use Rattle.vchan_protocol.specs.Hostile.TurnedLaw.{LiesAtCount}
@@ -111,7 +111,7 @@ pub record Stepped (start : ℕ) (m' : Machine) (s : Side) (taken : ℕ) (result
   pub role_is : (side_after s taken).role ≡ s.role
   pub retired_is : (side_after s taken).retired ≡ (sets_gone (op_next s) s.role || s.retired)
 
-pub after_step : (start : ℕ) (m m' : Machine) (v s : Side) (payload : List ℕ) (result : Option Answer) (taken : ℕ) → Inside start m v payload s → ¬ IsIdle m → left result m' ≡ after (rest m) taken → (IsSome result ↔ IsIdle m') →
+pub after_step : (start : ℕ) (m m' : Machine) (v s : Side) (payload : List ℕ) (result : Option Answer) (taken : ℕ) → Inside start m v payload s → ¬ IsIdle m → rest_or_answer result m' ≡ after (rest m) taken → (IsSome result ↔ IsIdle m') →
     standing m' ≡ standing_after (standing m) (next_op (rest m)) → Stepped start m' s taken result
 after_step start m m' v s payload result taken h busy leads idle stands =
     let plan = plan_is start m v s payload h busy in

@@ -1,10 +1,11 @@
 use Rattle.vchan_core.specs.OneMachine.Phases.{IsIdle}
-use Rattle.std.proofs.Common.{◌≡◌, Option, None, IsSome, length, refl, ap, ◌∙◌, subst, arith}
+use Rattle.std.proofs.Common.{◌≡◌, Option, None, IsSome, length, take, refl, ap, ◌∙◌, subst, arith}
 use Rattle.std.proofs.lemmas.Bool.{false≢true}
 use Rattle.vchan_protocol.specs.declared.call.Answer.{Answer}
 use Rattle.vchan_protocol.specs.declared.side.Side.{Side}
 use Rattle.vchan_rule.specs.Ends.{seen}
 use Rattle.vchan_rule.proofs.CallLaws.{few_left, call_over, call_on, call_along, made_long, one_longer, seen_now, MakesOne, called_view, called_saw, own_of}
+use Rattle.vchan_protocol.specs.Table.Calls.{payload_of}
 use Rattle.vchan_protocol.proofs.OneEnd.OneCallBytes.{answers_tell}
 use Rattle.vchan_protocol.proofs.OneEnd.OneCallWay.{over_tells}
 use Rattle.vchan_rule.proofs.end.End.counted_call.Goals as goal
@@ -77,5 +78,5 @@ returns-in-Some-clause-steps g c =
 pub returns-in-Some-clause-moved : goal.returns-in-Some-clause-moved
 returns-in-Some-clause-moved g c =
     let over = call_over _ _ _ _ c.events.self c.events.buf c.step.new.self c.step.new.buf c.in-Some.answer c.events.invariant.0 c.step.ensures.goes_on c.in-Some.ensures.event in
-    let moved = answers_tell c.args.self.now.side _ _ _ c.in-Some.answer over.trace in
+    let moved = answers_tell c.args.self.now.side c.args.call (take (payload_of c.args.call) c.args.payload.now) c.step.new.self.side.trail c.in-Some.answer over.trace in
     (moved.pays, moved.takes)
