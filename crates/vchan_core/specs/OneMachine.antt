@@ -1,2 +1,3 @@
 -- What a machine still does of its call.
 pub mod Phases
+pub mod Ahead

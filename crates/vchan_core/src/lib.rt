@@ -16,7 +16,7 @@ mod totals;
 mod whole_call;
 mod words;
 
-pub use machine::Machine;
+pub use machine::{Ahead, Machine, Span};
 pub use plain::Plain;
 pub use steps::Steps;
 pub use vchan_protocol::{

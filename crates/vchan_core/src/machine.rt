@@ -6,7 +6,17 @@ use crate::words::{
 use ring_words::{Orders, Ring, Role, WordName, place, ready, room};
 use vchan_protocol::{Answer, Bit, Call, EndState, Op};
 
+<<<<<<< HEAD
 pub(crate) mod outcomes;
+=======
+mod ahead;
+mod events;
+mod looks;
+mod moves;
+mod pieces;
+>>>>>>> bb3b72a6dd2c1712aa6fd78926870fbf960f3418
+
+pub use ahead::{Ahead, Span};
 
 /// One end of a channel, as a pure machine: it says which event comes next, and takes the value
 /// that the event took. It holds no page, so the same machine drives a plain page and a shared one.

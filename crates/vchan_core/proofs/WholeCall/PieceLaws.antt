@@ -29,11 +29,11 @@ index_on orders Left at = omega arith
 index_on orders Right at = omega arith
 
 -- an event that is on a ring byte leaves the end's standing
-stands_store : (e : Standing) (op : Op) (ring : Ring) (at i : ℕ) → op ≡ StoreByte (RingByte ring at) i → e ≡ standing_after e op
+pub stands_store : (e : Standing) (op : Op) (ring : Ring) (at i : ℕ) → op ≡ StoreByte (RingByte ring at) i → e ≡ standing_after e op
 unfolding standing_after
 stands_store e op ring at i is = rw is refl
 
-stands_load : (e : Standing) (op : Op) (ring : Ring) (at i : ℕ) → op ≡ LoadByte (RingByte ring at) i → e ≡ standing_after e op
+pub stands_load : (e : Standing) (op : Op) (ring : Ring) (at i : ℕ) → op ≡ LoadByte (RingByte ring at) i → e ≡ standing_after e op
 unfolding standing_after
 stands_load e op ring at i is = rw is refl
 
@@ -48,7 +48,7 @@ at_take m i k answer = record m { phase = Some (Take i k answer) }
 abbrev pub put_place : Machine → ℕ → ℕ
 put_place m i = place (m.prod + i) (write_order (standing m))
 
-put_plan : (m : Machine) (i k : ℕ) (answer : Answer) → i < k →
+pub put_plan : (m : Machine) (i k : ℕ) (answer : Answer) → i < k →
     rest (at_put m i k answer) ≡ does (StoreByte (RingByte (written_ring m.role) (put_place m i)) i) (λ _. rest (at_put m (i + 1) k answer))
 unfolding rest_at
 put_plan m i k answer h = put_bytes-more (standing m) i k (put_index (standing m) k (answers answer)) h
@@ -113,7 +113,7 @@ put_piece m list source buffer i k (suc n) at answer h enough places =
 abbrev pub take_place : Machine → ℕ → ℕ
 take_place m i = place (m.cons + i) (read_order (standing m))
 
-take_plan : (m : Machine) (i k : ℕ) (answer : Answer) → i < k →
+pub take_plan : (m : Machine) (i k : ℕ) (answer : Answer) → i < k →
     rest (at_take m i k answer) ≡ does (LoadByte (RingByte (read_ring m.role) (take_place m i)) i) (λ _. rest (at_take m (i + 1) k answer))
 unfolding rest_at
 take_plan m i k answer h = take_bytes-more (standing m) i k (take_index (standing m) k (answers answer)) h

@@ -1,0 +1,77 @@
+-- What the layers above a page see of one of its ends: its lists and what it has noted, and no word of the page.
+-- The view is this project's own.
+use Rattle.std.specs.Prelude.{◌≡◌, ℕ, List, [], Bool, true, false, Option, None, if◌then◌else◌}
+use Rattle.atomic_table.specs.Seated.{TableId}
+use Rattle.ring_words.specs.declared.page.Role.{Role}
+use Rattle.ring_words.specs.declared.page.Role.TheVariants.{Server, Client}
+use Rattle.vchan_protocol.specs.declared.call.EndState.{EndState}
+use Rattle.vchan_protocol.specs.declared.call.EndState.TheVariants.{Fresh, Open}
+use Rattle.vchan_protocol.specs.declared.op.PastEvent.{PastEvent}
+use Rattle.vchan_protocol.specs.declared.side.EndedBy.{EndedBy}
+use Rattle.vchan_protocol.specs.declared.side.Side.{Side}
+
+pub record EndView : Type 0 where
+  -- the page that it is an end of, and which of its two ends
+  pub page : TableId
+  pub role : Role
+  pub state : EndState
+  -- it is between two calls
+  pub idle : Bool
+  -- all bytes that it has shown to its peer, and all that it has taken and given up the places of
+  pub sent : List ℕ
+  pub got : List ℕ
+  -- while not shut it found its peer shut or gone
+  pub saw : Bool
+  -- how a drain of it first ended its stream, and that nothing is left to drain
+  pub ended : Option EndedBy
+  pub drained : Bool
+  -- a connect of it was refused
+  pub misled : Bool
+  -- it has set its gone word
+  pub retired : Bool
+  -- it was given up to a hostile user; for a writer, how much its reader had got then
+  pub turned : Bool
+  pub consumed : ℕ
+  -- what that user did since; of an honest end nothing
+  pub trail : List PastEvent
+
+-- the events of a hostile user; those of an honest end's call are no part of its view
+abbrev pub hostile_trail : Bool → List PastEvent → List PastEvent
+hostile_trail turned trail = if turned then trail else []
+
+-- the view of an end of this page that has done so much, between two calls or not
+abbrev pub view_of : TableId → Bool → Side → EndView
+view_of page idle s = record {
+  page = page;
+  role = s.role;
+  state = s.state;
+  idle = idle;
+  sent = s.sent;
+  got = s.got;
+  saw = s.saw;
+  ended = s.ended;
+  drained = s.drained;
+  misled = s.misled;
+  retired = s.retired;
+  turned = s.turned;
+  consumed = s.consumed;
+  trail = hostile_trail s.turned s.trail;
+}
+
+-- an end that was handed out: a server's is open, a client's is fresh
+abbrev pub state_at_first : Role → EndState
+state_at_first Server = Open
+state_at_first Client = Fresh
+
+-- it has done nothing yet
+pub record IsUnused (e : EndView) : Type 0 where
+  pub idle : e.idle ≡ true
+  pub state : e.state ≡ state_at_first e.role
+  pub sent : e.sent ≡ []
+  pub got : e.got ≡ []
+  pub saw : e.saw ≡ false
+  pub ended : e.ended ≡ None
+  pub drained : e.drained ≡ false
+  pub misled : e.misled ≡ false
+  pub retired : e.retired ≡ false
+  pub turned : e.turned ≡ false

@@ -1,0 +1,3 @@
+pub mod EndView
+pub mod Settled
+pub mod AfterCall

@@ -1,0 +1,140 @@
+//! An end of a shared page in the hands of a hostile user, who may store any number anywhere on the
+//! page that a guest reaches, at any time.
+//!
+//! It serves whoever plays a hostile guest against an honest end. Which words such a guest reaches
+//! follows the layout of Xen's public/io/libxenvchan.h; the pending and gone words lie elsewhere.
+#![tactic(auto)]
+
+ghost use Rattle.std.specs.Prelude.{◌≡◌, ◌+◌, ◌%◌, ◌^◌, ◌≤◌, ◌↔◌, IsTrue, ℕ, min, length, take};
+ghost use Rattle.ring_words.specs.Rings.{room as room_of};
+ghost use Rattle.ring_words.specs.Page.{order_of};
+ghost use Rattle.vchan_protocol.specs.Table.Ends.{written_ring, peer_pending, own_gone, low32};
+ghost use Rattle.vchan_protocol.specs.Hostile.Turned.{turns, strays, MayPoke};
+ghost use Rattle.vchan_rule.specs.Seated.{last_view};
+ghost use Rattle.hostile_seat.specs.Hostile.{strays_along, byte_stores, say_events};
+
+use ring_words::{Layout, Order, Ring, Role, WordName, place, room};
+use std::marker::Model;
+use vchan_core::Op;
+use vchan_rule::{End, Retired, TurnedEnd};
+
+/// An end that a hostile user has.
+#[derive(Drop)]
+pub struct Hostile<'p> {
+    end: TurnedEnd<'p>,
+}
+
+impl<'p> Model for Hostile<'p> {
+    ghost use Rattle.vchan_rule.specs.Seated.{SeatedSide};
+
+    ghost Value = { SeatedSide };
+
+    ghost view = { λ h. h.end };
+}
+
+/// Gives an end up to a hostile user, with one event: a load of the consumer index of the ring that
+/// it writes. A call under way is dropped.
+pub fn turn<'p>(end: End<'p>) -> Hostile<'p>
+    ensures page { result.page ≡ end.page }
+    ensures side { (consumed : ℕ) × (result.side ≡ turns end.side consumed) }
+{
+    Hostile { end: end.turn() }
+}
+
+impl<'p> Hostile<'p> {
+    /// Whether a hostile user reaches this word: a field of the header, or a ring byte in range.
+    pub fn may(&self, word: WordName) -> bool
+        ensures { IsTrue result ↔ MayPoke self.now.side.orders word }
+    {
+        match word {
+            WordName::SrvPending | WordName::CliPending | WordName::SrvGone | WordName::CliGone =>
+                false,
+            _ => Layout::new(self.end.orders()).has(word),
+        }
+    }
+
+    /// A load of such a word.
+    pub fn load(&mut self, word: WordName) -> u64
+        requires { MayPoke self.old.side.orders word }
+        ensures page { self.new.page ≡ self.old.page }
+        ensures side { self.new.side ≡ strays self.old.side (Op.Load word) result }
+    {
+        self.end.load(word)
+    }
+
+    /// A store of any number to such a word.
+    pub fn store(&mut self, word: WordName, value: u64)
+        requires { MayPoke self.old.side.orders word }
+        ensures page { self.new.page ≡ self.old.page }
+        ensures side { self.new.side ≡ strays self.old.side (Op.Store word value) 0 }
+    {
+        self.end.store(word, value);
+    }
+
+    /// Sets the peer's pending word.
+    pub fn signal(&mut self)
+        ensures page { self.new.page ≡ self.old.page }
+        ensures side { self.new.side ≡ strays self.old.side (Op.Store (peer_pending self.old.side.role) 1) 0 }
+    {
+        self.end.signal();
+    }
+
+    /// Puts bytes into the ring that the end writes: as many of the first ones as have room by the
+    /// consumer index that it loads, from the place of `own` on, which is the user's own producer
+    /// index. It is moved on and stored. It answers how many bytes they were.
+    pub fn say(&mut self, own: &mut u32, data: &[u8]) -> u32
+        ensures page { self.new.page ≡ self.old.page }
+        ensures moved { own.new ≡ (own.old + result) % 2 ^ 32 }
+        ensures events { (taken : ℕ) × (result ≡ min (length data.now) (room_of own.old (low32 taken) (order_of self.old.side.orders (written_ring self.old.side.role)))) × (self.new.side ≡ strays_along self.old.side (say_events self.old.side.role self.old.side.orders own.old taken (take result data.now) own.new)) }
+    {
+        let (ring, cons, prod) = match self.end.role() {
+            Role::Server => (Ring::Right, WordName::RightCons, WordName::RightProd),
+            Role::Client => (Ring::Left, WordName::LeftCons, WordName::LeftProd),
+        };
+        let order = self.end.orders().order_of(ring);
+        let taken = self.end.load(cons);
+        let count = said(data.len(), room(*own, (taken % 4294967296) as u32, order));
+        self.store_bytes(ring, order, *own, &data[..count as usize]);
+        *own = own.wrapping_add(count);
+        self.end.store(prod, u64::from(*own));
+        count
+    }
+
+    /// Stores bytes into a ring, from the place of an index on.
+    fn store_bytes(&mut self, ring: Ring, order: Order, index: u32, bytes: &[u8])
+        requires ring { ring ≡ written_ring self.old.side.role }
+        requires order { order ≡ order_of self.old.side.orders ring }
+        requires few { length bytes.now ≤ 1048576 }
+        ensures page { self.new.page ≡ self.old.page }
+        ensures side { self.new.side ≡ strays_along self.old.side (byte_stores self.old.side.role self.old.side.orders index bytes.now) }
+    {
+        let mut at = 0;
+        'bytes: while at < bytes.len() {
+            let word = WordName::RingByte {
+                ring,
+                at: place(index.wrapping_add(at as u32), order),
+            };
+            self.end.store(word, u64::from(bytes[at]));
+            at += 1;
+        }
+    }
+
+    /// Sets the end's gone word, and signals its peer. No event follows.
+    pub fn retire(self) -> Retired
+        ensures page { result.page ≡ self.page }
+        ensures side { result.side ≡ strays (strays self.side (Op.Store (own_gone self.side.role) 1) 0) (Op.Store (peer_pending self.side.role) 1) 0 }
+    {
+        let Self { end } = self;
+        end.retire()
+    }
+}
+
+/// The smaller of a length and a room.
+fn said(len: usize, room: u32) -> u32
+    ensures { result ≡ min len room }
+{
+    match u32::try_from(len) {
+        Ok(len) => len.min(room),
+        Err(_) => room,
+    }
+}

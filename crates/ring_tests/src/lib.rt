@@ -1,0 +1,15 @@
+//! What two ends of one shared page do together: worked rows on one thread, and two threads that
+//! move bytes through one ring.
+//!
+//! It serves the tests of the crates of calls, since a row needs several of them. Each row is a
+//! function of its own, which gives `None` where an answer isn't that of the row.
+#![tactic(auto)]
+
+mod rows;
+mod threads;
+
+pub use rows::{consumed_prefix, events, fresh_page, ready_space_gone, said_by_hand};
+pub use threads::{exchange, receive_all, send_all};
+
+#[cfg(test)]
+mod tests;

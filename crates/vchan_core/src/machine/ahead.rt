@@ -1,0 +1,95 @@
+//! The bytes that come next in a put or a take, for a caller that moves them all by itself.
+ghost use Rattle.std.specs.Prelude.{◌≡◌};
+ghost use Rattle.vchan_core.specs.OneMachine.Ahead.{IsAhead, put_at, take_at};
+
+use super::Machine;
+use crate::phase::Phase;
+use ring_words::{Order, Ring};
+use vchan_protocol::Answer;
+
+/// Bytes of a put or a take that are still to be moved: those from `at` on, up to `count`. Byte
+/// number `k` lies where the ring has the byte of the index `index + k`.
+#[derive(Clone, Copy)]
+pub struct Span {
+    /// The ring that they lie in.
+    pub ring: Ring,
+    /// Its order.
+    pub order: Order,
+    /// The index of byte number 0.
+    pub index: u32,
+    /// The number of the next byte.
+    pub at: u32,
+    /// How many bytes the call moves.
+    pub count: u32,
+    /// What the call answers once they are moved.
+    pub answer: Answer,
+}
+
+/// Which bytes come next.
+#[derive(Clone, Copy)]
+pub enum Ahead {
+    /// The next events store these.
+    Puts(Span),
+    /// The next events load these.
+    Takes(Span),
+    /// The next event is on no byte of a ring.
+    Elsewhere,
+}
+
+impl Machine {
+    /// The bytes that come next.
+    #[inline(always)]
+    pub fn ahead(&self) -> Ahead
+        ensures { IsAhead self.now result }
+    {
+        match self.phase {
+            Some(Phase::Put { at, count, answer }) if at < count => {
+                let ring = self.written();
+                Ahead::Puts(Span {
+                    ring,
+                    order: self.orders.order_of(ring),
+                    index: self.prod,
+                    at,
+                    count,
+                    answer,
+                })
+            }
+            Some(Phase::Take { at, count, answer }) if at < count => {
+                let ring = self.read();
+                Ahead::Takes(Span {
+                    ring,
+                    order: self.orders.order_of(ring),
+                    index: self.cons,
+                    at,
+                    count,
+                    answer,
+                })
+            }
+            _ => Ahead::Elsewhere,
+        }
+    }
+
+    /// All bytes of a put are stored.
+    #[inline(always)]
+    pub fn put_all(&mut self, span: Span)
+        ensures { self.new ≡ put_at self.old span span.count }
+    {
+        self.phase = Some(Phase::Put {
+            at: span.count,
+            count: span.count,
+            answer: span.answer,
+        });
+    }
+
+    /// All bytes of a take are loaded.
+    #[inline(always)]
+    pub fn take_all(&mut self, span: Span)
+        ensures { self.new ≡ take_at self.old span span.count }
+    {
+        self.phase = Some(Phase::Take {
+            at: span.count,
+            count: span.count,
+            answer: span.answer,
+        });
+    }
+}

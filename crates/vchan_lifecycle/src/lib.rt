@@ -1,0 +1,138 @@
+//! The life of a channel's end on a shared page: connect, drain, close and retire.
+//!
+//! It serves whoever opens and ends a channel. A connect is what a client does in libxenvchan's
+//! init.c, a close that of `libxenvchan_close` in io.c. The drain, which tells an end of a stream
+//! for sure, and the retire, which lets go of the page, are this project's own.
+#![tactic(auto)]
+
+ghost use Rattle.std.specs.Prelude.{◌≡◌, ◌≢◌, ◌↔◌, ◌<◌, ◌≤◌, min, true, length, ℕ, Result, is_ok};
+ghost use Rattle.ring_words.specs.declared.page.Role.TheVariants.{Client};
+ghost use Rattle.vchan_protocol.specs.declared.call.Answer.TheVariants.{Done};
+ghost use Rattle.vchan_lifecycle.specs.declared.BadOrders.{BadOrders as Refused};
+ghost use Rattle.vchan_protocol.specs.declared.call.Call.TheVariants.{Connect, Close, Retire, Drain};
+ghost use Rattle.vchan_protocol.specs.declared.call.EndState.TheVariants.{Fresh, Shut};
+ghost use Rattle.vchan_protocol.specs.Table.Calls.{Trace};
+ghost use Rattle.vchan_protocol.specs.Answering.Causes.{DrainCause, ConnectCause};
+ghost use Rattle.vchan_protocol.specs.History.Core.{standing_of};
+ghost use Rattle.vchan_protocol.specs.Answering.Loads.{loads_of};
+ghost use Rattle.end_view.specs.AfterCall.{DrainSees};
+ghost use Rattle.vchan_rule.specs.Seated.{view, last_view, IsOpen};
+ghost use Rattle.vchan_rule.specs.Ends.{IsSameEnd};
+ghost use Rattle.vchan_lifecycle.specs.Lifecycle.{most_asked, AnswersDrain, AnswersConnect, drain_told, connect_told, drained_to, connected_to, shut, retired_view, ops, close_ops, retire_ops};
+
+use vchan_core::{Answer, Call};
+use vchan_rule::{End, Retired};
+
+/// A connect was refused: the page's order words say these orders, which aren't the page's.
+#[derive(Clone, Copy, Debug, PartialEq, Eq)]
+pub struct BadOrders {
+    pub left: u16,
+    pub right: u16,
+}
+
+/// What a drain answers.
+#[derive(Clone, Copy, Debug, PartialEq, Eq)]
+pub enum DrainAnswer {
+    /// So many bytes were got, at least one, into the front of the buffer.
+    More { count: u32 },
+    /// No byte was got: at these two indices the ring is empty, and more may come.
+    NotYet { prod: u32, cons: u32 },
+    /// No byte was got: the peer is shut, and all that it sent was read.
+    AllRead,
+    /// No byte was got, and the peer is gone. With two equal indices all was read; with others the
+    /// peer left indices that no honest end leaves.
+    PeerGone { prod: u32, cons: u32 },
+}
+
+/// What one call asks for at most.
+fn asked(len: usize) -> u32
+    ensures { result ≡ min len 4294967295 }
+{
+    u32::try_from(len).unwrap_or(u32::MAX)
+}
+
+/// The answer of a drain, told by that of its events.
+fn drain_answer(answer: Answer) -> DrainAnswer
+    requires { AnswersDrain answer }
+    ensures { drain_told result ≡ answer }
+{
+    match answer {
+        Answer::Got { count } => DrainAnswer::More { count },
+        Answer::NotYet { prod, cons } => DrainAnswer::NotYet { prod, cons },
+        Answer::AllRead => DrainAnswer::AllRead,
+        Answer::PeerGone { prod, cons } => DrainAnswer::PeerGone { prod, cons },
+        _ => unreachable!(),
+    }
+}
+
+/// The answer of a connect, told by that of its events.
+fn connect_answer(answer: Answer) -> Result<(), BadOrders>
+    requires { AnswersConnect answer }
+    ensures { connect_told result ≡ answer }
+{
+    match answer {
+        Answer::Connected => Ok(()),
+        Answer::BadOrders { left, right } => Err(BadOrders { left, right }),
+        _ => unreachable!(),
+    }
+}
+
+/// Connects a fresh client: it is open then. The error comes exactly where the two order words that
+/// it loaded don't say the page's orders; the client stays fresh, and may try again.
+pub fn connect(end: &mut End<'_>) -> Result<(), BadOrders>
+    requires idle { (view end.old).idle ≡ true }
+    requires fresh { (view end.old).state ≡ Fresh }
+    requires client { (view end.old).role ≡ Client }
+    ensures same { IsSameEnd end.old end.new }
+    ensures view { view end.new ≡ connected_to (view end.old) (is_ok result) }
+    ensures trail { Trace (standing_of end.old.side) Connect end.new.side.trail (connect_told result) }
+    ensures cause { (other : Result (Unit {0}) Refused) → (result ≡ other) ↔ ConnectCause (standing_of end.old.side) (loads_of (standing_of end.old.side) end.new.side.trail) (connect_told other) }
+{
+    connect_answer(end.do_call(Call::Connect, &[], &mut []))
+}
+
+/// Shuts an end: its live byte is cleared, and its peer signalled.
+pub fn close(end: &mut End<'_>)
+    requires idle { (view end.old).idle ≡ true }
+    requires going { (view end.old).state ≢ Shut }
+    ensures same { IsSameEnd end.old end.new }
+    ensures view { view end.new ≡ shut (view end.old) }
+    ensures trail { Trace (standing_of end.old.side) Close end.new.side.trail Done }
+    ensures events { ops end.new.side.trail ≡ close_ops end.old.side.role }
+{
+    let _ = end.do_call(Call::Close, &[], &mut []);
+}
+
+/// Lets go of the page. An end that isn't shut is closed first; then its gone word is set, and its
+/// peer signalled.
+pub fn retire(mut end: End<'_>) -> Retired
+    requires idle { (view end).idle ≡ true }
+    ensures view { last_view result ≡ retired_view (view end.entry) }
+    ensures trail { Trace (standing_of end.entry.side) Retire result.side.trail Done }
+    ensures events { ops result.side.trail ≡ retire_ops end.entry.side.role end.entry.side.state }
+{
+    let _ = end.do_call(Call::Retire, &[], &mut []);
+    end.rest()
+}
+
+/// Gets as many bytes as wait, up to the length of the buffer, or says for sure that no more come.
+/// Where it finds none it looks at the peer's live byte and at its gone word, and then looks at the
+/// index again. Each answer comes exactly where its cause is in what the call's events loaded.
+pub fn drain(end: &mut End<'_>, buf: &mut [u8]) -> DrainAnswer
+    requires open { IsOpen end.old }
+    requires some { 0 < length buf.old }
+    ensures same { IsSameEnd end.old end.new }
+    ensures open { IsOpen end.new }
+    ensures view { view end.new ≡ drained_to (view end.old) result buf.new end.new.side.saw }
+    ensures saw { DrainSees (drain_told result) end.old.side.saw end.new.side.saw }
+    ensures long { length buf.new ≡ length buf.old }
+    ensures more { (count : ℕ) → result ≡ DrainAnswer.More count → 1 ≤ count }
+    ensures few { (count : ℕ) → result ≡ DrainAnswer.More count → count ≤ length buf.old }
+    ensures trail { Trace (standing_of end.old.side) (Drain (most_asked buf.old)) end.new.side.trail (drain_told result) }
+    ensures cause { (other : DrainAnswer) → (result ≡ other) ↔ DrainCause (standing_of end.old.side) (most_asked buf.old) (loads_of (standing_of end.old.side) end.new.side.trail) (drain_told other) }
+{
+    let call = Call::Drain {
+        most: asked(buf.len()),
+    };
+    drain_answer(end.do_call(call, &[], buf))
+}

@@ -1,0 +1,108 @@
+//! The bytes of a channel as packets: a send and a recv that never wait and move all or nothing,
+//! on one end of a shared page.
+//!
+//! It serves whoever sends messages of a known length over a channel. The calls are
+//! `libxenvchan_send` and `libxenvchan_recv` of libxenvchan's io.c in non-blocking mode.
+#![tactic(auto)]
+
+ghost use Rattle.std.specs.Prelude.{◌≡◌, ◌↔◌, min, length};
+ghost use Rattle.vchan_protocol.specs.declared.call.Call.TheVariants.{Send, Recv};
+ghost use Rattle.vchan_protocol.specs.Table.Calls.{Trace};
+ghost use Rattle.vchan_protocol.specs.Answering.Causes.{SendCause, RecvCause};
+ghost use Rattle.vchan_protocol.specs.History.Core.{standing_of};
+ghost use Rattle.vchan_protocol.specs.Answering.Loads.{loads_of};
+ghost use Rattle.vchan_rule.specs.Seated.{view, IsOpen};
+ghost use Rattle.vchan_rule.specs.Ends.{IsSameEnd};
+ghost use Rattle.vchan_packet.specs.Packet.{most_asked, AnswersSend, AnswersRecv, send_told, recv_told, told_send, told_recv, sent_to, received_from};
+
+use vchan_core::{Answer, Call};
+use vchan_rule::End;
+
+/// What a send answers.
+#[derive(Clone, Copy, Debug, PartialEq, Eq)]
+pub enum SendAnswer {
+    /// All bytes were sent.
+    Sent,
+    /// No byte was sent: at these two indices the ring has no room for all of them.
+    NoRoom { prod: u32, cons: u32 },
+    /// No byte was sent: the peer is shut.
+    PeerClosed,
+}
+
+/// What a recv answers.
+#[derive(Clone, Copy, Debug, PartialEq, Eq)]
+pub enum RecvAnswer {
+    /// The whole buffer was filled.
+    Got,
+    /// No byte was got: at these two indices fewer bytes wait than were asked for, and the peer
+    /// isn't shut.
+    Short { prod: u32, cons: u32 },
+    /// No byte was got: fewer bytes were found than were asked for, and then the peer shut.
+    PeerClosed,
+}
+
+/// What one call asks for.
+fn asked(len: usize) -> u32
+    ensures { result ≡ min len 4294967295 }
+{
+    u32::try_from(len).unwrap_or(u32::MAX)
+}
+
+/// The answer of a send, told by that of its events.
+fn send_answer(answer: Answer) -> SendAnswer
+    requires { AnswersSend answer }
+    ensures { result ≡ told_send answer }
+{
+    match answer {
+        Answer::Sent { count: _ } => SendAnswer::Sent,
+        Answer::NoRoom { prod, cons } => SendAnswer::NoRoom { prod, cons },
+        Answer::PeerClosed => SendAnswer::PeerClosed,
+        _ => unreachable!(),
+    }
+}
+
+/// The answer of a recv, told by that of its events.
+fn recv_answer(answer: Answer) -> RecvAnswer
+    requires { AnswersRecv answer }
+    ensures { result ≡ told_recv answer }
+{
+    match answer {
+        Answer::Got { count: _ } => RecvAnswer::Got,
+        Answer::Short { prod, cons } => RecvAnswer::Short { prod, cons },
+        Answer::PeerClosed => RecvAnswer::PeerClosed,
+        _ => unreachable!(),
+    }
+}
+
+/// Sends all bytes where they have room, else none, and never waits. Each answer comes exactly
+/// where its cause is in what the call's events loaded.
+pub fn send(end: &mut End<'_>, data: &[u8]) -> SendAnswer
+    requires open { IsOpen end.old }
+    ensures same { IsSameEnd end.old end.new }
+    ensures open { IsOpen end.new }
+    ensures view { view end.new ≡ sent_to (view end.old) result data.now }
+    ensures trail { Trace (standing_of end.old.side) (Send (most_asked data.now)) end.new.side.trail (send_told (most_asked data.now) result) }
+    ensures cause { (other : SendAnswer) → (result ≡ other) ↔ SendCause (standing_of end.old.side) (most_asked data.now) (loads_of (standing_of end.old.side) end.new.side.trail) (send_told (most_asked data.now) other) }
+{
+    let call = Call::Send {
+        len: asked(data.len()),
+    };
+    send_answer(end.do_call(call, data, &mut []))
+}
+
+/// Fills the whole buffer where enough bytes wait, else gets none, and never waits itself. Each
+/// answer comes exactly where its cause is in what the call's events loaded.
+pub fn recv(end: &mut End<'_>, buf: &mut [u8]) -> RecvAnswer
+    requires open { IsOpen end.old }
+    ensures same { IsSameEnd end.old end.new }
+    ensures open { IsOpen end.new }
+    ensures view { view end.new ≡ received_from (view end.old) result buf.new }
+    ensures long { length buf.new ≡ length buf.old }
+    ensures trail { Trace (standing_of end.old.side) (Recv (most_asked buf.old)) end.new.side.trail (recv_told (most_asked buf.old) result) }
+    ensures cause { (other : RecvAnswer) → (result ≡ other) ↔ RecvCause (standing_of end.old.side) (most_asked buf.old) (loads_of (standing_of end.old.side) end.new.side.trail) (recv_told (most_asked buf.old) other) }
+{
+    let call = Call::Recv {
+        len: asked(buf.len()),
+    };
+    recv_answer(end.do_call(call, &[], buf))
+}

@@ -1,0 +1,117 @@
+-- A call of an end, one event at a time, whatever its peer does between them.
+use Rattle.std.proofs.Common.{◌≡◌, ℕ, ◌+◌, ◌<◌, ◌≤◌, Bool, false, not, Option, Some, None, List, [], ◌∷◌, ◌++◌, length, take, subst, sym, ap, ◌∙◌, arith}
+use Rattle.std.proofs.lemmas.List.{length-append}
+use Rattle.vchan_protocol.specs.declared.op.PastEvent.{PastEvent}
+use Rattle.vchan_protocol.specs.declared.call.Answer.{Answer}
+use Rattle.vchan_protocol.specs.declared.call.Call.{Call}
+use Rattle.vchan_protocol.specs.declared.side.Side.{Side}
+use Rattle.vchan_protocol.specs.Table.Plan.{after, past, GoesOn}
+use Rattle.vchan_protocol.specs.Table.Calls.{payload_of, loaded_most, most_events}
+use Rattle.vchan_protocol.specs.History.Core.{standing_of, plan_left, op_next, made, side_after, answer_in}
+use Rattle.vchan_protocol.specs.OneEnd.OneCall.{landed, OnWay, IsOver, IsThen}
+use Rattle.vchan_protocol.proofs.OneEnd.OneCallWay.{way_goes_on, landed-length}
+use Rattle.vchan_protocol.proofs.History.EventLaws.{settled-trail}
+use Rattle.vchan_core.specs.OneMachine.Phases.{IsIdle, payload_needed, buffer_needed}
+use Rattle.vchan_core.specs.Page.StandsFor.{HasPayload}
+use Rattle.vchan_protocol.specs.OneEnd.OneEndLaw.{OwnLawful}
+use Rattle.end_view.specs.EndView.{view_of}
+use Rattle.end_view.specs.AfterCall.{MayCall, answered_view, SeesAsTold}
+use Rattle.end_view.proofs.ViewLaws.{view_after}
+use Rattle.vchan_rule.specs.Seated.{SeatedEnd, view}
+use Rattle.vchan_rule.specs.Ends.{seen, seen_by, Pays, IsSameEnd}
+use Rattle.vchan_rule.specs.Along.{GoesAlong}
+
+-- ---- one event of a call
+
+-- an event that took this value, with what it answers, what it leaves of the end and of the buffer
+pub way_on : (was : Side) (call : Call) (payload start : List ℕ) (s : Side) (buffer : List ℕ) (taken : ℕ) → loaded_most (standing_of was) call ≤ length start → OnWay was call payload start s buffer → GoesOn (plan_left s) →
+    (result : Option Answer) (now : Side) (buffer' : List ℕ) → result ≡ answer_in (after (plan_left s) taken) → now ≡ side_after s taken → buffer' ≡ landed (op_next s) taken buffer → IsThen was call payload start now buffer' result
+way_on was call payload start s buffer taken long w more result now buffer' answers_it stands lands =
+    subst (λ (z : Option Answer × (Side × List ℕ)). IsThen was call payload start z.1.0 z.1.1 z.0) (λ i. (sym answers_it i, (sym stands i, sym lands i))) ((way_goes_on was call payload start s buffer long w more).next taken)
+
+-- ---- the loop over the events of a call
+
+pub record InCalls (was : SeatedEnd) (call : Call) (payload start : List ℕ) (e : SeatedEnd) (buffer : List ℕ) : Type 0 where
+  pub same : IsSameEnd was e
+  pub busy : ¬ IsIdle e.machine
+  pub out : payload_needed e.machine ≤ length payload
+  pub into : buffer_needed e.machine ≤ length buffer
+  pub long : length buffer ≡ length start
+  pub enough : loaded_most (standing_of was.side) call ≤ length start
+  pub pays : Pays e.begun e.side payload
+  pub way : OnWay was.side call (take (payload_of call) payload) start (seen e payload) buffer
+
+abbrev pub MakesOne : SeatedEnd → List ℕ → List ℕ → SeatedEnd → List ℕ → Option Answer → Type 0
+MakesOne e payload buffer e' buffer' result =
+    (taken : ℕ) × (e'.side ≡ side_after (seen e payload) taken) × (result ≡ answer_in (after (plan_left (seen e payload)) taken)) × (buffer' ≡ landed (op_next (seen e payload)) taken buffer)
+
+pub few_left : (was : SeatedEnd) (call : Call) (payload start : List ℕ) (e : SeatedEnd) (buffer : List ℕ) → InCalls was call payload start e buffer → GoesOn (plan_left (seen e payload)) →
+    length (seen e payload).trail < most_events (standing_of was.side) call
+few_left was call payload start e buffer i more =
+    let few = (way_goes_on was.side call (take (payload_of call) payload) start (seen e payload) buffer i.enough i.way more).few in
+    omega (arith, few)
+
+pub call_over : (was : SeatedEnd) (call : Call) (payload start : List ℕ) (e : SeatedEnd) (buffer : List ℕ) (e' : SeatedEnd) (buffer' : List ℕ) (answer : Answer) → InCalls was call payload start e buffer → GoesOn (plan_left (seen e payload)) →
+    MakesOne e payload buffer e' buffer' (Some answer) → IsOver was.side call (take (payload_of call) payload) start e'.side buffer' answer
+call_over was call payload start e buffer e' buffer' answer i more m =
+    way_on was.side call (take (payload_of call) payload) start (seen e payload) buffer m.0 i.enough i.way more (Some answer) e'.side buffer' m.2 m.1 m.3
+
+pub one_longer : (e : SeatedEnd) (payload buffer : List ℕ) (e' : SeatedEnd) (buffer' : List ℕ) (result : Option Answer) → MakesOne e payload buffer e' buffer' result → length e'.side.trail ≡ length (seen e payload).trail + 1
+one_longer e payload buffer e' buffer' result m =
+    let s = seen e payload in
+    let same : e'.side.trail ≡ s.trail ++ past (op_next s) m.0 ∷ [] = ap (λ (z : Side). z.trail) m.1 ∙ settled-trail (made s (op_next s) m.0) (after (plan_left s) m.0) in
+    ap (λ (xs : List PastEvent). length xs) same ∙ omega (arith, length-append s.trail (past (op_next s) m.0 ∷ []))
+
+pub seen_now : (e : SeatedEnd) (payload : List ℕ) → e.begun ≡ None → seen e payload ≡ e.side
+seen_now e payload none = ap (λ (b : Option Call). seen_by b e.side payload) none
+
+pub call_on : (was : SeatedEnd) (call : Call) (payload start : List ℕ) (e : SeatedEnd) (buffer : List ℕ) (e' : SeatedEnd) (buffer' : List ℕ) → InCalls was call payload start e buffer → GoesOn (plan_left (seen e payload)) →
+    MakesOne e payload buffer e' buffer' None → IsSameEnd e e' → ¬ IsIdle e'.machine → payload_needed e'.machine ≤ payload_needed e.machine → buffer_needed e'.machine ≤ buffer_needed e.machine → e'.begun ≡ None → HasPayload e'.side payload →
+    InCalls was call payload start e' buffer'
+call_on was call payload start e buffer e' buffer' i more m same busy out into none has =
+    let long : length buffer' ≡ length buffer = ap (λ (xs : List ℕ). length xs) m.3 ∙ landed-length (op_next (seen e payload)) m.0 buffer in
+    record {
+      same = (same.0 ∙ i.same.0, same.1 ∙ i.same.1, same.2 ∙ i.same.2, same.3 ∙ i.same.3);
+      busy = busy;
+      out = omega (arith, out, i.out);
+      into = omega (arith, into, i.into, long);
+      long = long ∙ i.long;
+      enough = i.enough;
+      pays = subst (λ (b : Option Call). Pays b e'.side payload) (sym none) has;
+      way = subst (λ (s : Side). OnWay was.side call (take (payload_of call) payload) start s buffer') (sym (seen_now e' payload none))
+          (way_on was.side call (take (payload_of call) payload) start (seen e payload) buffer m.0 i.enough i.way more None e'.side buffer' m.2 m.1 m.3);
+    }
+
+pub made_long : (e : SeatedEnd) (payload buffer : List ℕ) (e' : SeatedEnd) (buffer' : List ℕ) (result : Option Answer) → MakesOne e payload buffer e' buffer' result → length buffer' ≡ length buffer
+made_long e payload buffer e' buffer' result m = ap (λ (xs : List ℕ). length xs) m.3 ∙ landed-length (op_next (seen e payload)) m.0 buffer
+
+-- the same after more events that give no answer
+pub call_along : (was : SeatedEnd) (call : Call) (payload start : List ℕ) (e : SeatedEnd) (buffer : List ℕ) (e' : SeatedEnd) (buffer' : List ℕ) (count : ℕ) → InCalls was call payload start e buffer → e.begun ≡ None →
+    GoesAlong count e.side buffer e'.side buffer' → IsSameEnd e e' → ¬ IsIdle e'.machine → payload_needed e'.machine ≤ payload_needed e.machine → buffer_needed e'.machine ≤ buffer_needed e.machine → e'.begun ≡ None → HasPayload e'.side payload →
+    InCalls was call payload start e' buffer'
+call_along was call payload start e buffer e' buffer' count i quiet along same busy out into none has =
+    record {
+      same = (same.0 ∙ i.same.0, same.1 ∙ i.same.1, same.2 ∙ i.same.2, same.3 ∙ i.same.3);
+      busy = busy;
+      out = omega (arith, out, i.out);
+      into = omega (arith, into, i.into, along.long);
+      long = along.long ∙ i.long;
+      enough = i.enough;
+      pays = subst (λ (b : Option Call). Pays b e'.side payload) (sym none) has;
+      way = subst (λ (s : Side). OnWay was.side call (take (payload_of call) payload) start s buffer') (sym (seen_now e' payload none))
+          (along.way was.side call (take (payload_of call) payload) start i.enough (subst (λ (s : Side). OnWay was.side call (take (payload_of call) payload) start s buffer) (seen_now e payload quiet) i.way));
+    }
+
+-- ---- what a whole call makes of the view of its end
+
+pub own_of : {start : ℕ} {was now : Side} → now ≡ was → OwnLawful start now → was.turned ≡ false
+own_of same own = ap (λ (z : Side). z.turned) (sym same) ∙ own.honest
+
+pub called_view : (was e : SeatedEnd) (call : Call) (payload start buffer : List ℕ) (answer : Answer) → was.side.turned ≡ false → MayCall (view was) call → e.page ≡ was.page → IsIdle e.machine → IsOver was.side call payload start e.side buffer answer →
+    view e ≡ answered_view (view was) call payload buffer answer e.side.saw
+called_view was e call payload start buffer answer honest may page idle over =
+    let told = (view_after was.page was.side call payload start e.side buffer answer honest may.1 over).view in
+    (λ i. view_of (page i) (ap not idle i) e.side) ∙ told ∙ ap (λ (b : Bool). answered_view (view_of was.page b was.side) call payload buffer answer e.side.saw) (sym may.0)
+
+pub called_saw : (was e : SeatedEnd) (call : Call) (payload start buffer : List ℕ) (answer : Answer) → was.side.turned ≡ false → MayCall (view was) call → IsOver was.side call payload start e.side buffer answer → SeesAsTold call answer was.side.saw e.side.saw
+called_saw was e call payload start buffer answer honest may over = (view_after was.page was.side call payload start e.side buffer answer honest may.1 over).saw

@@ -1,0 +1,5 @@
+pub mod Rule
+pub mod Seated
+pub mod Ends
+pub mod Along
+pub mod Done

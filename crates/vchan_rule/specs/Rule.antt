@@ -1,0 +1,84 @@
+-- The rule of a page's table: the words and the views make up a core state of which holds what holds of a page at each moment.
+use Rattle.std.specs.Prelude.{◌≡◌, ℕ, List, [], ◌∷◌}
+use lib.Dec.{lit≤}
+use Rattle.atomic_table.specs.Table.{State, Me, Step}
+use Rattle.ring_words.specs.Rings.{number_of}
+use Rattle.ring_words.specs.declared.order.Order.{Order}
+use Rattle.ring_words.specs.declared.order.Orders.{Orders}
+use Rattle.ring_words.specs.declared.page.Role.{Role}
+use Rattle.ring_words.specs.declared.page.Role.TheVariants.{Server, Client}
+use Rattle.vchan_protocol.specs.declared.op.Op.{Op}
+use Rattle.vchan_protocol.specs.declared.call.EndState.{EndState}
+use Rattle.vchan_protocol.specs.declared.call.EndState.TheVariants.{Open, Fresh}
+use Rattle.vchan_protocol.specs.declared.side.Side.{Side}
+use Rattle.vchan_protocol.specs.Table.Apply.{takes}
+use Rattle.vchan_protocol.specs.History.Core.{Core, new_side, side_after, op_next}
+use Rattle.vchan_protocol.specs.OneEnd.OneEnd.{Setup, between}
+use Rattle.vchan_protocol.specs.Hostile.Turned.{turns, strays}
+use Rattle.vchan_protocol.specs.Always.Invariant.{Invariant}
+use Rattle.vchan_rule.specs.declared.rule.View.{View}
+use Rattle.vchan_rule.specs.declared.rule.View.TheVariants.{Whole, One, Both, Spent}
+use Rattle.vchan_rule.specs.declared.rule.Opening.{Opening}
+
+-- the order words of the start say the page's orders
+abbrev pub said_of : Orders → ℕ × ℕ
+said_of orders = (number_of orders.left, number_of orders.right)
+
+abbrev pub first_state : Role → EndState
+first_state Server = Open
+first_state Client = Fresh
+
+abbrev pub new_server : Orders → ℕ → Side
+new_server orders start = new_side Server orders start Open
+
+abbrev pub new_client : Orders → ℕ → Side
+new_client orders start = new_side Client orders start Fresh
+
+-- what stands of a page from its opening on
+abbrev pub setup_at : Opening → Setup
+setup_at key = record { start = key.start; said = said_of key.orders; orders = key.orders }
+
+-- the core state that these words and these two ends make up
+abbrev pub core : Opening → List ℕ → Side → Side → Core
+core key words server client = between (setup_at key) words Server server client
+
+-- The words and the views show a core state of which all holds that holds of a page at each moment. There is one seat at the opening, then one for each
+-- end, and when the page is done with, one that knows both.
+pub data Shown : Opening → List ℕ → List View → Type 0 where
+  whole : (key : Opening) (words : List ℕ) (views : List View) → views ≡ Whole key.orders key.start ∷ [] → Invariant (core key words (new_server key.orders key.start) (new_client key.orders key.start)) → Shown key words views
+  parted : (key : Opening) (words : List ℕ) (views : List View) (server client : Side) → views ≡ One server ∷ One client ∷ [] → Invariant (core key words server client) → Shown key words views
+  done : (key : Opening) (words : List ℕ) (views : List View) (server client : Side) → views ≡ Both server client ∷ Spent ∷ [] → Invariant (core key words server client) → Shown key words views
+
+pub record Ruled (key : Opening) (s : State (Unit {0}) View) : Type 0 where
+  pub shown : Shown key s.words s.views
+
+-- the next event of an end, which took what it found
+abbrev pub makes : Side → Step (Unit {0}) → Me (Unit {0}) View → ℕ → Me (Unit {0}) View → Type 0
+makes s st m n m' = m' ≡ (One (side_after s (takes (op_next s) n)), [])
+
+-- the end is given up, where its reader has got some number of bytes
+abbrev pub gives_up : Side → Step (Unit {0}) → Me (Unit {0}) View → ℕ → Me (Unit {0}) View → Type 0
+gives_up s st m n m' = (consumed : ℕ) × (m' ≡ (One (turns s consumed), []))
+
+-- an event of a hostile user
+abbrev pub wanders : Side → Op → Step (Unit {0}) → Me (Unit {0}) View → ℕ → Me (Unit {0}) View → Type 0
+wanders s op st m n m' = m' ≡ (One (strays s op (takes op n)), [])
+
+-- an end that is shown only where no other is there
+abbrev pub least : Order
+least = record { number = 12; in_range = (lit≤ tt, lit≤ tt) }
+
+abbrev pub nobody : Side
+nobody = new_server (record { left = least; right = least; distinct = λ _. lit≤ tt }) 0
+
+abbrev pub server_half : View → View
+server_half (Whole orders start) = One (new_server orders start)
+server_half _ = Spent
+
+abbrev pub client_half : View → View
+client_half (Whole orders start) = One (new_client orders start)
+client_half _ = Spent
+
+abbrev pub joined : View → View → View
+joined (One a) (One b) = Both a b
+joined _ _ = Spent

@@ -1,0 +1,389 @@
+//! An honest end of a page, which makes one event at a time.
+ghost use Rattle.std.specs.Prelude.{◌≡◌, ◌≢◌, ◌≤◌, ◌+◌, ◌||◌, ◌<◌, ◌^◌, ℕ, false, true, take, [], ◌∷◌, length, IsTrue, IsSome, None, Some, ◌↔◌};
+ghost use Rattle.ring_words.specs.Page.{word_count};
+ghost use Rattle.vchan_protocol.specs.Table.Ends.{own_gone};
+ghost use Rattle.vchan_protocol.specs.Table.Plan.{after, GoesOn};
+ghost use Rattle.vchan_protocol.specs.Table.Apply.{Fits};
+ghost use Rattle.vchan_protocol.specs.Table.Calls.{payload_of, loaded_most, most_events};
+ghost use Rattle.vchan_protocol.specs.History.Core.{op_next, plan_left, answer_in, side_after, standing_of, new_side, sets_gone};
+ghost use Rattle.vchan_protocol.specs.OneEnd.OneCall.{landed, bytes_out, bytes_in, IsOver, OverTells};
+ghost use Rattle.vchan_protocol.specs.OneEnd.OneEndLaw.{OwnLawful};
+ghost use Rattle.vchan_protocol.specs.Hostile.Turned.{turns};
+ghost use Rattle.vchan_protocol.specs.Hostile.TurnedLaw.{LiesAtCount};
+ghost use Rattle.vchan_core.specs.OneMachine.Phases.{IsIdle, payload_needed, buffer_needed};
+ghost use Rattle.vchan_core.specs.Page.StandsFor.{HasPayload};
+ghost use Rattle.end_view.specs.AfterCall.{MayCall, answered_view, SeesAsTold};
+ghost use Rattle.vchan_rule.specs.declared.rule.View.TheVariants.{One};
+ghost use Rattle.vchan_rule.specs.Seated.{view};
+ghost use Rattle.vchan_rule.specs.Along.{GoesAlong};
+ghost use Rattle.vchan_rule.specs.Ends.{Pays, IsSameEnd, seen};
+
+use crate::rule::{PageWords, Place};
+use crate::steps::{give_up, perform, put_bytes, take_bytes};
+use crate::turned::{Retired, TurnedEnd};
+use ring_words::{Layout, Orders, Role, WordName};
+use std::marker::{Brand, Model};
+use std::snapshot::Snapshot;
+use std::sync::ledger::{Blank, Ledger};
+use vchan_core::{Ahead, Answer, Call, EndState, Machine, Op, Steps};
+
+/// An honest end of a page. Between two calls it is idle; a call is begun, and then made event by
+/// event, each of which is one atomic step on one word of the page.
+#[derive(Drop)]
+pub struct End<'p> {
+    words: &'p PageWords,
+    seat: Place,
+    machine: Machine,
+    layout: Layout,
+    role: Role,
+    retired: bool,
+    begun: Snapshot<Option<Call>>,
+}
+
+impl<'p> Model for End<'p> {
+    ghost use Rattle.std.specs.Prelude.{◌≡◌, [], ◌∷◌};
+    ghost use Rattle.ring_words.specs.Page.{word_count};
+    ghost use Rattle.vchan_rule.specs.Seated.{SeatedEnd};
+    ghost use Rattle.vchan_rule.specs.Ends.{end_in, Agrees};
+    ghost use Rattle.vchan_rule.specs.declared.rule.View.TheVariants.{One};
+
+    ghost Value = { SeatedEnd };
+
+    ghost view = { λ e. record { page = e.seat.table_id; start = e.words.now.key.start; side = end_in e.seat.me.0; machine = e.machine; begun = e.begun.value } };
+
+    ghost invariant = { λ e. (e.seat.table_id ≡ e.words.now.table_id) × (e.words.now.table_id.words ≡ word_count e.layout.orders) × (e.words.now.key.orders ≡ e.layout.orders) × (e.seat.me ≡ (One (end_in e.seat.me.0), [])) × ((end_in e.seat.me.0).orders ≡ e.layout.orders) × ((end_in e.seat.me.0).role ≡ e.role) × Agrees e.words.now.key.start e.begun.value e.machine (end_in e.seat.me.0) × ((end_in e.seat.me.0).retired ≡ e.retired) };
+}
+
+/// A ring byte that was loaded goes to its place in the buffer.
+#[inline(always)]
+fn land(op: Op, value: u64, buf: &mut [u8])
+    requires { (orders : _) × (out : ℕ) × Fits orders out (length buf.old) op }
+    ensures { buf.new ≡ landed op value buf.old }
+{
+    if let Op::LoadByte { word: _, at } = op {
+        buf[at as usize] = (value % 256) as u8;
+    }
+}
+
+/// Whether an end is retired after an event: it is from its store to its own gone word on.
+#[inline(always)]
+fn retired_after(op: Op, role: Role, retired: bool) -> bool
+    ensures { result ≡ (sets_gone op role || retired) }
+{
+    match op {
+        Op::Store { word, value: _ } => match (word, role) {
+            (WordName::SrvGone, Role::Server) => true,
+            (WordName::CliGone, Role::Client) => true,
+            _ => retired,
+        },
+        _ => retired,
+    }
+}
+
+impl<'p> End<'p> {
+    /// The end of a seat that has done nothing.
+    pub(crate) fn new(
+        words: &'p PageWords,
+        seat: Place,
+        role: Role,
+        orders: Orders,
+        state: EndState,
+        start: u32,
+    ) -> End<'p>
+        requires page { (seat.table_id ≡ words.now.table_id) × (words.now.table_id.words ≡ word_count orders) × (words.now.key.orders ≡ orders) × (words.now.key.start ≡ start) }
+        requires state { role ≡ Role.Server → state ≢ EndState.Fresh }
+        requires fresh { seat.me ≡ (One (new_side role orders start state), []) }
+        ensures { (result.page ≡ seat.table_id) × (result.side ≡ new_side role orders start state) × (result.start ≡ start) × (result.begun ≡ None) × IsIdle result.machine }
+    {
+        let machine = Machine::new(role, orders, state, start);
+        let begun = Snapshot::of(&None);
+        End {
+            words,
+            seat,
+            machine,
+            layout: Layout::new(orders),
+            role,
+            retired: false,
+            begun,
+        }
+    }
+
+    /// Which end it is.
+    pub fn role(&self) -> Role
+        ensures { result ≡ self.now.side.role }
+    {
+        self.role
+    }
+
+    /// The orders of the page.
+    pub fn orders(&self) -> Orders
+        ensures { result ≡ self.now.side.orders }
+    {
+        self.layout.orders
+    }
+
+    /// Where the end stands in its life.
+    pub fn state(&self) -> EndState
+        ensures { result ≡ self.now.side.state }
+    {
+        self.machine.state()
+    }
+
+    /// Whether the end is between two calls.
+    pub fn idle(&self) -> bool
+        ensures { result ≡ (view self.now).idle }
+    {
+        self.machine.idle()
+    }
+
+    /// Whether it has told its peer that it is done, by its gone word.
+    pub fn retired(&self) -> bool
+        ensures { result ≡ self.now.side.retired }
+    {
+        self.retired
+    }
+
+    /// Whether this call may be begun now: between two calls, a connect on a fresh client, a close
+    /// on an end that isn't shut, a retire in any state, and every other call on an open end. A
+    /// drain asks for at least one byte.
+    pub fn allows(&self, call: Call) -> bool
+        ensures { IsTrue result ↔ MayCall (view self.now) call }
+    {
+        self.machine.allows(call)
+    }
+
+    /// What an honest end can say of itself, whatever its peer stores: its own counts are the
+    /// lengths of its lists, in a call its trail begins that call, and between two it is the whole
+    /// of the last one.
+    pub fn vouch(&self)
+        ensures { OwnLawful self.now.start self.now.side }
+    {
+        let _ = &self.seat;
+    }
+
+    /// Begins a call, and makes no event.
+    pub fn begin(&mut self, call: Call)
+        requires { MayCall (view self.old) call }
+        ensures same { IsSameEnd self.old self.new × (self.new.side ≡ self.old.side) }
+        ensures begun { self.new.begun ≡ Some call }
+        ensures own { OwnLawful self.new.start self.new.side }
+        ensures busy { ¬ IsIdle self.new.machine }
+        ensures out { payload_needed self.new.machine ≤ payload_of call }
+        ensures into { buffer_needed self.new.machine ≤ loaded_most (standing_of self.old.side) call }
+    {
+        self.machine.begin(call);
+        self.begun = Snapshot::of(&Some(call));
+    }
+
+    /// The next event of the call under way, as one step of the table. The answer comes with the
+    /// last event of the call. A byte that was loaded lands in `buf`, and nothing else of it
+    /// changes. `payload` holds the bytes of a write or a send, the same at each step of a call.
+    #[inline(always)]
+    pub fn step(&mut self, payload: &[u8], buf: &mut [u8]) -> Option<Answer>
+        requires busy { ¬ IsIdle self.old.machine }
+        requires out { payload_needed self.old.machine ≤ length payload.now }
+        requires into { buffer_needed self.old.machine ≤ length buf.old }
+        requires payload { Pays self.old.begun self.old.side payload.now }
+        ensures same { IsSameEnd self.old self.new }
+        ensures event { (taken : ℕ) × (self.new.side ≡ side_after (seen self.old payload.now) taken) × (result ≡ answer_in (after (plan_left (seen self.old payload.now)) taken)) × (buf.new ≡ landed (op_next (seen self.old payload.now)) taken buf.old) }
+        ensures goes_on { GoesOn (plan_left (seen self.old payload.now)) }
+        ensures own { OwnLawful self.new.start self.new.side }
+        ensures places { LiesAtCount (seen self.old payload.now) (op_next (seen self.old payload.now)) }
+        ensures begun { self.new.begun ≡ None }
+        ensures payload { HasPayload self.new.side payload.now }
+        ensures idle { IsSome result ↔ IsIdle self.new.machine }
+        ensures out { payload_needed self.new.machine ≤ payload_needed self.old.machine }
+        ensures into { buffer_needed self.new.machine ≤ buffer_needed self.old.machine }
+    {
+        let op = self.machine.next();
+        let value = perform::<Brand>(
+            self.words,
+            &mut self.seat,
+            &self.begun,
+            &self.layout,
+            payload,
+            op,
+        );
+        self.begun = Snapshot::of(&None);
+        self.retired = retired_after(op, self.role, self.retired);
+        land(op, value, buf);
+        self.machine.took(value)
+    }
+
+    /// The events that come next as long as they are on bytes of a ring. It answers how many they
+    /// were.
+    #[inline(always)]
+    fn move_bytes(&mut self, payload: &[u8], buf: &mut [u8]) -> u32
+        requires busy { ¬ IsIdle self.old.machine }
+        requires begun { self.old.begun ≡ None }
+        requires out { payload_needed self.old.machine ≤ length payload.now }
+        requires into { buffer_needed self.old.machine ≤ length buf.old }
+        requires payload { HasPayload self.old.side payload.now }
+        ensures same { IsSameEnd self.old self.new }
+        ensures along { GoesAlong result self.old.side buf.old self.new.side buf.new }
+        ensures busy { ¬ IsIdle self.new.machine }
+        ensures begun { self.new.begun ≡ None }
+        ensures payload { HasPayload self.new.side payload.now }
+        ensures out { payload_needed self.new.machine ≤ payload_needed self.old.machine }
+        ensures into { buffer_needed self.new.machine ≤ buffer_needed self.old.machine }
+    {
+        match self.machine.ahead() {
+            Ahead::Puts(span) => {
+                put_bytes(
+                    self.words,
+                    &mut self.seat,
+                    &self.layout,
+                    &self.machine,
+                    span,
+                    payload,
+                );
+                self.machine.put_all(span);
+                span.count - span.at
+            }
+            Ahead::Takes(span) => {
+                take_bytes(
+                    self.words,
+                    &mut self.seat,
+                    &self.layout,
+                    &self.machine,
+                    span,
+                    payload,
+                    buf,
+                );
+                self.machine.take_all(span);
+                span.count - span.at
+            }
+            Ahead::Elsewhere => 0,
+        }
+    }
+
+    /// A whole call; `steps` counts its events.
+    pub fn counted_call<L: Ledger>(
+        &mut self,
+        call: Call,
+        payload: &[u8],
+        buf: &mut [u8],
+        steps: &mut Steps<L>,
+    ) -> Answer
+        requires allowed { MayCall (view self.old) call }
+        requires payload { payload_of call ≤ length payload.now }
+        requires buf { loaded_most (standing_of self.old.side) call ≤ length buf.old }
+        ensures same { IsSameEnd self.old self.new }
+        ensures idle { IsIdle self.new.machine × (self.new.begun ≡ None) }
+        ensures over { IsOver self.old.side call (take (payload_of call) payload.now) buf.old self.new.side buf.new result }
+        ensures tells { OverTells self.old.side (take (payload_of call) payload.now) self.new.side buf.new result }
+        ensures view { view self.new ≡ answered_view (view self.old) call (take (payload_of call) payload.now) buf.new result self.new.side.saw }
+        ensures saw { SeesAsTold call result self.old.side.saw self.new.side.saw }
+        ensures moved { (bytes_out result ≤ payload_of call) × (bytes_in result ≤ loaded_most (standing_of self.old.side) call) }
+        ensures long { length buf.new ≡ length buf.old }
+        ensures steps { steps.new ≡ steps.old + length self.new.side.trail }
+        ensures bound { steps.new ≤ steps.old + most_events (standing_of self.old.side) call }
+    {
+        self.begin(call);
+        'events: loop {
+            steps.tick();
+            if let Some(answer) = self.step(payload, buf) {
+                return answer;
+            }
+            let moved = self.move_bytes(payload, buf);
+            steps.add(moved);
+        }
+    }
+
+    /// A whole call. Its events are left as the end's trail, and the lists grow as its answer says.
+    pub fn do_call(&mut self, call: Call, payload: &[u8], buf: &mut [u8]) -> Answer
+        requires allowed { MayCall (view self.old) call }
+        requires payload { payload_of call ≤ length payload.now }
+        requires buf { loaded_most (standing_of self.old.side) call ≤ length buf.old }
+        ensures same { IsSameEnd self.old self.new }
+        ensures idle { IsIdle self.new.machine × (self.new.begun ≡ None) }
+        ensures over { IsOver self.old.side call (take (payload_of call) payload.now) buf.old self.new.side buf.new result }
+        ensures tells { OverTells self.old.side (take (payload_of call) payload.now) self.new.side buf.new result }
+        ensures view { view self.new ≡ answered_view (view self.old) call (take (payload_of call) payload.now) buf.new result self.new.side.saw }
+        ensures saw { SeesAsTold call result self.old.side.saw self.new.side.saw }
+        ensures moved { (bytes_out result ≤ payload_of call) × (bytes_in result ≤ loaded_most (standing_of self.old.side) call) }
+        ensures long { length buf.new ≡ length buf.old }
+        ensures bound { length self.new.side.trail ≤ most_events (standing_of self.old.side) call }
+    {
+        self.uncounted::<Brand>(call, payload, buf, Blank::new(1))
+    }
+
+    /// A whole call, with a counter of its own.
+    fn uncounted<L: Ledger>(
+        &mut self,
+        call: Call,
+        payload: &[u8],
+        buf: &mut [u8],
+        blank: Blank,
+    ) -> Answer
+        requires name { blank.name ≡ L.name }
+        requires parts { blank.parts ≡ L.parts }
+        requires some { 0 < L.parts }
+        requires allowed { MayCall (view self.old) call }
+        requires payload { payload_of call ≤ length payload.now }
+        requires buf { loaded_most (standing_of self.old.side) call ≤ length buf.old }
+        ensures same { IsSameEnd self.old self.new }
+        ensures idle { IsIdle self.new.machine × (self.new.begun ≡ None) }
+        ensures over { IsOver self.old.side call (take (payload_of call) payload.now) buf.old self.new.side buf.new result }
+        ensures tells { OverTells self.old.side (take (payload_of call) payload.now) self.new.side buf.new result }
+        ensures view { view self.new ≡ answered_view (view self.old) call (take (payload_of call) payload.now) buf.new result self.new.side.saw }
+        ensures saw { SeesAsTold call result self.old.side.saw self.new.side.saw }
+        ensures moved { (bytes_out result ≤ payload_of call) × (bytes_in result ≤ loaded_most (standing_of self.old.side) call) }
+        ensures long { length buf.new ≡ length buf.old }
+        ensures bound { length self.new.side.trail ≤ most_events (standing_of self.old.side) call }
+    {
+        let mut steps = Steps::<L>::new(blank);
+        self.counted_call(call, payload, buf, &mut steps)
+    }
+
+    /// Gives the end up to a hostile user, with one event: a load of the consumer index of the ring
+    /// that it writes. A call under way is dropped.
+    pub fn turn(self) -> TurnedEnd<'p>
+        ensures page { result.page ≡ self.entry.page }
+        ensures side { (consumed : ℕ) × (result.side ≡ turns self.entry.side consumed) }
+    {
+        let Self {
+            words,
+            mut seat,
+            machine: _,
+            layout,
+            role,
+            retired: _,
+            begun: _,
+        } = self;
+        let word = match role {
+            Role::Server => WordName::RightCons,
+            Role::Client => WordName::LeftCons,
+        };
+        give_up::<Brand>(words, &mut seat, &layout, word);
+        TurnedEnd {
+            words,
+            seat,
+            layout,
+            role,
+        }
+    }
+
+    /// The end makes no event any more. It has retired, and so it is shut.
+    pub fn rest(self) -> Retired
+        requires idle { (view self).idle ≡ true }
+        requires retired { self.side.retired ≡ true }
+        ensures same { (result.page ≡ self.entry.page) × (result.side ≡ self.entry.side) }
+        ensures honest { result.side.turned ≡ false }
+    {
+        let Self {
+            words: _,
+            seat,
+            machine: _,
+            layout: _,
+            role,
+            retired: _,
+            begun: _,
+        } = self;
+        Retired {
+            seat,
+            role,
+            turned: false,
+        }
+    }
+}

@@ -1,0 +1,18 @@
+//! A page as a table of words that two seats share, one for each end. Each event of an end is one
+//! atomic step on one word, and the rule that holds between any two steps is that the words and
+//! what the two ends have done make up a core state of the protocol.
+//!
+//! It serves the crates of calls, which two threads make on the two ends of one page. What an end
+//! does is the machine of `vchan_core`, after Xen's libxenvchan; that an end may be given up to a
+//! hostile user is this project's own.
+#![tactic(auto)]
+
+mod end;
+mod page;
+mod rule;
+mod steps;
+mod turned;
+
+pub use end::End;
+pub use page::{IdleSeat, Page, Settled};
+pub use turned::{Retired, TurnedEnd};

@@ -1,0 +1,202 @@
+//! A page with its two seats, and what is known once both ends are done.
+ghost use Rattle.std.specs.Prelude.{◌≡◌, None, IfOk};
+ghost use Rattle.ring_words.specs.declared.page.Role.TheVariants.{Server, Client};
+ghost use Rattle.end_view.specs.Settled.{IsSettled, settled_view};
+ghost use Rattle.vchan_protocol.specs.History.Core.{new_side};
+ghost use Rattle.vchan_core.specs.OneMachine.Phases.{IsIdle};
+ghost use Rattle.vchan_rule.specs.Rule.{first_state};
+
+use crate::end::End;
+use crate::rule::{Halves, Opening, PageTable, Place};
+use crate::turned::Retired;
+use ring_words::{Orders, Role};
+use std::alloc::Global;
+use std::marker::Model;
+use std::snapshot::Snapshot;
+use vchan_core::{EndState, Plain};
+use vchan_io::Memory;
+
+/// A page that two ends share.
+#[derive(Drop)]
+pub struct Page {
+    table: PageTable,
+    orders: Orders,
+    start: u32,
+}
+
+impl Model for Page {
+    ghost use Rattle.std.specs.Prelude.{◌≡◌};
+    ghost use Rattle.ring_words.specs.Page.{word_count};
+    ghost use Rattle.vchan_rule.specs.Seated.{PageView};
+
+    ghost Value = { PageView };
+
+    ghost view = { λ p. record { table = p.table.shared.table_id; orders = p.orders; start = p.start } };
+
+    ghost invariant = { λ p. (p.table.shared.table_id.words ≡ word_count p.orders) × (p.table.shared.table_id.slots ≡ 0) × (p.table.shared.key.orders ≡ p.orders) × (p.table.shared.key.start ≡ p.start) };
+}
+
+/// A seat of a page whose end has done nothing.
+#[derive(Drop)]
+pub struct IdleSeat {
+    seat: Place,
+    role: Role,
+    orders: Orders,
+    start: u32,
+}
+
+impl Model for IdleSeat {
+    ghost use Rattle.std.specs.Prelude.{◌≡◌, [], ◌∷◌};
+    ghost use Rattle.vchan_protocol.specs.History.Core.{new_side};
+    ghost use Rattle.vchan_rule.specs.Seated.{SeatView};
+    ghost use Rattle.vchan_rule.specs.Rule.{first_state};
+    ghost use Rattle.vchan_rule.specs.declared.rule.View.TheVariants.{One};
+
+    ghost Value = { SeatView };
+
+    ghost view = { λ s. record { page = record { table = s.seat.table_id; orders = s.orders; start = s.start }; role = s.role } };
+
+    ghost invariant = { λ s. s.seat.me ≡ (One (new_side s.role s.orders s.start (first_state s.role)), []) };
+}
+
+impl Page {
+    /// A page with the start values, whose order words say its orders, and its two seats: the
+    /// server's and the client's. Its error is want of memory.
+    pub fn open(
+        alloc: Global,
+        orders: Orders,
+        start: u32,
+    ) -> Result<(Page, IdleSeat, IdleSeat), Memory>
+        ensures { IfOk result (λ p. (p.0.orders ≡ orders) × (p.0.start ≡ start) × (p.1 ≡ record { page = p.0; role = Server }) × (p.2 ≡ record { page = p.0; role = Client })) }
+    {
+        let said = (orders.left.number(), orders.right.number());
+        let plain = Plain::open(alloc, orders, start, said, EndState::Fresh)?;
+        let opening = Opening { orders, start };
+        let (table, mut server) = PageTable::of_words(alloc, plain.words().list(), &opening)?;
+        let client = table.shared.split_seat::<Halves>(&mut server);
+        let page = Page {
+            table,
+            orders,
+            start,
+        };
+        let server = IdleSeat {
+            seat: server,
+            role: Role::Server,
+            orders,
+            start,
+        };
+        let client = IdleSeat {
+            seat: client,
+            role: Role::Client,
+            orders,
+            start,
+        };
+        Ok((page, server, client))
+    }
+
+    /// The end of a seat, which is one of the two that `open` gave with this page. A server is open
+    /// and a client fresh.
+    pub fn attach(&self, seat: IdleSeat) -> End<'_>
+        requires { seat.page ≡ self.now }
+        ensures page { (result.page ≡ self.now.table) × (result.start ≡ self.now.start) }
+        ensures side { result.side ≡ new_side seat.role self.now.orders self.now.start (first_state seat.role) }
+        ensures idle { IsIdle result.machine × (result.begun ≡ None) }
+    {
+        let IdleSeat {
+            seat,
+            role,
+            orders: _,
+            start: _,
+        } = seat;
+        let state = match role {
+            Role::Server => EndState::Open,
+            Role::Client => EndState::Fresh,
+        };
+        End::new(
+            &self.table.shared,
+            seat,
+            role,
+            self.orders,
+            state,
+            self.start,
+        )
+    }
+
+    /// Closes the page, once both its ends are done. Both come from the two seats of this page.
+    pub fn finish(self, server: Retired, client: Retired) -> Settled
+        requires server { (server.page ≡ self.table) × (server.side.role ≡ Server) }
+        requires client { (client.page ≡ self.table) × (client.side.role ≡ Client) }
+        ensures { result ≡ settled_view self.orders self.table server.side client.side }
+    {
+        let Retired {
+            mut seat,
+            role: _,
+            turned: server_turned,
+        } = server;
+        let Retired {
+            seat: other,
+            role: _,
+            turned: client_turned,
+        } = client;
+        self.table.shared.join_seat::<Halves>(&mut seat, other);
+        let seen = Snapshot::of(&seat);
+        let Page {
+            table,
+            orders,
+            start: _,
+        } = self;
+        table.close_with(seat).free();
+        Settled {
+            seen,
+            orders,
+            server_turned,
+            client_turned,
+        }
+    }
+}
+
+/// A page that is done with, and what stands of it. Only `Page::finish` makes one.
+#[derive(Drop)]
+pub struct Settled {
+    seen: Snapshot<Place>,
+    orders: Orders,
+    server_turned: bool,
+    client_turned: bool,
+}
+
+impl Model for Settled {
+    ghost use Rattle.std.specs.Prelude.{◌≡◌};
+    ghost use Rattle.end_view.specs.Settled.{Settled as SettledPage, IsSettled, settled_view};
+    ghost use Rattle.vchan_rule.specs.Done.{server_in, client_in};
+
+    ghost Value = { SettledPage };
+
+    ghost view = { λ s. settled_view s.orders s.seen.value.table_id (server_in s.seen.value.me.0) (client_in s.seen.value.me.0) };
+
+    ghost invariant = { λ s. IsSettled (settled_view s.orders s.seen.value.table_id (server_in s.seen.value.me.0) (client_in s.seen.value.me.0)) × (s.server_turned ≡ (server_in s.seen.value.me.0).turned) × (s.client_turned ≡ (client_in s.seen.value.me.0).turned) };
+}
+
+impl Settled {
+    /// What stands of the page. Between honest ends what was got begins what was sent, and is all of
+    /// it where the ring is drained; of a writer that was given up its honest reader has what was
+    /// sent before.
+    pub fn promise(&self)
+        ensures { IsSettled self.now }
+    {
+        let _ = &self.seen;
+    }
+
+    /// Whether the server was given up.
+    pub fn server_turned(&self) -> bool
+        ensures { result ≡ self.now.server.turned }
+    {
+        self.server_turned
+    }
+
+    /// Whether the client was given up.
+    pub fn client_turned(&self) -> bool
+        ensures { result ≡ self.now.client.turned }
+    {
+        self.client_turned
+    }
+}

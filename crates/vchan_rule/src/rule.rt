@@ -1,0 +1,129 @@
+//! What a seat knows, the rule of the table, and what each step tells its seat.
+use atomic_table::{Join, Play, Seat, Shared, Split, Table, TableRule};
+use ring_words::Orders;
+use std::alloc::Global;
+use std::marker::{Brand, PhantomData};
+use vchan_core::Side;
+
+/// What a seat at the table knows. It exists in proofs alone: no value of it is made.
+pub enum View {
+    /// Both ends, at the opening.
+    Whole {
+        /// The orders of the rings.
+        orders: Orders,
+        /// Where all indices begin.
+        start: u32,
+    },
+    /// One end.
+    One(Side),
+    /// Both ends, once the page is done with.
+    Both {
+        /// The server.
+        server: Side,
+        /// The client.
+        client: Side,
+    },
+    /// Nothing any more.
+    Spent,
+}
+
+/// What the table is told once, when it is made.
+#[derive(Drop)]
+pub struct Opening {
+    /// The orders of the rings.
+    pub orders: Orders,
+    /// Where all indices begin.
+    pub start: u32,
+}
+
+/// The rule of a page: its words and the views make up a core state of which all holds that holds
+/// of a page at each moment.
+pub struct PageRule;
+
+impl TableRule<(), View, Opening> for PageRule {
+    ghost use Rattle.vchan_rule.specs.Rule.{Ruled};
+    ghost use Rattle.vchan_rule.specs.declared.rule.View.TheVariants.{Whole};
+
+    ghost holds = { Ruled };
+
+    ghost first = { λ key. Whole key.orders key.start };
+}
+
+pub type PageWords = Shared<(), View, Opening, PageRule>;
+
+pub type PageTable = Table<(), View, Opening, PageRule, Global>;
+
+pub type Place = Seat<(), View>;
+
+/// Which event a step is, for the proof alone: the end before it, inside its call. A call at
+/// `Brand` picks it.
+pub trait Event {
+    ghost use Rattle.vchan_protocol.specs.declared.side.Side.{Side};
+    ghost use Rattle.vchan_protocol.specs.declared.op.Op.{Op};
+
+    ghost before: { Side };
+
+    ghost op: { Op };
+}
+
+impl Event for Brand {
+    ghost use Rattle.vchan_rule.specs.Rule.{nobody};
+    ghost use Rattle.vchan_protocol.specs.declared.op.Op.TheVariants.{Nothing};
+
+    ghost before = { nobody };
+
+    ghost op = { Nothing };
+}
+
+/// The step is the next event of an honest end.
+pub struct Makes<E> {
+    event: PhantomData<E>,
+}
+
+impl<E: Event> Play<(), View> for Makes<E> {
+    ghost use Rattle.vchan_rule.specs.Rule.{makes};
+
+    ghost then = { makes E.before };
+}
+
+/// The end is given up.
+pub struct GivesUp<E> {
+    event: PhantomData<E>,
+}
+
+impl<E: Event> Play<(), View> for GivesUp<E> {
+    ghost use Rattle.vchan_rule.specs.Rule.{gives_up};
+
+    ghost then = { gives_up E.before };
+}
+
+/// The step is an event of an end that was given up.
+pub struct Strays<E> {
+    event: PhantomData<E>,
+}
+
+impl<E: Event> Play<(), View> for Strays<E> {
+    ghost use Rattle.vchan_rule.specs.Rule.{wanders};
+
+    ghost then = { wanders E.before E.op };
+}
+
+/// The two seats of a page.
+pub struct Halves;
+
+impl Split<View> for Halves {
+    ghost use Rattle.vchan_rule.specs.Rule.{server_half, client_half};
+
+    ghost left = { server_half };
+
+    ghost right = { client_half };
+}
+
+impl Join<View> for Halves {
+    ghost use Rattle.vchan_rule.specs.Rule.{joined};
+    ghost use Rattle.vchan_rule.specs.declared.rule.View.TheVariants.{Spent};
+
+    ghost both = { joined };
+
+    ghost spent = { Spent };
+}

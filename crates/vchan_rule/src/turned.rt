@@ -1,0 +1,143 @@
+//! An end that was given up to a hostile user, and an end that makes no event any more.
+ghost use Rattle.std.specs.Prelude.{◌≡◌, true};
+ghost use Rattle.vchan_protocol.specs.Table.Ends.{peer_pending, own_gone};
+ghost use Rattle.vchan_protocol.specs.Hostile.Turned.{strays, MayPoke};
+
+use crate::rule::{PageWords, Place};
+use crate::steps::{stray_load, stray_store};
+use ring_words::{Layout, Orders, Role, WordName};
+use std::marker::{Brand, Model};
+use vchan_core::Op;
+
+/// An end that was given up to a hostile user, who may load and store any word that lies on the
+/// shared page or in its rings, and may signal the peer. It stays given up.
+#[derive(Drop)]
+pub struct TurnedEnd<'p> {
+    pub(crate) words: &'p PageWords,
+    pub(crate) seat: Place,
+    pub(crate) layout: Layout,
+    pub(crate) role: Role,
+}
+
+impl<'p> Model for TurnedEnd<'p> {
+    ghost use Rattle.std.specs.Prelude.{◌≡◌, true, [], ◌∷◌};
+    ghost use Rattle.ring_words.specs.Page.{word_count};
+    ghost use Rattle.vchan_rule.specs.Seated.{SeatedSide};
+    ghost use Rattle.vchan_rule.specs.Ends.{end_in};
+    ghost use Rattle.vchan_rule.specs.declared.rule.View.TheVariants.{One};
+
+    ghost Value = { SeatedSide };
+
+    ghost view = { λ e. record { page = e.seat.table_id; side = end_in e.seat.me.0 } };
+
+    ghost invariant = { λ e. (e.seat.table_id ≡ e.words.now.table_id) × (e.words.now.table_id.words ≡ word_count e.layout.orders) × (e.words.now.key.orders ≡ e.layout.orders) × (e.seat.me ≡ (One (end_in e.seat.me.0), [])) × ((end_in e.seat.me.0).orders ≡ e.layout.orders) × ((end_in e.seat.me.0).role ≡ e.role) × ((end_in e.seat.me.0).turned ≡ true) };
+}
+
+impl<'p> TurnedEnd<'p> {
+    /// Which end it is.
+    pub fn role(&self) -> Role
+        ensures { result ≡ self.now.side.role }
+    {
+        self.role
+    }
+
+    /// The orders of the page.
+    pub fn orders(&self) -> Orders
+        ensures { result ≡ self.now.side.orders }
+    {
+        self.layout.orders
+    }
+
+    /// A load of a word: a field of the header that lies on the shared page, or a ring byte.
+    pub fn load(&mut self, word: WordName) -> u64
+        requires { MayPoke self.old.side.orders word }
+        ensures same { self.new.page ≡ self.old.page }
+        ensures event { self.new.side ≡ strays self.old.side (Op.Load word) result }
+    {
+        stray_load::<Brand>(self.words, &mut self.seat, &self.layout, word)
+    }
+
+    /// A store to such a word.
+    pub fn store(&mut self, word: WordName, value: u64)
+        requires { MayPoke self.old.side.orders word }
+        ensures same { self.new.page ≡ self.old.page }
+        ensures event { self.new.side ≡ strays self.old.side (Op.Store word value) 0 }
+    {
+        stray_store::<Brand>(self.words, &mut self.seat, &self.layout, word, value);
+    }
+
+    /// Sets the peer's pending word.
+    pub fn signal(&mut self)
+        ensures same { self.new.page ≡ self.old.page }
+        ensures event { self.new.side ≡ strays self.old.side (Op.Store (peer_pending self.old.side.role) 1) 0 }
+    {
+        let word = match self.role {
+            Role::Server => WordName::CliPending,
+            Role::Client => WordName::SrvPending,
+        };
+        stray_store::<Brand>(self.words, &mut self.seat, &self.layout, word, 1);
+    }
+
+    /// Sets its gone word, and signals its peer.
+    pub fn retire(self) -> Retired
+        ensures same { result.page ≡ self.entry.page }
+        ensures events { result.side ≡ strays (strays self.entry.side (Op.Store (own_gone self.entry.side.role) 1) 0) (Op.Store (peer_pending self.entry.side.role) 1) 0 }
+        ensures turned { result.side.turned ≡ true }
+    {
+        let Self {
+            words,
+            mut seat,
+            layout,
+            role,
+        } = self;
+        let (gone, pending) = match role {
+            Role::Server => (WordName::SrvGone, WordName::CliPending),
+            Role::Client => (WordName::CliGone, WordName::SrvPending),
+        };
+        stray_store::<Brand>(words, &mut seat, &layout, gone, 1);
+        stray_store::<Brand>(words, &mut seat, &layout, pending, 1);
+        Retired {
+            seat,
+            role,
+            turned: true,
+        }
+    }
+}
+
+/// An end that makes no event any more: one that has retired, or that was given up and is done.
+#[derive(Drop)]
+pub struct Retired {
+    pub(crate) seat: Place,
+    pub(crate) role: Role,
+    pub(crate) turned: bool,
+}
+
+impl Model for Retired {
+    ghost use Rattle.std.specs.Prelude.{◌≡◌, false, true, [], ◌∷◌};
+    ghost use Rattle.vchan_protocol.specs.declared.call.EndState.TheVariants.{Shut};
+    ghost use Rattle.vchan_rule.specs.Seated.{SeatedSide};
+    ghost use Rattle.vchan_rule.specs.Ends.{end_in};
+    ghost use Rattle.vchan_rule.specs.declared.rule.View.TheVariants.{One};
+
+    ghost Value = { SeatedSide };
+
+    ghost view = { λ e. record { page = e.seat.table_id; side = end_in e.seat.me.0 } };
+
+    ghost invariant = { λ e. (e.seat.me ≡ (One (end_in e.seat.me.0), [])) × ((end_in e.seat.me.0).role ≡ e.role) × ((end_in e.seat.me.0).turned ≡ e.turned) × ((end_in e.seat.me.0).turned ≡ false → (end_in e.seat.me.0).retired ≡ true) × ((end_in e.seat.me.0).turned ≡ false → (end_in e.seat.me.0).state ≡ Shut) };
+}
+
+impl Retired {
+    /// Which end it was.
+    pub fn role(&self) -> Role
+        ensures { result ≡ self.now.side.role }
+    {
+        self.role
+    }
+
+    /// Whether it was given up to a hostile user.
+    pub fn turned(&self) -> bool
+        ensures { result ≡ self.now.side.turned }
+    {
+        self.turned
+    }
+}

@@ -1,0 +1,112 @@
+//! The bytes of a channel as a stream: a write and a read that never wait, on one end of a shared
+//! page.
+//!
+//! It serves whoever sends a stream over a channel. The calls are `libxenvchan_write` and
+//! `libxenvchan_read` of libxenvchan's io.c in non-blocking mode.
+#![tactic(auto)]
+
+ghost use Rattle.std.specs.Prelude.{◌≡◌, ◌↔◌, ◌≤◌, ℕ, min, length};
+ghost use Rattle.vchan_protocol.specs.declared.call.Call.TheVariants.{Write, Read};
+ghost use Rattle.vchan_protocol.specs.Table.Apply.{filled};
+ghost use Rattle.vchan_protocol.specs.Table.Calls.{Trace};
+ghost use Rattle.vchan_protocol.specs.Answering.Causes.{WriteCause, ReadCause};
+ghost use Rattle.vchan_protocol.specs.History.Core.{standing_of, bytes_loaded};
+ghost use Rattle.vchan_protocol.specs.Answering.Loads.{loads_of};
+ghost use Rattle.vchan_rule.specs.Seated.{view, IsOpen};
+ghost use Rattle.vchan_rule.specs.Ends.{IsSameEnd};
+ghost use Rattle.vchan_stream.specs.Stream.{most_asked, AnswersWrite, AnswersRead, write_told, read_told, wrote_to, read_from};
+
+use vchan_core::{Answer, Call};
+use vchan_rule::End;
+
+/// What a write answers.
+#[derive(Clone, Copy, Debug, PartialEq, Eq)]
+pub enum WriteAnswer {
+    /// So many of the first bytes were sent: the smaller of their number and the room found.
+    Wrote { count: u32 },
+    /// No byte was sent: at these two indices the ring has no room.
+    Full { prod: u32, cons: u32 },
+    /// No byte was sent: the peer is shut.
+    PeerClosed,
+}
+
+/// What a read answers.
+#[derive(Clone, Copy, Debug, PartialEq, Eq)]
+pub enum ReadAnswer {
+    /// So many bytes were got, into the front of the buffer.
+    Got { count: u32 },
+    /// No byte was got: at these two indices the ring is empty, and the peer isn't shut.
+    Empty { prod: u32, cons: u32 },
+    /// No byte was got: the ring was found empty, and then the peer shut. More may still come, which
+    /// a drain finds.
+    PeerClosed,
+}
+
+/// What one call asks for at most.
+fn asked(len: usize) -> u32
+    ensures { result ≡ min len 4294967295 }
+{
+    u32::try_from(len).unwrap_or(u32::MAX)
+}
+
+/// The answer of a write, told by that of its events.
+fn write_answer(answer: Answer) -> WriteAnswer
+    requires { AnswersWrite answer }
+    ensures { write_told result ≡ answer }
+{
+    match answer {
+        Answer::Wrote { count } => WriteAnswer::Wrote { count },
+        Answer::Full { prod, cons } => WriteAnswer::Full { prod, cons },
+        Answer::PeerClosed => WriteAnswer::PeerClosed,
+        _ => unreachable!(),
+    }
+}
+
+/// The answer of a read, told by that of its events.
+fn read_answer(answer: Answer) -> ReadAnswer
+    requires { AnswersRead answer }
+    ensures { read_told result ≡ answer }
+{
+    match answer {
+        Answer::Got { count } => ReadAnswer::Got { count },
+        Answer::Empty { prod, cons } => ReadAnswer::Empty { prod, cons },
+        Answer::PeerClosed => ReadAnswer::PeerClosed,
+        _ => unreachable!(),
+    }
+}
+
+/// Sends as many of the first bytes as have room, and never waits. Each answer comes exactly where
+/// its cause is in what the call's events loaded.
+pub fn write(end: &mut End<'_>, data: &[u8]) -> WriteAnswer
+    requires open { IsOpen end.old }
+    ensures same { IsSameEnd end.old end.new }
+    ensures open { IsOpen end.new }
+    ensures view { view end.new ≡ wrote_to (view end.old) result data.now }
+    ensures few { (count : ℕ) → result ≡ WriteAnswer.Wrote count → count ≤ length data.now }
+    ensures trail { Trace (standing_of end.old.side) (Write (most_asked data.now)) end.new.side.trail (write_told result) }
+    ensures cause { (other : WriteAnswer) → (result ≡ other) ↔ WriteCause (standing_of end.old.side) (most_asked data.now) (loads_of (standing_of end.old.side) end.new.side.trail) (write_told other) }
+{
+    let call = Call::Write {
+        len: asked(data.len()),
+    };
+    write_answer(end.do_call(call, data, &mut []))
+}
+
+/// Gets as many bytes as wait, up to the length of the buffer, and never waits itself. Each answer
+/// comes exactly where its cause is in what the call's events loaded.
+pub fn read(end: &mut End<'_>, buf: &mut [u8]) -> ReadAnswer
+    requires open { IsOpen end.old }
+    ensures same { IsSameEnd end.old end.new }
+    ensures open { IsOpen end.new }
+    ensures view { view end.new ≡ read_from (view end.old) result buf.new }
+    ensures long { length buf.new ≡ length buf.old }
+    ensures few { (count : ℕ) → result ≡ ReadAnswer.Got count → count ≤ length buf.old }
+    ensures trail { Trace (standing_of end.old.side) (Read (most_asked buf.old)) end.new.side.trail (read_told result) }
+    ensures fills { buf.new ≡ filled buf.old (bytes_loaded end.new.side.trail) }
+    ensures cause { (other : ReadAnswer) → (result ≡ other) ↔ ReadCause (standing_of end.old.side) (most_asked buf.old) (loads_of (standing_of end.old.side) end.new.side.trail) (read_told other) }
+{
+    let call = Call::Read {
+        most: asked(buf.len()),
+    };
+    read_answer(end.do_call(call, &[], buf))
+}
