@@ -6,15 +6,8 @@ use crate::words::{
 use ring_words::{Orders, Ring, Role, WordName, place, ready, room};
 use vchan_protocol::{Answer, Bit, Call, EndState, Op};
 
-<<<<<<< HEAD
-pub(crate) mod outcomes;
-=======
 mod ahead;
-mod events;
-mod looks;
-mod moves;
-mod pieces;
->>>>>>> bb3b72a6dd2c1712aa6fd78926870fbf960f3418
+pub(crate) mod outcomes;
 
 pub use ahead::{Ahead, Span};
 
