@@ -1,4 +1,4 @@
-use Rattle.std.proofs.Common.{◌≡◌, ℕ, ◌≤◌}
+use Rattle.std.proofs.Common.{◌≡◌}
 use Rattle.vchan_protocol.specs.History.Core.{Core}
 use Rattle.vchan_core.specs.Page.StandsFor.{machine_of, other_of}
 use Rattle.vchan_core.specs.OneMachine.Phases.{IsIdle}

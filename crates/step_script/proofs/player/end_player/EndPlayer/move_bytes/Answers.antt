@@ -1,8 +1,7 @@
-use Rattle.std.proofs.Common.{◌≡◌, ℕ, List, length, refl, ◌∙◌, sym, subst}
+use Rattle.std.proofs.Common.{ℕ, List, refl, ◌∙◌, subst}
 use Rattle.vchan_protocol.specs.History.Core.{Core}
 use Rattle.vchan_core.specs.Page.StandsFor.{machine_of, orders_of, words_of}
 use Rattle.vchan_core.specs.WholeCall.EventsMade.{MakesEvents}
-use Rattle.step_script.specs.declared.player.end_player.EndPlayer.{EndPlayer}
 use Rattle.step_script.specs.Parts.Players.{IsAt}
 use Rattle.step_script.proofs.Parts.MovedBytes.{with_buffer, buffer_is, same_at, made_at, stepped_along, still_busy}
 use Rattle.step_script.proofs.player.end_player.EndPlayer.move_bytes.Goals as goal
