@@ -1,0 +1,48 @@
+//! A call between its two sides, with no channel between them.
+ghost use Rattle.std.specs.Prelude.{◌≤◌, IfOk};
+
+use qrexec_data::{Caller, Serving};
+use service_gate::Builtin;
+use std::alloc::Global;
+use vchan_io::Memory;
+
+/// Passes a call of `echo` with this input to its end, in pieces of at most `most` bytes, and answers how
+/// many bytes of output the caller got.
+pub(crate) fn exchange(alloc: Global, input: Vec<u8>, most: usize) -> Result<usize, Memory> {
+    let mut caller = Caller::new(alloc, input, 3, 65_536)?;
+    let mut serving = Serving::new(alloc, Builtin::Echo, 3, 65_536)?;
+    for _ in 0..u64::MAX {
+        let asked = pass_on(&mut caller, &mut serving, most)?;
+        let answered = pass_back(&mut caller, &mut serving, most)?;
+        if asked == 0 && answered == 0 {
+            break;
+        }
+    }
+    Ok(caller.stdout().len())
+}
+
+// What the caller sends goes over, at most so many bytes.
+fn pass_on(
+    caller: &mut Caller,
+    serving: &mut Serving<Builtin>,
+    most: usize,
+) -> Result<usize, Memory> {
+    let piece = caller.front()?;
+    let count = piece.len().min(most);
+    serving.take(&piece[..count])?;
+    caller.advance(count);
+    Ok(count)
+}
+
+// What the service sends goes back, at most so many bytes.
+fn pass_back(
+    caller: &mut Caller,
+    serving: &mut Serving<Builtin>,
+    most: usize,
+) -> Result<usize, Memory> {
+    let piece = serving.front()?;
+    let count = piece.len().min(most);
+    caller.take(&piece[..count])?;
+    serving.advance(count);
+    Ok(count)
+}
