@@ -1,6 +1,6 @@
 -- What a hostile user of an end does to the ring that it writes, by loads and stores of its own.
 -- Source: libxenvchan's io.c for where a byte of the ring lies; that it is put by plain stores is this project's own.
-use Rattle.std.specs.Prelude.{ℕ, ◌+◌, List, [], ◌∷◌, ◌++◌, None}
+use Rattle.std.specs.Prelude.{ℕ, ◌+◌, List, [], ◌∷◌, ◌++◌}
 use Rattle.ring_words.specs.Rings.{place}
 use Rattle.ring_words.specs.Page.{order_of}
 use Rattle.ring_words.specs.declared.order.Orders.{Orders}
@@ -9,12 +9,14 @@ use Rattle.ring_words.specs.declared.page.WordName.TheVariants.{RingByte}
 use Rattle.vchan_protocol.specs.declared.op.Op.TheVariants.{Load, Store}
 use Rattle.vchan_protocol.specs.declared.op.PastEvent.{PastEvent}
 use Rattle.vchan_protocol.specs.declared.side.Side.{Side}
+use Rattle.vchan_protocol.specs.Hostile.Turned.{strays}
 use Rattle.vchan_protocol.specs.Table.Plan.{past}
 use Rattle.vchan_protocol.specs.Table.Ends.{written_ring, prod_word, cons_word}
 
 -- a turned end after these events of its hostile user
 abbrev pub strays_along : Side → List PastEvent → Side
-strays_along s events = record s { call = None; trail = s.trail ++ events }
+strays_along s [] = s
+strays_along s (event ∷ events) = strays_along (strays s event.op event.taken) events
 
 -- the stores of these bytes into the ring that the end writes, at the places from this index on
 abbrev pub byte_stores : Role → Orders → ℕ → List ℕ → List PastEvent

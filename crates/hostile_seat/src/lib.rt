@@ -5,12 +5,12 @@
 //! follows the layout of Xen's public/io/libxenvchan.h; the pending and gone words lie elsewhere.
 #![tactic(auto)]
 
-ghost use Rattle.std.specs.Prelude.{◌≡◌, ◌+◌, ◌%◌, ◌^◌, ◌≤◌, ◌↔◌, IsTrue, ℕ, min, length, take};
+ghost use Rattle.std.specs.Prelude.{◌≡◌, ◌++◌, ◌∷◌, [], ◌+◌, ◌%◌, ◌^◌, ◌≤◌, ◌↔◌, IsTrue, ℕ, min, length, take};
 ghost use Rattle.ring_words.specs.Rings.{room as room_of};
 ghost use Rattle.ring_words.specs.Page.{order_of};
-ghost use Rattle.vchan_protocol.specs.Table.Ends.{written_ring, peer_pending, own_gone, low32};
+ghost use Rattle.vchan_protocol.specs.Table.Ends.{written_ring, cons_word as cons_of, prod_word as prod_of, peer_pending, own_gone, low32};
 ghost use Rattle.vchan_protocol.specs.Hostile.Turned.{turns, strays, MayPoke};
-ghost use Rattle.vchan_rule.specs.Seated.{last_view};
+ghost use Rattle.vchan_protocol.specs.Table.Plan.{past};
 ghost use Rattle.hostile_seat.specs.Hostile.{strays_along, byte_stores, say_events};
 
 use ring_words::{Layout, Order, Ring, Role, WordName, place, room};
@@ -35,8 +35,8 @@ impl<'p> Model for Hostile<'p> {
 /// Gives an end up to a hostile user, with one event: a load of the consumer index of the ring that
 /// it writes. A call under way is dropped.
 pub fn turn<'p>(end: End<'p>) -> Hostile<'p>
-    ensures page { result.page ≡ end.page }
-    ensures side { (consumed : ℕ) × (result.side ≡ turns end.side consumed) }
+    ensures page { result.page ≡ end.entry.page }
+    ensures side { (consumed : ℕ) × (result.side ≡ turns end.entry.side consumed) }
 {
     Hostile { end: end.turn() }
 }
@@ -87,45 +87,51 @@ impl<'p> Hostile<'p> {
         ensures moved { own.new ≡ (own.old + result) % 2 ^ 32 }
         ensures events { (taken : ℕ) × (result ≡ min (length data.now) (room_of own.old (low32 taken) (order_of self.old.side.orders (written_ring self.old.side.role)))) × (self.new.side ≡ strays_along self.old.side (say_events self.old.side.role self.old.side.orders own.old taken (take result data.now) own.new)) }
     {
-        let (ring, cons, prod) = match self.end.role() {
-            Role::Server => (Ring::Right, WordName::RightCons, WordName::RightProd),
-            Role::Client => (Ring::Left, WordName::LeftCons, WordName::LeftProd),
-        };
+        let ring = written(self.end.role());
         let order = self.end.orders().order_of(ring);
-        let taken = self.end.load(cons);
-        let count = said(data.len(), room(*own, (taken % 4294967296) as u32, order));
-        self.store_bytes(ring, order, *own, &data[..count as usize]);
-        *own = own.wrapping_add(count);
-        self.end.store(prod, u64::from(*own));
+        let taken = self.end.load(cons_word(ring));
+        let free = room(*own, (taken % 4294967296) as u32, order);
+        let count = said(data.len(), free);
+        let bytes = &data[..count as usize];
+        *own = put(&mut self.end, ring, order, *own, bytes);
         count
-    }
-
-    /// Stores bytes into a ring, from the place of an index on.
-    fn store_bytes(&mut self, ring: Ring, order: Order, index: u32, bytes: &[u8])
-        requires ring { ring ≡ written_ring self.old.side.role }
-        requires order { order ≡ order_of self.old.side.orders ring }
-        requires few { length bytes.now ≤ 1048576 }
-        ensures page { self.new.page ≡ self.old.page }
-        ensures side { self.new.side ≡ strays_along self.old.side (byte_stores self.old.side.role self.old.side.orders index bytes.now) }
-    {
-        let mut at = 0;
-        'bytes: while at < bytes.len() {
-            let word = WordName::RingByte {
-                ring,
-                at: place(index.wrapping_add(at as u32), order),
-            };
-            self.end.store(word, u64::from(bytes[at]));
-            at += 1;
-        }
     }
 
     /// Sets the end's gone word, and signals its peer. No event follows.
     pub fn retire(self) -> Retired
-        ensures page { result.page ≡ self.page }
-        ensures side { result.side ≡ strays (strays self.side (Op.Store (own_gone self.side.role) 1) 0) (Op.Store (peer_pending self.side.role) 1) 0 }
+        ensures page { result.page ≡ self.entry.page }
+        ensures side { result.side ≡ strays (strays self.entry.side (Op.Store (own_gone self.entry.side.role) 1) 0) (Op.Store (peer_pending self.entry.side.role) 1) 0 }
     {
         let Self { end } = self;
         end.retire()
+    }
+}
+
+/// The ring that an end writes.
+fn written(role: Role) -> Ring
+    ensures { result ≡ written_ring role }
+{
+    match role {
+        Role::Server => Ring::Right,
+        Role::Client => Ring::Left,
+    }
+}
+
+fn cons_word(ring: Ring) -> WordName
+    ensures { result ≡ cons_of ring }
+{
+    match ring {
+        Ring::Left => WordName::LeftCons,
+        Ring::Right => WordName::RightCons,
+    }
+}
+
+fn prod_word(ring: Ring) -> WordName
+    ensures { result ≡ prod_of ring }
+{
+    match ring {
+        Ring::Left => WordName::LeftProd,
+        Ring::Right => WordName::RightProd,
     }
 }
 
@@ -137,4 +143,40 @@ fn said(len: usize, room: u32) -> u32
         Ok(len) => len.min(room),
         Err(_) => room,
     }
+}
+
+/// Stores bytes into a ring, from the place of an index on.
+fn store_bytes(end: &mut TurnedEnd<'_>, ring: Ring, order: Order, index: u32, bytes: &[u8])
+    requires ring { ring ≡ written_ring end.old.side.role }
+    requires order { order ≡ order_of end.old.side.orders ring }
+    requires few { length bytes.now ≤ 1048576 }
+    ensures page { end.new.page ≡ end.old.page }
+    ensures side { end.new.side ≡ strays_along end.old.side (byte_stores end.old.side.role end.old.side.orders index bytes.now) }
+{
+    let mut at = 0;
+    'bytes: while at < bytes.len() {
+        let word = WordName::RingByte {
+            ring,
+            at: place(index.wrapping_add(at as u32), order),
+        };
+        end.store(word, u64::from(bytes[at]));
+        at += 1;
+    }
+}
+
+/// Stores bytes into a ring from the place of an index on, and then that index, moved on by their
+/// number, as the producer index. It answers the index.
+#[tactic(auto, using(crate::proofs::ByteLaws::along_push, crate::proofs::ByteLaws::along_orders, crate::proofs::ByteLaws::along_role))]
+fn put(end: &mut TurnedEnd<'_>, ring: Ring, order: Order, index: u32, bytes: &[u8]) -> u32
+    requires ring { ring ≡ written_ring end.old.side.role }
+    requires order { order ≡ order_of end.old.side.orders ring }
+    requires few { length bytes.now ≤ 1048576 }
+    ensures page { end.new.page ≡ end.old.page }
+    ensures moved { result ≡ (index + length bytes.now) % 2 ^ 32 }
+    ensures side { end.new.side ≡ strays_along end.old.side (byte_stores end.old.side.role end.old.side.orders index bytes.now ++ past (Op.Store (prod_of (written_ring end.old.side.role)) result) 0 ∷ []) }
+{
+    store_bytes(end, ring, order, index, bytes);
+    let index = index.wrapping_add(bytes.len() as u32);
+    end.store(prod_word(ring), u64::from(index));
+    index
 }

@@ -1,4 +1,4 @@
-use Rattle.std.proofs.Common.{◌≡◌, ◌||◌, ℕ, take, sym, subst, ap, ◌∙◌}
+use Rattle.std.proofs.Common.{◌≡◌, ◌||◌, ℕ, [], sym, subst, ap, ◌∙◌}
 use Rattle.vchan_protocol.specs.declared.call.Answer.{Answer}
 use Rattle.vchan_protocol.specs.declared.call.Call.TheVariants.{Recv}
 use Rattle.vchan_protocol.specs.Table.Calls.{Trace}
@@ -37,5 +37,5 @@ returns-clause-view c =
     let told : c.do_call.result ≡ recv_told n c.recv_answer.result = sym (ap (recv_told n) c.recv_answer.ensures ∙ ends.1) in
     let sees : c.do_call.new.self.side.saw ≡ (was.saw || tells_end (recv_told n c.recv_answer.result)) = c.do_call.ensures.saw ∙ ap (λ (a : Answer). was.saw || tells_end a) told in
     c.do_call.ensures.view
-    ∙ (λ i. answered_view was (Recv (c.asked.ensures i)) _ c.do_call.new.buf (told i) c.do_call.new.self.side.saw)
-    ∙ recv_view was n _ c.do_call.new.buf c.do_call.new.self.side.saw c.recv_answer.result (λ got. ends.2 (sym c.recv_answer.ensures ∙ got) ∙ sym c.do_call.ensures.long) sees
+    ∙ (λ i. answered_view was (Recv (c.asked.ensures i)) [] c.do_call.new.buf (told i) c.do_call.new.self.side.saw)
+    ∙ recv_view was n [] c.do_call.new.buf c.do_call.new.self.side.saw c.recv_answer.result (λ got. ends.2 (sym c.recv_answer.ensures ∙ got) ∙ sym c.do_call.ensures.long) sees
