@@ -1,7 +1,8 @@
 //! Worked rows on a page whose left ring has 1,024 places and whose right one has 2,048.
-ghost use Rattle.std.specs.Prelude.{◌≡◌, None, false, [], IfSome};
+ghost use Rattle.std.specs.Prelude.{◌≡◌, [], IfSome};
 ghost use Rattle.ring_words.specs.declared.page.Role.TheVariants.{Server, Client};
-ghost use Rattle.vchan_rule.specs.Seated.{IsOpen};
+ghost use Rattle.vchan_rule.specs.Seated.{view, IsOpen};
+ghost use Rattle.ring_tests.specs.Rows.{IsNew, HasMoved};
 
 use hostile_seat::turn;
 use ring_words::{Orders, Ring, WordName, check_orders};
@@ -23,7 +24,7 @@ fn small_page(alloc: Global) -> Option<(Page, IdleSeat, IdleSeat)>
 fn connected<'p>(page: &'p Page, server: IdleSeat, client: IdleSeat) -> Option<(End<'p>, End<'p>)>
     requires server { server ≡ record { page = page.now; role = Server } }
     requires client { client ≡ record { page = page.now; role = Client } }
-    ensures { IfSome result (λ ends. IsOpen ends.0 × IsOpen ends.1 × (ends.0.page ≡ page.now.table) × (ends.1.page ≡ page.now.table) × (ends.0.side.role ≡ Server) × (ends.1.side.role ≡ Client)) }
+    ensures { IfSome result (λ ends. IsOpen ends.0 × IsOpen ends.1 × IsNew (view ends.0) page.now Server × IsNew (view ends.1) page.now Client) }
 {
     let server = page.attach(server);
     let mut client = page.attach(client);
@@ -34,7 +35,9 @@ fn connected<'p>(page: &'p Page, server: IdleSeat, client: IdleSeat) -> Option<(
 }
 
 /// A client connects, the server finds nothing to drain, and both retire.
-pub fn fresh_page(alloc: Global) -> Option<Settled> {
+pub fn fresh_page(alloc: Global) -> Option<Settled>
+    ensures { IfSome result (λ page. HasMoved page [] [] [] []) }
+{
     let (page, server, client) = small_page(alloc)?;
     let (mut server, client) = connected(&page, server, client)?;
     let found = drain(&mut server, &mut [0; 4]);
@@ -53,10 +56,9 @@ pub fn events(alloc: Global) -> Option<(bool, bool)> {
     if read(&mut server, &mut [0; 1]) != (ReadAnswer::Empty { prod: 0, cons: 0 }) {
         return None;
     }
-    for byte in [b'a', b'b'] {
-        if write(&mut client, &[byte]) != (WriteAnswer::Wrote { count: 1 }) {
-            return None;
-        }
+    let one = WriteAnswer::Wrote { count: 1 };
+    if write(&mut client, b"a") != one || write(&mut client, b"b") != one {
+        return None;
     }
     Some((take_event(&mut server), take_event(&mut server)))
 }
@@ -84,7 +86,7 @@ pub fn consumed_prefix(alloc: Global) -> Option<(Settled, [u8; 4])> {
         return None;
     }
     let mut client = turn(client);
-    for at in 0..6 {
+    'stores: for at in 0..6 {
         let word = WordName::RingByte {
             ring: Ring::Left,
             at,

@@ -3,9 +3,9 @@ ghost use Rattle.ring_words.specs.declared.page.Role.TheVariants.{Server, Client
 
 use super::*;
 use ring_words::check_orders;
-use std::alloc::Global;
+use std::alloc::{AllocError, Global};
 use std::test::Fail;
-use std::thread;
+use std::thread::join;
 use vchan_lifecycle::{connect, retire};
 use vchan_rule::{IdleSeat, Page};
 
@@ -18,5 +18,85 @@ fn rows_answer_as_they_should(rt: HostRuntime) -> Result<(), Fail> {
     let (settled, bytes) = consumed_prefix(rt.alloc()).ok_or("consumed prefix")?;
     assert!(rt; bytes == [99; 4] && settled.client_turned() && !settled.server_turned());
     assert!(rt; said_by_hand(rt.alloc()) == Some((1024, 1024, [false; 3])));
+    Ok(())
+}
+
+fn server_exchanges(page: &Page, seat: IdleSeat) -> Option<u8>
+    requires { seat ≡ record { page = page.now; role = Server } }
+{
+    exchange(&mut page.attach(seat), b's')
+}
+
+fn client_exchanges(page: &Page, seat: IdleSeat) -> Option<u8>
+    requires { seat ≡ record { page = page.now; role = Client } }
+{
+    let mut end = page.attach(seat);
+    match connect(&mut end) {
+        Ok(()) => exchange(&mut end, b'c'),
+        Err(_) => None,
+    }
+}
+
+#[test]
+fn two_ends_at_once(rt: HostRuntime) -> Result<(), Fail> {
+    let orders = check_orders(10, 11).map_err(|_| "orders")?;
+    let (page, server, client) = Page::open(rt.alloc(), orders, 0)?;
+    let (one, two) = join(
+        &rt,
+        || -> Option<u8>
+            requires { server ≡ record { page = page; role = Server } }
+        { server_exchanges(&page, server) },
+        || -> Option<u8>
+            requires { client ≡ record { page = page; role = Client } }
+        { client_exchanges(&page, client) },
+    );
+    assert!(rt; one == Some(b'c') && two == Some(b's'));
+    Ok(())
+}
+
+fn pattern(alloc: Global, len: u32) -> Result<Vec<u8>, AllocError> {
+    let mut bytes = Vec::new(alloc);
+    for number in 0..len {
+        bytes.push((number % 251) as u8)?;
+    }
+    Ok(bytes)
+}
+
+fn server_receives(page: &Page, seat: IdleSeat, alloc: Global) -> Result<Vec<u8>, AllocError>
+    requires { seat ≡ record { page = page.now; role = Server } }
+{
+    receive_all(&mut page.attach(seat), alloc)
+}
+
+fn client_sends(page: &Page, seat: IdleSeat, data: &[u8]) -> bool
+    requires { seat ≡ record { page = page.now; role = Client } }
+{
+    let mut end = page.attach(seat);
+    match connect(&mut end) {
+        Ok(()) => {
+            let sent = send_all(&mut end, data);
+            let _ = retire(end);
+            sent
+        }
+        Err(_) => false,
+    }
+}
+
+#[test]
+fn a_mebibyte_crosses_two_threads(rt: HostRuntime) -> Result<(), Fail> {
+    let orders = check_orders(10, 11).map_err(|_| "orders")?;
+    let (page, server, client) = Page::open(rt.alloc(), orders, 4_294_967_295)?;
+    let data = pattern(rt.alloc(), 1_048_576)?;
+    let alloc = rt.alloc();
+    let (got, sent) = join(
+        &rt,
+        || -> Result<Vec<u8>, AllocError>
+            requires { server ≡ record { page = page; role = Server } }
+        { server_receives(&page, server, alloc) },
+        || -> bool
+            requires { client ≡ record { page = page; role = Client } }
+        { client_sends(&page, client, data.as_slice()) },
+    );
+    assert!(rt; sent && got?.as_slice() == data.as_slice());
     Ok(())
 }

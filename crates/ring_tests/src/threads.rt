@@ -19,7 +19,7 @@ pub fn exchange(end: &mut End<'_>, byte: u8) -> Option<u8>
 {
     let mut sent = false;
     let mut got = [0; 1];
-    for _ in 0..MOST_TRIES {
+    'tries: for _ in 0..MOST_TRIES {
         if !sent {
             sent = write(end, &[byte]) == WriteAnswer::Wrote { count: 1 };
         } else if let ReadAnswer::Got { count: _ } = read(end, &mut got) {
@@ -37,16 +37,16 @@ pub fn send_all(end: &mut End<'_>, data: &[u8]) -> bool
     ensures { IsOpen end.new × IsSameEnd end.old end.new }
 {
     let mut sent = 0;
-    let mut piece = 1;
-    for _ in 0..u64::MAX {
+    let mut half = 0;
+    'pieces: for _ in 0..u64::MAX {
         if sent == data.len() {
             return true;
         }
-        let most = (data.len() - sent).min(piece);
+        let most = (data.len() - sent).min(2 * half + 1);
         match write(end, &data[sent..sent + most]) {
             WriteAnswer::Wrote { count } => {
                 sent += count as usize;
-                piece = (piece + 302) % 2000 | 1;
+                half = (half + 151) % 1000;
             }
             WriteAnswer::Full { prod: _, cons: _ } => thread::yield_now(),
             WriteAnswer::PeerClosed => return false,
@@ -62,7 +62,7 @@ pub fn receive_all(end: &mut End<'_>, alloc: Global) -> Result<Vec<u8>, AllocErr
 {
     let mut all = Vec::new(alloc);
     let mut buf = [0; 777];
-    for _ in 0..u64::MAX {
+    'drains: for _ in 0..u64::MAX {
         match drain(end, &mut buf) {
             DrainAnswer::More { count } => all.extend_from_slice(&buf[..count as usize])?,
             DrainAnswer::NotYet { prod: _, cons: _ } => thread::yield_now(),

@@ -1,0 +1,14 @@
+-- What a worked row says of the lists of a page.
+use Rattle.std.specs.Prelude.{◌≡◌, ℕ, List, []}
+use Rattle.ring_words.specs.declared.page.Role.{Role}
+use Rattle.end_view.specs.EndView.{EndView}
+use Rattle.end_view.specs.Settled.{Settled}
+use Rattle.vchan_rule.specs.Seated.{PageView}
+
+-- an end of this page that has sent and got nothing
+abbrev pub IsNew : EndView → PageView → Role → Type 0
+IsNew e page role = (e.page ≡ page.table) × (e.role ≡ role) × (e.sent ≡ []) × (e.got ≡ [])
+
+-- what was sent and got on the left ring, and then on the right one
+abbrev pub HasMoved : Settled → List ℕ → List ℕ → List ℕ → List ℕ → Type 0
+HasMoved page left_sent left_got right_sent right_got = (page.client.sent ≡ left_sent) × (page.server.got ≡ left_got) × (page.server.sent ≡ right_sent) × (page.client.got ≡ right_got)
