@@ -8,6 +8,8 @@ use Rattle.vchan_protocol.specs.declared.call.EndState.{EndState}
 use Rattle.vchan_protocol.specs.declared.call.EndState.TheVariants.{Fresh, Open}
 use Rattle.step_script.specs.declared.error.ScriptKind.{ScriptKind}
 use Rattle.step_script.specs.declared.error.ScriptKind.TheVariants.{BadHeader, BadLine, BadOrders, TooManyLines}
+use Rattle.step_script.specs.declared.read.forms.Verb.{Verb}
+use Rattle.step_script.specs.declared.read.forms.Verb.TheVariants.{Makes, Does}
 use Rattle.step_script.specs.declared.read.forms.CallForm.{CallForm}
 use Rattle.step_script.specs.declared.read.forms.CallForm.TheVariants.{Write, Send, Read, Recv, Drain, Bare}
 use Rattle.step_script.specs.declared.read.forms.Act.{Act}
@@ -21,7 +23,7 @@ use Rattle.step_script.specs.Language.KeptLines.{Lines, stops, refused, line, ke
 use Rattle.step_script.specs.Language.Pokes.{poked_word}
 use Rattle.step_script.specs.Language.Script.{StepCall, StepLine, opens, calls, begins, steps, finishes, pokes, signals}
 use Rattle.step_script.specs.Parts.ScriptLines.{payload_len}
-use Rattle.step_script.specs.Language.Tables.{meaning_first, ends, calls_of, acts, page_lines}
+use Rattle.step_script.specs.Language.Tables.{verb_first, meaning_first, ends, calls_of, page_lines}
 
 -- a call of a form with the words behind it; there is room for so many bytes
 abbrev pub call_of_form : ℕ → CallForm → List (List ℕ) → Result StepCall ScriptKind
@@ -69,21 +71,18 @@ line_of_act orders room who Finish words = alone (finishes who) words
 line_of_act orders room who Poke words = poke_of orders who words
 line_of_act orders room who Signal words = alone (signals who) words
 
-abbrev pub act_of : Orders → ℕ → Role → List (List ℕ) → Result StepLine ScriptKind
-act_of orders room who words = do
-  found ← ok_or (meaning_first acts words) BadLine
-  line_of_act orders room who found.0 found.1
-
--- a line of an end: a whole call, where its word is one's, or such an act
-abbrev pub line_of_form : Orders → ℕ → Role → Option (CallForm × List (List ℕ)) → List (List ℕ) → Result StepLine ScriptKind
-line_of_form orders room who (Some (form, more)) words = do
-  c ← call_of_form room form more
+-- the words behind what an end does
+abbrev pub line_of_verb : Orders → ℕ → Role → Verb → List (List ℕ) → Result StepLine ScriptKind
+line_of_verb orders room who (Makes form) words = do
+  c ← call_of_form room form words
   Ok (calls who c)
-line_of_form orders room who None words = act_of orders room who words
+line_of_verb orders room who (Does act) words = line_of_act orders room who act words
 
--- a line of an end, as the words behind the end's
+-- a line of an end, as the words behind the end's: a whole call, where its word is one's, or an act
 abbrev pub line_of_end : Orders → ℕ → Role → List (List ℕ) → Result StepLine ScriptKind
-line_of_end orders room who words = line_of_form orders room who (meaning_first (calls_of who) words) words
+line_of_end orders room who words = do
+  found ← ok_or (verb_first who words) BadLine
+  line_of_verb orders room who found.0 found.1
 
 -- `head` and `image`
 abbrev pub line_of_page : List (List ℕ) → Result StepLine ScriptKind

@@ -1,7 +1,7 @@
 -- The words of a script, and what each stands for.
 -- Source: this project's own; the calls are those of libxenvchan.h with three more, the fields those of
 -- struct vchan_interface in public/io/libxenvchan.h.
-use Rattle.std.specs.Prelude.{ℕ, List, [], ◌∷◌, Option, None, codes, bytes_eq}
+use Rattle.std.specs.Prelude.{Some, None, ℕ, List, [], ◌∷◌, Option, None, codes, bytes_eq}
 use Rattle.std.specs.Map.{lookup}
 use Rattle.std.specs.Option.{option_map}
 use Rattle.ring_words.specs.declared.page.Role.{Role}
@@ -9,6 +9,8 @@ use Rattle.ring_words.specs.declared.page.Role.TheVariants.{Server, Client}
 use Rattle.ring_words.specs.declared.page.WordName.{WordName}
 use Rattle.ring_words.specs.declared.page.WordName.TheVariants.{LeftCons, LeftProd, RightCons, RightProd, LeftOrder, RightOrder, CliLive, SrvLive, CliNotify, SrvNotify}
 use Rattle.vchan_protocol.specs.declared.call.Call.TheVariants.{DataReady, BufferSpace, Connect, Close, TakeEvent, PeerGone, Retire}
+use Rattle.step_script.specs.declared.read.forms.Verb.{Verb}
+use Rattle.step_script.specs.declared.read.forms.Verb.TheVariants.{Makes, Does}
 use Rattle.step_script.specs.declared.read.forms.CallForm.{CallForm}
 use Rattle.step_script.specs.declared.read.forms.CallForm.TheVariants.{Write, Send, Read, Recv, Drain, Bare}
 use Rattle.step_script.specs.Language.Script.{StepLine, head, image}
@@ -58,6 +60,15 @@ acts =
     (codes "poke", Poke) ∷
     (codes "signal", Signal) ∷
     []
+
+-- what the first of these words says that an end does, and the words behind it: a whole call where it names one, else an act
+abbrev pub verb_of : Option (CallForm × List (List ℕ)) → Option (Act × List (List ℕ)) → Option (Verb × List (List ℕ))
+verb_of (Some call) act = Some (Makes call.0, call.1)
+verb_of None (Some act) = Some (Does act.0, act.1)
+verb_of None None = None
+
+abbrev pub verb_first : Role → List (List ℕ) → Option (Verb × List (List ℕ))
+verb_first who words = verb_of (meaning_first (calls_of who) words) (meaning_first acts words)
 
 -- the lines that print bytes of the page
 abbrev pub page_lines : List (List ℕ × StepLine)

@@ -5,6 +5,8 @@ use Rattle.script_words.specs.WordsLeft.{words_left}
 use Rattle.ring_words.specs.declared.order.Orders.{Orders}
 use Rattle.ring_words.specs.declared.page.Role.{Role}
 use Rattle.vchan_protocol.specs.declared.call.Call.{Call}
+use Rattle.step_script.specs.declared.read.forms.Verb.{Verb}
+use Rattle.step_script.specs.declared.read.forms.Verb.TheVariants.{Makes, Does}
 use Rattle.step_script.specs.declared.read.forms.CallForm.{CallForm}
 use Rattle.step_script.specs.declared.read.forms.CallForm.TheVariants.{Bare}
 use Rattle.step_script.specs.Language.Script.{StepCall, StepLine, CallFits, LineFits}
@@ -23,6 +25,11 @@ without_payload c = record { call = c; payload = [] }
 abbrev pub FormFits : Role → CallForm → Type 0
 FormFits who (Bare c) = CallFits who (without_payload c)
 FormFits who form = Unit {0}
+
+-- and so a verb that is such a call
+abbrev pub VerbFits : Role → Verb → Type 0
+VerbFits who (Makes form) = FormFits who form
+VerbFits who (Does act) = Unit {0}
 
 -- a call that its end can say, within so many bytes
 abbrev pub CallKeeps : ℕ → Role → StepCall → Type 0

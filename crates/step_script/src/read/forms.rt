@@ -2,8 +2,8 @@
 ghost use Rattle.std.specs.Prelude.{◌≡◌, drop, IfSome};
 ghost use Rattle.ring_words.specs.declared.page.Role.{Role};
 ghost use Rattle.script_words.specs.WordsLeft.{words_left};
-ghost use Rattle.step_script.specs.Parts.Forms.{FormFits, found_in};
-ghost use Rattle.step_script.specs.Language.Tables.{meaning_in, meaning_first, ends, calls_of, common_calls, acts, fields};
+ghost use Rattle.step_script.specs.Parts.Forms.{FormFits, VerbFits, found_in};
+ghost use Rattle.step_script.specs.Language.Tables.{meaning_in, meaning_first, verb_first, ends, calls_of, common_calls, acts, fields};
 
 use ring_words::{Role, WordName};
 use script_words::Words;
@@ -41,6 +41,15 @@ pub(crate) enum Act {
     Signal,
 }
 
+/// What an end does, as a word of a script says it.
+#[derive(Clone, Copy, Debug, PartialEq, Eq)]
+pub(crate) enum Verb {
+    /// It makes a whole call.
+    Makes(CallForm),
+    /// It does something else.
+    Does(Act),
+}
+
 /// The end that the first of these words names, and the words behind it.
 #[inline(always)]
 #[tactic(auto, using(crate::proofs::Language::NameLaws::unnamed))]
@@ -53,6 +62,44 @@ pub(crate) fn end_in<'a>(words: &Words<'a>) -> Option<(Role, Words<'a>)>
         Some((Role::Server, rest))
     } else {
         None
+    }
+}
+
+/// What the first of these words says that this end does, and the words behind it. The words that
+/// scripts have most are looked for where this is called.
+#[inline(always)]
+#[tactic(auto, using(crate::proofs::Language::NameLaws::frequent))]
+pub(crate) fn verb_in<'a>(who: Role, words: &Words<'a>) -> Option<(Verb, Words<'a>)>
+    ensures verb { found_in result ≡ verb_first who (words_left words.now) }
+    ensures fits { IfSome result (λ found. VerbFits who found.0) }
+{
+    if let Some(rest) = words.behind(b"write") {
+        Some((Verb::Makes(CallForm::Write), rest))
+    } else if let Some(rest) = words.behind(b"read") {
+        Some((Verb::Makes(CallForm::Read), rest))
+    } else if let Some(rest) = words.behind(b"begin") {
+        Some((Verb::Does(Act::Begin), rest))
+    } else if let Some(rest) = words.behind(b"step") {
+        Some((Verb::Does(Act::Step), rest))
+    } else if let Some(rest) = words.behind(b"finish") {
+        Some((Verb::Does(Act::Finish), rest))
+    } else {
+        further_verb_in(who, words)
+    }
+}
+
+/// [`verb_in`], by the tables.
+#[inline(never)]
+fn further_verb_in<'a>(who: Role, words: &Words<'a>) -> Option<(Verb, Words<'a>)>
+    ensures verb { found_in result ≡ verb_first who (words_left words.now) }
+    ensures fits { IfSome result (λ found. VerbFits who found.0) }
+{
+    match call_in(who, words) {
+        Some((form, rest)) => Some((Verb::Makes(form), rest)),
+        None => match act_in(words) {
+            Some((act, rest)) => Some((Verb::Does(act), rest)),
+            None => None,
+        },
     }
 }
 

@@ -3,14 +3,14 @@ ghost use Rattle.std.specs.Prelude.{◌≡◌, ◌≤◌, ℕ, List, [], length,
 ghost use Rattle.script_words.specs.Words.{words_of};
 ghost use Rattle.script_words.specs.WordsLeft.{words_left};
 ghost use Rattle.step_script.specs.Parts.Readings.{Gives};
-ghost use Rattle.step_script.specs.Language.Grammar.{act_of, call_of, call_of_form, line_of, line_of_act, line_of_end, line_of_page, poke_of};
+ghost use Rattle.step_script.specs.Language.Grammar.{call_of, call_of_form, line_of, line_of_act, line_of_end, line_of_page, poke_of};
 ghost use Rattle.step_script.specs.Parts.Forms.{FormFits, CallKeeps, LineKeeps, without_payload};
 ghost use Rattle.ring_words.specs.declared.order.Orders.{Orders};
 ghost use Rattle.ring_words.specs.declared.page.Role.{Role};
 ghost use Rattle.step_script.specs.Parts.ScriptLines.{call_with, line_with, payload_len};
 
 use crate::error::LineError;
-use crate::read::forms::{Act, CallForm, act_in, call_in, end_in};
+use crate::read::forms::{Act, CallForm, Verb, call_in, end_in, verb_in};
 use crate::read::operand::{read_count, read_nothing, read_number, read_operand, read_payload};
 use crate::read::poke::read_word_name;
 use crate::script::Line;
@@ -78,37 +78,20 @@ fn read_end_line(
     ensures fits { IfOk result (λ line. LineKeeps orders room (line_with line payload.new.items)) }
     ensures len { IfOk result (λ line. payload_len (line_with line payload.new.items) ≡ length payload.new.items) }
 {
-    match call_in(who, &words) {
-        Some((form, words)) => {
+    let Some((verb, words)) = verb_in(who, &words) else {
+        return Err(LineError::BAD_LINE);
+    };
+    match verb {
+        Verb::Makes(form) => {
             let call = read_call_of_form(payload, room, form, words)?;
             Ok(Line::Call { who, call })
         }
-        None => read_act(payload, orders, room, who, words),
-    }
-}
-
-/// Reads what an end does that is no whole call.
-#[inline(never)]
-fn read_act(
-    payload: &mut Vec<u8>,
-    orders: Orders,
-    room: usize,
-    who: Role,
-    words: Words,
-) -> Result<Line, LineError>
-    requires none { payload.old.items ≡ [] }
-    requires room { room ≤ 8388608 }
-    ensures line { Gives (λ line. line_with line payload.new.items) result (act_of orders room who (words_left words.entry)) }
-    ensures fits { IfOk result (λ line. LineKeeps orders room (line_with line payload.new.items)) }
-    ensures len { IfOk result (λ line. payload_len (line_with line payload.new.items) ≡ length payload.new.items) }
-{
-    match act_in(&words) {
-        Some((act, words)) => read_line_of_act(payload, orders, room, who, act, words),
-        None => Err(LineError::BAD_LINE),
+        Verb::Does(act) => read_line_of_act(payload, orders, room, who, act, words),
     }
 }
 
 /// Reads the words behind an act's word.
+#[inline(never)]
 fn read_line_of_act(
     payload: &mut Vec<u8>,
     orders: Orders,
