@@ -5,3 +5,4 @@ pub mod GeneratedLaws
 pub mod NameLaws
 pub mod TotalLaws
 pub mod NumberLaws
+pub mod ReadLaws

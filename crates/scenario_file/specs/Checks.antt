@@ -2,7 +2,7 @@
 -- Source: this project's own; the values of a file are those of TOML.
 use Rattle.std.specs.Prelude.{ℕ, ℤ, pos, ◌==◌, ◌||◌, ◌&&◌, nat_le, nat_lt, Bool, List, [], ◌∷◌, ◌++◌, if◌then◌else◌, ok_or, Option, None, Some, Result, Ok, Err, codes, decimal, bytes_eq}
 use Rattle.std.specs.List.{list_any}
-use Rattle.toml.specs.Data.{Data, Items, no_items, Members, no_members, member, as_str, as_integer, as_array, as_table, get_member}
+use Rattle.toml.specs.Data.{Data, Items, no_items, item, Members, no_members, member, as_str, as_integer, as_array, as_table, get_member}
 use Rattle.scenario_file.specs.declared.error.ScenarioKind.{ScenarioKind}
 use Rattle.scenario_file.specs.declared.error.ScenarioKind.TheVariants.{UnknownKey, MissingKey, WrongType, BadNumber}
 use Rattle.scenario_file.specs.declared.place.Section.{Section}
@@ -28,8 +28,8 @@ item_of list number = list ++ codes "[" ++ decimal number ++ codes "]"
 abbrev pub section_path : Section → List ℕ
 section_path Top = []
 section_path Rings = codes "rings."
-section_path (Domain number) = item_of (codes "domain") number ++ codes "."
-section_path (Call number) = item_of (codes "call") number ++ codes "."
+section_path (Domain number) = codes "domain[" ++ decimal number ++ codes "]."
+section_path (Call number) = codes "call[" ++ decimal number ++ codes "]."
 
 -- the path of a key
 abbrev pub path_of : Section → List ℕ → List ℕ
@@ -41,12 +41,16 @@ item_path section key number = item_of (path_of section key) number
 
 -- ---- keys
 
+-- the keys that a call may have
+abbrev pub call_keys : List (List ℕ)
+call_keys = codes "from" ∷ codes "to" ∷ codes "service" ∷ codes "stdin" ∷ codes "stdin_hex" ∷ codes "stdin_fill" ∷ []
+
 -- the keys that a table may have; of a domain also whether it is hostile
 abbrev pub keys_of : Section → Bool → List (List ℕ)
 keys_of Top hostile = codes "rings" ∷ codes "domain" ∷ codes "call" ∷ []
 keys_of Rings hostile = codes "control" ∷ codes "data" ∷ codes "start" ∷ []
 keys_of (Domain number) hostile = codes "name" ∷ codes "hostile" ∷ (if hostile then codes "ports" else codes "version") ∷ []
-keys_of (Call number) hostile = codes "from" ∷ codes "to" ∷ codes "service" ∷ codes "stdin" ∷ codes "stdin_hex" ∷ codes "stdin_fill" ∷ []
+keys_of (Call number) hostile = call_keys
 
 -- the keys that a table has, in byte order
 abbrev pub key_list : Members → List (List ℕ)
@@ -111,3 +115,10 @@ number_in least most path value = do
 -- such a number, or the default where the key has no value
 abbrev pub number_at : ℕ → ℕ → ℕ → Section → List ℕ → Members → Result ℕ Fault
 number_at least most default section key ms = optional default (number_in least most (path_of section key)) (get_member key ms)
+
+-- the items of a list one by one, each behind those before
+unfoldable pub all_from : {A : Type 0} → (List A → Data → Result A Fault) → List A → Items → Result (List A) Fault
+all_from next before no_items = Ok before
+all_from next before (item value more) = do
+  x ← next before value
+  all_from next (before ++ x ∷ []) more

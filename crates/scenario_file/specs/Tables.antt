@@ -16,7 +16,7 @@ use Rattle.scenario_file.specs.Names.{is_name, is_service}
 use Rattle.scenario_file.specs.Scenario.{Written, domain_at, is_hostile, place_named, words_laid, stdin_total}
 use Rattle.scenario_file.specs.Generator.{fill}
 use Rattle.scenario_file.specs.ActWords.{act_of}
-use Rattle.scenario_file.specs.Checks.{Fault, ◌>>=◌, path_of, item_path, keys_of, key_list, known_keys, needed_text, optional, text_in, integer_in, list_in, table_in, list_at, natural, number_at}
+use Rattle.scenario_file.specs.Checks.{Fault, ◌>>=◌, path_of, item_path, keys_of, key_list, known_keys, needed_text, optional, text_in, integer_in, list_in, table_in, list_at, natural, number_at, all_from}
 
 -- ---- rings
 
@@ -87,12 +87,9 @@ act_in path value = do
   text ← text_in path value
   ok_or (act_of text) (BadAct, path)
 
--- the acts of a domain behind those before
-unfoldable pub acts_from : ℕ → List Act → Items → Result (List Act) Fault
-acts_from number before no_items = Ok before
-acts_from number before (item value more) = do
-  act ← act_in (item_path (section.Domain number) (codes "hostile") (length before + 1)) value
-  acts_from number (before ++ act ∷ []) more
+-- the act behind those before
+abbrev pub next_act : ℕ → List Act → Data → Result Act Fault
+next_act number before value = act_in (item_path (section.Domain number) (codes "hostile") (length before + 1)) value
 
 -- how many items a list has
 abbrev pub item_count : Items → ℕ
@@ -108,7 +105,7 @@ abbrev pub hostile_in : ℕ → Data → Result (Option (List Act)) Fault
 hostile_in number value = do
   items ← list_in (path_of (section.Domain number) (codes "hostile")) value
   few ← at_most 256 (path_of (section.Domain number) (codes "hostile")) items
-  acts ← acts_from number [] few
+  acts ← all_from (next_act number) [] few
   Ok (Some acts)
 
 -- a table as the domain behind those before
@@ -122,13 +119,11 @@ domain_in before number ms = do
   version ← number_at 2 3 3 (section.Domain number) (codes "version") ms
   Ok (record { name = name; hostile = hostile; ports = ports; version = version })
 
--- the domains behind those before
-unfoldable pub domains_from : List Domain → Items → Result (List Domain) Fault
-domains_from before no_items = Ok before
-domains_from before (item value more) = do
+-- the domain behind those before
+abbrev pub next_domain : List Domain → Data → Result Domain Fault
+next_domain before value = do
   ms ← table_in (item_path section.Top (codes "domain") (length before + 1)) value
-  domain ← domain_in before (length before + 1) ms
-  domains_from (before ++ domain ∷ []) more
+  domain_in before (length before + 1) ms
 
 -- a list with an item
 abbrev pub some_items : Items → Result Items Fault
@@ -141,7 +136,7 @@ domains_of top = do
   items ← list_at section.Top (codes "domain") top
   some ← some_items items
   few ← at_most 32 (path_of section.Top (codes "domain")) some
-  domains_from [] few
+  all_from next_domain [] few
 
 -- ---- calls
 
@@ -224,20 +219,18 @@ call_in domains number ms = do
   stdin ← stdin_of number ms
   Ok (record { number = number; from = from; to = to; service = service; stdin = stdin })
 
--- the calls behind those before
-unfoldable pub calls_from : List Domain → List CallPlan → Items → Result (List CallPlan) Fault
-calls_from domains before no_items = Ok before
-calls_from domains before (item value more) = do
+-- the call behind those before
+abbrev pub next_call : List Domain → List CallPlan → Data → Result CallPlan Fault
+next_call domains before value = do
   ms ← table_in (item_path section.Top (codes "call") (length before + 1)) value
-  call ← call_in domains (length before + 1) ms
-  calls_from domains (before ++ call ∷ []) more
+  call_in domains (length before + 1) ms
 
 -- the list `call`, of 4,096 tables at most
 abbrev pub calls_of : List Domain → Members → Result (List CallPlan) Fault
 calls_of domains top = do
   items ← list_at section.Top (codes "call") top
   few ← at_most 4096 (path_of section.Top (codes "call")) items
-  calls_from domains [] few
+  all_from (next_call domains) [] few
 
 -- ---- the file
 

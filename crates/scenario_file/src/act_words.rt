@@ -1,5 +1,5 @@
 //! Reading the acts of a hostile domain.
-ghost use Rattle.std.specs.Prelude.{◌≡◌, ◌≤◌, option_copied, option_map, true, Some, None, IfOk, IfSome, bytes_eq};
+ghost use Rattle.std.specs.Prelude.{◌≡◌, ◌==◌, ◌<◌, ◌≤◌, length, position, option_copied, option_map, true, Some, None, IfOk, IfSome, bytes_eq};
 ghost use Rattle.std.specs.Map.{lookup};
 ghost use Rattle.script_words.specs.WordsLeft.{words_left};
 ghost use Rattle.scenario_file.specs.Acts.{ActFits, PageFits};
@@ -239,8 +239,18 @@ fn data_page(alloc: Global, word: &[u8]) -> Result<ActPage, ActError>
 fn colon_parts(word: &[u8]) -> Option<(&[u8], &[u8])>
     ensures { option_map (λ parts. (parts.0.now, parts.1.now)) result ≡ colon_parts word.now }
 {
-    let at = word.iter().position(|byte| *byte == b':')?;
-    Some((&word[..at], &word[at + 1..]))
+    match first_colon(word) {
+        Some(at) => Some((&word[..at], &word[at + 1..])),
+        None => None,
+    }
+}
+
+/// The place of the first colon.
+fn first_colon(word: &[u8]) -> Option<usize>
+    ensures place { result ≡ position (λ byte. byte == 58) word.now }
+    ensures within { IfSome result (λ at. at < length word.now) }
+{
+    word.iter().position(|byte| *byte == b':')
 }
 
 /// The word of a page that a word names: a header field, or `left[K]` and `right[K]` for a byte of a

@@ -8,8 +8,8 @@ ghost use Rattle.scenario_file.specs.Scenario.{CallFits, IsHonest, Rises};
 ghost use Rattle.scenario_file.specs.Readings.{Gives, place_path};
 ghost use Rattle.script_words.specs.ByteStrings.{byte_string};
 ghost use Rattle.scenario_file.specs.declared.error.ScenarioKind.TheVariants.{BadText};
-ghost use Rattle.scenario_file.specs.Checks.{optional};
-ghost use Rattle.scenario_file.specs.Tables.{call_in, caller_named, caller_of, calls_from, calls_of, fill_input_in, fill_within, first_input, hex_input_in, input_in, service_of, stdin_of, target_of, within_limit};
+ghost use Rattle.scenario_file.specs.Checks.{all_from, optional};
+ghost use Rattle.scenario_file.specs.Tables.{call_in, caller_named, caller_of, calls_of, fill_input_in, fill_within, first_input, hex_input_in, input_in, next_call, service_of, stdin_of, target_of, within_limit};
 
 use crate::domains::at_most;
 use crate::error::ScenarioKind;
@@ -56,19 +56,35 @@ fn read_items<'t>(
 ) -> Result<Vec<CallPlan>, Refusal<'t>>
     requires few_domains { length domains.now ≤ 32 }
     requires few_calls { length items.now ≤ 4096 }
-    ensures calls { Gives (λ calls. calls.items) result (calls_from domains.now [] (items_view items.now)) }
+    ensures calls { Gives (λ calls. calls.items) result (all_from (next_call domains.now) [] (items_view items.now)) }
     ensures few { IfOk result (λ calls. length calls.items ≤ 4096) }
     ensures fit { IfOk result (λ calls. All (CallFits domains.now) calls.items) }
     ensures rising { IfOk result (λ calls. Rises 0 calls.items) }
 {
     let mut calls = Vec::with_capacity(alloc, items.len())?;
     for item in items {
-        let number = calls.len() + 1;
-        let table = table_in(item, Place::item(Section::Top, "call", number))?;
-        let call = read_call(alloc, domains, number, table)?;
+        let call = next_call(alloc, domains, &calls, item)?;
         calls.push(call)?;
     }
     Ok(calls)
+}
+
+/// Reads an item as the call behind those before.
+fn next_call<'t>(
+    alloc: Global,
+    domains: &[Domain],
+    before: &[CallPlan],
+    item: &'t Value,
+) -> Result<CallPlan, Refusal<'t>>
+    requires few_domains { length domains.now ≤ 32 }
+    requires few_calls { length before.now < 4096 }
+    ensures call { Gives (λ call. call) result (next_call domains.now before.now (view item.now)) }
+    ensures fits { IfOk result (CallFits domains.now) }
+    ensures number { IfOk result (λ call. call.number ≡ length before.now + 1) }
+{
+    let number = before.len() + 1;
+    let table = table_in(item, Place::item(Section::Top, "call", number))?;
+    read_call(alloc, domains, number, table)
 }
 
 /// Reads a table as the call of a number.
@@ -213,6 +229,7 @@ fn read_hex_input<'t>(
 
 /// The input by the key `stdin_fill`, the length of a fill, or the input before where it has no
 /// value.
+#[tactic(auto, using(crate::proofs::GeneratedLaws::length_fill))]
 fn read_fill_input<'t>(
     alloc: Global,
     number: usize,
@@ -249,7 +266,7 @@ fn first_input<'t>(is_second: bool, at: Place<'t>) -> Result<(), Refusal<'t>>
 
 /// The bytes of a byte string.
 fn hex_bytes<'t>(alloc: Global, text: &[u8], at: Place<'t>) -> Result<Vec<u8>, Refusal<'t>>
-    ensures { Gives (λ bytes. bytes.items) result (ok_or (byte_string text.now) (BadText, place_path at)) }
+    ensures { Gives (λ bytes. bytes.items) result (ok_or (byte_string text.now) (BadText, place_path at.entry)) }
 {
     match bytes_of(alloc, text) {
         Ok(bytes) => Ok(bytes),

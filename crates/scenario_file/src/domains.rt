@@ -7,8 +7,8 @@ ghost use Rattle.scenario_file.specs.Acts.{ActFits, AreActs};
 ghost use Rattle.scenario_file.specs.Names.{is_name};
 ghost use Rattle.scenario_file.specs.Scenario.{AreApart, DomainFits, place_named};
 ghost use Rattle.scenario_file.specs.Readings.{Gives, place_path};
-ghost use Rattle.scenario_file.specs.Checks.{optional};
-ghost use Rattle.scenario_file.specs.Tables.{act_in, acts_from, at_most, domain_in, domains_from, domains_of, hostile_in, item_count, new_name, some_items};
+ghost use Rattle.scenario_file.specs.Checks.{all_from, optional};
+ghost use Rattle.scenario_file.specs.Tables.{act_in, at_most, domain_in, domains_of, hostile_in, new_name, next_act, next_domain};
 
 use crate::act_words::{ActError, read_act};
 use crate::acts::{Act, Acts};
@@ -45,6 +45,7 @@ pub(crate) fn read_domains(alloc: Global, top: &Table) -> Result<Vec<Domain>, Re
 }
 
 /// Checks that a list has so many items at most.
+#[tactic(auto, using(crate::proofs::ReadLaws::item_count_seen))]
 pub(crate) fn at_most<'t>(most: usize, items: &[Value], at: Place<'t>) -> Result<(), Refusal<'t>>
     ensures items { Gives (λ x. items_view items.now) result (at_most most (place_path at.entry) (items_view items.now)) }
     ensures few { IfOk result (λ x. length items.now ≤ most) }
@@ -59,19 +60,33 @@ pub(crate) fn at_most<'t>(most: usize, items: &[Value], at: Place<'t>) -> Result
 /// Reads the items of the list `domain`.
 fn read_items(alloc: Global, items: &[Value]) -> Result<Vec<Domain>, Refusal<'_>>
     requires { length items.now ≤ 32 }
-    ensures domains { Gives (λ domains. domains.items) result (domains_from [] (items_view items.now)) }
+    ensures domains { Gives (λ domains. domains.items) result (all_from next_domain [] (items_view items.now)) }
     ensures few { IfOk result (λ domains. length domains.items ≤ 32) }
     ensures fit { IfOk result (λ domains. All DomainFits domains.items) }
     ensures apart { IfOk result (λ domains. AreApart domains.items) }
 {
     let mut domains = Vec::with_capacity(alloc, items.len())?;
     for item in items {
-        let number = domains.len() + 1;
-        let table = table_in(item, Place::item(Section::Top, "domain", number))?;
-        let domain = read_domain(alloc, &domains, number, table)?;
+        let domain = next_domain(alloc, &domains, item)?;
         domains.push(domain)?;
     }
     Ok(domains)
+}
+
+/// Reads an item as the domain behind those before.
+fn next_domain<'t>(
+    alloc: Global,
+    before: &[Domain],
+    item: &'t Value,
+) -> Result<Domain, Refusal<'t>>
+    requires { length before.now < 32 }
+    ensures domain { Gives (λ domain. domain) result (next_domain before.now (view item.now)) }
+    ensures fits { IfOk result DomainFits }
+    ensures new { IfOk result (λ domain. place_named before.now domain.name ≡ None) }
+{
+    let number = before.len() + 1;
+    let table = table_in(item, Place::item(Section::Top, "domain", number))?;
+    read_domain(alloc, before, number, table)
 }
 
 /// Reads a table as the domain of a number, behind those before.
@@ -146,7 +161,7 @@ fn read_act_items<'t>(
     items: &'t [Value],
 ) -> Result<Vec<Act>, Refusal<'t>>
     requires { length items.now ≤ 256 }
-    ensures acts { Gives (λ acts. acts.items) result (acts_from number [] (items_view items.now)) }
+    ensures acts { Gives (λ acts. acts.items) result (all_from (next_act number) [] (items_view items.now)) }
     ensures fit { IfOk result (λ acts. AreActs acts.items) }
 {
     let mut acts = Vec::with_capacity(alloc, items.len())?;

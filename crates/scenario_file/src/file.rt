@@ -23,6 +23,7 @@ use toml::Table;
 ///
 /// [`ScenarioError::Bad`] exactly where the bytes are no scenario, with the first check that fails
 /// and the path of what it looked at; `ScenarioError::Memory`.
+#[tactic(auto, unfolding(crate::specs::Tables::scenario_of))]
 pub fn read(alloc: Global, bytes: &[u8]) -> Result<Scenario, ScenarioError>
     ensures scenario { IfOk result (λ scenario. scenario_of bytes.now ≡ Ok (written scenario)) }
     ensures bad { IfErr result (λ e. IsFault e (scenario_of bytes.now)) }
@@ -35,6 +36,7 @@ pub fn read(alloc: Global, bytes: &[u8]) -> Result<Scenario, ScenarioError>
 }
 
 /// Reads the bytes as a table of TOML.
+#[tactic(auto, using(crate::proofs::ReadLaws::document_read, crate::proofs::ReadLaws::document_bad, crate::proofs::ReadLaws::told_document))]
 fn read_document(alloc: Global, bytes: &[u8]) -> Result<Table, ScenarioError>
     ensures table { IfOk result (λ table. document_of bytes.now ≡ Ok (table_view table)) }
     ensures bad { IfErr result (λ e. IsFault e (document_of bytes.now)) }

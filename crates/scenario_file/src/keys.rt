@@ -1,11 +1,10 @@
 //! The keys of a table, and values of the types that a scenario needs.
-ghost use Rattle.std.specs.Prelude.{◌≡◌, ◌≤◌, ℕ, Bool, option_map, bytes_eq, IfOk, IfSome};
-ghost use Rattle.scenario_file.specs.declared.place.Section.TheVariants.{Call};
+ghost use Rattle.std.specs.Prelude.{◌≡◌, ◌≤◌, option_map, bytes_eq, IfOk, IfSome};
 ghost use Rattle.std.specs.List.{list_any};
 ghost use Rattle.toml.specs.Data.{get_member};
 ghost use Rattle.toml.specs.View.{array_view, items_view, table_view, view};
 ghost use Rattle.scenario_file.specs.Readings.{Gives, place_path};
-ghost use Rattle.scenario_file.specs.Checks.{integer_in, key_list, keys_of, known_keys, list_at, list_in, natural, needed, needed_text, number_at, number_in, table_in, text_in, within};
+ghost use Rattle.scenario_file.specs.Checks.{call_keys, integer_in, key_list, keys_of, known_keys, list_at, list_in, natural, needed, needed_text, number_at, number_in, table_in, text_in, within};
 
 use crate::error::ScenarioKind;
 use crate::place::{Place, Refusal, Section};
@@ -55,7 +54,7 @@ fn is_known(section: Section, hostile: bool, key: &str) -> bool
 
 /// Whether a call may have a key.
 fn is_known_of_call(key: &str) -> bool
-    ensures { (number : ℕ) (hostile : Bool) → result ≡ list_any (bytes_eq key.now) (keys_of (Call number) hostile) }
+    ensures { result ≡ list_any (bytes_eq key.now) call_keys }
 {
     key == "from"
         || key == "to"

@@ -75,12 +75,14 @@ fn orders_in<'t>(value: &'t Value, key: &'static str) -> Result<Orders, Refusal<
 }
 
 /// The items of a list of two.
+#[tactic(auto, using(crate::proofs::ReadLaws::two_of_some, crate::proofs::ReadLaws::two_of_none))]
 fn two_of(items: &[Value]) -> Option<(&Value, &Value)>
     ensures { option_map (λ pair. (view pair.0.now, view pair.1.now)) result ≡ two_of (items_view items.now) }
 {
-    match items {
-        [left, right] => Some((left, right)),
-        _ => None,
+    if items.len() == 2 {
+        Some((&items[0], &items[1]))
+    } else {
+        None
     }
 }
 
