@@ -89,7 +89,7 @@ unfolding size
 words-are orders left right = rw (left, right) refl
 
 domain-fits : (k : ℕ) → k < 4 → DomainFits (generated_domain (text_at generated_names k))
-domain-fits k h = record { name = names-fit k h; kind = (refl, inr refl) }
+domain-fits k h = record { name = names-fit k h; numbers = (refl, inr refl); acts = tt }
 
 domains-fit : All DomainFits made_domains
 domains-fit = All-from_recursion DomainFits made_domains

@@ -6,3 +6,4 @@ pub mod NameLaws
 pub mod TotalLaws
 pub mod NumberLaws
 pub mod ReadLaws
+pub mod FileLaws

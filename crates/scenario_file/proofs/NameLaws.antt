@@ -1,5 +1,5 @@
 -- Names hold no NUL.
-use Rattle.std.proofs.Common.{◌≡◌, ℕ, ◌<◌, ◌≤◌, ◌+◌, drop, get_or, zero, suc, List, [], ◌∷◌, length, Bool, true, false, refl, arith}
+use Rattle.std.proofs.Common.{◌≡◌, ℕ, ◌<◌, ◌≤◌, ◌+◌, drop, get_or, zero, suc, List, [], ◌∷◌, length, Bool, true, false, refl, sym, subst, ◌∙◌, arith}
 use Rattle.std.specs.Prelude.{◌&&◌, nat_le, Contains, slice_index_or}
 use Rattle.std.specs.List.{list_all}
 use Rattle.std.proofs.lemmas.Bool.{and_parts, false≢true}
@@ -11,14 +11,15 @@ use Rattle.scenario_file.specs.Names.{is_name, is_service, is_service_byte}
 
 -- a list of bytes of which a test lets no NUL pass
 no_nul : (p : ℕ → Bool) → p 0 ≡ false → (text : List ℕ) → list_all p text ≡ true → ¬ Contains text 0
-no_nul p none [] all (k, (within, is)) = omega arith
-no_nul p none (x ∷ text) all (k, (within, is)) = by_place k within is
+no_nul p none [] all (k, within, is) = omega arith
+no_nul p none (x ∷ text) all (k, within, is) = by_place k within is (λ j w e. no_nul p none text parts.1 (j, w, e))
   where
     parts : (p x ≡ true) × (list_all p text ≡ true)
     parts = and_parts (p x) (list_all p text) all
-    by_place : (j : ℕ) → j < length (x ∷ text) → slice_index_or (x ∷ text) j 0 ≡ 0 → ⊥
-    by_place zero w e = let passes = parts.0 in let zero_passes : p 0 ≡ true = rw (← e) passes in false≢true (cc (zero_passes, none))
-    by_place (suc j) w e = no_nul p none text parts.1 (j, (omega (arith, w), e))
+
+    by_place : (j : ℕ) → j < length (x ∷ text) → slice_index_or (x ∷ text) j 0 ≡ 0 → ((i : ℕ) → i < length text → slice_index_or text i 0 ≡ 0 → ⊥) → ⊥
+    by_place zero w e more = let zero_passes = subst (λ (y : ℕ). p y ≡ true) e parts.0 in false≢true (sym none ∙ zero_passes)
+    by_place (suc j) w e more = more j (omega (arith, w)) e
 
 pub no_nul_in_name : (text : List ℕ) → is_name text ≡ true → HasNoNul text
 no_nul_in_name text is =

@@ -13,7 +13,10 @@ use Rattle.scenario_file.specs.declared.place.Section.{Section}
 use Rattle.scenario_file.specs.declared.scenario.Domain.{Domain}
 use Rattle.scenario_file.specs.declared.scenario.CallPlan.{CallPlan}
 use Rattle.scenario_file.specs.Scenario.{AreApart, place_named}
-use Rattle.scenario_file.specs.Checks.{Fault, all_from, key_list}
+use Rattle.std.proofs.lemmas.List.{length_push}
+use Rattle.scenario_file.specs.declared.place.Section.TheVariants as section
+use Rattle.scenario_file.specs.Checks.{Fault, all_from, key_list, path_of}
+use Rattle.scenario_file.proofs.NumberLaws.{IsNumbered, IsNumbered-push}
 use Rattle.scenario_file.specs.declared.place.Refusal.{Refusal}
 use Rattle.scenario_file.specs.declared.place.Refusal.TheVariants as part
 use Rattle.std.specs.Str.{IsUtf8, is_utf8}
@@ -21,12 +24,12 @@ use Rattle.std.proofs.lemmas.Str.{IsUtf8-from_is_utf8, is_utf8-from_IsUtf8}
 use Rattle.std.proofs.Common.{codes}
 use Rattle.toml.specs.Data.{Members}
 use Rattle.toml.specs.Parse.{parse_document}
-use Rattle.scenario_file.specs.declared.error.ScenarioKind.TheVariants.{Toml}
+use Rattle.scenario_file.specs.declared.error.ScenarioKind.TheVariants.{MissingKey, Toml}
 use Rattle.scenario_file.specs.declared.error.ScenarioError.{ScenarioError}
 use Rattle.scenario_file.specs.declared.error.ScenarioError.TheVariants as whole
 use Rattle.scenario_file.specs.Readings.{IsFault, IsNoDocument, IsRefusal, place_path}
 use Rattle.std.proofs.lemmas.Grind.{common_steps}
-use Rattle.scenario_file.specs.Tables.{document_of, item_count, two_of}
+use Rattle.scenario_file.specs.Tables.{document_of, item_count, some_items, two_of}
 
 -- the keys of a table are those of its map
 pub keys_listed : (es : List Entry) → key_list (members_view es) ≡ map string_bytes (map_keys es)
@@ -84,7 +87,7 @@ document_bad bytes none = by_test (is_utf8 bytes) refl
     by_test false is = rw is refl
 
 pub told_document : {Y : Type 0} (e : ScenarioError) (due : Result Y Fault) → IsNoDocument e → due ≡ Err (Toml, codes "file") → IsFault e due
-told_document (whole.Bad kind path) due h is = 
+told_document (whole.Bad kind path) due h is =
     let kinds = sym h.0 in
     let paths = sym h.1 in
     is ∙ (λ i. Err (kinds i, paths i))
@@ -103,3 +106,40 @@ two_of_none [] other = refl
 two_of_none (v ∷ []) other = refl
 two_of_none (v ∷ w ∷ []) other = absurd (other refl)
 two_of_none (v ∷ w ∷ x ∷ vs) other = refl
+
+-- a list without an item, and one with some
+pub some_items_none : (vs : List Value) → length vs ≡ 0 → some_items (items_view vs) ≡ Err (MissingKey, path_of section.Top (codes "domain"))
+some_items_none [] none = refl
+some_items_none (v ∷ vs) none = absurd (omega (arith, none))
+
+pub some_items_full : (vs : List Value) → length vs ≢ 0 → some_items (items_view vs) ≡ Ok (items_view vs)
+some_items_full [] some = absurd (some refl)
+some_items_full (v ∷ vs) some = refl
+
+-- what a loop over the items owes where an item is refused, where one is read, and at its end
+pub item_refused : {A : Type 0} (next : List A → Data → Result A Fault) (before seen : List A) (vs : List Value) (i : ℕ) (v : Value) (all : Result (List A) Fault) (e : Refusal) → i < length vs
+    → v ≡ get_or vs i v → seen ≡ before → all_from next before (items_view (drop i vs)) ≡ all → IsRefusal e (next seen (view v)) → IsRefusal e all
+item_refused next before seen vs i v all e within same is so_far h =
+    refused_item e (next seen (view v)) all (λ fault due. sym so_far ∙ all_from-bad next before vs i v fault within same (rw (← is) due)) h
+
+pub item_read : {A : Type 0} (next : List A → Data → Result A Fault) (before seen after : List A) (vs : List Value) (i : ℕ) (v : Value) (x : A) (all : Result (List A) Fault) → i < length vs
+    → v ≡ get_or vs i v → seen ≡ before → after ≡ before ++ x ∷ [] → all_from next before (items_view (drop i vs)) ≡ all → next seen (view v) ≡ Ok x
+    → all_from next after (items_view (drop (i + 1) vs)) ≡ all
+item_read next before seen after vs i v x all within same is pushed so_far read =
+    rw pushed (sym (all_from-next next before vs i v x within same (rw (← is) read)) ∙ so_far)
+
+pub all_read : {A : Type 0} (next : List A → Data → Result A Fault) (before : List A) (vs : List Value) (i : ℕ) (all : Result (List A) Fault) → length vs ≤ i
+    → all_from next before (items_view (drop i vs)) ≡ all → all ≡ Ok before
+all_read next before vs i all over so_far = sym so_far ∙ all_from-all next before vs i over
+
+pub pushed_length : {A : Type 0} (before after : List A) (x : A) (i : ℕ) → after ≡ before ++ x ∷ [] → length before ≡ i → length after ≡ i + 1
+pushed_length before after x i pushed is = rw pushed (length_push before x ∙ ap (λ n. n + 1) is)
+
+pub pushed_all : {A : Type 0} (P : A → Type 0) (before after : List A) (x : A) → after ≡ before ++ x ∷ [] → All P before → P x → All P after
+pushed_all P before after x pushed all here = rw pushed (All-push P before x all here)
+
+pub pushed_apart : (before seen after : List Domain) (x : Domain) → seen ≡ before → after ≡ before ++ x ∷ [] → AreApart before → place_named seen x.name ≡ None → AreApart after
+pushed_apart before seen after x is pushed apart new = rw pushed (apart-push before x apart (rw (← is) new))
+
+pub pushed_numbered : (before seen after : List CallPlan) (x : CallPlan) → seen ≡ before → after ≡ before ++ x ∷ [] → IsNumbered 1 before → x.number ≡ length seen + 1 → IsNumbered 1 after
+pushed_numbered before seen after x is pushed numbered new = rw pushed (IsNumbered-push 1 before x numbered (let same = ap length is in omega (arith, new, same)))

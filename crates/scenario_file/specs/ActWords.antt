@@ -52,12 +52,15 @@ say_of words = do
   Some (Say bytes)
 
 -- `trigger TO SERVICE K`, K from 1 to 64
-abbrev pub trigger_of : List (List ℕ) → Option Act
-trigger_of (to ∷ service ∷ count ∷ []) = do
+abbrev pub trigger_from : List ℕ → List ℕ → List ℕ → Option Act
+trigger_from to service count = do
   name ← name_word to
   asked ← service_word service
   times ← number_from 1 64 count
   Some (Trigger name asked times)
+
+abbrev pub trigger_of : List (List ℕ) → Option Act
+trigger_of (to ∷ service ∷ count ∷ []) = trigger_from to service count
 trigger_of _ = None
 
 -- `terminate DOMAIN PORT`
@@ -144,12 +147,15 @@ abbrev pub word_named : List ℕ → Option WordName
 word_named word = field_or_byte (lookup (bytes_eq word) fields) word
 
 -- `poke PAGE WORD VALUE`, the value of 64 bits
-abbrev pub poke_of : List (List ℕ) → Option Act
-poke_of (where_to ∷ word ∷ value ∷ []) = do
+abbrev pub poke_from : List ℕ → List ℕ → List ℕ → Option Act
+poke_from where_to word value = do
   on ← page_of where_to
   name ← word_named word
   number ← number_of 18446744073709551615 value
   Some (Poke on name number)
+
+abbrev pub poke_of : List (List ℕ) → Option Act
+poke_of (where_to ∷ word ∷ value ∷ []) = poke_from where_to word value
 poke_of _ = None
 
 -- an act by its first word

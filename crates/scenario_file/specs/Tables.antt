@@ -108,6 +108,15 @@ hostile_in number value = do
   acts ← all_from (next_act number) [] few
   Ok (Some acts)
 
+-- the ports of a hostile domain and the version of an honest one: neither has the other's key
+abbrev pub numbers_of : ℕ → Bool → Members → Result (ℕ × ℕ) Fault
+numbers_of number true ms = do
+  ports ← number_at 0 32 4 (section.Domain number) (codes "ports") ms
+  Ok (ports, 3)
+numbers_of number false ms = do
+  version ← number_at 2 3 3 (section.Domain number) (codes "version") ms
+  Ok (4, version)
+
 -- a table as the domain behind those before
 abbrev pub domain_in : List Domain → ℕ → Members → Result Domain Fault
 domain_in before number ms = do
@@ -115,9 +124,8 @@ domain_in before number ms = do
   said ← needed_text (section.Domain number) (codes "name") ms
   name ← new_name number before said
   hostile ← optional None (hostile_in number) (get_member (codes "hostile") ms)
-  ports ← number_at 0 32 4 (section.Domain number) (codes "ports") ms
-  version ← number_at 2 3 3 (section.Domain number) (codes "version") ms
-  Ok (record { name = name; hostile = hostile; ports = ports; version = version })
+  numbers ← numbers_of number (is_some hostile) ms
+  Ok (record { name = name; hostile = hostile; ports = numbers.0; version = numbers.1 })
 
 -- the domain behind those before
 abbrev pub next_domain : List Domain → Data → Result Domain Fault

@@ -5,7 +5,7 @@ ghost use Rattle.script_words.specs.WordsLeft.{words_left};
 ghost use Rattle.scenario_file.specs.Acts.{ActFits, PageFits};
 ghost use Rattle.scenario_file.specs.Names.{is_name, is_service};
 ghost use Rattle.scenario_file.specs.ActReadings.{Spells};
-ghost use Rattle.scenario_file.specs.ActWords.{act_of, act_of_words, alone, any_number, byte_at, byte_named, colon_parts, data_page, fields, name_word, number_from, page_of, place_in, poke_of, rest_of, say_of, scribble_of, service_word, terminate_of, trigger_of, word_named};
+ghost use Rattle.scenario_file.specs.ActWords.{act_of, act_of_words, alone, any_number, byte_at, byte_named, colon_parts, data_page, fields, name_word, number_from, page_of, place_in, poke_from, poke_of, rest_of, say_of, scribble_of, service_word, terminate_of, trigger_from, trigger_of, word_named};
 
 use crate::acts::{Act, ActPage};
 use crate::names::{is_name, is_service};
@@ -105,6 +105,14 @@ fn read_trigger(alloc: Global, mut words: Words) -> Result<Act, ActError>
     let to = words.next().ok_or(ActError::Bad)?;
     let service = words.next().ok_or(ActError::Bad)?;
     let count = words.only().ok_or(ActError::Bad)?;
+    trigger_from(alloc, to, service, count)
+}
+
+/// A trigger of its three words.
+fn trigger_from(alloc: Global, to: &[u8], service: &[u8], count: &[u8]) -> Result<Act, ActError>
+    ensures act { Spells (λ act. act) result (trigger_from to.now service.now count.now) }
+    ensures fits { IfOk result ActFits }
+{
     Ok(Act::Trigger {
         to: name_word(alloc, to)?,
         service: service_word(alloc, service)?,
@@ -157,6 +165,14 @@ fn read_poke(alloc: Global, mut words: Words) -> Result<Act, ActError>
     let page = words.next().ok_or(ActError::Bad)?;
     let word = words.next().ok_or(ActError::Bad)?;
     let value = words.only().ok_or(ActError::Bad)?;
+    poke_from(alloc, page, word, value)
+}
+
+/// A poke of its three words.
+fn poke_from(alloc: Global, page: &[u8], word: &[u8], value: &[u8]) -> Result<Act, ActError>
+    ensures act { Spells (λ act. act) result (poke_from page.now word.now value.now) }
+    ensures fits { IfOk result ActFits }
+{
     Ok(Act::Poke {
         page: page_of(alloc, page)?,
         word: word_named(word).ok_or(ActError::Bad)?,

@@ -14,7 +14,9 @@ ghost use Rattle.scenario_file.specs.Tables.{call_in, caller_named, caller_of, c
 use crate::domains::at_most;
 use crate::error::ScenarioKind;
 use crate::generator::fill;
-use crate::keys::{check_keys, integer_in, list_at, member, natural, needed_text, table_in, text_in};
+use crate::keys::{
+    check_keys, integer_in, list_at, member, natural, needed_text, table_in, text_in,
+};
 use crate::lookup::{domain_at_place, place_named};
 use crate::names::{is_name, is_service};
 use crate::place::{Place, Refusal, Section};
@@ -111,11 +113,7 @@ fn read_call<'t>(
 }
 
 /// Reads the key `from` of a call.
-fn read_caller<'t>(
-    domains: &[Domain],
-    number: usize,
-    table: &'t Table,
-) -> Result<u32, Refusal<'t>>
+fn read_caller<'t>(domains: &[Domain], number: usize, table: &'t Table) -> Result<u32, Refusal<'t>>
     requires { length domains.now ≤ 32 }
     ensures caller { Gives (λ from. from) result (caller_of number domains.now (table_view table.now)) }
     ensures honest { IfOk result (IsHonest domains.now) }
@@ -150,10 +148,7 @@ fn read_target<'t>(alloc: Global, number: usize, table: &'t Table) -> Result<Tex
     let section = Section::Call(number);
     let text = needed_text(table, section, "to")?.as_bytes();
     if !is_name(text) {
-        return Err(Refusal::Bad(
-            ScenarioKind::BadText,
-            Place::key(section, "to"),
-        ));
+        return Err(Refusal::Bad(ScenarioKind::BadText, Place::key(section, "to")));
     }
     Ok(text_of(alloc, text)?)
 }
@@ -166,10 +161,7 @@ fn read_service<'t>(alloc: Global, number: usize, table: &'t Table) -> Result<Te
     let section = Section::Call(number);
     let text = needed_text(table, section, "service")?.as_bytes();
     if !is_service(text) {
-        return Err(Refusal::Bad(
-            ScenarioKind::BadText,
-            Place::key(section, "service"),
-        ));
+        return Err(Refusal::Bad(ScenarioKind::BadText, Place::key(section, "service")));
     }
     Ok(text_of(alloc, text)?)
 }
@@ -248,7 +240,10 @@ fn read_fill_input<'t>(
     first_input(before.is_some(), at)?;
     let count = natural(z).ok_or(Refusal::Bad(ScenarioKind::BadNumber, at))?;
     if count > MOST_STDIN as u64 {
-        return Err(Refusal::Bad(ScenarioKind::TooMany, Place::key(Section::Call(number), "stdin")));
+        return Err(Refusal::Bad(
+            ScenarioKind::TooMany,
+            Place::key(Section::Call(number), "stdin"),
+        ));
     }
     Ok(Some(Bytes::of(fill(alloc, count as u32)?)))
 }

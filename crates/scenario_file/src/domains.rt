@@ -5,15 +5,17 @@ ghost use Rattle.toml.specs.Data.{get_member};
 ghost use Rattle.toml.specs.View.{items_view, table_view, view};
 ghost use Rattle.scenario_file.specs.Acts.{ActFits, AreActs};
 ghost use Rattle.scenario_file.specs.Names.{is_name};
-ghost use Rattle.scenario_file.specs.Scenario.{AreApart, DomainFits, place_named};
+ghost use Rattle.scenario_file.specs.Scenario.{AreApart, DomainFits, HostileFits, NumbersFit, place_named};
 ghost use Rattle.scenario_file.specs.Readings.{Gives, place_path};
 ghost use Rattle.scenario_file.specs.Checks.{all_from, optional};
-ghost use Rattle.scenario_file.specs.Tables.{act_in, at_most, domain_in, domains_of, hostile_in, new_name, next_act, next_domain};
+ghost use Rattle.scenario_file.specs.Tables.{act_in, at_most, domain_in, domains_of, hostile_in, new_name, next_act, next_domain, numbers_of, some_items};
 
 use crate::act_words::{ActError, read_act};
 use crate::acts::{Act, Acts};
 use crate::error::ScenarioKind;
-use crate::keys::{check_keys, list_at, list_in, member, needed_text, number_at, table_in, text_in};
+use crate::keys::{
+    check_keys, list_at, list_in, member, needed_text, number_at, table_in, text_in,
+};
 use crate::lookup::place_named;
 use crate::names::is_name;
 use crate::place::{Place, Refusal, Section};
@@ -35,13 +37,22 @@ pub(crate) fn read_domains(alloc: Global, top: &Table) -> Result<Vec<Domain>, Re
     ensures fit { IfOk result (λ domains. All DomainFits domains.items) }
     ensures apart { IfOk result (λ domains. AreApart domains.items) }
 {
-    let at = Place::key(Section::Top, "domain");
     let items = list_at(top, Section::Top, "domain")?;
-    if items.is_empty() {
-        return Err(Refusal::Bad(ScenarioKind::MissingKey, at));
-    }
-    at_most(MOST_DOMAINS, items, at)?;
+    some_items(items)?;
+    at_most(MOST_DOMAINS, items, Place::key(Section::Top, "domain"))?;
     read_items(alloc, items)
+}
+
+/// Checks that the list `domain` has an item.
+#[tactic(auto, using(crate::proofs::ReadLaws::some_items_full, crate::proofs::ReadLaws::some_items_none))]
+fn some_items<'t>(items: &[Value]) -> Result<(), Refusal<'t>>
+    ensures { Gives (λ x. items_view items.now) result (some_items (items_view items.now)) }
+{
+    if items.len() == 0 {
+        Err(Refusal::Bad(ScenarioKind::MissingKey, Place::key(Section::Top, "domain")))
+    } else {
+        Ok(())
+    }
 }
 
 /// Checks that a list has so many items at most.
@@ -74,11 +85,7 @@ fn read_items(alloc: Global, items: &[Value]) -> Result<Vec<Domain>, Refusal<'_>
 }
 
 /// Reads an item as the domain behind those before.
-fn next_domain<'t>(
-    alloc: Global,
-    before: &[Domain],
-    item: &'t Value,
-) -> Result<Domain, Refusal<'t>>
+fn next_domain<'t>(alloc: Global, before: &[Domain], item: &'t Value) -> Result<Domain, Refusal<'t>>
     requires { length before.now < 32 }
     ensures domain { Gives (λ domain. domain) result (next_domain before.now (view item.now)) }
     ensures fits { IfOk result DomainFits }
@@ -90,6 +97,7 @@ fn next_domain<'t>(
 }
 
 /// Reads a table as the domain of a number, behind those before.
+#[tactic(auto, using(crate::proofs::TotalLaws::domain_fits, crate::proofs::NameLaws::no_nul_in_name))]
 fn read_domain<'t>(
     alloc: Global,
     before: &[Domain],
@@ -103,12 +111,34 @@ fn read_domain<'t>(
     let section = Section::Domain(number);
     check_keys(table, section, member(table, "hostile").is_some())?;
     let name = new_name(before, number, needed_text(table, section, "name")?)?;
+    let name = text_of(alloc, name)?;
+    let hostile = read_hostile(alloc, number, table)?;
+    let (ports, version) = read_numbers(number, hostile.is_some(), table)?;
     Ok(Domain {
-        name: text_of(alloc, name)?,
-        hostile: read_hostile(alloc, number, table)?,
-        ports: number_at(table, section, "ports", 0, 32, 4)?,
-        version: number_at(table, section, "version", 2, 3, 3)?,
+        name,
+        hostile,
+        ports,
+        version,
     })
+}
+
+/// Reads the ports of a hostile domain, or the version of an honest one. The other of them has its
+/// default.
+#[tactic(auto, using(crate::proofs::TotalLaws::two_or_three))]
+fn read_numbers<'t>(
+    number: usize,
+    hostile: bool,
+    table: &'t Table,
+) -> Result<(u32, u32), Refusal<'t>>
+    ensures numbers { Gives (λ numbers. numbers) result (numbers_of number hostile (table_view table.now)) }
+    ensures fit { IfOk result (λ numbers. NumbersFit hostile numbers.0 numbers.1) }
+{
+    let section = Section::Domain(number);
+    if hostile {
+        Ok((number_at(table, section, "ports", 0, 32, 4)?, 3))
+    } else {
+        Ok((4, number_at(table, section, "version", 2, 3, 3)?))
+    }
 }
 
 /// Checks that a text is a name that no domain before has.
@@ -135,7 +165,7 @@ fn read_hostile<'t>(
     table: &'t Table,
 ) -> Result<Option<Acts>, Refusal<'t>>
     ensures hostile { Gives (λ hostile. hostile) result (optional None (hostile_in number) (get_member (codes "hostile") (table_view table.now))) }
-    ensures fit { IfOk result (λ hostile. IfSome hostile AreActs) }
+    ensures fit { IfOk result HostileFits }
 {
     match member(table, "hostile") {
         None => Ok(None),
@@ -166,11 +196,25 @@ fn read_act_items<'t>(
 {
     let mut acts = Vec::with_capacity(alloc, items.len())?;
     for item in items {
-        let at = Place::item(Section::Domain(number), "hostile", acts.len() + 1);
-        let act = act_in(alloc, item, at)?;
+        let act = next_act(alloc, number, &acts, item)?;
         acts.push(act)?;
     }
     Ok(acts)
+}
+
+/// Reads an item as the act behind those before.
+fn next_act<'t>(
+    alloc: Global,
+    number: usize,
+    before: &[Act],
+    item: &'t Value,
+) -> Result<Act, Refusal<'t>>
+    requires { length before.now < 256 }
+    ensures act { Gives (λ act. act) result (next_act number before.now (view item.now)) }
+    ensures fits { IfOk result ActFits }
+{
+    let at = Place::item(Section::Domain(number), "hostile", before.len() + 1);
+    act_in(alloc, item, at)
 }
 
 /// Reads a value as an act.

@@ -9,10 +9,10 @@ use crate::calls::read_calls;
 use crate::domains::read_domains;
 use crate::error::{ScenarioError, ScenarioKind};
 use crate::keys::check_keys;
+use crate::path::Path;
 use crate::place::{Refusal, Section};
 use crate::rings::read_rings;
 use crate::scenario::Scenario;
-use crate::path::Path;
 use crate::totals::check_totals;
 use std::alloc::Global;
 use toml::Table;
@@ -23,7 +23,7 @@ use toml::Table;
 ///
 /// [`ScenarioError::Bad`] exactly where the bytes are no scenario, with the first check that fails
 /// and the path of what it looked at; `ScenarioError::Memory`.
-#[tactic(auto, unfolding(crate::specs::Tables::scenario_of))]
+
 pub fn read(alloc: Global, bytes: &[u8]) -> Result<Scenario, ScenarioError>
     ensures scenario { IfOk result (λ scenario. scenario_of bytes.now ≡ Ok (written scenario)) }
     ensures bad { IfErr result (λ e. IsFault e (scenario_of bytes.now)) }

@@ -29,10 +29,7 @@ pub(crate) fn check_keys<'t>(
 {
     for key in table.keys() {
         if !is_known(section, hostile, key.as_str()) {
-            return Err(Refusal::Bad(
-                ScenarioKind::UnknownKey,
-                Place::key(section, key.as_str()),
-            ));
+            return Err(Refusal::Bad(ScenarioKind::UnknownKey, Place::key(section, key.as_str())));
         }
     }
     Ok(())
@@ -108,10 +105,7 @@ fn needed<'t>(
 ) -> Result<&'t Value, Refusal<'t>>
     ensures { Gives (λ value. view value.now) result (needed section key.now (table_view table.now)) }
 {
-    member(table, key).ok_or(Refusal::Bad(
-        ScenarioKind::MissingKey,
-        Place::key(section, key),
-    ))
+    member(table, key).ok_or(Refusal::Bad(ScenarioKind::MissingKey, Place::key(section, key)))
 }
 
 /// The text of a key that is needed.
@@ -168,12 +162,7 @@ pub(crate) fn number_at<'t>(
 }
 
 /// The number of a value, from the least to the most.
-fn number_in<'t>(
-    value: &Value,
-    at: Place<'t>,
-    least: u32,
-    most: u32,
-) -> Result<u32, Refusal<'t>>
+fn number_in<'t>(value: &Value, at: Place<'t>, least: u32, most: u32) -> Result<u32, Refusal<'t>>
     ensures number { Gives (λ n. n) result (number_in least most (place_path at.entry) (view value.now)) }
     ensures within { IfOk result (λ n. (least ≤ n) × (n ≤ most)) }
 {

@@ -21,6 +21,7 @@ const MOST_STDIN_TOTAL: u64 = 8_388_608;
 const MOST_WORDS: u64 = 16_777_216;
 
 /// Checks that the inputs and the pages aren't too many.
+#[tactic(auto, using(crate::proofs::TotalLaws::words_by_numbers))]
 pub(crate) fn check_totals<'t>(
     rings: Rings,
     domains: &[Domain],
@@ -36,15 +37,9 @@ pub(crate) fn check_totals<'t>(
     ensures words { OnOk result (words_laid (word_count rings.control) (word_count rings.payload) domains.now calls.now ≤ 16777216) }
 {
     if stdin_total(domains, calls) > MOST_STDIN_TOTAL {
-        Err(Refusal::Bad(
-            ScenarioKind::TooMany,
-            Place::key(Section::Top, "stdin"),
-        ))
+        Err(Refusal::Bad(ScenarioKind::TooMany, Place::key(Section::Top, "stdin")))
     } else if words_laid(rings.control, rings.payload, domains, calls) > MOST_WORDS {
-        Err(Refusal::Bad(
-            ScenarioKind::TooMany,
-            Place::key(Section::Top, "words"),
-        ))
+        Err(Refusal::Bad(ScenarioKind::TooMany, Place::key(Section::Top, "words")))
     } else {
         Ok(())
     }
@@ -107,7 +102,7 @@ fn hostile_page_total(domains: &[Domain]) -> u64
 }
 
 /// The data pages of a domain among so many, where it is hostile.
-#[tactic(auto, using(crate::proofs::TotalLaws::ports_within))]
+#[tactic(auto, using(crate::proofs::TotalLaws::pages_within))]
 fn hostile_pages(count: usize, domain: &Domain) -> u64
     requires few { count ≤ 32 }
     requires fits { DomainFits domain.now }
