@@ -7,3 +7,4 @@ pub mod TotalLaws
 pub mod NumberLaws
 pub mod ReadLaws
 pub mod FileLaws
+pub mod Rows

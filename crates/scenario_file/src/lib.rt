@@ -37,3 +37,6 @@ pub use outcomes::honest_lines;
 pub use path::{Path, push_fault_line};
 pub use scenario::{CallPlan, Domain, Scenario};
 pub use without::without_hostile;
+
+#[cfg(test)]
+mod tests;
