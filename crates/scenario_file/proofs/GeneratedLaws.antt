@@ -45,16 +45,16 @@ places-honest (suc (suc (suc (suc k)))) h = absurd (omega (arith, h))
 pub other-within : (caller number : ℕ) → number < 3 → other_place caller number < 4
 other-within caller number h = grind (arith, nat_tests)
 
-pub length-fill : (count : ℕ) → length (fill count) ≡ count
+pub length_fill : (count : ℕ) → length (fill count) ≡ count
 unfolding fill
-length-fill count = length-map-range_with_len (λ i. i % 251) 0 count
+length_fill count = length-map-range_with_len (λ i. i % 251) 0 count
 
 call-fits : (number caller target service stdin : ℕ) → CallFits made_domains (generated_call number caller target service stdin)
 call-fits number caller target service stdin = record {
   caller = places-honest (caller % 4) (omega arith);
   target = names-fit (other_place (caller % 4) (target % 3)) (other-within (caller % 4) (target % 3) (omega arith));
   service = services-fit (service % 6) (omega arith);
-  stdin = omega (arith, length-fill (stdin % 2049));
+  stdin = omega (arith, length_fill (stdin % 2049));
 }
 
 calls-fit : (number x count : ℕ) → All (CallFits made_domains) (generated_calls number x count)
@@ -82,14 +82,14 @@ few-bytes number x (suc count) =
     omega (arith, more, first, here)
   where
     call-fits' : (number x : ℕ) → length (call_from number x).stdin ≤ 2048
-    call-fits' number x = omega (arith, length-fill ((after_call x) % 2049))
+    call-fits' number x = omega (arith, length_fill ((after_call x) % 2049))
 
 words-are : (orders : Orders) → number_of orders.left ≡ 10 → number_of orders.right ≡ 11 → word_count orders ≡ 3086
 unfolding size
 words-are orders left right = rw (left, right) refl
 
 domain-fits : (k : ℕ) → k < 4 → DomainFits (generated_domain (text_at generated_names k))
-domain-fits k h = record { name = names-fit k h; kind = (refl, inr refl) }
+domain-fits k h = record { name = names-fit k h; numbers = (refl, inr refl); acts = tt }
 
 domains-fit : All DomainFits made_domains
 domains-fit = All-from_recursion DomainFits made_domains

@@ -3,3 +3,10 @@ pub mod Acts
 pub mod Scenario
 pub mod Lines
 pub mod Generator
+pub mod Checks
+pub mod ActWords
+pub mod Tables
+pub mod Readings
+pub mod ActReadings
+pub mod RingsSeen
+pub mod KindWords

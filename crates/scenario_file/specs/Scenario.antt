@@ -120,14 +120,20 @@ stdin_total calls = sum_by (λ call. length call.stdin) calls
 
 -- ---- what holds of every scenario
 
--- an honest domain has the default number of ports and its own version; a hostile one its acts and ports
-abbrev pub KindFits : Option (List Act) → ℕ → ℕ → Type 0
-KindFits None ports version = (ports ≡ 4) × ((version ≡ 2) ⊎ (version ≡ 3))
-KindFits (Some acts) ports version = AreActs acts × (ports ≤ 32) × (version ≡ 3)
+-- an honest domain has the default number of ports and its own version; a hostile one its own number of ports
+abbrev pub NumbersFit : Bool → ℕ → ℕ → Type 0
+NumbersFit false ports version = (ports ≡ 4) × ((version ≡ 2) ⊎ (version ≡ 3))
+NumbersFit true ports version = (ports ≤ 32) × (version ≡ 3)
+
+-- the acts of a hostile domain fit
+abbrev pub HostileFits : Option (List Act) → Type 0
+HostileFits None = Unit {0}
+HostileFits (Some acts) = AreActs acts
 
 pub record DomainFits (domain : Domain) : Type 0 where
   pub name : is_name domain.name ≡ true
-  pub kind : KindFits domain.hostile domain.ports domain.version
+  pub numbers : NumbersFit (is_hostile domain) domain.ports domain.version
+  pub acts : HostileFits domain.hostile
 
 -- the names of the domains differ
 abbrev pub AreApart : List Domain → Type 0

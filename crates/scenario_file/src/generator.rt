@@ -57,7 +57,7 @@ pub fn generate(alloc: Global, number: u32, calls: u32) -> Result<Scenario, Memo
 }
 
 /// The orders 10 and 11.
-fn default_orders() -> Orders
+pub(crate) fn default_orders() -> Orders
     ensures { (number_of result.left ≡ 10) × (number_of result.right ≡ 11) }
 {
     match check_orders(DEFAULT_ORDERS.0, DEFAULT_ORDERS.1) {

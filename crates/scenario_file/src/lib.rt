@@ -5,22 +5,36 @@
 //! honest domains is said here too, by the services and the names alone.
 #![tactic(auto)]
 
+mod act_words;
 mod acts;
+mod calls;
 mod copies;
+mod domains;
+mod error;
+mod file;
 mod generator;
+mod keys;
 mod laws;
 mod line;
 mod lookup;
+mod names;
 mod outcomes;
+mod path;
+mod place;
+mod rings;
 mod scenario;
 mod text;
+mod totals;
 mod without;
 
 pub use acts::{Act, ActPage, Acts};
+pub use error::{ScenarioError, ScenarioKind};
+pub use file::read;
 pub use generator::{generate, next_number};
 pub use laws::lines_stay_without_hostile;
 pub use line::{Line, LineCause, LineResult};
 pub use outcomes::honest_lines;
+pub use path::{Path, push_fault_line};
 pub use scenario::{CallPlan, Domain, Scenario};
 pub use without::without_hostile;
 

@@ -31,7 +31,7 @@ fn position_named(domains: &[Domain], name: &[u8]) -> Option<usize>
 }
 
 /// The domain at a place, from 0 on.
-fn domain_at_place(domains: &[Domain], place: usize) -> &Domain
+pub(crate) fn domain_at_place(domains: &[Domain], place: usize) -> &Domain
     requires { place < length domains.now }
     ensures { slice_get domains.now place ≡ Some result.now }
 {

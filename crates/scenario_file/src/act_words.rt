@@ -1,0 +1,330 @@
+//! Reading the acts of a hostile domain.
+ghost use Rattle.std.specs.Prelude.{◌≡◌, ◌==◌, ◌<◌, ◌≤◌, length, position, option_copied, option_map, true, Some, None, IfOk, IfSome, bytes_eq};
+ghost use Rattle.std.specs.Map.{lookup};
+ghost use Rattle.script_words.specs.WordsLeft.{words_left};
+ghost use Rattle.scenario_file.specs.Acts.{ActFits, PageFits};
+ghost use Rattle.scenario_file.specs.Names.{is_name, is_service};
+ghost use Rattle.scenario_file.specs.ActReadings.{Spells};
+ghost use Rattle.scenario_file.specs.ActWords.{act_of, act_of_words, alone, any_number, byte_at, byte_named, colon_parts, data_page, fields, name_word, number_from, page_of, place_in, poke_from, poke_of, rest_of, say_of, scribble_of, service_word, terminate_of, trigger_from, trigger_of, word_named};
+
+use crate::acts::{Act, ActPage};
+use crate::names::{is_name, is_service};
+use crate::text::text_of;
+use qrexec_frame::{Bytes, Text};
+use ring_words::{Ring, WordName};
+use script_words::{ByteError, Words, bytes_of, parse_number};
+use std::alloc::Global;
+use vchan_io::Memory;
+
+/// Why a text wasn't read as an act.
+#[derive(Clone, Copy)]
+pub(crate) enum ActError {
+    /// It is none.
+    Bad,
+    /// There was no memory for it.
+    Memory,
+}
+
+impl From<Memory> for ActError {
+    ghost use Rattle.scenario_file.specs.declared.act_words.ActError.TheVariants as error;
+
+    ghost from_gives = { λ _ e. e ≡ error.Memory };
+
+    fn from(_refused: Memory) -> ActError {
+        ActError::Memory
+    }
+}
+
+impl From<ByteError> for ActError {
+    ghost use Rattle.scenario_file.specs.ActReadings.{act_error_of};
+
+    ghost from_gives = { λ why e. e ≡ act_error_of why };
+
+    fn from(error: ByteError) -> ActError {
+        match error {
+            ByteError::BadHex => ActError::Bad,
+            ByteError::Memory => ActError::Memory,
+        }
+    }
+}
+
+/// Reads a text as an act: words with one space between each two.
+pub(crate) fn read_act(alloc: Global, text: &[u8]) -> Result<Act, ActError>
+    ensures act { Spells (λ act. act) result (act_of text.now) }
+    ensures fits { IfOk result ActFits }
+{
+    let mut words = Words::of(text);
+    let verb = words.next().ok_or(ActError::Bad)?;
+    if verb == b"hello".as_slice() {
+        alone(Act::Hello, words)
+    } else if verb == b"say".as_slice() {
+        read_say(alloc, words)
+    } else if verb == b"trigger".as_slice() {
+        read_trigger(alloc, words)
+    } else if verb == b"terminate".as_slice() {
+        read_terminate(words)
+    } else if verb == b"poke".as_slice() {
+        read_poke(alloc, words)
+    } else if verb == b"scribble".as_slice() {
+        read_scribble(words)
+    } else if verb == b"signal".as_slice() {
+        alone(Act::Signal, words)
+    } else if verb == b"rest".as_slice() {
+        read_rest(words)
+    } else {
+        Err(ActError::Bad)
+    }
+}
+
+/// This act, where no word is left.
+fn alone(act: Act, mut words: Words) -> Result<Act, ActError>
+    ensures act { Spells (λ act. act) result (alone act (words_left words.entry)) }
+    ensures same { IfOk result (λ made. made ≡ act) }
+{
+    match words.next() {
+        None => Ok(act),
+        Some(_) => Err(ActError::Bad),
+    }
+}
+
+/// The bytes of `say BYTES`.
+fn read_say(alloc: Global, words: Words) -> Result<Act, ActError>
+    ensures act { Spells (λ act. act) result (say_of (words_left words.entry)) }
+    ensures fits { IfOk result ActFits }
+{
+    let word = words.only().ok_or(ActError::Bad)?;
+    let bytes = Bytes::of(bytes_of(alloc, word)?);
+    Ok(Act::Say { bytes })
+}
+
+/// The words of `trigger TO SERVICE K`.
+fn read_trigger(alloc: Global, mut words: Words) -> Result<Act, ActError>
+    ensures act { Spells (λ act. act) result (trigger_of (words_left words.entry)) }
+    ensures fits { IfOk result ActFits }
+{
+    let to = words.next().ok_or(ActError::Bad)?;
+    let service = words.next().ok_or(ActError::Bad)?;
+    let count = words.only().ok_or(ActError::Bad)?;
+    trigger_from(alloc, to, service, count)
+}
+
+/// A trigger of its three words.
+fn trigger_from(alloc: Global, to: &[u8], service: &[u8], count: &[u8]) -> Result<Act, ActError>
+    ensures act { Spells (λ act. act) result (trigger_from to.now service.now count.now) }
+    ensures fits { IfOk result ActFits }
+{
+    Ok(Act::Trigger {
+        to: name_word(alloc, to)?,
+        service: service_word(alloc, service)?,
+        count: number_from(1, 64, count)?,
+    })
+}
+
+/// The words of `terminate DOMAIN PORT`.
+fn read_terminate(mut words: Words) -> Result<Act, ActError>
+    ensures act { Spells (λ act. act) result (terminate_of (words_left words.entry)) }
+    ensures fits { IfOk result ActFits }
+{
+    let domain = words.next().ok_or(ActError::Bad)?;
+    let port = words.only().ok_or(ActError::Bad)?;
+    Ok(Act::Terminate {
+        domain: any_number(domain).ok_or(ActError::Bad)?,
+        port: any_number(port).ok_or(ActError::Bad)?,
+    })
+}
+
+/// The words of `scribble SEED K`.
+fn read_scribble(mut words: Words) -> Result<Act, ActError>
+    ensures act { Spells (λ act. act) result (scribble_of (words_left words.entry)) }
+    ensures fits { IfOk result ActFits }
+{
+    let seed = words.next().ok_or(ActError::Bad)?;
+    let count = words.only().ok_or(ActError::Bad)?;
+    Ok(Act::Scribble {
+        seed: number_from(0, 65_535, seed)?,
+        count: number_from(1, 65_536, count)?,
+    })
+}
+
+/// The word of `rest K`.
+fn read_rest(words: Words) -> Result<Act, ActError>
+    ensures act { Spells (λ act. act) result (rest_of (words_left words.entry)) }
+    ensures fits { IfOk result ActFits }
+{
+    let word = words.only().ok_or(ActError::Bad)?;
+    Ok(Act::Rest {
+        turns: number_from(1, 65_536, word)?,
+    })
+}
+
+/// The words of `poke PAGE WORD VALUE`.
+fn read_poke(alloc: Global, mut words: Words) -> Result<Act, ActError>
+    ensures act { Spells (λ act. act) result (poke_of (words_left words.entry)) }
+    ensures fits { IfOk result ActFits }
+{
+    let page = words.next().ok_or(ActError::Bad)?;
+    let word = words.next().ok_or(ActError::Bad)?;
+    let value = words.only().ok_or(ActError::Bad)?;
+    poke_from(alloc, page, word, value)
+}
+
+/// A poke of its three words.
+fn poke_from(alloc: Global, page: &[u8], word: &[u8], value: &[u8]) -> Result<Act, ActError>
+    ensures act { Spells (λ act. act) result (poke_from page.now word.now value.now) }
+    ensures fits { IfOk result ActFits }
+{
+    Ok(Act::Poke {
+        page: page_of(alloc, page)?,
+        word: word_named(word).ok_or(ActError::Bad)?,
+        value: parse_number(value, u64::MAX).ok_or(ActError::Bad)?,
+    })
+}
+
+/// A number from the least to the most.
+fn number_from(least: u32, most: u32, word: &[u8]) -> Result<u32, ActError>
+    ensures number { Spells (λ n. n) result (number_from least most word.now) }
+    ensures within { IfOk result (λ n. (least ≤ n) × (n ≤ most)) }
+{
+    let number = parse_number(word, u64::from(most)).ok_or(ActError::Bad)?;
+    if u64::from(least) <= number {
+        Ok(number as u32)
+    } else {
+        Err(ActError::Bad)
+    }
+}
+
+/// A number of 32 bits.
+fn any_number(word: &[u8]) -> Option<u32>
+    ensures { result ≡ any_number word.now }
+{
+    let number = parse_number(word, u64::from(u32::MAX))?;
+    Some(number as u32)
+}
+
+/// A word that is a domain's name.
+#[tactic(auto, using(crate::proofs::NameLaws::no_nul_in_name))]
+fn name_word(alloc: Global, word: &[u8]) -> Result<Text, ActError>
+    ensures name { Spells (λ name. name) result (name_word word.now) }
+    ensures clean { IfOk result (λ name. is_name name ≡ true) }
+{
+    if is_name(word) {
+        Ok(text_of(alloc, word)?)
+    } else {
+        Err(ActError::Bad)
+    }
+}
+
+/// A word that is a service's name.
+#[tactic(auto, using(crate::proofs::NameLaws::no_nul_in_service))]
+fn service_word(alloc: Global, word: &[u8]) -> Result<Text, ActError>
+    ensures service { Spells (λ name. name) result (service_word word.now) }
+    ensures clean { IfOk result (λ name. is_service name ≡ true) }
+{
+    if is_service(word) {
+        Ok(text_of(alloc, word)?)
+    } else {
+        Err(ActError::Bad)
+    }
+}
+
+/// The page that a word names: `control`, or `NAME:PORT`.
+fn page_of(alloc: Global, word: &[u8]) -> Result<ActPage, ActError>
+    ensures page { Spells (λ page. page) result (page_of word.now) }
+    ensures fits { IfOk result PageFits }
+{
+    if word == b"control".as_slice() {
+        Ok(ActPage::Control)
+    } else {
+        data_page(alloc, word)
+    }
+}
+
+/// The data page of `NAME:PORT`.
+fn data_page(alloc: Global, word: &[u8]) -> Result<ActPage, ActError>
+    ensures page { Spells (λ page. page) result (data_page word.now) }
+    ensures fits { IfOk result PageFits }
+{
+    let (peer, port) = colon_parts(word).ok_or(ActError::Bad)?;
+    Ok(ActPage::Payload {
+        peer: name_word(alloc, peer)?,
+        port: any_number(port).ok_or(ActError::Bad)?,
+    })
+}
+
+/// What stands before the first colon, and behind it.
+fn colon_parts(word: &[u8]) -> Option<(&[u8], &[u8])>
+    ensures { option_map (λ parts. (parts.0.now, parts.1.now)) result ≡ colon_parts word.now }
+{
+    match first_colon(word) {
+        Some(at) => Some((&word[..at], &word[at + 1..])),
+        None => None,
+    }
+}
+
+/// The place of the first colon.
+fn first_colon(word: &[u8]) -> Option<usize>
+    ensures place { result ≡ position (λ byte. byte == 58) word.now }
+    ensures within { IfSome result (λ at. at < length word.now) }
+{
+    word.iter().position(|byte| *byte == b':')
+}
+
+/// The word of a page that a word names: a header field, or `left[K]` and `right[K]` for a byte of a
+/// ring.
+fn word_named(word: &[u8]) -> Option<WordName>
+    ensures { result ≡ word_named word.now }
+{
+    if let Some(field) = field_named(word) {
+        Some(field)
+    } else if let Some(place) = place_in(b"left[", word) {
+        byte_at(Ring::Left, place)
+    } else if let Some(place) = place_in(b"right[", word) {
+        byte_at(Ring::Right, place)
+    } else {
+        None
+    }
+}
+
+/// What stands between this front of a word and a `]` at its end.
+fn place_in<'a>(front: &[u8], word: &'a [u8]) -> Option<&'a [u8]>
+    ensures { option_copied result ≡ place_in front.now word.now }
+{
+    word.strip_prefix(front)?.strip_suffix(b"]")
+}
+
+/// The byte of a ring at the place that a word says.
+fn byte_at(ring: Ring, place: &[u8]) -> Option<WordName>
+    ensures { result ≡ byte_at ring place.now }
+{
+    let at = any_number(place)?;
+    Some(WordName::RingByte { ring, at })
+}
+
+/// The header field that a word names.
+fn field_named(word: &[u8]) -> Option<WordName>
+    ensures { result ≡ lookup (bytes_eq word.now) fields }
+{
+    if word == b"left_cons".as_slice() {
+        Some(WordName::LeftCons)
+    } else if word == b"left_prod".as_slice() {
+        Some(WordName::LeftProd)
+    } else if word == b"right_cons".as_slice() {
+        Some(WordName::RightCons)
+    } else if word == b"right_prod".as_slice() {
+        Some(WordName::RightProd)
+    } else if word == b"left_order".as_slice() {
+        Some(WordName::LeftOrder)
+    } else if word == b"right_order".as_slice() {
+        Some(WordName::RightOrder)
+    } else if word == b"cli_live".as_slice() {
+        Some(WordName::CliLive)
+    } else if word == b"srv_live".as_slice() {
+        Some(WordName::SrvLive)
+    } else if word == b"cli_notify".as_slice() {
+        Some(WordName::CliNotify)
+    } else if word == b"srv_notify".as_slice() {
+        Some(WordName::SrvNotify)
+    } else {
+        None
+    }
+}

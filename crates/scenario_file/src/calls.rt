@@ -1,0 +1,287 @@
+//! Reading the calls of a scenario.
+ghost use Rattle.std.specs.Prelude.{◌≡◌, ◌+◌, ◌≤◌, ◌^◌, ◌<◌, [], length, option_map, IfOk, IfSome, true, None, Some, codes, ok_or, unwrap_or};
+ghost use Rattle.std.specs.List.{All};
+ghost use Rattle.toml.specs.Data.{get_member};
+ghost use Rattle.toml.specs.View.{items_view, table_view, view};
+ghost use Rattle.scenario_file.specs.Names.{is_name, is_service};
+ghost use Rattle.scenario_file.specs.Scenario.{CallFits, IsHonest, Rises};
+ghost use Rattle.scenario_file.specs.Readings.{Gives, place_path};
+ghost use Rattle.script_words.specs.ByteStrings.{byte_string};
+ghost use Rattle.scenario_file.specs.declared.error.ScenarioKind.TheVariants.{BadText};
+ghost use Rattle.scenario_file.specs.Checks.{all_from, optional};
+ghost use Rattle.scenario_file.specs.Tables.{call_in, caller_named, caller_of, calls_of, fill_input_in, fill_within, first_input, hex_input_in, input_in, next_call, service_of, stdin_of, target_of, within_limit};
+
+use crate::domains::at_most;
+use crate::error::ScenarioKind;
+use crate::generator::fill;
+use crate::keys::{
+    check_keys, integer_in, list_at, member, natural, needed_text, table_in, text_in,
+};
+use crate::lookup::{domain_at_place, place_named};
+use crate::names::{is_name, is_service};
+use crate::place::{Place, Refusal, Section};
+use crate::scenario::{CallPlan, Domain};
+use crate::text::text_of;
+use qrexec_frame::{Bytes, Text};
+use script_words::{ByteError, bytes_of};
+use std::alloc::Global;
+use toml::{Table, Value};
+
+/// The most calls of a scenario.
+const MOST_CALLS: usize = 4096;
+
+/// The most bytes of an input.
+const MOST_STDIN: usize = 1_048_576;
+
+/// Reads the list `call` of the file.
+pub(crate) fn read_calls<'t>(
+    alloc: Global,
+    domains: &[Domain],
+    top: &'t Table,
+) -> Result<Vec<CallPlan>, Refusal<'t>>
+    requires { length domains.now ≤ 32 }
+    ensures calls { Gives (λ calls. calls.items) result (calls_of domains.now (table_view top.now)) }
+    ensures few { IfOk result (λ calls. length calls.items ≤ 4096) }
+    ensures fit { IfOk result (λ calls. All (CallFits domains.now) calls.items) }
+    ensures rising { IfOk result (λ calls. Rises 0 calls.items) }
+{
+    let items = list_at(top, Section::Top, "call")?;
+    at_most(MOST_CALLS, items, Place::key(Section::Top, "call"))?;
+    read_items(alloc, domains, items)
+}
+
+/// Reads the items of the list `call`.
+fn read_items<'t>(
+    alloc: Global,
+    domains: &[Domain],
+    items: &'t [Value],
+) -> Result<Vec<CallPlan>, Refusal<'t>>
+    requires few_domains { length domains.now ≤ 32 }
+    requires few_calls { length items.now ≤ 4096 }
+    ensures calls { Gives (λ calls. calls.items) result (all_from (next_call domains.now) [] (items_view items.now)) }
+    ensures few { IfOk result (λ calls. length calls.items ≤ 4096) }
+    ensures fit { IfOk result (λ calls. All (CallFits domains.now) calls.items) }
+    ensures rising { IfOk result (λ calls. Rises 0 calls.items) }
+{
+    let mut calls = Vec::with_capacity(alloc, items.len())?;
+    for item in items {
+        let call = next_call(alloc, domains, &calls, item)?;
+        calls.push(call)?;
+    }
+    Ok(calls)
+}
+
+/// Reads an item as the call behind those before.
+fn next_call<'t>(
+    alloc: Global,
+    domains: &[Domain],
+    before: &[CallPlan],
+    item: &'t Value,
+) -> Result<CallPlan, Refusal<'t>>
+    requires few_domains { length domains.now ≤ 32 }
+    requires few_calls { length before.now < 4096 }
+    ensures call { Gives (λ call. call) result (next_call domains.now before.now (view item.now)) }
+    ensures fits { IfOk result (CallFits domains.now) }
+    ensures number { IfOk result (λ call. call.number ≡ length before.now + 1) }
+{
+    let number = before.len() + 1;
+    let table = table_in(item, Place::item(Section::Top, "call", number))?;
+    read_call(alloc, domains, number, table)
+}
+
+/// Reads a table as the call of a number.
+fn read_call<'t>(
+    alloc: Global,
+    domains: &[Domain],
+    number: usize,
+    table: &'t Table,
+) -> Result<CallPlan, Refusal<'t>>
+    requires few { length domains.now ≤ 32 }
+    requires number { number ≤ 4096 }
+    ensures call { Gives (λ call. call) result (call_in domains.now number (table_view table.now)) }
+    ensures fits { IfOk result (CallFits domains.now) }
+    ensures number { IfOk result (λ call. call.number ≡ number) }
+{
+    check_keys(table, Section::Call(number), false)?;
+    Ok(CallPlan {
+        number: number as u32,
+        from: read_caller(domains, number, table)?,
+        to: read_target(alloc, number, table)?,
+        service: read_service(alloc, number, table)?,
+        stdin: read_stdin(alloc, number, table)?,
+    })
+}
+
+/// Reads the key `from` of a call.
+fn read_caller<'t>(domains: &[Domain], number: usize, table: &'t Table) -> Result<u32, Refusal<'t>>
+    requires { length domains.now ≤ 32 }
+    ensures caller { Gives (λ from. from) result (caller_of number domains.now (table_view table.now)) }
+    ensures honest { IfOk result (IsHonest domains.now) }
+{
+    let section = Section::Call(number);
+    let name = needed_text(table, section, "from")?;
+    caller_named(domains, name.as_bytes()).ok_or(Refusal::Bad(
+        ScenarioKind::BadCaller,
+        Place::key(section, "from"),
+    ))
+}
+
+/// The number of the honest domain of a name.
+fn caller_named(domains: &[Domain], name: &[u8]) -> Option<u32>
+    requires { length domains.now ≤ 32 }
+    ensures number { result ≡ caller_named domains.now name.now }
+    ensures honest { IfSome result (IsHonest domains.now) }
+{
+    let place = place_named(domains, name)?;
+    if domain_at_place(domains, place).is_hostile() {
+        None
+    } else {
+        Some(place as u32 + 1)
+    }
+}
+
+/// Reads the key `to` of a call.
+fn read_target<'t>(alloc: Global, number: usize, table: &'t Table) -> Result<Text, Refusal<'t>>
+    ensures target { Gives (λ to. to) result (target_of number (table_view table.now)) }
+    ensures clean { IfOk result (λ to. is_name to ≡ true) }
+{
+    let section = Section::Call(number);
+    let text = needed_text(table, section, "to")?.as_bytes();
+    if !is_name(text) {
+        return Err(Refusal::Bad(ScenarioKind::BadText, Place::key(section, "to")));
+    }
+    Ok(text_of(alloc, text)?)
+}
+
+/// Reads the key `service` of a call.
+fn read_service<'t>(alloc: Global, number: usize, table: &'t Table) -> Result<Text, Refusal<'t>>
+    ensures service { Gives (λ service. service) result (service_of number (table_view table.now)) }
+    ensures clean { IfOk result (λ service. is_service service ≡ true) }
+{
+    let section = Section::Call(number);
+    let text = needed_text(table, section, "service")?.as_bytes();
+    if !is_service(text) {
+        return Err(Refusal::Bad(ScenarioKind::BadText, Place::key(section, "service")));
+    }
+    Ok(text_of(alloc, text)?)
+}
+
+/// Reads the input of a call, by one of three keys.
+fn read_stdin<'t>(alloc: Global, number: usize, table: &'t Table) -> Result<Bytes, Refusal<'t>>
+    ensures stdin { Gives (λ stdin. stdin) result (stdin_of number (table_view table.now)) }
+    ensures within { IfOk result (λ stdin. length stdin ≤ 1048576) }
+{
+    let text = read_text_input(alloc, number, table)?;
+    let hex = read_hex_input(alloc, number, table, text)?;
+    let filled = read_fill_input(alloc, number, table, hex)?;
+    match filled {
+        Some(stdin) => Ok(stdin),
+        None => Ok(Bytes::of(Vec::new(alloc))),
+    }
+}
+
+/// The input by the key `stdin`, a text, where it has a value.
+fn read_text_input<'t>(
+    alloc: Global,
+    number: usize,
+    table: &'t Table,
+) -> Result<Option<Bytes>, Refusal<'t>>
+    ensures input { Gives (λ input. input) result (optional None (input_in number) (get_member (codes "stdin") (table_view table.now))) }
+    ensures within { IfOk result (λ input. IfSome input (λ bytes. length bytes ≤ 1048576)) }
+{
+    let Some(value) = member(table, "stdin") else {
+        return Ok(None);
+    };
+    let text = text_in(value, Place::key(Section::Call(number), "stdin"))?;
+    let bytes = within_limit(number, text.as_bytes())?;
+    Ok(Some(Bytes::of(Vec::from_slice(alloc, bytes)?)))
+}
+
+/// The input by the key `stdin_hex`, a byte string, or the input before where it has no value.
+fn read_hex_input<'t>(
+    alloc: Global,
+    number: usize,
+    table: &'t Table,
+    before: Option<Bytes>,
+) -> Result<Option<Bytes>, Refusal<'t>>
+    requires { IfSome before (λ bytes. length bytes ≤ 1048576) }
+    ensures input { Gives (λ input. input) result (optional before (hex_input_in number before) (get_member (codes "stdin_hex") (table_view table.now))) }
+    ensures within { IfOk result (λ input. IfSome input (λ bytes. length bytes ≤ 1048576)) }
+{
+    let Some(value) = member(table, "stdin_hex") else {
+        return Ok(before);
+    };
+    let at = Place::key(Section::Call(number), "stdin_hex");
+    let text = text_in(value, at)?;
+    first_input(before.is_some(), at)?;
+    let bytes = hex_bytes(alloc, text.as_bytes(), at)?;
+    within_limit(number, bytes.as_slice())?;
+    Ok(Some(Bytes::of(bytes)))
+}
+
+/// The input by the key `stdin_fill`, the length of a fill, or the input before where it has no
+/// value.
+#[tactic(auto, using(crate::proofs::GeneratedLaws::length_fill))]
+fn read_fill_input<'t>(
+    alloc: Global,
+    number: usize,
+    table: &'t Table,
+    before: Option<Bytes>,
+) -> Result<Option<Bytes>, Refusal<'t>>
+    requires { IfSome before (λ bytes. length bytes ≤ 1048576) }
+    ensures input { Gives (λ input. input) result (optional before (fill_input_in number before) (get_member (codes "stdin_fill") (table_view table.now))) }
+    ensures within { IfOk result (λ input. IfSome input (λ bytes. length bytes ≤ 1048576)) }
+{
+    let Some(value) = member(table, "stdin_fill") else {
+        return Ok(before);
+    };
+    let at = Place::key(Section::Call(number), "stdin_fill");
+    let z = integer_in(value, at)?;
+    first_input(before.is_some(), at)?;
+    let count = natural(z).ok_or(Refusal::Bad(ScenarioKind::BadNumber, at))?;
+    if count > MOST_STDIN as u64 {
+        return Err(Refusal::Bad(
+            ScenarioKind::TooMany,
+            Place::key(Section::Call(number), "stdin"),
+        ));
+    }
+    Ok(Some(Bytes::of(fill(alloc, count as u32)?)))
+}
+
+/// Checks that no input stands before the key at a place.
+fn first_input<'t>(is_second: bool, at: Place<'t>) -> Result<(), Refusal<'t>>
+    ensures { Gives (λ x. x) result (first_input (place_path at.entry) is_second) }
+{
+    if is_second {
+        Err(Refusal::Bad(ScenarioKind::TwoStdin, at))
+    } else {
+        Ok(())
+    }
+}
+
+/// The bytes of a byte string.
+fn hex_bytes<'t>(alloc: Global, text: &[u8], at: Place<'t>) -> Result<Vec<u8>, Refusal<'t>>
+    ensures { Gives (λ bytes. bytes.items) result (ok_or (byte_string text.now) (BadText, place_path at.entry)) }
+{
+    match bytes_of(alloc, text) {
+        Ok(bytes) => Ok(bytes),
+        Err(ByteError::BadHex) => Err(Refusal::Bad(ScenarioKind::BadText, at)),
+        Err(ByteError::Memory) => Err(Refusal::Memory),
+    }
+}
+
+/// Checks that an input is within the limit.
+fn within_limit<'t>(number: usize, bytes: &[u8]) -> Result<&[u8], Refusal<'t>>
+    ensures input { Gives (λ input. Some input.now) result (within_limit number bytes.now) }
+    ensures within { IfOk result (λ input. length input.now ≤ 1048576) }
+    ensures same { IfOk result (λ input. input.now ≡ bytes.now) }
+{
+    if bytes.len() > MOST_STDIN {
+        Err(Refusal::Bad(
+            ScenarioKind::TooMany,
+            Place::key(Section::Call(number), "stdin"),
+        ))
+    } else {
+        Ok(bytes)
+    }
+}

@@ -1,0 +1,187 @@
+//! The keys of a table, and values of the types that a scenario needs.
+ghost use Rattle.std.specs.Prelude.{◌≡◌, ◌≤◌, option_map, bytes_eq, IfOk, IfSome};
+ghost use Rattle.std.specs.List.{list_any};
+ghost use Rattle.toml.specs.Data.{get_member};
+ghost use Rattle.toml.specs.View.{array_view, items_view, table_view, view};
+ghost use Rattle.scenario_file.specs.Readings.{Gives, place_path};
+ghost use Rattle.scenario_file.specs.Checks.{call_keys, integer_in, key_list, keys_of, known_keys, list_at, list_in, natural, needed, needed_text, number_at, number_in, table_in, text_in, within};
+
+use crate::error::ScenarioKind;
+use crate::place::{Place, Refusal, Section};
+use toml::value::Array;
+use toml::{Table, Value};
+
+/// The value of a key.
+pub(crate) fn member<'t>(table: &'t Table, key: &str) -> Option<&'t Value>
+    ensures { option_map (λ v. view v.now) result ≡ get_member key.now (table_view table.now) }
+{
+    table.get(key)
+}
+
+/// Checks that a table has no key that it may not have. The first that it has in byte order is
+/// refused.
+pub(crate) fn check_keys<'t>(
+    table: &'t Table,
+    section: Section,
+    hostile: bool,
+) -> Result<(), Refusal<'t>>
+    ensures { Gives (λ x. x) result (known_keys section hostile (key_list (table_view table.now))) }
+{
+    for key in table.keys() {
+        if !is_known(section, hostile, key.as_str()) {
+            return Err(Refusal::Bad(ScenarioKind::UnknownKey, Place::key(section, key.as_str())));
+        }
+    }
+    Ok(())
+}
+
+/// Whether a table may have a key.
+fn is_known(section: Section, hostile: bool, key: &str) -> bool
+    ensures { result ≡ list_any (bytes_eq key.now) (keys_of section hostile) }
+{
+    match section {
+        Section::Top => key == "rings" || key == "domain" || key == "call",
+        Section::Rings => key == "control" || key == "data" || key == "start",
+        Section::Domain(_) => {
+            key == "name" || key == "hostile" || key == if hostile { "ports" } else { "version" }
+        }
+        Section::Call(_) => is_known_of_call(key),
+    }
+}
+
+/// Whether a call may have a key.
+fn is_known_of_call(key: &str) -> bool
+    ensures { result ≡ list_any (bytes_eq key.now) call_keys }
+{
+    key == "from"
+        || key == "to"
+        || key == "service"
+        || key == "stdin"
+        || key == "stdin_hex"
+        || key == "stdin_fill"
+}
+
+/// The text of a value.
+pub(crate) fn text_in<'t>(value: &'t Value, at: Place<'t>) -> Result<&'t str, Refusal<'t>>
+    ensures { Gives (λ text. text.now) result (text_in (place_path at.entry) (view value.now)) }
+{
+    value
+        .as_str()
+        .ok_or(Refusal::Bad(ScenarioKind::WrongType, at))
+}
+
+/// The integer of a value.
+pub(crate) fn integer_in<'t>(value: &Value, at: Place<'t>) -> Result<i64, Refusal<'t>>
+    ensures { Gives (λ z. z) result (integer_in (place_path at.entry) (view value.now)) }
+{
+    value
+        .as_integer()
+        .ok_or(Refusal::Bad(ScenarioKind::WrongType, at))
+}
+
+/// The list of a value.
+pub(crate) fn list_in<'t>(value: &'t Value, at: Place<'t>) -> Result<&'t Array, Refusal<'t>>
+    ensures { Gives (λ list. array_view list.now) result (list_in (place_path at.entry) (view value.now)) }
+{
+    value
+        .as_array()
+        .ok_or(Refusal::Bad(ScenarioKind::WrongType, at))
+}
+
+/// The table of a value.
+pub(crate) fn table_in<'t>(value: &'t Value, at: Place<'t>) -> Result<&'t Table, Refusal<'t>>
+    ensures { Gives (λ table. table_view table.now) result (table_in (place_path at.entry) (view value.now)) }
+{
+    value
+        .as_table()
+        .ok_or(Refusal::Bad(ScenarioKind::WrongType, at))
+}
+
+/// The value of a key that is needed.
+fn needed<'t>(
+    table: &'t Table,
+    section: Section,
+    key: &'static str,
+) -> Result<&'t Value, Refusal<'t>>
+    ensures { Gives (λ value. view value.now) result (needed section key.now (table_view table.now)) }
+{
+    member(table, key).ok_or(Refusal::Bad(ScenarioKind::MissingKey, Place::key(section, key)))
+}
+
+/// The text of a key that is needed.
+pub(crate) fn needed_text<'t>(
+    table: &'t Table,
+    section: Section,
+    key: &'static str,
+) -> Result<&'t str, Refusal<'t>>
+    ensures { Gives (λ text. text.now) result (needed_text section key.now (table_view table.now)) }
+{
+    let value = needed(table, section, key)?;
+    text_in(value, Place::key(section, key))
+}
+
+/// The items of the list of a key, none where the key has no value.
+pub(crate) fn list_at<'t>(
+    table: &'t Table,
+    section: Section,
+    key: &'static str,
+) -> Result<&'t [Value], Refusal<'t>>
+    ensures { Gives (λ items. items_view items.now) result (list_at section key.now (table_view table.now)) }
+{
+    match member(table, key) {
+        None => Ok(&[]),
+        Some(value) => Ok(list_in(value, Place::key(section, key))?.as_slice()),
+    }
+}
+
+/// An integer where it isn't negative.
+pub(crate) fn natural(z: i64) -> Option<u64>
+    ensures { result ≡ natural z }
+{
+    u64::try_from(z).ok()
+}
+
+/// The number of a key, from the least to the most, or the default where the key has no value.
+pub(crate) fn number_at<'t>(
+    table: &'t Table,
+    section: Section,
+    key: &'static str,
+    least: u32,
+    most: u32,
+    default: u32,
+) -> Result<u32, Refusal<'t>>
+    requires low { least ≤ default }
+    requires high { default ≤ most }
+    ensures number { Gives (λ n. n) result (number_at least most default section key.now (table_view table.now)) }
+    ensures within { IfOk result (λ n. (least ≤ n) × (n ≤ most)) }
+{
+    match member(table, key) {
+        None => Ok(default),
+        Some(value) => number_in(value, Place::key(section, key), least, most),
+    }
+}
+
+/// The number of a value, from the least to the most.
+fn number_in<'t>(value: &Value, at: Place<'t>, least: u32, most: u32) -> Result<u32, Refusal<'t>>
+    ensures number { Gives (λ n. n) result (number_in least most (place_path at.entry) (view value.now)) }
+    ensures within { IfOk result (λ n. (least ≤ n) × (n ≤ most)) }
+{
+    let z = integer_in(value, at)?;
+    match within(natural(z), least, most) {
+        Some(number) => Ok(number),
+        None => Err(Refusal::Bad(ScenarioKind::BadNumber, at)),
+    }
+}
+
+/// A number where it is within these bounds.
+fn within(number: Option<u64>, least: u32, most: u32) -> Option<u32>
+    ensures number { result ≡ within least most number }
+    ensures bounds { IfSome result (λ n. (least ≤ n) × (n ≤ most)) }
+{
+    let number = number?;
+    if u64::from(least) <= number && number <= u64::from(most) {
+        Some(number as u32)
+    } else {
+        None
+    }
+}

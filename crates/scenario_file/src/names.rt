@@ -1,0 +1,62 @@
+//! The names of domains and of services.
+ghost use Rattle.std.specs.Prelude.{◌≡◌};
+ghost use Rattle.std.specs.List.{list_all};
+ghost use Rattle.qrexec_frame.specs.Names.{is_name_byte};
+ghost use Rattle.scenario_file.specs.Names.{is_name, is_service, is_service_byte};
+
+/// The most bytes of a domain's name.
+const MOST_NAME: usize = 31;
+
+/// The most bytes of a service's name.
+const MOST_SERVICE: usize = 63;
+
+/// Whether some bytes are the name of a domain: 1 to 31 letters and digits of ASCII, `_`, `-` and
+/// `.`.
+pub(crate) fn is_name(text: &[u8]) -> bool
+    ensures { result ≡ is_name text.now }
+{
+    !text.is_empty() && text.len() <= MOST_NAME && are_name_bytes(text)
+}
+
+/// Whether some bytes are the name of a service: 1 to 63 bytes of a domain's name or `+`.
+pub(crate) fn is_service(text: &[u8]) -> bool
+    ensures { result ≡ is_service text.now }
+{
+    !text.is_empty() && text.len() <= MOST_SERVICE && are_service_bytes(text)
+}
+
+#[tactic(auto, using(crate::proofs::NameLaws::all_step, crate::proofs::NameLaws::all_over))]
+fn are_name_bytes(text: &[u8]) -> bool
+    ensures { result ≡ list_all is_name_byte text.now }
+{
+    for byte in text {
+        if !is_name_byte(*byte) {
+            return false;
+        }
+    }
+    true
+}
+
+#[tactic(auto, using(crate::proofs::NameLaws::all_step, crate::proofs::NameLaws::all_over))]
+fn are_service_bytes(text: &[u8]) -> bool
+    ensures { result ≡ list_all is_service_byte text.now }
+{
+    for byte in text {
+        if !is_service_byte(*byte) {
+            return false;
+        }
+    }
+    true
+}
+
+fn is_name_byte(byte: u8) -> bool
+    ensures { result ≡ is_name_byte byte }
+{
+    matches!(byte, b'0'..=b'9' | b'A'..=b'Z' | b'a'..=b'z' | b'_' | b'-' | b'.')
+}
+
+fn is_service_byte(byte: u8) -> bool
+    ensures { result ≡ is_service_byte byte }
+{
+    is_name_byte(byte) || byte == b'+'
+}

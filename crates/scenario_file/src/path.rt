@@ -1,0 +1,46 @@
+//! Where in a scenario file something stands.
+ghost use Rattle.std.specs.Prelude.{◌≡◌, ◌++◌, IfOk, OnErr, string_bytes};
+ghost use Rattle.scenario_file.specs.KindWords.{fault_line};
+
+use crate::error::ScenarioKind;
+use std::alloc::AllocError;
+use std::marker::Model;
+use vchan_io::Memory;
+
+/// The path of a key or of an item of a list, as `call[2].service`. Contracts see its bytes.
+#[derive(Debug, Drop)]
+pub struct Path {
+    pub(crate) text: String,
+}
+
+impl Model for Path {
+    ghost use Rattle.std.specs.Prelude.{List, ℕ, string_bytes};
+
+    ghost Value = { List ℕ };
+
+    ghost view = { λ p. string_bytes p.text };
+}
+
+impl Path {
+    /// Lends the bytes of the path.
+    pub fn bytes(&self) -> &[u8]
+        ensures { result.now ≡ self.now }
+    {
+        self.text.as_bytes()
+    }
+}
+
+/// Appends the line that tells a failed check, without its end: the path and the word for the kind,
+/// as `call[2].service: bad-text`. Want of memory leaves `out` as it was.
+pub fn push_fault_line(out: &mut Vec<u8>, kind: ScenarioKind, at: &Path) -> Result<(), Memory>
+    ensures ok { IfOk result (λ _. out.new.items ≡ out.old.items ++ fault_line kind at.now) }
+    ensures err { OnErr result (out.new.items ≡ out.old.items) }
+{
+    let word = kind.word();
+    let path = at.bytes();
+    out.reserve(path.len() + 2 + word.len())?;
+    out.extend_from_slice(path)?;
+    out.extend_from_slice(b": ")?;
+    out.extend_from_slice(word)?;
+    Ok(())
+}

@@ -1,0 +1,136 @@
+//! The places of a scenario file that checks look at, and what they refuse.
+ghost use Rattle.std.specs.Prelude.{◌≡◌, IfOk, string_bytes};
+ghost use Rattle.scenario_file.specs.Checks.{item_of, section_path};
+
+use crate::error::{ScenarioError, ScenarioKind};
+use crate::path::Path;
+use std::alloc::{AllocError, AllocFailed, Global};
+
+/// A table of the file.
+#[derive(Clone, Copy)]
+pub(crate) enum Section {
+    /// The file itself.
+    Top,
+    /// The table `rings`.
+    Rings,
+    /// The domain of that number, from 1 on.
+    Domain(usize),
+    /// The call of that number, from 1 on.
+    Call(usize),
+}
+
+/// A key of a table, or an item of the list that stands there.
+#[derive(Clone, Copy)]
+pub(crate) struct Place<'k> {
+    section: Section,
+    key: &'k str,
+    item: Option<usize>,
+}
+
+/// What a check refuses. Its path is made only where it is told.
+#[derive(Clone, Copy)]
+pub(crate) enum Refusal<'k> {
+    /// The check failed at a place.
+    Bad(ScenarioKind, Place<'k>),
+    /// There was no memory.
+    Memory,
+}
+
+impl From<AllocError> for Refusal<'_> {
+    ghost use Rattle.scenario_file.specs.declared.place.Refusal.TheVariants.{Memory};
+
+    ghost from_gives = { λ _ e. e ≡ Memory };
+
+    fn from(_refused: AllocError) -> Self {
+        Refusal::Memory
+    }
+}
+
+impl<T: Drop> From<AllocFailed<T>> for Refusal<'_> {
+    ghost use Rattle.scenario_file.specs.declared.place.Refusal.TheVariants.{Memory};
+
+    ghost from_gives = { λ _ e. e ≡ Memory };
+
+    fn from(_refused: AllocFailed<T>) -> Self {
+        Refusal::Memory
+    }
+}
+
+impl From<vchan_io::Memory> for Refusal<'_> {
+    ghost use Rattle.scenario_file.specs.declared.place.Refusal.TheVariants.{Memory};
+
+    ghost from_gives = { λ _ e. e ≡ Memory };
+
+    fn from(_refused: vchan_io::Memory) -> Self {
+        Refusal::Memory
+    }
+}
+
+impl<'k> Place<'k> {
+    ghost use Rattle.std.specs.Prelude.{None, Some};
+    ghost use Rattle.scenario_file.specs.Readings.{place_path};
+
+    /// The place of a key.
+    pub(crate) fn key(section: Section, key: &'k str) -> Place<'k>
+        ensures { result ≡ record { section = section; key = key.entry; item = None } }
+    {
+        Place {
+            section,
+            key,
+            item: None,
+        }
+    }
+
+    /// The place of an item of the list at a key, from 1 on.
+    pub(crate) fn item(section: Section, key: &'k str, number: usize) -> Place<'k>
+        ensures { result ≡ record { section = section; key = key.entry; item = Some number } }
+    {
+        Place {
+            section,
+            key,
+            item: Some(number),
+        }
+    }
+
+    /// The path of the place.
+    fn path(self, alloc: Global) -> Result<Path, AllocError>
+        ensures { IfOk result (λ path. path ≡ place_path self.entry) }
+    {
+        let front = section_path(alloc, self.section)?;
+        let key = self.key;
+        let text = match self.item {
+            None => format!(in alloc; "{front}{key}")?,
+            Some(number) => format!(in alloc; "{front}{key}[{number}]")?,
+        };
+        Ok(Path { text })
+    }
+}
+
+/// What stands before the keys of a table.
+fn section_path(alloc: Global, section: Section) -> Result<String, AllocError>
+    ensures { IfOk result (λ path. string_bytes path ≡ section_path section) }
+{
+    match section {
+        Section::Top => Ok(String::new(alloc)),
+        Section::Rings => String::from_str(alloc, "rings."),
+        Section::Domain(number) => format!(in alloc; "domain[{number}]."),
+        Section::Call(number) => format!(in alloc; "call[{number}]."),
+    }
+}
+
+impl Refusal<'_> {
+    ghost use Rattle.scenario_file.specs.Readings.{Tells};
+
+    /// The error of the file, with the path of the place.
+    pub(crate) fn told(self, alloc: Global) -> ScenarioError
+        ensures { Tells result self.entry }
+    {
+        match self {
+            Refusal::Bad(kind, place) => match place.path(alloc) {
+                Ok(at) => ScenarioError::Bad { kind, at },
+                Err(_) => ScenarioError::Memory,
+            },
+            Refusal::Memory => ScenarioError::Memory,
+        }
+    }
+}
