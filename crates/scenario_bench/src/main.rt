@@ -11,7 +11,8 @@ use std::rt::{Clock, Env, Files};
 use std::time::Instant;
 use std::{env, fs};
 
-const SMALL: &[u8] = b"[[domain]]\nname = \"a\"\n[[call]]\nfrom = \"a\"\nto = \"b\"\nservice = \"echo\"\n";
+const SMALL: &[u8] =
+    b"[[domain]]\nname = \"a\"\n[[call]]\nfrom = \"a\"\nto = \"b\"\nservice = \"echo\"\n";
 
 /// How many calls the scenario of a file has.
 fn calls_in(alloc: Global, file: &[u8]) -> Result<usize> {

@@ -16,80 +16,340 @@ const FILE_FAULTS: [Row; 12] = [
     (b"domain = []", ScenarioKind::MissingKey, b"domain"),
     (b"domain = [1]", ScenarioKind::WrongType, b"domain[1]"),
     (b"call = 1", ScenarioKind::MissingKey, b"domain"),
-    (b"call = 1\n[[domain]]\nname = \"a\"", ScenarioKind::WrongType, b"call"),
-    (b"call = [1]\n[[domain]]\nname = \"a\"", ScenarioKind::WrongType, b"call[1]"),
+    (
+        b"call = 1\n[[domain]]\nname = \"a\"",
+        ScenarioKind::WrongType,
+        b"call",
+    ),
+    (
+        b"call = [1]\n[[domain]]\nname = \"a\"",
+        ScenarioKind::WrongType,
+        b"call[1]",
+    ),
 ];
 
 const RING_FAULTS: [Row; 14] = [
-    (b"[rings]\nstart = -1\nsize = 2", ScenarioKind::UnknownKey, b"rings.size"),
-    (b"[rings]\ncontrol = 10", ScenarioKind::WrongType, b"rings.control"),
-    (b"[rings]\ncontrol = [10]", ScenarioKind::BadOrders, b"rings.control"),
-    (b"[rings]\ncontrol = [10, 11, 12]", ScenarioKind::BadOrders, b"rings.control"),
-    (b"[rings]\ncontrol = [10, \"11\"]", ScenarioKind::WrongType, b"rings.control[2]"),
-    (b"[rings]\ncontrol = [1.0, \"11\"]", ScenarioKind::WrongType, b"rings.control[1]"),
-    (b"[rings]\ncontrol = [-10, 11]", ScenarioKind::BadOrders, b"rings.control"),
-    (b"[rings]\ncontrol = [10, 65547]", ScenarioKind::BadOrders, b"rings.control"),
-    (b"[rings]\ncontrol = [21, 12]", ScenarioKind::BadOrders, b"rings.control"),
-    (b"[rings]\ndata = [10, 10]", ScenarioKind::BadOrders, b"rings.data"),
-    (b"[rings]\ndata = [9, 10]\nstart = -1", ScenarioKind::BadOrders, b"rings.data"),
-    (b"[rings]\nstart = \"0\"", ScenarioKind::WrongType, b"rings.start"),
-    (b"[rings]\nstart = -1", ScenarioKind::BadNumber, b"rings.start"),
-    (b"[rings]\nstart = 4294967296", ScenarioKind::BadNumber, b"rings.start"),
+    (
+        b"[rings]\nstart = -1\nsize = 2",
+        ScenarioKind::UnknownKey,
+        b"rings.size",
+    ),
+    (
+        b"[rings]\ncontrol = 10",
+        ScenarioKind::WrongType,
+        b"rings.control",
+    ),
+    (
+        b"[rings]\ncontrol = [10]",
+        ScenarioKind::BadOrders,
+        b"rings.control",
+    ),
+    (
+        b"[rings]\ncontrol = [10, 11, 12]",
+        ScenarioKind::BadOrders,
+        b"rings.control",
+    ),
+    (
+        b"[rings]\ncontrol = [10, \"11\"]",
+        ScenarioKind::WrongType,
+        b"rings.control[2]",
+    ),
+    (
+        b"[rings]\ncontrol = [1.0, \"11\"]",
+        ScenarioKind::WrongType,
+        b"rings.control[1]",
+    ),
+    (
+        b"[rings]\ncontrol = [-10, 11]",
+        ScenarioKind::BadOrders,
+        b"rings.control",
+    ),
+    (
+        b"[rings]\ncontrol = [10, 65547]",
+        ScenarioKind::BadOrders,
+        b"rings.control",
+    ),
+    (
+        b"[rings]\ncontrol = [21, 12]",
+        ScenarioKind::BadOrders,
+        b"rings.control",
+    ),
+    (
+        b"[rings]\ndata = [10, 10]",
+        ScenarioKind::BadOrders,
+        b"rings.data",
+    ),
+    (
+        b"[rings]\ndata = [9, 10]\nstart = -1",
+        ScenarioKind::BadOrders,
+        b"rings.data",
+    ),
+    (
+        b"[rings]\nstart = \"0\"",
+        ScenarioKind::WrongType,
+        b"rings.start",
+    ),
+    (
+        b"[rings]\nstart = -1",
+        ScenarioKind::BadNumber,
+        b"rings.start",
+    ),
+    (
+        b"[rings]\nstart = 4294967296",
+        ScenarioKind::BadNumber,
+        b"rings.start",
+    ),
 ];
 
 const DOMAIN_FAULTS: [Row; 30] = [
-    (b"[[domain]]\nnick = 1", ScenarioKind::UnknownKey, b"domain[1].nick"),
-    (b"[[domain]]\nname = \"a\"\nports = 2", ScenarioKind::UnknownKey, b"domain[1].ports"),
-    (b"[[domain]]\nname = 1\nhostile = []\nversion = 3", ScenarioKind::UnknownKey, b"domain[1].version"),
-    (b"[[domain]]\nversion = 9", ScenarioKind::MissingKey, b"domain[1].name"),
-    (b"[[domain]]\nname = 1\nversion = 9", ScenarioKind::WrongType, b"domain[1].name"),
-    (b"[[domain]]\nname = \"a b\"", ScenarioKind::BadText, b"domain[1].name"),
-    (b"[[domain]]\nname = \"\"", ScenarioKind::BadText, b"domain[1].name"),
-    (b"[[domain]]\nname = \"a+b\"", ScenarioKind::BadText, b"domain[1].name"),
-    (b"[[domain]]\nname = \"a23456789012345678901234567890bc\"", ScenarioKind::BadText, b"domain[1].name"),
-    (b"[[domain]]\nname = \"a\"\n[[domain]]\nname = \"a\"\nversion = 9", ScenarioKind::SameName, b"domain[2].name"),
-    (b"[[domain]]\nname = \"a\"\nhostile = 1\nports = 33", ScenarioKind::WrongType, b"domain[1].hostile"),
-    (b"[[domain]]\nname = \"a\"\nhostile = [1]", ScenarioKind::WrongType, b"domain[1].hostile[1]"),
-    (b"[[domain]]\nname = \"a\"\nhostile = [\"hello\", \"rest 0\"]\nports = 33", ScenarioKind::BadAct, b"domain[1].hostile[2]"),
-    (b"[[domain]]\nname = \"a\"\nhostile = []\nports = true", ScenarioKind::WrongType, b"domain[1].ports"),
-    (b"[[domain]]\nname = \"a\"\nhostile = []\nports = 33", ScenarioKind::BadNumber, b"domain[1].ports"),
-    (b"[[domain]]\nname = \"a\"\nhostile = []\nports = -1", ScenarioKind::BadNumber, b"domain[1].ports"),
-    (b"[[domain]]\nname = \"a\"\nversion = \"3\"", ScenarioKind::WrongType, b"domain[1].version"),
-    (b"[[domain]]\nname = \"a\"\nversion = 1", ScenarioKind::BadNumber, b"domain[1].version"),
-    (b"[[domain]]\nname = \"a\"\nversion = 4", ScenarioKind::BadNumber, b"domain[1].version"),
-    (b"[[domain]]\nname = \"a\"\nhostile = [\"\"]", ScenarioKind::BadAct, b"domain[1].hostile[1]"),
-    (b"[[domain]]\nname = \"a\"\nhostile = [\"hello \"]", ScenarioKind::BadAct, b"domain[1].hostile[1]"),
-    (b"[[domain]]\nname = \"a\"\nhostile = [\"say\"]", ScenarioKind::BadAct, b"domain[1].hostile[1]"),
-    (b"[[domain]]\nname = \"a\"\nhostile = [\"say 6\"]", ScenarioKind::BadAct, b"domain[1].hostile[1]"),
-    (b"[[domain]]\nname = \"a\"\nhostile = [\"trigger b echo 65\"]", ScenarioKind::BadAct, b"domain[1].hostile[1]"),
-    (b"[[domain]]\nname = \"a\"\nhostile = [\"trigger b! echo 1\"]", ScenarioKind::BadAct, b"domain[1].hostile[1]"),
-    (b"[[domain]]\nname = \"a\"\nhostile = [\"terminate 1\"]", ScenarioKind::BadAct, b"domain[1].hostile[1]"),
-    (b"[[domain]]\nname = \"a\"\nhostile = [\"scribble 65536 1\"]", ScenarioKind::BadAct, b"domain[1].hostile[1]"),
-    (b"[[domain]]\nname = \"a\"\nhostile = [\"poke control left[01] 0\"]", ScenarioKind::BadAct, b"domain[1].hostile[1]"),
-    (b"[[domain]]\nname = \"a\"\nhostile = [\"poke a:b:1 left_prod 0\"]", ScenarioKind::BadAct, b"domain[1].hostile[1]"),
-    (b"[[domain]]\nname = \"a\"\nhostile = [\"poke b left_prod 0\"]", ScenarioKind::BadAct, b"domain[1].hostile[1]"),
+    (
+        b"[[domain]]\nnick = 1",
+        ScenarioKind::UnknownKey,
+        b"domain[1].nick",
+    ),
+    (
+        b"[[domain]]\nname = \"a\"\nports = 2",
+        ScenarioKind::UnknownKey,
+        b"domain[1].ports",
+    ),
+    (
+        b"[[domain]]\nname = 1\nhostile = []\nversion = 3",
+        ScenarioKind::UnknownKey,
+        b"domain[1].version",
+    ),
+    (
+        b"[[domain]]\nversion = 9",
+        ScenarioKind::MissingKey,
+        b"domain[1].name",
+    ),
+    (
+        b"[[domain]]\nname = 1\nversion = 9",
+        ScenarioKind::WrongType,
+        b"domain[1].name",
+    ),
+    (
+        b"[[domain]]\nname = \"a b\"",
+        ScenarioKind::BadText,
+        b"domain[1].name",
+    ),
+    (
+        b"[[domain]]\nname = \"\"",
+        ScenarioKind::BadText,
+        b"domain[1].name",
+    ),
+    (
+        b"[[domain]]\nname = \"a+b\"",
+        ScenarioKind::BadText,
+        b"domain[1].name",
+    ),
+    (
+        b"[[domain]]\nname = \"a23456789012345678901234567890bc\"",
+        ScenarioKind::BadText,
+        b"domain[1].name",
+    ),
+    (
+        b"[[domain]]\nname = \"a\"\n[[domain]]\nname = \"a\"\nversion = 9",
+        ScenarioKind::SameName,
+        b"domain[2].name",
+    ),
+    (
+        b"[[domain]]\nname = \"a\"\nhostile = 1\nports = 33",
+        ScenarioKind::WrongType,
+        b"domain[1].hostile",
+    ),
+    (
+        b"[[domain]]\nname = \"a\"\nhostile = [1]",
+        ScenarioKind::WrongType,
+        b"domain[1].hostile[1]",
+    ),
+    (
+        b"[[domain]]\nname = \"a\"\nhostile = [\"hello\", \"rest 0\"]\nports = 33",
+        ScenarioKind::BadAct,
+        b"domain[1].hostile[2]",
+    ),
+    (
+        b"[[domain]]\nname = \"a\"\nhostile = []\nports = true",
+        ScenarioKind::WrongType,
+        b"domain[1].ports",
+    ),
+    (
+        b"[[domain]]\nname = \"a\"\nhostile = []\nports = 33",
+        ScenarioKind::BadNumber,
+        b"domain[1].ports",
+    ),
+    (
+        b"[[domain]]\nname = \"a\"\nhostile = []\nports = -1",
+        ScenarioKind::BadNumber,
+        b"domain[1].ports",
+    ),
+    (
+        b"[[domain]]\nname = \"a\"\nversion = \"3\"",
+        ScenarioKind::WrongType,
+        b"domain[1].version",
+    ),
+    (
+        b"[[domain]]\nname = \"a\"\nversion = 1",
+        ScenarioKind::BadNumber,
+        b"domain[1].version",
+    ),
+    (
+        b"[[domain]]\nname = \"a\"\nversion = 4",
+        ScenarioKind::BadNumber,
+        b"domain[1].version",
+    ),
+    (
+        b"[[domain]]\nname = \"a\"\nhostile = [\"\"]",
+        ScenarioKind::BadAct,
+        b"domain[1].hostile[1]",
+    ),
+    (
+        b"[[domain]]\nname = \"a\"\nhostile = [\"hello \"]",
+        ScenarioKind::BadAct,
+        b"domain[1].hostile[1]",
+    ),
+    (
+        b"[[domain]]\nname = \"a\"\nhostile = [\"say\"]",
+        ScenarioKind::BadAct,
+        b"domain[1].hostile[1]",
+    ),
+    (
+        b"[[domain]]\nname = \"a\"\nhostile = [\"say 6\"]",
+        ScenarioKind::BadAct,
+        b"domain[1].hostile[1]",
+    ),
+    (
+        b"[[domain]]\nname = \"a\"\nhostile = [\"trigger b echo 65\"]",
+        ScenarioKind::BadAct,
+        b"domain[1].hostile[1]",
+    ),
+    (
+        b"[[domain]]\nname = \"a\"\nhostile = [\"trigger b! echo 1\"]",
+        ScenarioKind::BadAct,
+        b"domain[1].hostile[1]",
+    ),
+    (
+        b"[[domain]]\nname = \"a\"\nhostile = [\"terminate 1\"]",
+        ScenarioKind::BadAct,
+        b"domain[1].hostile[1]",
+    ),
+    (
+        b"[[domain]]\nname = \"a\"\nhostile = [\"scribble 65536 1\"]",
+        ScenarioKind::BadAct,
+        b"domain[1].hostile[1]",
+    ),
+    (
+        b"[[domain]]\nname = \"a\"\nhostile = [\"poke control left[01] 0\"]",
+        ScenarioKind::BadAct,
+        b"domain[1].hostile[1]",
+    ),
+    (
+        b"[[domain]]\nname = \"a\"\nhostile = [\"poke a:b:1 left_prod 0\"]",
+        ScenarioKind::BadAct,
+        b"domain[1].hostile[1]",
+    ),
+    (
+        b"[[domain]]\nname = \"a\"\nhostile = [\"poke b left_prod 0\"]",
+        ScenarioKind::BadAct,
+        b"domain[1].hostile[1]",
+    ),
 ];
 
 const CALL_FAULTS: [Row; 19] = [
-    (b"call = [{from = \"a\", too = 1}]\n[[domain]]\nname = \"a\"", ScenarioKind::UnknownKey, b"call[1].too"),
-    (b"call = [{}]\n[[domain]]\nname = \"a\"", ScenarioKind::MissingKey, b"call[1].from"),
-    (b"call = [{from = 1}]\n[[domain]]\nname = \"a\"", ScenarioKind::WrongType, b"call[1].from"),
-    (b"call = [{from = \"b\"}]\n[[domain]]\nname = \"a\"", ScenarioKind::BadCaller, b"call[1].from"),
-    (b"call = [{from = \"a\"}]\n[[domain]]\nname = \"a\"\nhostile = []", ScenarioKind::BadCaller, b"call[1].from"),
-    (b"call = [{from = \"a\", service = 1}]\n[[domain]]\nname = \"a\"", ScenarioKind::MissingKey, b"call[1].to"),
-    (b"call = [{from = \"a\", to = 1}]\n[[domain]]\nname = \"a\"", ScenarioKind::WrongType, b"call[1].to"),
-    (b"call = [{from = \"a\", to = \"a:b\"}]\n[[domain]]\nname = \"a\"", ScenarioKind::BadText, b"call[1].to"),
-    (b"call = [{from = \"a\", to = \"b\", stdin = 1}]\n[[domain]]\nname = \"a\"", ScenarioKind::MissingKey, b"call[1].service"),
-    (b"call = [{from = \"a\", to = \"b\", service = 1}]\n[[domain]]\nname = \"a\"", ScenarioKind::WrongType, b"call[1].service"),
-    (b"call = [{from = \"a\", to = \"b\", service = \"a@\"}]\n[[domain]]\nname = \"a\"", ScenarioKind::BadText, b"call[1].service"),
-    (b"call = [{from = \"a\", to = \"b\", service = \"c\", stdin = 1}]\n[[domain]]\nname = \"a\"", ScenarioKind::WrongType, b"call[1].stdin"),
-    (b"call = [{from = \"a\", to = \"b\", service = \"c\", stdin = \"\", stdin_hex = 1}]\n[[domain]]\nname = \"a\"", ScenarioKind::WrongType, b"call[1].stdin_hex"),
-    (b"call = [{from = \"a\", to = \"b\", service = \"c\", stdin = \"\", stdin_hex = \"6\"}]\n[[domain]]\nname = \"a\"", ScenarioKind::TwoStdin, b"call[1].stdin_hex"),
-    (b"call = [{from = \"a\", to = \"b\", service = \"c\", stdin_hex = \"6\"}]\n[[domain]]\nname = \"a\"", ScenarioKind::BadText, b"call[1].stdin_hex"),
-    (b"call = [{from = \"a\", to = \"b\", service = \"c\", stdin_hex = \"61*1048577\"}]\n[[domain]]\nname = \"a\"", ScenarioKind::TooMany, b"call[1].stdin"),
-    (b"call = [{from = \"a\", to = \"b\", service = \"c\", stdin = \"\", stdin_fill = -1}]\n[[domain]]\nname = \"a\"", ScenarioKind::TwoStdin, b"call[1].stdin_fill"),
-    (b"call = [{from = \"a\", to = \"b\", service = \"c\", stdin_fill = -1}]\n[[domain]]\nname = \"a\"", ScenarioKind::BadNumber, b"call[1].stdin_fill"),
-    (b"call = [{from = \"a\", to = \"b\", service = \"c\", stdin_fill = 1048577}]\n[[domain]]\nname = \"a\"", ScenarioKind::TooMany, b"call[1].stdin"),
+    (
+        b"call = [{from = \"a\", too = 1}]\n[[domain]]\nname = \"a\"",
+        ScenarioKind::UnknownKey,
+        b"call[1].too",
+    ),
+    (
+        b"call = [{}]\n[[domain]]\nname = \"a\"",
+        ScenarioKind::MissingKey,
+        b"call[1].from",
+    ),
+    (
+        b"call = [{from = 1}]\n[[domain]]\nname = \"a\"",
+        ScenarioKind::WrongType,
+        b"call[1].from",
+    ),
+    (
+        b"call = [{from = \"b\"}]\n[[domain]]\nname = \"a\"",
+        ScenarioKind::BadCaller,
+        b"call[1].from",
+    ),
+    (
+        b"call = [{from = \"a\"}]\n[[domain]]\nname = \"a\"\nhostile = []",
+        ScenarioKind::BadCaller,
+        b"call[1].from",
+    ),
+    (
+        b"call = [{from = \"a\", service = 1}]\n[[domain]]\nname = \"a\"",
+        ScenarioKind::MissingKey,
+        b"call[1].to",
+    ),
+    (
+        b"call = [{from = \"a\", to = 1}]\n[[domain]]\nname = \"a\"",
+        ScenarioKind::WrongType,
+        b"call[1].to",
+    ),
+    (
+        b"call = [{from = \"a\", to = \"a:b\"}]\n[[domain]]\nname = \"a\"",
+        ScenarioKind::BadText,
+        b"call[1].to",
+    ),
+    (
+        b"call = [{from = \"a\", to = \"b\", stdin = 1}]\n[[domain]]\nname = \"a\"",
+        ScenarioKind::MissingKey,
+        b"call[1].service",
+    ),
+    (
+        b"call = [{from = \"a\", to = \"b\", service = 1}]\n[[domain]]\nname = \"a\"",
+        ScenarioKind::WrongType,
+        b"call[1].service",
+    ),
+    (
+        b"call = [{from = \"a\", to = \"b\", service = \"a@\"}]\n[[domain]]\nname = \"a\"",
+        ScenarioKind::BadText,
+        b"call[1].service",
+    ),
+    (
+        b"call = [{from = \"a\", to = \"b\", service = \"c\", stdin = 1}]\n[[domain]]\nname = \"a\"",
+        ScenarioKind::WrongType,
+        b"call[1].stdin",
+    ),
+    (
+        b"call = [{from = \"a\", to = \"b\", service = \"c\", stdin = \"\", stdin_hex = 1}]\n[[domain]]\nname = \"a\"",
+        ScenarioKind::WrongType,
+        b"call[1].stdin_hex",
+    ),
+    (
+        b"call = [{from = \"a\", to = \"b\", service = \"c\", stdin = \"\", stdin_hex = \"6\"}]\n[[domain]]\nname = \"a\"",
+        ScenarioKind::TwoStdin,
+        b"call[1].stdin_hex",
+    ),
+    (
+        b"call = [{from = \"a\", to = \"b\", service = \"c\", stdin_hex = \"6\"}]\n[[domain]]\nname = \"a\"",
+        ScenarioKind::BadText,
+        b"call[1].stdin_hex",
+    ),
+    (
+        b"call = [{from = \"a\", to = \"b\", service = \"c\", stdin_hex = \"61*1048577\"}]\n[[domain]]\nname = \"a\"",
+        ScenarioKind::TooMany,
+        b"call[1].stdin",
+    ),
+    (
+        b"call = [{from = \"a\", to = \"b\", service = \"c\", stdin = \"\", stdin_fill = -1}]\n[[domain]]\nname = \"a\"",
+        ScenarioKind::TwoStdin,
+        b"call[1].stdin_fill",
+    ),
+    (
+        b"call = [{from = \"a\", to = \"b\", service = \"c\", stdin_fill = -1}]\n[[domain]]\nname = \"a\"",
+        ScenarioKind::BadNumber,
+        b"call[1].stdin_fill",
+    ),
+    (
+        b"call = [{from = \"a\", to = \"b\", service = \"c\", stdin_fill = 1048577}]\n[[domain]]\nname = \"a\"",
+        ScenarioKind::TooMany,
+        b"call[1].stdin",
+    ),
 ];
 
 /// Checks what is told of each file.
@@ -213,11 +473,7 @@ fn repeated(
 }
 
 /// Checks a file that is as long as it may be, or one too long.
-fn check_limit(
-    rt: &(impl Abort + AllocGlobal),
-    file: &[u8],
-    path: Option<&[u8]>,
-) {
+fn check_limit(rt: &(impl Abort + AllocGlobal), file: &[u8], path: Option<&[u8]>) {
     match (read(rt.alloc(), file), path) {
         (Ok(_), None) => {}
         (Err(ScenarioError::Bad { kind, at }), Some(path)) => {
@@ -245,7 +501,8 @@ fn limits_stand_at_their_edges(rt: HostRuntime) -> Result<(), Fail> {
         let file = repeated(&rt, "[[domain]]\nname = \"a\"\n", call, most, "\"\n")?;
         check_limit(&rt, file.as_bytes(), path);
     }
-    let pages = "rings.control = [10, 13]\nrings.data = [13, 13]\n[[domain]]\nname = \"a\"\n[[domain]]\nname = \"b\"\n";
+    let pages =
+        "rings.control = [10, 13]\nrings.data = [13, 13]\n[[domain]]\nname = \"a\"\n[[domain]]\nname = \"b\"\n";
     for (most, path) in [(1022, None), (1023, Some(b"words".as_slice()))] {
         let file = repeated(&rt, pages, call, most, "\"\n")?;
         check_limit(&rt, file.as_bytes(), path);
