@@ -2,3 +2,4 @@
 pub mod AtPhase
 pub mod Beside
 pub mod EventsMade
+pub mod Stepped

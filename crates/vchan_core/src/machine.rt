@@ -34,7 +34,7 @@ impl Machine {
     ghost use Rattle.vchan_protocol.specs.Table.Plan.{next_op, after, rest_after, past};
     ghost use Rattle.vchan_protocol.specs.Table.Ends.{Standing, written_ring as written_ring_of, read_ring as read_ring_of, ask_word as ask_word_of, notify_word as notify_word_of, peer_live as peer_live_of, peer_pending as peer_pending_of, prod_word as prod_word_of, cons_word as cons_word_of, mask as mask_of, own_live as own_live_of, own_gone as own_gone_of, own_pending as own_pending_of, peer_gone as peer_gone_of, free_at, ready_at, read_size, standing_after};
     ghost use Rattle.vchan_protocol.specs.Table.Calls.{plan_of, payload_of, loaded_most, IsAllowed};
-    ghost use Rattle.vchan_core.specs.OneMachine.Phases.{standing, rest, rest_at, plan_at, rest_or_answer, IsIdle, Allows, payload_at, buffer_at, payload_needed, buffer_needed, payload_next, buffer_next, Stands, StandsOrAnswered};
+    ghost use Rattle.vchan_core.specs.OneMachine.Phases.{standing, at_phase, rest, rest_at, plan_at, rest_or_answer, IsIdle, Allows, payload_at, buffer_at, payload_needed, buffer_needed, payload_next, buffer_next, Stands, StandsOrAnswered};
     ghost use Rattle.vchan_protocol.specs.declared.call.Call.{Call};
     ghost use Rattle.vchan_protocol.specs.declared.call.Answer.{Answer};
     ghost use Rattle.vchan_protocol.specs.declared.op.PastEvent.{PastEvent};
@@ -255,6 +255,30 @@ impl Machine {
             Phase::CloseStore | Phase::RetireStore => self.state = EndState::Shut,
             _ => {}
         }
+    }
+
+    /// Takes the phase out of a machine that is inside a call: the machine is then as one between two
+    /// calls, and its caller has the phase.
+    #[inline(always)]
+    pub(crate) fn take_phase(&mut self) -> Phase
+        requires { ¬ IsIdle self.old }
+        ensures idle { IsIdle self.new }
+        ensures standing { standing self.new ≡ standing self.old }
+        ensures phase { self.old ≡ at_phase self.new result }
+    {
+        let Some(phase) = self.phase else {
+            unreachable!()
+        };
+        self.phase = None;
+        phase
+    }
+
+    /// Puts a phase back that was taken out.
+    #[inline(always)]
+    pub(crate) fn set_phase(&mut self, phase: Phase)
+        ensures { self.new ≡ at_phase self.old phase }
+    {
+        self.phase = Some(phase);
     }
 
     /// Drops the call under way, as where the end is turned over to a hostile user.

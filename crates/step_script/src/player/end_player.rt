@@ -3,10 +3,11 @@ ghost use Rattle.std.specs.Prelude.{◌≡◌, ◌<◌, ◌≤◌, ◌-◌, ◌�
 ghost use Rattle.vchan_protocol.specs.History.WholeCall.{alone, call_answer, called};
 ghost use Rattle.vchan_protocol.specs.Table.Apply.{filled};
 ghost use Rattle.vchan_protocol.specs.Table.Calls.{IsAllowed, loaded_most, payload_of};
-ghost use Rattle.vchan_protocol.specs.History.Core.{Core, answer_in, bytes_loaded, event as event_of, plan_left, plan_next, side_of};
+ghost use Rattle.vchan_protocol.specs.History.Core.{Core, bytes_loaded, plan_left, side_of};
 ghost use Rattle.vchan_core.specs.Page.StandsFor.{StandsFor, machine_of, other_of, turned_of};
 ghost use Rattle.vchan_core.specs.OneMachine.Phases.{Allows, IsIdle, standing};
-ghost use Rattle.step_script.specs.Meaning.Played.{begins_call, call_refusal as call_refusal_of, events_made, finished, has_retired as has_retired_of, line_done, makes_call, state_refusal as state_refusal_of, step_refusal as step_refusal_of, stepped, unless_refused};
+ghost use Rattle.step_script.specs.Meaning.Played.{begins_call, call_refusal as call_refusal_of, finished, has_retired as has_retired_of, line_done, makes_call, state_refusal as state_refusal_of, step_refusal as step_refusal_of, unless_refused};
+ghost use Rattle.vchan_core.specs.WholeCall.Stepped.{stepped};
 ghost use Rattle.step_script.specs.Language.Script.{CallFits, CanSay, begins, calls, finishes, steps};
 ghost use Rattle.step_script.specs.Parts.ScriptLines.{call_with};
 
@@ -231,54 +232,12 @@ impl EndPlayer {
         ensures call { self.new.call ≡ self.old.call }
         ensures other { other_of page.new who ≡ other_of page.old who }
     {
-        let mut left = most;
-        'events: loop {
-            let moved = self.move_bytes(page, who, left);
-            left -= moved;
-            if left == 0 {
-                return None;
-            }
-            if let Some(answer) = self.event(page, who) {
-                return Some(answer);
-            }
-            left -= 1;
-        }
-    }
-
-    /// The next events of the call that the end is inside, at most so many, as long as they are all
-    /// on bytes of one piece of a ring. It answers how many they were; none gives an answer.
-    fn move_bytes(&mut self, page: &mut Plain, who: Role, most: u32) -> u32
-        requires known { IsKnown who page.old self.old }
-        requires busy { ¬ IsIdle (machine_of page.old who) }
-        ensures within { result ≤ most }
-        ensures at { (core : Core) → IsAt core who page.old self.old → IsAt (events_made result core who) who page.new self.new }
-        ensures steps { (core : Core) → IsAt core who page.old self.old
-            → (count : ℕ) → result ≤ count → stepped count core who ≡ stepped (count - result) (events_made result core who) who }
-        ensures busy { ¬ IsIdle (machine_of page.new who) }
-        ensures call { self.new.call ≡ self.old.call }
-        ensures other { other_of page.new who ≡ other_of page.old who }
-    {
-        page.step_piece(
+        page.advance(
             who,
             most,
             self.payload.as_slice(),
             self.buffer.as_mut_slice(),
         )
-    }
-
-    /// One event of the call that the end is inside, and the answer where it comes with it.
-    fn event(&mut self, page: &mut Plain, who: Role) -> Option<Answer>
-        requires known { IsKnown who page.old self.old }
-        requires busy { ¬ IsIdle (machine_of page.old who) }
-        ensures at { (core : Core) → IsAt core who page.old self.old → IsAt (event_of core who) who page.new self.new }
-        ensures answer { (core : Core) → IsAt core who page.old self.old → result ≡ answer_in (plan_next core who) }
-        ensures taken { IfSome result (λ answer. (core : Core) → IsAt core who page.old self.old
-            → IsTaken answer (side_of (event_of core who) who).trail self.new.buffer.items) }
-        ensures idle { IsSome result ↔ IsIdle (machine_of page.new who) }
-        ensures call { self.new.call ≡ self.old.call }
-        ensures other { other_of page.new who ≡ other_of page.old who }
-    {
-        page.step(who, self.payload.as_slice(), self.buffer.as_mut_slice())
     }
 }
 
