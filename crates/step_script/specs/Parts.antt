@@ -5,3 +5,4 @@ pub mod ScriptLines
 pub mod Readings
 pub mod Spaced
 pub mod Players
+pub mod Refusals

@@ -11,6 +11,7 @@ mod carry;
 mod machine;
 mod phase;
 mod plain;
+mod refusal;
 mod steps;
 mod totals;
 mod whole_call;
@@ -18,6 +19,7 @@ mod words;
 
 pub use machine::{Ahead, Machine, Span};
 pub use plain::Plain;
+pub use refusal::Refusal;
 pub use steps::Steps;
 pub use vchan_protocol::{
     Answer, Asked, Begun, Bit, Call, EndState, EndedBy, Notes, Op, PastEvent, Side, laws,

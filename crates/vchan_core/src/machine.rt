@@ -1,4 +1,5 @@
 use crate::phase::{Next, Phase};
+use crate::refusal::Refusal;
 use crate::words::{
     ask_word, cons_word, mask, notify_word, own_gone, own_live, own_pending, peer_gone, peer_live,
     peer_pending, prod_word, read_ring, written_ring,
@@ -27,13 +28,14 @@ pub struct Machine {
 }
 
 impl Machine {
-    ghost use Rattle.std.specs.Prelude.{◌≡◌, ◌↔◌, ◌+◌, ◌-◌, ◌++◌, ◌∷◌, [], List, IsTrue, IsSome, ◌≢◌, ◌≤◌, ℕ};
+    ghost use Rattle.std.specs.Prelude.{◌≡◌, ◌↔◌, ◌+◌, ◌-◌, ◌++◌, ◌∷◌, [], List, IsTrue, IsSome, IsNone, ◌≢◌, ◌≤◌, ℕ};
     ghost use Rattle.ring_words.specs.Page.{order_of, Has};
     ghost use Rattle.ring_words.specs.Rings.{place as place_of};
     ghost use Rattle.vchan_protocol.specs.Table.Apply.{Fits};
     ghost use Rattle.vchan_protocol.specs.Table.Plan.{next_op, after, rest_after, past};
     ghost use Rattle.vchan_protocol.specs.Table.Ends.{Standing, written_ring as written_ring_of, read_ring as read_ring_of, ask_word as ask_word_of, notify_word as notify_word_of, peer_live as peer_live_of, peer_pending as peer_pending_of, prod_word as prod_word_of, cons_word as cons_word_of, mask as mask_of, own_live as own_live_of, own_gone as own_gone_of, own_pending as own_pending_of, peer_gone as peer_gone_of, free_at, ready_at, read_size, standing_after};
-    ghost use Rattle.vchan_protocol.specs.Table.Calls.{plan_of, payload_of, loaded_most, IsAllowed};
+    ghost use Rattle.vchan_protocol.specs.Table.Calls.{plan_of, payload_of, loaded_most};
+    ghost use Rattle.vchan_core.specs.OneMachine.Refusals.{refusal_of};
     ghost use Rattle.vchan_core.specs.OneMachine.Phases.{standing, at_phase, rest, rest_at, plan_at, rest_or_answer, IsIdle, Allows, payload_at, buffer_at, payload_needed, buffer_needed, payload_next, buffer_next, Stands, StandsOrAnswered};
     ghost use Rattle.vchan_protocol.specs.declared.call.Call.{Call};
     ghost use Rattle.vchan_protocol.specs.declared.call.Answer.{Answer};
@@ -78,28 +80,47 @@ impl Machine {
         (self.prod, self.cons)
     }
 
-    /// Whether this call may be begun now: between two calls, a connect on a fresh client, a close
-    /// on an end that isn't shut, a retire in any state, and every other call on an open end. A
-    /// drain asks for at least one byte.
+    /// Whether this call may be begun now: [`Machine::refusal`] names no reason against it.
     pub fn allows(&self, call: Call) -> bool
         ensures { IsTrue result ↔ Allows self.now call }
     {
-        self.phase.is_none() && self.may_begin(call)
+        self.refusal(call).is_none()
     }
 
-    fn may_begin(&self, call: Call) -> bool
-        ensures { IsTrue result ↔ IsAllowed self.now.role self.now.state call }
+    /// Why this call can't be begun now: the first reason that applies, and none exactly where it may
+    /// be begun. Between two calls a fresh client may connect, an end that isn't shut may close, an end
+    /// in any state may retire, and an open end may begin every other call; a drain asks for at least
+    /// one byte.
+    #[inline(always)]
+    pub fn refusal(&self, call: Call) -> Option<Refusal>
+        ensures refusal { result ≡ refusal_of self.now call }
+        ensures none { IsNone result ↔ Allows self.now call }
     {
-        match (call, self.state) {
-            (Call::Retire, _) => true,
-            (Call::Close, EndState::Shut) => false,
-            (Call::Close, _) => true,
-            (Call::Connect, EndState::Fresh) => matches!(self.role, Role::Client),
-            (Call::Connect, _) => false,
-            (Call::Drain { most }, EndState::Open) => most > 0,
-            (_, EndState::Open) => true,
-            _ => false,
+        if self.phase.is_some() {
+            return Some(Refusal::Busy);
         }
+        match (self.state, call) {
+            (_, Call::Retire) => None,
+            (EndState::Shut, _) => Some(Refusal::Shut),
+            (EndState::Fresh, Call::Close) => None,
+            (EndState::Fresh, Call::Connect) if matches!(self.role, Role::Client) => None,
+            (EndState::Fresh, _) => Some(Refusal::Unconnected),
+            (EndState::Open, Call::Connect) => Some(Refusal::Connected),
+            (EndState::Open, Call::Drain { most: 0 }) => Some(Refusal::NoBytes),
+            (EndState::Open, _) => None,
+        }
+    }
+
+    /// The most bytes that a call takes from the ring that the end reads.
+    pub fn most_taken(&self, call: Call) -> u32
+        ensures { result ≡ loaded_most (standing self.now) call }
+    {
+        let most = match call {
+            Call::Read { most } | Call::Drain { most } => most,
+            Call::Recv { len } => len,
+            _ => return 0,
+        };
+        most.min(self.orders.order_of(self.read()).size())
     }
 
     /// Begins a call, and makes no event.

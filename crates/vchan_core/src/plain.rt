@@ -1,4 +1,4 @@
-ghost use Rattle.std.specs.Prelude.{◌≡◌, ◌≢◌, ℕ, ◌<◌, ◌≤◌, ◌+◌, ◌^◌, ◌∷◌, ◌++◌, [], List, length, take, ◌↔◌, IsSome, IfOk, IsTrue, true, false, slice_set};
+ghost use Rattle.std.specs.Prelude.{◌≡◌, ◌≢◌, ℕ, ◌<◌, ◌≤◌, ◌+◌, ◌^◌, ◌∷◌, ◌++◌, [], List, length, take, ◌↔◌, IsSome, IfOk, IsTrue, true, false, not, ◌==◌, slice_index, slice_set};
 ghost use Rattle.ring_words.specs.declared.page.Role.TheVariants.{Server, Client};
 
 use crate::carry::carry_out;
@@ -6,7 +6,7 @@ use crate::machine::Machine;
 use crate::phase::{Next, Phase};
 use crate::steps::Steps;
 use crate::totals::Totals;
-use crate::words::peer_pending;
+use crate::words::{own_gone, peer_pending};
 use ring_words::{Layout, Orders, Ring, Role, WordName, Words};
 use std::alloc::Global;
 use std::sync::ledger::Ledger;
@@ -35,7 +35,7 @@ pub struct Plain {
 impl Plain {
     ghost use Rattle.vchan_protocol.specs.Table.Apply.{Fits, words_after, value_taken, buffer_after, filled};
     ghost use Rattle.vchan_protocol.specs.Table.Plan.{after, next_op, past};
-    ghost use Rattle.vchan_protocol.specs.Table.Ends.{Standing, standing_after, peer_pending as peer_pending_of};
+    ghost use Rattle.vchan_protocol.specs.Table.Ends.{Standing, standing_after, own_gone as own_gone_of, peer_pending as peer_pending_of};
     ghost use Rattle.ring_words.specs.Rings.{diff};
     ghost use Rattle.vchan_protocol.specs.Table.Calls.{plan_of, payload_of, loaded_most, most_events, Trace};
     ghost use Rattle.vchan_core.specs.OneMachine.Phases.{standing, at_phase, rest, rest_at, plan_at, rest_or_answer, IsIdle, Allows, payload_needed, buffer_needed, payload_at, buffer_at, payload_next, buffer_next, Stands, StandsOrAnswered};
@@ -130,6 +130,13 @@ impl Plain {
             Role::Server => self.server_turned,
             Role::Client => self.client_turned,
         }
+    }
+
+    /// Whether an end has retired: its own gone word is set.
+    pub fn has_retired(&self, who: Role) -> bool
+        ensures { result ≡ not (slice_index (words_of self.now) (index_of (orders_of self.now) (own_gone_of who)) == 0) }
+    {
+        self.words.load(own_gone(who)) != 0
     }
 
     /// How many bytes the writer of a ring has sent. It stays at 18446744073709551615 once it

@@ -31,6 +31,7 @@ pub(crate) fn read_given(word: &[u8]) -> Result<&[u8], LineError>
 /// # Errors
 ///
 /// A bad line where it isn't the only one, or is empty.
+#[inline(always)]
 pub(crate) fn read_operand<'a>(words: Words<'a>) -> Result<&'a [u8], LineError>
     ensures { Gives (λ word. word.now) result (operand_of (words_left words.entry)) }
 {
