@@ -1,5 +1,4 @@
 -- What only the code needs: what its parts stand for.
-pub mod LinesLeft
 pub mod Forms
 pub mod ScriptLines
 pub mod Readings

@@ -1,6 +1,6 @@
 use Rattle.std.proofs.Common.{ap, ◌∙◌, ℕ, eqb}
 use Rattle.script_words.proofs.FirstWord.{first_word, left_behind, no_byte, only_word}
-use Rattle.script_words.proofs.words.Words.behind.Goals as goal
+use Rattle.script_words.proofs.words.WordsOfLine.behind.Goals as goal
 
 pub returns-in_default : goal.returns-in_default
 returns-in_default c =

@@ -1,9 +1,9 @@
-use Rattle.std.proofs.Common.{refl, sym, ◌∙◌, arith}
-use Rattle.step_script.proofs.Language.KeptLinesLaws.{kept_none, kept_refused, kept_passed, kept_line}
-use Rattle.step_script.proofs.read.lines.LineReader.next.Goals as goal
+use Rattle.std.proofs.Common.{sym, ◌∙◌, arith}
+use Rattle.script_words.proofs.LineLaws.{kept_none, kept_refused, kept_passed, kept_line}
+use Rattle.script_words.proofs.lines.LineReader.next.Goals as goal
 
 pub returns-then-self-eq-MOST_LINES : goal.returns-then-self-eq-MOST_LINES
-returns-then-self-eq-MOST_LINES c = (sym c.loop-text.invariant ∙ kept_refused _ _ _ _ c.in-Some.ensures.lines (omega arith), refl)
+returns-then-self-eq-MOST_LINES c = sym c.loop-text.invariant ∙ kept_refused _ _ _ _ c.in-Some.ensures.lines (omega arith)
 
 pub returns-then-not-is_passed_over : goal.returns-then-not-is_passed_over
 returns-then-not-is_passed_over c =

@@ -1,6 +1,6 @@
 use Rattle.std.proofs.Common.{sym, ◌∙◌, add-one}
 use Rattle.script_words.proofs.NumberLaws.{all_ascii_digits-more, all_ascii_digits-not}
-use Rattle.step_script.proofs.read.poke.are_digits.Goals as goal
+use Rattle.script_words.proofs.number.are_digits.Goals as goal
 
 pub returns-then-not-is_ascii_digit : goal.returns-then-not-is_ascii_digit
 returns-then-not-is_ascii_digit c =

@@ -1,16 +1,24 @@
-//! The lines of a script one after another, but for those that are passed over.
+//! The lines of a text one after another, but for those that are passed over.
 ghost use Rattle.std.specs.Prelude.{◌≡◌, ◌≤◌};
-ghost use Rattle.step_script.specs.Language.KeptLines.{is_passed_over};
+ghost use Rattle.script_words.specs.KeptLines.{is_passed_over};
 
-use crate::error::{ScriptError, ScriptKind};
-use script_words::first_line;
+use crate::words::first_line;
+use thiserror::Error;
 
-/// The most lines that a script may have.
-const MOST_LINES: u32 = 65_536;
+/// The most lines that a text may have.
+pub const MOST_LINES: u32 = 65_536;
 
-/// What comes next of the lines of a script.
+/// A text has more than [`MOST_LINES`] lines.
+#[derive(Clone, Copy, Debug, PartialEq, Eq, Error)]
+#[error("line {line}: too many lines")]
+pub struct TooManyLines {
+    /// The number of the first line that is one too many.
+    pub line: u32,
+}
+
+/// What comes next of the lines of a text.
 #[derive(Clone, Copy, Debug, PartialEq, Eq)]
-pub(crate) enum NextLine<'a> {
+pub enum NextLine<'a> {
     /// A line, under its number.
     Line {
         /// Its number, from 1 on.
@@ -25,9 +33,10 @@ pub(crate) enum NextLine<'a> {
     },
 }
 
-/// The lines of a script that aren't read yet.
+/// The lines of a text that aren't read yet. An empty line and one that begins with `#` are passed
+/// over, but counted.
 #[derive(Clone, Copy)]
-pub(crate) struct LineReader<'a> {
+pub struct LineReader<'a> {
     rest: &'a [u8],
     passed: u32,
     ghost few: { passed ≤ 65536 },
@@ -35,12 +44,12 @@ pub(crate) struct LineReader<'a> {
 
 impl<'a> LineReader<'a> {
     ghost use Rattle.std.specs.Prelude.{length};
+    ghost use Rattle.script_words.specs.KeptLines.{kept_lines};
+    ghost use Rattle.script_words.specs.LinesLeft.{lines_left, IsNext};
     ghost use Rattle.script_words.specs.Words.{lines_of};
-    ghost use Rattle.step_script.specs.Language.KeptLines.{kept_lines};
-    ghost use Rattle.step_script.specs.Parts.LinesLeft.{lines_left, IsNext};
 
     /// All lines of these bytes.
-    pub(crate) fn of(bytes: &'a [u8]) -> LineReader<'a>
+    pub fn of(bytes: &'a [u8]) -> LineReader<'a>
         ensures { lines_left result ≡ kept_lines 1 (lines_of bytes.now) }
     {
         LineReader {
@@ -53,15 +62,14 @@ impl<'a> LineReader<'a> {
     ///
     /// # Errors
     ///
-    /// Too many lines exactly where a line comes before it that is the 65,537th, or it is that line.
-    pub(crate) fn next(&mut self) -> Result<NextLine<'a>, ScriptError>
+    /// [`TooManyLines`] exactly where that line, or one before it, is the 65,537th.
+    pub fn next(&mut self) -> Result<NextLine<'a>, TooManyLines>
         ensures { IsNext result (lines_left self.old) (lines_left self.new) }
     {
         while let Some((text, rest)) = first_line(self.rest) {
             if self.passed == MOST_LINES {
-                return Err(ScriptError::Bad {
+                return Err(TooManyLines {
                     line: self.passed + 1,
-                    kind: ScriptKind::TooManyLines,
                 });
             }
             self.rest = rest;
