@@ -197,7 +197,8 @@ fn check_serving(
     bytes: &[u8],
     want: Option<Outcome>,
 ) -> Result<(), Fail> {
-    let (_, outcome) = served(alloc, Builtin::Echo, 1, bytes)?;
+    let echo = Builtin::named(b"echo").ok_or("no echo")?;
+    let (_, outcome) = served(alloc, echo, 1, bytes)?;
     assert!(rt; outcome == want, "{bytes:?}");
     Ok(())
 }
