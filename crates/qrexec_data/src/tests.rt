@@ -345,7 +345,7 @@ const CALLS: [Call; 8] = [
     (3, 3, 65_536, 65_537, 1, 4, 65_536),
     (2, 3, 65_536, 65_537, 1, 19, 4_096),
     (3, 2, 65_536, 8_192, 100_000, 4, 4_096),
-    (3, 3, 1, 65_537, 1, 65_539, 4),
+    (3, 3, 1, 65_537, 100_000, 65_539, 4),
     (3, 3, 1, 1, 1, 3, 4),
     (3, 3, 1, 0, 1, 2, 4),
     (2, 2, 65_536, 1, 7, 3, 4),
@@ -357,7 +357,7 @@ fn check_call(rt: &impl Abort, alloc: Global, call: &Call) -> Result<(), Fail> {
     let input = vec![in alloc; 0x61; len]?;
     let mut caller = caller(alloc, &input, own, chunk)?;
     let mut serving = serving(alloc, builtin(b"echo")?, theirs, chunk)?;
-    for _ in 0..2_000_000 {
+    for _ in 0..1_000_000 {
         if pass(&mut caller, &mut serving, most)? == 0 {
             break;
         }
