@@ -53,18 +53,27 @@ impl Caller {
         })
     }
 
-    /// Reads the next bytes that came. With an outcome it changes nothing.
+    /// Reads the next bytes that came. With an outcome it changes nothing. Want of memory leaves what was
+    /// got as it was.
     pub fn take(&mut self, piece: &[u8]) -> Result<(), Memory>
         ensures over { IsSome self.old.replies.outcome → IsOk result × (self.new ≡ self.old) }
         ensures got { self.old.replies.outcome ≡ None → OnOk result (self.new.inbox.got ≡ self.old.inbox.got ++ piece.now) }
+        ensures no_memory { OnErr result (self.new.inbox.got ≡ self.old.inbox.got) }
         ensures same { (self.new.requests ≡ self.old.requests) × (self.new.replies.own ≡ self.old.replies.own) }
         ensures stands { (sent : List ℕ) → CallerStandsFor self.old sent → OnOk result (CallerStandsFor self.new sent) }
     {
         if self.replies.outcome().is_some() {
             return Ok(());
         }
+        let before = self.inbox.got().len();
         self.inbox.take(piece)?;
-        self.read_on()
+        match self.read_on() {
+            Ok(()) => Ok(()),
+            Err(refused) => {
+                self.inbox.cut(before);
+                Err(refused)
+            }
+        }
     }
 
     // Reads all whole messages that are left, up to the first that decides.
@@ -168,7 +177,7 @@ impl Caller {
         self.replies.stderr()
     }
 
-    /// All bytes that came while there was no outcome.
+    /// The bytes of all pieces that were taken while there was no outcome.
     pub fn got(&self) -> &[u8]
         ensures { result.now ≡ self.now.inbox.got }
     {

@@ -1,5 +1,5 @@
 //! The bytes that a side of a call gets.
-ghost use Rattle.std.specs.Prelude.{◌≡◌, ◌+◌, ◌≤◌, ◌++◌, [], length, OnOk, OnErr};
+ghost use Rattle.std.specs.Prelude.{◌≡◌, ◌+◌, ◌≤◌, ◌++◌, [], length, take, OnOk, OnErr};
 ghost use Rattle.qrexec_frame.specs.declared.channel.Channel.TheVariants.{Data};
 ghost use Rattle.qrexec_frame.specs.Bodies.{StandsAtFront};
 ghost use Rattle.qrexec_data.specs.Reading.{unread};
@@ -44,6 +44,14 @@ impl Inbox {
     {
         self.got.extend_from_slice(piece)?;
         Ok(())
+    }
+
+    /// Forgets all bytes but the first, so many.
+    pub(crate) fn cut(&mut self, len: usize)
+        ensures { self.new.got ≡ take len self.old.got }
+    {
+        self.got.truncate(len);
+        self.read = self.read.min(self.got.len());
     }
 
     /// What stands at the front of the bytes that were not read.
