@@ -174,4 +174,29 @@ impl Caller {
     {
         self.inbox.got()
     }
+
+    /// What is left of a caller that is done with, without a copy.
+    pub fn into_parts(self) -> CallerParts
+        ensures outputs { (result.stdout.items ≡ self.replies.stdout) × (result.stderr.items ≡ self.replies.stderr) }
+        ensures got { result.got.items ≡ self.inbox.got }
+    {
+        let Caller { inbox, replies, .. } = self;
+        let (stdout, stderr) = replies.into_outputs();
+        CallerParts {
+            stdout,
+            stderr,
+            got: inbox.into_got(),
+        }
+    }
+}
+
+/// The bytes that a caller has when it is done with.
+#[derive(Debug, Drop)]
+pub struct CallerParts {
+    /// The output that came before what decided.
+    pub stdout: Vec<u8>,
+    /// The error output that came before what decided.
+    pub stderr: Vec<u8>,
+    /// All bytes that came while there was no outcome.
+    pub got: Vec<u8>,
 }

@@ -171,4 +171,12 @@ impl Replies {
     {
         &self.stderr
     }
+
+    /// The two outputs.
+    pub(crate) fn into_outputs(self) -> (Vec<u8>, Vec<u8>)
+        ensures { (result.0.items ≡ self.stdout) × (result.1.items ≡ self.stderr) }
+    {
+        let Replies { stdout, stderr, .. } = self;
+        (stdout, stderr)
+    }
 }

@@ -159,4 +159,12 @@ impl<S: Service> Serving<S> {
     {
         self.inbox.got()
     }
+
+    /// All bytes that came while there was no outcome, without a copy, of a side that is done with.
+    pub fn into_got(self) -> Vec<u8>
+        ensures { result.items ≡ self.inbox.got }
+    {
+        let Serving { inbox, .. } = self;
+        inbox.into_got()
+    }
 }
