@@ -34,6 +34,7 @@ impl Caller {
     ghost use Rattle.std.specs.Borrow.{sem};
     ghost use Rattle.qrexec_data.specs.Seeing.{caller_sees};
     ghost use Rattle.qrexec_data.specs.CallerSide.{CallerStandsFor, ReadsReply, IsReading, HasRead, IsStill};
+    ghost use Rattle.qrexec_data.specs.Reading.{IsByBytes};
     ghost use Rattle.qrexec_data.specs.CallerLent.{RestsLent};
 
     /// A caller with this input, of this version, 2 or 3. No message of its input has more than `chunk`
@@ -59,6 +60,7 @@ impl Caller {
         ensures got { self.old.replies.outcome ≡ None → OnOk result (self.new.inbox.got ≡ self.old.inbox.got ++ piece.now) }
         ensures same { (self.new.requests ≡ self.old.requests) × (self.new.replies.own ≡ self.old.replies.own) }
         ensures stands { (sent : List ℕ) → CallerStandsFor self.old sent → OnOk result (CallerStandsFor self.new sent) }
+        ensures bytes { IsByBytes self.old.replies.outcome → IsByBytes self.new.replies.outcome }
     {
         if self.replies.outcome().is_some() {
             return Ok(());
@@ -73,6 +75,7 @@ impl Caller {
         ensures same { (self.new.requests ≡ self.old.requests) × (self.new.replies.own ≡ self.old.replies.own) }
         ensures version { (v : ℕ) → self.old.replies.version ≡ Some v → self.new.replies.version ≡ Some v }
         ensures read { IsReading self.old → OnOk result (HasRead self.new) }
+        ensures bytes { IsByBytes self.old.replies.outcome → IsByBytes self.new.replies.outcome }
     {
         loop {
             if !self.read_one()? {
@@ -89,6 +92,7 @@ impl Caller {
         ensures at { self.old.inbox.read < 2 ^ 64 }
         ensures nearer { result ≡ Ok true → (self.old.inbox.read < self.new.inbox.read) × (self.new.inbox.read ≤ length self.old.inbox.got) }
         ensures step { IfOk result (λ more. ReadsReply self.old self.new more) }
+        ensures bytes { IsByBytes self.old.replies.outcome → IsByBytes self.new.replies.outcome }
     {
         let at = self.inbox.read();
         match self.inbox.front() {

@@ -34,6 +34,7 @@ impl<S: Service> Serving<S> {
     ghost use Rattle.std.specs.Borrow.{sem};
     ghost use Rattle.std.specs.Io.BufRead.{Rests};
     ghost use Rattle.qrexec_data.specs.contracts.serving.Serving.{the_row};
+    ghost use Rattle.qrexec_data.specs.Reading.{IsByBytes};
     ghost use Rattle.qrexec_data.specs.Answering.{after_gone};
     ghost use Rattle.qrexec_data.specs.ServingSide.{ServingStandsFor, ReadsInput, IsServing, HasServed, LendsAnswers, IsStill};
 
@@ -60,6 +61,7 @@ impl<S: Service> Serving<S> {
         ensures same { (self.new.answering.own ≡ self.old.answering.own) × (self.new.answering.chunk ≡ self.old.answering.chunk) }
         ensures stands { (owed : List ℕ → Triple) (sent : List ℕ) → ServingStandsFor S.owes owed self.old sent →
             OnOk result (ServingStandsFor S.owes owed self.new sent) }
+        ensures bytes { IsByBytes self.old.answering.outcome → IsByBytes self.new.answering.outcome }
     {
         if self.answering.outcome().is_some() {
             return Ok(());
@@ -74,6 +76,7 @@ impl<S: Service> Serving<S> {
         ensures same { (self.new.answering.own ≡ self.old.answering.own) × (self.new.answering.chunk ≡ self.old.answering.chunk) }
         ensures read { (owed : List ℕ → Triple) (sent : List ℕ) → IsServing S.owes owed self.old sent →
             OnOk result (HasServed S.owes owed self.new sent) }
+        ensures bytes { IsByBytes self.old.answering.outcome → IsByBytes self.new.answering.outcome }
     {
         loop {
             if !self.read_one()? {
@@ -89,6 +92,7 @@ impl<S: Service> Serving<S> {
         ensures at { self.old.inbox.read < 2 ^ 64 }
         ensures nearer { result ≡ Ok true → (self.old.inbox.read < self.new.inbox.read) × (self.new.inbox.read ≤ length self.old.inbox.got) }
         ensures step { IfOk result (λ more. ReadsInput S.owes self.old self.new more) }
+        ensures bytes { IsByBytes self.old.answering.outcome → IsByBytes self.new.answering.outcome }
     {
         let at = self.inbox.read();
         match self.inbox.front() {
