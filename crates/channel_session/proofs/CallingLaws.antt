@@ -14,7 +14,7 @@ use Rattle.qrexec_data.specs.Seeing.{caller_sees, CallerSeen}
 use Rattle.qrexec_data.specs.Sending.{CallerMaySend}
 use Rattle.qrexec_data.specs.Fitting.{FitsCaller}
 use Rattle.qrexec_data.proofs.MaySendLaws.{caller_may_send}
-use Rattle.channel_session.specs.Sessions.{chunk, CallerEnded, CallerDone, CallerOwes}
+use Rattle.task_duties.specs.Agent.Sessions.{chunk, CallerEnded, CallerDone, CallerOwes}
 use Rattle.channel_session.specs.Calling.{EndsBy, IsCalling, IsRetired}
 
 -- bytes decide nothing of the channel's end

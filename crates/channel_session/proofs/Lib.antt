@@ -1,1 +1,2 @@
 mod CallingLaws
+mod AnsweringLaws

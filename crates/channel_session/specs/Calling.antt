@@ -5,7 +5,7 @@ use Rattle.vchan_rule.specs.Seated.{SeatedEnd, view, IsOpen}
 use Rattle.end_view.specs.EndView.{EndView}
 use Rattle.qrexec_data.specs.declared.outcome.Outcome.{Outcome}
 use Rattle.qrexec_data.specs.CallerSide.{CallerState, CallerStandsFor}
-use Rattle.channel_session.specs.Sessions.{chunk, CallerEnded}
+use Rattle.task_duties.specs.Agent.Sessions.{chunk, CallerEnded}
 
 pub record CallerAt : Type 0 where
   pub caller : CallerState

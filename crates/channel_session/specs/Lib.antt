@@ -1,3 +1,3 @@
-pub mod Sessions
 pub mod Calling
+pub mod Answering
 pub mod Ended

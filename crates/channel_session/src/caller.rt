@@ -2,7 +2,7 @@
 ghost use Rattle.std.specs.Prelude.{◌≡◌, ◌<◌, None, Some, OnOk, length};
 ghost use Rattle.vchan_rule.specs.Seated.{view, last_view, IsOpen};
 ghost use Rattle.vchan_rule.specs.Ends.{IsSameEnd};
-ghost use Rattle.channel_session.specs.Sessions.{CallerOwes};
+ghost use Rattle.task_duties.specs.Agent.Sessions.{CallerOwes};
 ghost use Rattle.channel_session.specs.Calling.{IsCalling, IsSameCall, IsRetired};
 ghost use Rattle.channel_session.specs.Ended.{done_of};
 

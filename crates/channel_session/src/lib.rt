@@ -6,5 +6,7 @@
 #![tactic(auto)]
 
 mod caller;
+mod serving;
 
 pub use caller::{CallerEnd, CallerSession};
+pub use serving::{ServingEnd, ServingSession};
