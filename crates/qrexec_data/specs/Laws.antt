@@ -1,5 +1,5 @@
 -- What one side sees of what the other may send.
-use Rattle.std.specs.Prelude.{◌≡◌, ℕ, ◌<◌, ◌≤◌, ◌^◌, ◌⊎◌, true, false, List, ◌∷◌, ◌++◌, length, map, None}
+use Rattle.std.specs.Prelude.{◌≡◌, ℕ, ℤ, ◌<◌, ◌≤◌, ◌^◌, ◌⊎◌, true, false, List, ◌∷◌, ◌++◌, length, map, Some, None}
 use Rattle.std.specs.Int.{w32}
 use Rattle.std.specs.Int.RustNames.{FitsSigned}
 use Rattle.std.specs.List.{flat_map}
@@ -8,11 +8,12 @@ use Rattle.qrexec_frame.specs.declared.message.Message.TheVariants.{Hello}
 use Rattle.qrexec_frame.specs.Messages.{written}
 use Rattle.qrexec_frame.specs.Streams.{IsPrefixOf}
 use Rattle.service_gate.specs.Triple.{Triple}
+use Rattle.qrexec_data.specs.declared.outcome.Outcome.TheVariants.{Done}
 use Rattle.qrexec_data.specs.CallerSide.{CallerState, CallerStandsFor}
 use Rattle.qrexec_data.specs.ServingSide.{ServingState, ServingStandsFor}
 use Rattle.qrexec_data.specs.Pieces.{Piece, message_of, ArePieces, is_output}
 use Rattle.qrexec_data.specs.Seeing.{Undecided, Exited, CallerSeen, caller_sees, ServingSeen, serving_sees}
-use Rattle.qrexec_data.specs.Sending.{IsCallerStream, IsServingStream, CallerMaySend, ServingMaySend}
+use Rattle.qrexec_data.specs.Sending.{IsCallerStream, IsServingStream, CallerMaySend, ServingMaySend, SentAll}
 
 -- a version that a side may announce
 pub record IsVersion (own : ℕ) : Type 0 where
@@ -65,3 +66,13 @@ CallersSendStreams = (c : CallerState) (sent : List ℕ) → CallerStandsFor c s
 abbrev pub ServingSendsStreams : (S : Type 0) → Type 0
 ServingSendsStreams S = (owes : S → List ℕ → Triple) (owed : List ℕ → Triple) (s : ServingState S) (sent : List ℕ) → ServingStandsFor owes owed s sent
     → ServingMaySend s.answering.own s.answering.chunk owed s.inbox.got sent
+
+-- all of the serving stream went, and its exit code is this
+pub record HasSent {S : Type 0} (owed : List ℕ → Triple) (s : ServingState S) (sent : List ℕ) (code : ℤ) : Type 0 where
+  pub all : SentAll s.answering.own s.answering.chunk (owed (serving_sees s.inbox.got).input) s.inbox.got sent
+  pub code_is : code ≡ (owed (serving_sees s.inbox.got).input).code
+
+-- a side that serves and is done has sent its whole stream, whatever its service
+abbrev pub DoneSendsAll : (S : Type 0) → Type 0
+DoneSendsAll S = (owes : S → List ℕ → Triple) (owed : List ℕ → Triple) (s : ServingState S) (sent : List ℕ) (code : ℤ) → ServingStandsFor owes owed s sent
+    → s.answering.outcome ≡ Some (Done code) → HasSent owed s sent code

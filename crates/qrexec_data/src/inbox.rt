@@ -61,6 +61,14 @@ impl Inbox {
         Body::at_front(Channel::Data, self.read as u64, &self.got[self.read..])
     }
 
+    /// All bytes got.
+    pub(crate) fn into_got(self) -> Vec<u8>
+        ensures { result.items ≡ self.got }
+    {
+        let Inbox { got, read: _ } = self;
+        got
+    }
+
     /// How many bytes were read, which is the offset of the next message.
     pub(crate) fn read(&self) -> usize
         ensures at { result ≡ self.now.read }

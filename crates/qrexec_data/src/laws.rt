@@ -1,6 +1,6 @@
 //! Laws of what one side of a call sees of what the other sends. A law is a function with no body, whose
 //! contract states it.
-ghost use Rattle.qrexec_data.specs.Laws.{CallersSeeTriples, CallersAreDone, CallersWait, InputsAreRead, GreetingsAreNoFault, CallersSendStreams, ServingSendsStreams};
+ghost use Rattle.qrexec_data.specs.Laws.{CallersSeeTriples, CallersAreDone, CallersWait, InputsAreRead, GreetingsAreNoFault, CallersSendStreams, ServingSendsStreams, DoneSendsAll};
 
 use service_gate::Service;
 
@@ -42,4 +42,9 @@ pub fn callers_send_streams()
 /// its whole stream.
 pub fn serving_sends_streams<S: Service>()
     ensures { ServingSendsStreams S }
+{}
+
+/// A serving side that is done has sent its whole stream, and its code is the service's.
+pub fn done_sends_all<S: Service>()
+    ensures { DoneSendsAll S }
 {}

@@ -34,6 +34,7 @@ impl<S: Service> Serving<S> {
     ghost use Rattle.std.specs.Borrow.{sem};
     ghost use Rattle.std.specs.Io.BufRead.{Rests};
     ghost use Rattle.qrexec_data.specs.contracts.serving.Serving.{the_row};
+    ghost use Rattle.qrexec_data.specs.Reading.{IsByBytes};
     ghost use Rattle.qrexec_data.specs.Answering.{after_gone};
     ghost use Rattle.qrexec_data.specs.ServingSide.{ServingStandsFor, ReadsInput, IsServing, HasServed, LendsAnswers, IsStill, StillWaits};
 
@@ -63,6 +64,7 @@ impl<S: Service> Serving<S> {
         ensures waits { OnOk result (StillWaits self.old.answering self.new.answering) }
         ensures stands { (owed : List ℕ → Triple) (sent : List ℕ) → ServingStandsFor S.owes owed self.old sent →
             OnOk result (ServingStandsFor S.owes owed self.new sent) }
+        ensures bytes { IsByBytes self.old.answering.outcome → IsByBytes self.new.answering.outcome }
     {
         if self.answering.outcome().is_some() {
             return Ok(());
@@ -85,6 +87,7 @@ impl<S: Service> Serving<S> {
         ensures waits { OnOk result (StillWaits self.old.answering self.new.answering) }
         ensures read { (owed : List ℕ → Triple) (sent : List ℕ) → IsServing S.owes owed self.old sent →
             OnOk result (HasServed S.owes owed self.new sent) }
+        ensures bytes { IsByBytes self.old.answering.outcome → IsByBytes self.new.answering.outcome }
     {
         loop {
             if !self.read_one()? {
@@ -100,6 +103,7 @@ impl<S: Service> Serving<S> {
         ensures at { self.old.inbox.read < 2 ^ 64 }
         ensures nearer { result ≡ Ok true → (self.old.inbox.read < self.new.inbox.read) × (self.new.inbox.read ≤ length self.old.inbox.got) }
         ensures step { IfOk result (λ more. ReadsInput S.owes self.old self.new more) }
+        ensures bytes { IsByBytes self.old.answering.outcome → IsByBytes self.new.answering.outcome }
     {
         let at = self.inbox.read();
         match self.inbox.front() {
@@ -169,5 +173,13 @@ impl<S: Service> Serving<S> {
         ensures { result.now ≡ self.now.inbox.got }
     {
         self.inbox.got()
+    }
+
+    /// All bytes that came while there was no outcome, without a copy, of a side that is done with.
+    pub fn into_got(self) -> Vec<u8>
+        ensures { result.items ≡ self.inbox.got }
+    {
+        let Serving { inbox, .. } = self;
+        inbox.into_got()
     }
 }

@@ -1,0 +1,3 @@
+-- The task of the broker: what its journal puts into the outbox of each domain, and what it owes.
+pub mod Outbox
+pub mod Owes

@@ -1,0 +1,81 @@
+-- What each task owes: what it reports, and that each end that it was given is retired, in the order in which they were given.
+-- Source: this project's own.
+use Rattle.std.specs.Prelude.{◌≡◌, ℕ, Bool, true, false, List, [], ◌∷◌, map}
+use Rattle.ring_words.specs.declared.order.Orders.{Orders}
+use Rattle.end_view.specs.EndView.{EndView}
+use Rattle.qrexec_frame.specs.Streams.{Each}
+use Rattle.call_broker.specs.Brokered.{Brokered}
+use Rattle.call_broker.specs.Domains.{Domains}
+use Rattle.task_duties.specs.declared.place.PagePlace.{PagePlace}
+use Rattle.task_duties.specs.declared.place.PagePlace.TheVariants.{Control}
+use Rattle.task_duties.specs.declared.done.CallDone.{CallDone}
+use Rattle.task_duties.specs.declared.done.ServedDone.{ServedDone}
+use Rattle.task_duties.specs.declared.done.ControlEnd.{ControlEnd}
+use Rattle.task_duties.specs.Pairwise.{EachPair}
+use Rattle.task_duties.specs.Agent.Given.{AgentPlan}
+use Rattle.task_duties.specs.Agent.Owes.{AgentOwes}
+use Rattle.task_duties.specs.Broker.Owes.{BrokerOwes}
+use Rattle.task_duties.specs.Hostile.Given.{HostilePlan}
+use Rattle.task_duties.specs.Hostile.Trail.{IsTrail}
+
+-- ---- what a task is given, and what it answers, as contracts see them
+
+-- an end with its place
+pub record EndAt : Type 0 where
+  pub place : PagePlace
+  pub view : EndView
+
+-- what a task was given: the ends beside the plan of an agent, the domains and awaited calls of the broker, the plan of a hostile domain
+pub data TaskGiven : Type 0 where
+  Agent : (plan : AgentPlan) (ends : List EndAt) → TaskGiven
+  Broker : (hub : Domains) (awaited : List ℕ) (ends : List EndAt) → TaskGiven
+  Hostile : (plan : HostilePlan) (ends : List EndAt) → TaskGiven
+
+-- what an agent answers
+pub record AgentReport : Type 0 where
+  pub domain : ℕ
+  pub calls : List CallDone
+  pub served : List ServedDone
+  pub control : ControlEnd
+  pub ends : List EndAt
+
+-- what a task answers: an agent's report, a broker with its journal, a hostile domain's number, each with all its ends; or that memory didn't suffice
+pub data TaskDone : Type 0 where
+  AgentDone : (report : AgentReport) → TaskDone
+  BrokerDone : (broker : Brokered) (ends : List EndAt) → TaskDone
+  HostileDone : (domain : ℕ) (ends : List EndAt) → TaskDone
+  NoMemory : TaskDone
+
+-- ---- what it owes of its ends
+
+-- a retired end is the one that was given: it has its place, its page and its role
+pub record IsSameEnd (given retired : EndAt) : Type 0 where
+  pub place : retired.place ≡ given.place
+  pub page : retired.view.page ≡ given.view.page
+  pub role : retired.view.role ≡ given.view.role
+
+-- `end` gives each of the ends at its place
+abbrev pub AreEnds : (PagePlace → EndView) → List EndAt → Type 0
+AreEnds end ends = Each (λ e. e.view ≡ end e.place) ends
+
+-- all ends are there, in the order in which they were given, and all of them are turned or none is
+pub record EndsOwed (turned : Bool) (given ends : List EndAt) (end : PagePlace → EndView) : Type 0 where
+  pub same : EachPair IsSameEnd given ends
+  pub are : AreEnds end ends
+  pub turned_are : Each (λ e. e.view.turned ≡ turned) ends
+
+-- ---- what it owes
+
+-- what a task owes by what it was given: only where memory didn't suffice nothing
+abbrev pub TaskOwes : TaskGiven → TaskDone → Type 0
+TaskOwes given NoMemory = Unit {0}
+TaskOwes (Agent plan given) (AgentDone report) =
+    (end : PagePlace → EndView) × (report.domain ≡ plan.domain) × EndsOwed false given report.ends end
+    × AgentOwes plan end report.calls report.served report.control
+TaskOwes (Broker hub awaited given) (BrokerDone broker ends) =
+    (end : PagePlace → EndView) × (broker.hub ≡ hub) × EndsOwed false given ends end
+    × BrokerOwes hub awaited broker.journal (λ d. end (Control d))
+TaskOwes (Hostile plan given) (HostileDone domain ends) =
+    (end : PagePlace → EndView) × (domain ≡ plan.domain) × EndsOwed true given ends end
+    × Each (λ e. IsTrail plan e.place e.view.trail) ends
+TaskOwes _ _ = ⊥

@@ -1,0 +1,60 @@
+//! What an agent reports once it is done.
+use qrexec_data::{Outcome, SessionFault};
+use qrexec_frame::Bytes;
+
+/// What came of a call of an agent's own.
+#[derive(Debug, Drop)]
+pub enum CallEnd {
+    /// The call was let through, and its session is over.
+    Session {
+        /// The port of the session.
+        port: u32,
+        /// The domain that served it.
+        to: u32,
+        /// How the session came out.
+        outcome: Outcome,
+        /// What was read of the output.
+        stdout: Bytes,
+        /// What was read of the errors.
+        stderr: Bytes,
+        /// All bytes that were got.
+        got: Bytes,
+    },
+    /// The broker refused the call.
+    Refused,
+    /// The control channel ended before the call was answered.
+    Unanswered,
+}
+
+/// A call of an agent's own, and what came of it.
+#[derive(Debug, Drop)]
+pub struct CallDone {
+    /// The number of the call.
+    pub number: u32,
+    /// What came of it.
+    pub end: CallEnd,
+}
+
+/// A session in which an agent served.
+#[derive(Debug, Drop)]
+pub struct ServedDone {
+    /// The domain that called.
+    pub from: u32,
+    /// The port of the session.
+    pub port: u32,
+    /// How the session came out.
+    pub outcome: Outcome,
+    /// All bytes that were got.
+    pub got: Bytes,
+}
+
+/// How a control channel came to its end.
+#[derive(Clone, Copy, Debug, PartialEq, Eq)]
+pub enum ControlEnd {
+    /// The broker has shut it, and all of it was read.
+    Drained,
+    /// The broker has gone.
+    Gone,
+    /// What the broker said is wrong.
+    Fault(SessionFault),
+}
