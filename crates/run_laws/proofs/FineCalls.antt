@@ -15,7 +15,6 @@ use Rattle.qrexec_data.specs.Seeing.{caller_sees}
 use Rattle.qrexec_data.specs.Fitting.{FitsCaller}
 use Rattle.scenario_file.specs.Scenario.{Plan as Scenario, domain_named, hostile_at, version_at, is_mixed}
 use Rattle.scenario_file.specs.declared.scenario.CallPlan.{CallPlan}
-use Rattle.scenario_file.specs.declared.line.Line.{Line}
 use Rattle.scenario_file.specs.declared.line.LineResult.{LineResult}
 use Rattle.scenario_file.specs.Lines.{by_domain, by_service, line_of}
 use Rattle.scenario_file.specs.declared.line.LineResult.TheVariants as line
@@ -29,12 +28,10 @@ use Rattle.task_duties.specs.declared.done.CallEnd.TheVariants.{Session, Refused
 use Rattle.task_duties.specs.Agent.Owes.{ReportsAnswer, caller_done}
 use Rattle.task_duties.proofs.Elements.{Has, has-from, contains-from, has-filter-back, has-map-back, each-at}
 use Rattle.run_laws.specs.Laid.{calls_from, agent_plan, laid}
-use Rattle.run_laws.specs.declared.report.MixedOutcome.{MixedOutcome}
 use Rattle.run_laws.specs.declared.report.CallResult.{CallResult}
 use Rattle.run_laws.specs.declared.report.CallResult.TheVariants.{Done as IsDone, Mixed as IsMixed}
-use Rattle.run_laws.specs.declared.report.CallLine.{CallLine}
 use Rattle.run_laws.specs.declared.report.ServedLine.{ServedLine}
-use Rattle.run_laws.specs.Report.{Report, plain_result, with_result}
+use Rattle.run_laws.specs.Report.{plain_result, with_result}
 use Rattle.run_laws.specs.declared.report.CallResult.TheVariants as call_result
 use Rattle.run_laws.specs.Lawful.{ResultStands, IsAnswered, ToldAs, has_page, is_mixed_result, control_messages}
 use Rattle.run_laws.specs.Run.{Run, IsRun, IsHonest, end_of}

@@ -27,7 +27,6 @@ use Rattle.task_duties.proofs.ServedLaw.{serves-each}
 use Rattle.run_laws.specs.Laid.{laid, agent_plan}
 use Rattle.run_laws.specs.declared.report.ServedLine.{ServedLine}
 use Rattle.run_laws.specs.Report.{SettledPage, Report}
-use Rattle.run_laws.specs.declared.report.MixedOutcome.{MixedOutcome}
 use Rattle.run_laws.specs.Report as report
 use Rattle.run_laws.specs.Lawful.{ExecAt, exec_at, execs_on, hostile_execs, IsServed, ServedSent, control_messages}
 use Rattle.run_laws.specs.Run.{Run, IsRun, IsHonest, IsPlace, end_of}

@@ -1,6 +1,6 @@
 -- A run there is: one honest domain, no calls.
-use Rattle.std.proofs.Common.{◌≡◌, ℕ, ◌<◌, suc, zero, [], ◌∷◌, refl, sym, ◌∙◌, arith, inl, inr, Option, Some, None}
-use Rattle.std.specs.Prelude.{true, false, Bool, codes, nat_le, Contains, slice_index_or}
+use Rattle.std.proofs.Common.{◌≡◌, ℕ, suc, zero, [], ◌∷◌, refl, sym, ◌∙◌, arith, inl, inr, Option, Some, None}
+use Rattle.std.specs.Prelude.{true, false, Bool, codes, nat_le}
 use Rattle.std.proofs.lemmas.Bool.Decides.{nat_tests}
 use Rattle.std.proofs.lemmas.List.Sorted.{IsPermutation-refl}
 use Rattle.std.proofs.lemmas.List.Elements.{All-from_recursion}

@@ -15,7 +15,7 @@ use Rattle.task_duties.proofs.Elements.{Has, has-from, contains-from, has-append
 use Rattle.task_duties.proofs.ServedLaw.{names, AreApart}
 use Rattle.run_laws.specs.Laid.{all_domains, laid_between, ports_between, laid}
 use Rattle.run_laws.specs.declared.report.ServedLine.{ServedLine}
-use Rattle.run_laws.specs.Lawful.{IsLawful, ExecAt, exec_at, execs_on, hostile_execs, control_messages, comes_before, IsServed}
+use Rattle.run_laws.specs.Lawful.{ExecAt, exec_at, execs_on, hostile_execs, control_messages, comes_before, IsServed}
 use Rattle.run_laws.specs.Run.{Run, IsRun, IsHonest, IsPlace}
 use Rattle.run_laws.specs.Laws.{agent_heard}
 use Rattle.run_laws.specs.ReadOff.{page_read, report_of, HasLawfulReport}

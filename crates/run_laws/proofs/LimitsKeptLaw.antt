@@ -16,7 +16,6 @@ use Rattle.call_broker.specs.Pair.{Pair, Ordered, Alone, PairState, has, state_a
 use Rattle.call_broker.specs.Journal.{drops}
 use Rattle.call_broker.proofs.StateLaws.{IsDecidedAt, still-up, none-before, dropped-events}
 use Rattle.scenario_file.specs.Scenario.{Plan as Scenario, domain_of, domain_named, hostile_at}
-use Rattle.scenario_file.specs.declared.line.LineResult.{LineResult}
 use Rattle.scenario_file.specs.Lines.{by_domain, by_service}
 use Rattle.scenario_file.specs.declared.line.LineResult.TheVariants as line
 use Rattle.scenario_file.specs.declared.line.LineCause.TheVariants as line_cause

@@ -1,5 +1,5 @@
 -- How many words a page has at most, and a name for the pages of worked runs.
-use Rattle.std.proofs.Common.{ℕ, ◌≤◌, [], arith}
+use Rattle.std.proofs.Common.{◌≤◌, [], arith}
 use Rattle.atomic_table.specs.Seated.{TableId}
 use Rattle.ring_words.specs.declared.order.Orders.{Orders}
 use Rattle.ring_words.specs.Page.{word_count}

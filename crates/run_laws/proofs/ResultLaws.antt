@@ -9,7 +9,6 @@ use Rattle.qrexec_data.specs.declared.outcome.Outcome.TheVariants.{Done}
 use Rattle.task_duties.specs.declared.done.CallDone.{CallDone}
 use Rattle.task_duties.specs.declared.done.CallEnd.{CallEnd}
 use Rattle.task_duties.specs.declared.done.CallEnd.TheVariants.{Session, Refused as WasRefused, Unanswered}
-use Rattle.task_duties.specs.Agent.Owes.{caller_done}
 use Rattle.run_laws.specs.Laid.{calls_from}
 use Rattle.run_laws.specs.Run.{Run}
 use Rattle.run_laws.specs.Laws.{ResultEqual, OutcomeDone, IsEqual, OfSession}

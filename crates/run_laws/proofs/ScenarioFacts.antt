@@ -1,7 +1,7 @@
 -- What the laws use of a scenario, element by element: clean names, differing names, rising numbers.
-use Rattle.std.proofs.Common.{◌≡◌, ◌≢◌, ℕ, ◌-◌, ◌<◌, ◌≤◌, ◌^◌, suc, zero, List, [], ◌∷◌, length, map, refl, ap, sym, ◌∙◌, arith, ◌⊎◌, inl, inr, Option, Some, None, subst}
-use Rattle.std.specs.Prelude.{true, false, Bool, ◌==◌, ◌&&◌, nat_le, bytes_eq, slice_get, slice_index_or, is_some, AllPairs, if◌then◌else◌}
-use Rattle.std.specs.List.{All, list_all}
+use Rattle.std.proofs.Common.{◌≡◌, ◌≢◌, ℕ, ◌<◌, ◌≤◌, ◌^◌, suc, zero, List, [], ◌∷◌, length, map, refl, ap, sym, ◌∙◌, arith, inl, inr, Option, Some, None, subst}
+use Rattle.std.specs.Prelude.{true, false, Bool, ◌==◌, ◌&&◌, nat_le, bytes_eq, slice_index_or, is_some, AllPairs, if◌then◌else◌}
+use Rattle.std.specs.List.{list_all}
 use Rattle.std.specs.Option.{option_map_or}
 use Rattle.std.proofs.lemmas.Bool.{and_parts, false≢true}
 use Rattle.std.proofs.lemmas.Bool.Decides.{nat_tests}
@@ -9,10 +9,10 @@ use Rattle.std.proofs.lemmas.List.Elements.{recursion_from_All}
 use Rattle.qrexec_frame.specs.Names.{is_name_byte, cleaned_name, cleaned_service}
 use Rattle.qrexec_frame.specs.Streams.{Each}
 use Rattle.qrexec_frame.specs.Texts.{HasNoNul}
-use Rattle.scenario_file.specs.Names.{is_name, is_service, is_service_byte}
+use Rattle.scenario_file.specs.Names.{is_name, is_service_byte}
 use Rattle.scenario_file.specs.declared.scenario.Domain.{Domain}
 use Rattle.scenario_file.specs.declared.scenario.CallPlan.{CallPlan}
-use Rattle.scenario_file.specs.Scenario.{Plan as Scenario, IsScenario, DomainFits, NumbersFit, CallFits, AreApart, Rises, domain_at, domain_of, is_hostile, hostile_among, hostile_at, IsHonest}
+use Rattle.scenario_file.specs.Scenario.{Plan as Scenario, IsScenario, DomainFits, NumbersFit, CallFits, AreApart, Rises, domain_at, domain_of, is_hostile, hostile_at, IsHonest}
 use Rattle.scenario_file.proofs.NameLaws.{no_nul_in_name, no_nul_in_service}
 use Rattle.run_laws.specs.Run.{Run, IsRun}
 

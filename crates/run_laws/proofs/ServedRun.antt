@@ -1,7 +1,7 @@
 -- A run there is with a call that is served: one honest domain calls the echo of another.
-use Rattle.std.proofs.Common.{◌≡◌, ◌≢◌, ℕ, ◌+◌, ◌<◌, ◌≤◌, suc, zero, List, [], ◌∷◌, refl, ap, sym, ◌∙◌, arith, ◌⊎◌, inl, inr, Option, Some, None, subst}
+use Rattle.std.proofs.Common.{◌≡◌, ℕ, ◌+◌, ◌≤◌, suc, zero, List, [], ◌∷◌, refl, ap, sym, ◌∙◌, arith, ◌⊎◌, inl, inr, Option, Some, None, subst}
 use Rattle.std.proofs.lemmas.List.Elements.{All-from_recursion}
-use Rattle.std.specs.Prelude.{true, false, Bool, codes, nat_le, bytes_eq, ◌==◌, if◌then◌else◌, Contains, slice_index_or, filter_map, pos, IsPermutation}
+use Rattle.std.specs.Prelude.{true, false, Bool, codes, nat_le, bytes_eq, ◌==◌, if◌then◌else◌, Contains, filter_map, pos, IsPermutation}
 use Rattle.std.specs.List.{flat_map}
 use Rattle.std.proofs.lemmas.Bool.Decides.{nat_tests}
 use Rattle.std.proofs.lemmas.List.Sorted.{IsPermutation-refl}
@@ -30,7 +30,6 @@ use Rattle.qrexec_frame.proofs.GrammarLaws.{is_prefix_code}
 use Rattle.qrexec_frame.proofs.WrittenLaws.{is_read_again}
 use Rattle.end_view.specs.Settled.{Settled, IsSettled}
 use Rattle.call_broker.specs.Domains.{is_domain}
-use Rattle.scenario_file.specs.declared.scenario.Domain.{Domain}
 use Rattle.task_duties.specs.Agent.Answers.{takes_all, nothing_heard, At}
 use Rattle.task_duties.specs.Agent.Owes.{AgentOwes}
 use Rattle.task_duties.specs.declared.done.CallDone.{CallDone}

@@ -39,7 +39,6 @@ use Rattle.task_duties.specs.Hostile.Trail.{IsTrail}
 use Rattle.task_duties.proofs.Elements.{Has, has-from, contains-from, has-append, has-map, has-map-back, has-flat_map}
 use Rattle.task_duties.specs.Agent.Owes.{caller_done}
 use Rattle.run_laws.specs.Laid.{hub_of, all_domains, pages_between, ports_between, laid_between, laid, is_end_of, hostile_plan, calls_from, server_of, client_of}
-use Rattle.run_laws.specs.declared.report.CallResult.{CallResult}
 use Rattle.run_laws.specs.declared.report.CallResult.TheVariants.{Mixed as IsMixed}
 use Rattle.run_laws.specs.declared.report.ServedLine.{ServedLine}
 use Rattle.run_laws.specs.Report.{SettledPage, Report, IsFaulty}

@@ -14,7 +14,6 @@ use Rattle.qrexec_data.specs.declared.outcome.Outcome.{Outcome}
 use Rattle.qrexec_data.specs.declared.outcome.Outcome.TheVariants as outcome
 use Rattle.scenario_file.specs.Scenario.{Plan as Scenario, domain_named, hostile_at, name_at, is_mixed}
 use Rattle.scenario_file.specs.declared.scenario.CallPlan.{CallPlan}
-use Rattle.scenario_file.specs.declared.line.LineResult.TheVariants as line
 use Rattle.scenario_file.specs.declared.line.LineCause.TheVariants as line_cause
 use Rattle.scenario_file.specs.Lines.{lines, without_hostile}
 use Rattle.task_duties.specs.declared.place.PagePlace.{PagePlace}

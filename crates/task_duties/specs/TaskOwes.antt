@@ -1,7 +1,6 @@
 -- What each task owes: what it reports, and that each end that it was given is retired, in the order in which they were given.
 -- Source: this project's own.
-use Rattle.std.specs.Prelude.{◌≡◌, ℕ, Bool, true, false, List, [], ◌∷◌, map}
-use Rattle.ring_words.specs.declared.order.Orders.{Orders}
+use Rattle.std.specs.Prelude.{◌≡◌, ℕ, Bool, true, false, List}
 use Rattle.end_view.specs.EndView.{EndView}
 use Rattle.qrexec_frame.specs.Streams.{Each}
 use Rattle.call_broker.specs.Brokered.{Brokered}
