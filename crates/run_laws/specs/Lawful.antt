@@ -11,7 +11,7 @@ use Rattle.qrexec_frame.specs.Streams.{Each, messages}
 use Rattle.service_gate.specs.Triple.{Triple}
 use Rattle.service_gate.specs.ServiceResult.{service}
 use Rattle.end_view.specs.EndView.{EndView}
-use Rattle.end_view.specs.Settled.{Settled}
+use Rattle.end_view.specs.Settled.{Settled, IsSettled}
 use Rattle.qrexec_data.specs.Seeing.{Exited, caller_sees, serving_sees}
 use Rattle.qrexec_data.specs.Sending.{CallerMaySend, ServingMaySend, SentAll}
 use Rattle.scenario_file.specs.Scenario.{Plan as Scenario, domain_named, hostile_at, name_at, version_at, is_mixed}
@@ -214,9 +214,10 @@ has_page (IsMixed outcome got) = true
 -- a lawful report of a scenario
 pub record IsLawful (s : Scenario) (r : Report) : Type 0 where
   pub ports : Ports
-  -- the pages are those that are laid, each once, and turned as the scenario says
+  -- the pages are those that are laid, each once, turned as the scenario says and settled
   pub pages : IsPermutation (map (λ p. p.place) r.pages) (laid s)
   pub turned : Each (TurnedAsSaid s) r.pages
+  pub settled : Each (λ p. IsSettled p.settled) r.pages
   -- each call has a line
   pub calls : EachPair (IsLineOf s) s.calls r.calls
   -- the lines of calls to domains that aren't hostile are those that the services and names give without the hostile domains

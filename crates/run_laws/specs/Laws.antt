@@ -1,6 +1,7 @@
 -- The eight laws that lead from ends to the report. Each speaks of one page, one domain or one call.
 -- Source: this project's own.
-use Rattle.std.specs.Prelude.{◌≡◌, ◌≢◌, ◌⊎◌, ℕ, ℤ, ◌≤◌, true, false, List, [], ◌∷◌, filter_map, map, is_some, Contains, Option, Some, None}
+use Rattle.std.specs.Prelude.{◌≡◌, ◌≢◌, ◌⊎◌, ℕ, ℤ, pos, ◌≤◌, true, false, List, [], ◌∷◌, filter_map, map, is_some, Contains, Option, Some, None}
+use Rattle.ring_words.specs.declared.order.Orders.{Orders}
 use Rattle.qrexec_frame.specs.declared.message.Message.{Message}
 use Rattle.qrexec_frame.specs.declared.message.Message.TheVariants as message
 use Rattle.qrexec_frame.specs.Streams.{Each}
@@ -27,7 +28,8 @@ use Rattle.task_duties.specs.Hearing.{to_agent, to_broker, hears}
 use Rattle.task_duties.specs.Words.{ident_of, exec_line}
 use Rattle.task_duties.specs.Agent.Sessions.{CallerDone, ServingOwes, IsService}
 use Rattle.task_duties.specs.declared.done.CallEnd.{CallEnd}
-use Rattle.task_duties.specs.declared.done.CallEnd.TheVariants.{Session, Unanswered}
+use Rattle.task_duties.specs.declared.done.CallEnd.TheVariants.{Session, Refused as WasRefused, Unanswered}
+use Rattle.task_duties.specs.declared.done.CallDone.{CallDone}
 use Rattle.task_duties.specs.declared.done.ServedDone.{ServedDone}
 use Rattle.task_duties.specs.Agent.Owes.{caller_done}
 use Rattle.task_duties.specs.Agent.Saying.{asking, asking_of}
@@ -163,3 +165,15 @@ abbrev pub ResultEqual : Type 0
 ResultEqual =
     (s : Scenario) (run : Run) → IsRun s run → (f : ℕ) → IsHonest s f
     → EachPair (λ call c. OfSession (λ port to done. IsEqual call done (run.page (Payload f to port))) s c.end) (calls_from s f) (run.calls f)
+
+-- ---- there are runs
+
+-- a run in which the agent of the first domain reports these calls
+abbrev pub RunReporting : List CallDone → Type 0
+RunReporting calls = (s : Scenario) × (run : Run) × IsRun s run × (run.calls 1 ≡ calls)
+
+-- whatever the orders of its pages: of a domain without calls, of a call that is refused, and of a call that another honest domain serves
+pub record RunsAreThere (orders : Orders) : Type 0 where
+  pub without_calls : RunReporting []
+  pub refused : RunReporting (record { number = 1; end = WasRefused } ∷ [])
+  pub served : (got : List ℕ) × RunReporting (record { number = 1; end = Session 513 2 (Done (pos 0)) [] [] got } ∷ [])

@@ -1,5 +1,6 @@
 //! The laws of a run. A law is a function with no body, whose contract states it.
-ghost use Rattle.run_laws.specs.Laws.{ControlBytes, ControlEnds, PortsApart, LimitsKept, AnswersAll, ServedAll, OutcomeDone, ResultEqual};
+ghost use Rattle.ring_words.specs.declared.order.Orders.{Orders};
+ghost use Rattle.run_laws.specs.Laws.{ControlBytes, ControlEnds, PortsApart, LimitsKept, AnswersAll, ServedAll, OutcomeDone, ResultEqual, RunsAreThere};
 ghost use Rattle.run_laws.specs.ReadOff.{ReportsAreLawful, SortedReportsAreLawful};
 
 /// On the control page of an honest domain neither side hears anything wrong.
@@ -53,4 +54,10 @@ pub fn reports_are_lawful()
 /// order.
 pub fn sorted_reports_are_lawful()
     ensures { SortedReportsAreLawful }
+{}
+
+/// There are runs, whatever the orders of their pages: of a domain without calls, of a call that is
+/// refused, and of a call that one honest domain serves for another.
+pub fn runs_are_there()
+    ensures { (orders : Orders) → RunsAreThere orders }
 {}
