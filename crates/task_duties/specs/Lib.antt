@@ -6,3 +6,4 @@ pub mod Agent
 pub mod Broker
 pub mod Hostile
 pub mod TaskOwes
+pub mod Worked

@@ -1,11 +1,11 @@
 -- What each task owes: what it reports, and that each end that it was given is retired, in the order in which they were given.
 -- Source: this project's own.
-use Rattle.std.specs.Prelude.{◌≡◌, ℕ, Bool, true, false, List, [], ◌∷◌, map}
-use Rattle.ring_words.specs.declared.order.Orders.{Orders}
+use Rattle.std.specs.Prelude.{◌≡◌, ℕ, ◌+◌, Bool, true, false, List, [], ◌∷◌, map}
 use Rattle.end_view.specs.EndView.{EndView}
 use Rattle.qrexec_frame.specs.Streams.{Each}
 use Rattle.call_broker.specs.Brokered.{Brokered}
 use Rattle.call_broker.specs.Domains.{Domains}
+use Rattle.scenario_file.specs.declared.scenario.CallPlan.{CallPlan}
 use Rattle.task_duties.specs.declared.place.PagePlace.{PagePlace}
 use Rattle.task_duties.specs.declared.place.PagePlace.TheVariants.{Control}
 use Rattle.task_duties.specs.declared.done.CallDone.{CallDone}
@@ -30,6 +30,28 @@ pub data TaskGiven : Type 0 where
   Agent : (plan : AgentPlan) (ends : List EndAt) → TaskGiven
   Broker : (hub : Domains) (awaited : List ℕ) (ends : List EndAt) → TaskGiven
   Hostile : (plan : HostilePlan) (ends : List EndAt) → TaskGiven
+
+-- where some ends lie
+abbrev pub places_of : List EndAt → List PagePlace
+places_of ends = map (λ e. e.place) ends
+
+-- the ends of a domain: that of its control page, then its data ends
+abbrev pub all_ends : ℕ → EndView → List EndAt → List EndAt
+all_ends domain control payload = record { place = Control domain; view = control } ∷ payload
+
+-- the agent of a domain, with its version, its calls, its control end and its data ends
+abbrev pub agent_given : ℕ → ℕ → List CallPlan → EndView → List EndAt → TaskGiven
+agent_given domain version calls control payload =
+    Agent (record { domain = domain; version = version; calls = calls; places = places_of payload }) (all_ends domain control payload)
+
+-- the ends of the broker: those of the control pages of the domains from this number on
+abbrev pub broker_ends : ℕ → List EndView → List EndAt
+broker_ends domain [] = []
+broker_ends domain (control ∷ controls) = record { place = Control domain; view = control } ∷ broker_ends (domain + 1) controls
+
+-- the task of the broker, with its domains, how many calls it awaits of each, and its ends
+abbrev pub broker_given : Domains → List ℕ → List EndView → TaskGiven
+broker_given hub awaited controls = Broker hub awaited (broker_ends 1 controls)
 
 -- what an agent answers
 pub record AgentReport : Type 0 where

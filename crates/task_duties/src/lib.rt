@@ -8,6 +8,7 @@
 #![tactic(auto)]
 
 mod done;
+pub mod laws;
 mod place;
 
 pub use done::{CallDone, CallEnd, ControlEnd, ServedDone};

@@ -1,6 +1,6 @@
 -- What an agent owes: facts of its ends and of what it reports.
 -- Source: this project's own.
-use Rattle.std.specs.Prelude.{◌≡◌, ℕ, true, List, [], map, filter_map, Option, Some, None}
+use Rattle.std.specs.Prelude.{◌≡◌, ℕ, true, List, [], map, filter_map, Some, None}
 use Rattle.qrexec_frame.specs.declared.message.Message.{Message}
 use Rattle.qrexec_frame.specs.Streams.{Each, IsPrefixOf}
 use Rattle.vchan_protocol.specs.declared.side.EndedBy.TheVariants.{AllRead, PeerGone}

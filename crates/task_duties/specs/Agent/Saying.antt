@@ -6,7 +6,7 @@ use Rattle.qrexec_frame.specs.declared.message.Message.TheVariants.{Exec, JustEx
 use Rattle.scenario_file.specs.declared.scenario.CallPlan.{CallPlan}
 use Rattle.task_duties.specs.Pairwise.{SomeOf}
 use Rattle.task_duties.specs.Words.{ident_of}
-use Rattle.task_duties.specs.Agent.Answers.{Answer, Waits, IsRefused, At, Asked}
+use Rattle.task_duties.specs.Agent.Answers.{Answer, IsRefused, At, Asked}
 
 -- a call as its trigger says it
 pub record Asking : Type 0 where

@@ -1,0 +1,5 @@
+pub mod Scenarios
+pub mod Domains
+pub mod Sessions
+pub mod Reports
+pub mod Runs

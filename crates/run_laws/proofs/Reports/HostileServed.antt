@@ -1,0 +1,161 @@
+-- Each Exec that an honest domain heard from a hostile one was served, as the report has to say.
+use Rattle.std.proofs.Common.{◌≡◌, ℕ, List, [], ◌∷◌, map, refl, ap, sym, ◌∙◌, arith, ◌⊎◌, inl, inr, Some, None, subst}
+use Rattle.std.specs.Prelude.{true, false, Bool, ◌==◌, filter_map, is_some, if◌then◌else◌}
+use Rattle.std.proofs.lemmas.Bool.Decides.{nat_tests}
+use Rattle.qrexec_frame.specs.Names.{cleaned_service}
+use Rattle.qrexec_frame.specs.declared.message.Message.{Message}
+use Rattle.qrexec_frame.specs.declared.message.Message.TheVariants as m
+use Rattle.qrexec_frame.specs.Streams.{Each}
+use Rattle.service_gate.specs.Triple.{Triple}
+use Rattle.service_gate.specs.ServiceResult.{service}
+use Rattle.end_view.specs.EndView.{EndView}
+use Rattle.qrexec_data.specs.declared.outcome.Outcome.{Outcome}
+use Rattle.qrexec_data.specs.declared.outcome.Outcome.TheVariants as outcome
+use Rattle.qrexec_data.specs.Seeing.{serving_sees}
+use Rattle.qrexec_data.specs.Fitting as fitting
+use Rattle.scenario_file.specs.Scenario.{Plan as Scenario, hostile_at, name_at, version_at}
+use Rattle.task_duties.specs.declared.place.PagePlace.{PagePlace}
+use Rattle.task_duties.specs.declared.place.PagePlace.TheVariants.{Control, Payload}
+use Rattle.task_duties.specs.Words.{exec_line, service_of_line}
+use Rattle.task_duties.specs.Hearing.{to_agent}
+use Rattle.task_duties.specs.Agent.Answers.{Served, takes_all, nothing_heard}
+use Rattle.task_duties.specs.Agent.Sessions.{ServingOwes, ServingEnded}
+use Rattle.task_duties.specs.Agent.Owes.{ReportsServed}
+use Rattle.task_duties.proofs.Elements.{Has, has-from, has-flat_map, has-filter_map, has-map, pair-of}
+use Rattle.task_duties.proofs.LineLaw.{line-served}
+use Rattle.task_duties.proofs.ServedLaw.{serves-each}
+use Rattle.run_laws.specs.Laid.{laid, agent_plan}
+use Rattle.run_laws.specs.declared.report.ServedLine.{ServedLine}
+use Rattle.run_laws.specs.Report.{SettledPage, Report}
+use Rattle.run_laws.specs.Report as report
+use Rattle.run_laws.specs.Lawful.{ExecAt, exec_at, execs_on, hostile_execs, IsServed, ServedSent, control_messages}
+use Rattle.run_laws.specs.Run.{Run, IsRun, IsHonest, IsPlace, end_of}
+use Rattle.run_laws.specs.Laws.{agent_heard}
+use Rattle.run_laws.specs.ReadOff.{page_read, mixed_outcome, report_of}
+use Rattle.run_laws.proofs.Domains.ControlLaws.{own-end, control_bytes}
+use Rattle.run_laws.proofs.Domains.ControlMessages.{Greeted, Silent, Spoken, greeted}
+use Rattle.run_laws.proofs.Scenarios.Names.{service_byte, no-spaces, name-is, name-well, word-is}
+use Rattle.run_laws.proofs.Scenarios.Places.{is-laid}
+use Rattle.run_laws.proofs.Domains.Planned.{is-called, heard-apart, heard-unused}
+use Rattle.run_laws.proofs.Sessions.ServedAllLaw.{heard-entry}
+use Rattle.run_laws.proofs.Reports.WholeReport.{laid-place, lies-at}
+use Rattle.run_laws.proofs.Scenarios.Facts.{facts}
+
+-- a cleaned service has no space
+cleaned-bytes : (text : List ℕ) → Each (λ b. service_byte b ≡ true) (cleaned_service text)
+cleaned-bytes [] = tt
+cleaned-bytes (b ∷ text) = (by_test (service_byte b) refl, cleaned-bytes text)
+  where
+    by_test : (c : Bool) → service_byte b ≡ c → service_byte (if c then b else 95) ≡ true
+    by_test true is = is
+    by_test false is = refl
+
+-- the line of an Exec in the report
+pub record Serves (s : Scenario) (run : Run) (x : ExecAt) : Type 0 where
+  pub line : ServedLine
+  pub is : (served : List ServedLine) → IsServed s (report_of s run served) x line
+
+fits-of : (o : Outcome) (got : List ℕ) → fitting.FitsServing o (serving_sees got) → report.FitsServing (mixed_outcome o) got
+fits-of (outcome.Done code) got f = f
+fits-of (outcome.Fault fault) got f = rw f refl
+fits-of outcome.Closed got f = f
+fits-of outcome.Gone got f = f
+
+ended-of : (s : Scenario) (x : ExecAt) (owed : List ℕ → Triple) (o : Outcome) (end : EndView) → ServingEnded (version_at s x.to) owed o end → ServedSent s x owed (mixed_outcome o) end
+ended-of s x owed (outcome.Done code) end f = f
+ended-of s x owed (outcome.Fault fault) end f = tt
+ended-of s x owed outcome.Closed end (inl c) = inl c.ended
+ended-of s x owed outcome.Closed end (inr c) = inr c
+ended-of s x owed outcome.Gone end f = f.ended
+
+exec-served : (s : Scenario) (run : Run) (h : IsRun s run) (d : ℕ) → IsHonest s d → (from port : ℕ) (line : List ℕ) → Has (agent_heard s run d) (m.Exec from port line)
+    → Serves s run (record { from = from; to = d; port = port; line = line })
+exec-served s run h d honest from port line heard =
+    let c = heard-entry s run h d honest (m.Exec from port line) heard in
+    let put = c.is in
+    let called = is-called s run h c.one c.there from put.target put.service put.ident d port put.event put.accepted in
+    let place = called.place in
+    let name = name-is s from place.1 in
+    let word = word-is (name_at s from) (name-well s (facts s run h) from place.1) in
+    let spaces = no-spaces service_byte refl (cleaned_service put.service) (cleaned-bytes put.service) in
+    let known : is_some (service (cleaned_service put.service) []) ≡ true = called.accepted.serves in
+    let line_is : line ≡ exec_line (cleaned_service put.service) (name_at s from) = put.line_is ∙ ap (exec_line (cleaned_service put.service)) name in
+    let read : service_of_line line ≡ Some (cleaned_service put.service) = ap service_of_line line_is ∙ line-served (cleaned_service put.service) (name_at s from) spaces word known in
+    let x : Served = record { from = from; port = port; service = cleaned_service put.service } in
+    let there = serves-each d from port line (cleaned_service put.service) read (nothing_heard (agent_plan s d)) (agent_heard s run d) (heard-apart s run h d honest) (heard-unused s run h d honest) heard in
+    let agent = h.agent d honest in
+    let reports = rw (own-end run d) at agent.serves in
+    let p = pair-of (ReportsServed (agent_plan s d) (end_of run d)) (takes_all d (nothing_heard (agent_plan s d)) (agent_heard s run d)).served (run.served d) x reports
+    (has-from (takes_all d (nothing_heard (agent_plan s d)) (agent_heard s run d)).served x there) in
+    let apart = place.0 in
+    let other : (from == d) ≡ false = grind (arith, nat_tests) in
+    let end : end_of run d (Payload from d port) ≡ (run.page (Payload from d port)).client = rw other refl in
+    let owes : ServingOwes (version_at s d) (cleaned_service put.service) p.one.outcome p.one.got (run.page (Payload from d port)).client =
+    subst (λ e. ServingOwes (version_at s d) (cleaned_service put.service) p.one.outcome p.one.got e) end p.is.2 in
+    record {
+      line = record { from = name_at s from; to = name_at s d; port = port; outcome = mixed_outcome p.one.outcome; got = p.one.got };
+      is = λ served. record {
+        from = refl;
+        to = refl;
+        port = refl;
+        page = run.page (Payload from d port);
+        lies = lies-at s run served (Payload from d port) (is-laid s from d port place);
+        name = cleaned_service put.service;
+        named = read;
+        owed = owes.owed;
+        is_service = owes.is_service;
+        got = owes.got_is;
+        fits = subst (λ g. report.FitsServing (mixed_outcome p.one.outcome) g) (sym owes.got_is) (fits-of p.one.outcome (run.page (Payload from d port)).client.got owes.fits);
+        sent = owes.sent;
+        ended = ended-of s (record { from = from; to = d; port = port; line = line }) owes.owed p.one.outcome (run.page (Payload from d port)).client owes.ended;
+      };
+    }
+
+-- ---- an Exec of the report was heard
+
+exec-in : (all heard : List Message) → Greeted all heard → (from port : ℕ) (line : List ℕ) → Has all (m.Exec from port line) → Has heard (m.Exec from port line)
+exec-in all heard (Silent a b) from port line there = absurd (subst (λ l. Has l (m.Exec from port line)) a there)
+exec-in all heard (Spoken v a) from port line there = by_place (subst (λ l. Has l (m.Exec from port line)) a there)
+  where
+    by_place : (m.Hello v ≡ m.Exec from port line) ⊎ Has heard (m.Exec from port line) → Has heard (m.Exec from port line)
+    by_place (inl e) = cc
+    by_place (inr k) = k
+
+pub record IsExecOf (to : ℕ) (y : Message) (x : ExecAt) : Type 0 where
+  pub from : ℕ
+  pub port : ℕ
+  pub line : List ℕ
+  pub message : y ≡ m.Exec from port line
+  pub exec : record { from = from; to = to; port = port; line = line } ≡ x
+
+exec-if : (to from port : ℕ) (line : List ℕ) (x : ExecAt) (b : Bool) → (if b then Some (record { from = from; to = to; port = port; line = line }) else None) ≡ Some x → IsExecOf to (m.Exec from port line) x
+exec-if to from port line x false e = cc
+exec-if to from port line x true e = let same : record { from = from; to = to; port = port; line = line } ≡ x = cc in record { from = from; port = port; line = line; message = refl; exec = same }
+
+pub exec-view : (s : Scenario) (to : ℕ) (y : Message) (x : ExecAt) → exec_at s to y ≡ Some x → IsExecOf to y x
+exec-view s to (m.Exec from port line) x is = exec-if to from port line x (hostile_at s from) is
+exec-view s to y x is = cc
+
+by-message : (s : Scenario) (run : Run) (h : IsRun s run) (d : ℕ) → IsHonest s d → (all : List Message) → Greeted all (agent_heard s run d) → (y : Message) (x : ExecAt) → Has all y → exec_at s d y ≡ Some x → Serves s run x
+by-message s run h d honest all g y x there is =
+    let v = exec-view s d y x is in
+    let heard = exec-in all (agent_heard s run d) g v.from v.port v.line (subst (Has all) v.message there) in
+    subst (Serves s run) v.exec (exec-served s run h d honest v.from v.port v.line heard)
+
+by-place : (s : Scenario) (run : Run) (h : IsRun s run) (place : PagePlace) (x : ExecAt) → IsPlace s place → Has (execs_on s place (run.page place)) x → Serves s run x
+by-place s run h (Control d) x laid_there there = by_test (hostile_at s d) refl there
+  where
+    by_test : (b : Bool) → hostile_at s d ≡ b → Has (if b then [] else filter_map (exec_at s d) (control_messages (run.page (Control d)).server.got)) x → Serves s run x
+    by_test true is k = absurd k
+    by_test false is k =
+        let c = has-filter_map (exec_at s d) (control_messages (run.page (Control d)).server.got) x k in
+        let honest : IsHonest s d = record { there = laid_there; honest = is } in
+        by-message s run h d honest (control_messages (run.page (Control d)).server.got) (greeted (version_at s d) to_agent (run.page (Control d)).server.got (control_bytes s run h d honest).left) c.one x c.there c.is
+by-place s run h (Payload f t port) x laid_there there = absurd there
+
+pub each-served : (s : Scenario) (run : Run) (h : IsRun s run) (x : ExecAt) → Has (hostile_execs s (report_of s run [])) x → Serves s run x
+each-served s run h x there =
+    let a = has-flat_map (λ p. execs_on s p.place p.settled) (map (page_read run) (laid s)) x there in
+    let b = has-map (page_read run) (laid s) a.one a.there in
+    let here : Has (execs_on s b.one (run.page b.one)) x = subst (λ p. Has (execs_on s p.place p.settled) x) (sym b.is) a.is in
+    by-place s run h b.one x (laid-place s b.one b.there) here

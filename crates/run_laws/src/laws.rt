@@ -1,0 +1,63 @@
+//! The laws of a run. A law is a function with no body, whose contract states it.
+ghost use Rattle.ring_words.specs.declared.order.Orders.{Orders};
+ghost use Rattle.run_laws.specs.Laws.{ControlBytes, ControlEnds, PortsApart, LimitsKept, AnswersAll, ServedAll, OutcomeDone, ResultEqual, RunsAreThere};
+ghost use Rattle.run_laws.specs.ReadOff.{ReportsAreLawful, SortedReportsAreLawful};
+
+/// On the control page of an honest domain neither side hears anything wrong.
+pub fn control_bytes()
+    ensures { ControlBytes }
+{}
+
+/// The control page of an honest domain ends by the broker, once its agent has got all that the
+/// broker said.
+pub fn control_ends()
+    ensures { ControlEnds }
+{}
+
+/// Each ordered pair of domains has its first ports, in order, and no more than it has pages.
+pub fn ports_apart()
+    ensures { PortsApart }
+{}
+
+/// No call of an honest domain is refused for want of a port, or since too many calls are live: it
+/// is decided by the names and services alone, unless its target is hostile and was dropped.
+pub fn limits_kept()
+    ensures { LimitsKept }
+{}
+
+/// Each call of an honest domain has exactly one answer, and its agent reports it.
+pub fn answers_all()
+    ensures { AnswersAll }
+{}
+
+/// A call between honest domains that was answered with a port is served there.
+pub fn served_all()
+    ensures { ServedAll }
+{}
+
+/// Each session between honest domains ends with an exit code.
+pub fn outcome_done()
+    ensures { OutcomeDone }
+{}
+
+/// Each session between honest domains gives what the service gives for the caller's input.
+pub fn result_equal()
+    ensures { ResultEqual }
+{}
+
+/// A lawful report can be read off each run, hostile domains or not.
+pub fn reports_are_lawful()
+    ensures { ReportsAreLawful }
+{}
+
+/// The report of a run is lawful with any lines of sessions with hostile callers that stand, in
+/// order.
+pub fn sorted_reports_are_lawful()
+    ensures { SortedReportsAreLawful }
+{}
+
+/// There are runs, whatever the orders of their pages: of a domain without calls, of a call that is
+/// refused, and of a call that one honest domain serves for another.
+pub fn runs_are_there()
+    ensures { (orders : Orders) → RunsAreThere orders }
+{}

@@ -1,0 +1,79 @@
+//! The lines of the report of a run.
+use qrexec_frame::{Bytes, Text};
+use scenario_file::LineCause;
+
+/// How a session with a hostile domain came out.
+#[derive(Clone, Copy, Debug, PartialEq, Eq)]
+pub enum MixedOutcome {
+    /// The service ended.
+    Done {
+        /// Its exit code.
+        code: i32,
+    },
+    /// The broker refused the call.
+    Refused,
+    /// The bytes that were got are wrong.
+    Fault,
+    /// The other side has closed the channel before the call was over.
+    Closed,
+    /// The other side has gone before the call was over.
+    Gone,
+}
+
+/// What came of a call.
+#[derive(Debug, Drop)]
+pub enum CallResult {
+    /// The service ended.
+    Done {
+        /// Its exit code.
+        code: i32,
+        /// What it wrote on stdout.
+        stdout: Bytes,
+        /// What it wrote on stderr.
+        stderr: Bytes,
+        /// The place of the call's page in the report's list of pages, from 0 on.
+        page: u32,
+    },
+    /// The call was refused.
+    Refused {
+        /// Why.
+        cause: LineCause,
+    },
+    /// The call's target is hostile.
+    Mixed {
+        /// How the session came out.
+        outcome: MixedOutcome,
+        /// All bytes that the caller got.
+        got: Bytes,
+    },
+}
+
+/// The line of a call.
+#[derive(Debug, Drop)]
+pub struct CallLine {
+    /// The number of the call.
+    pub number: u32,
+    /// The name of the caller.
+    pub from: Text,
+    /// The name of the target.
+    pub to: Text,
+    /// The service that was asked for.
+    pub service: Text,
+    /// What came of it.
+    pub result: CallResult,
+}
+
+/// The line of a session in which an honest domain served a hostile one.
+#[derive(Debug, Drop)]
+pub struct ServedLine {
+    /// The name of the domain that called.
+    pub from: Text,
+    /// The name of the domain that served.
+    pub to: Text,
+    /// The port of the session.
+    pub port: u32,
+    /// How the session came out.
+    pub outcome: MixedOutcome,
+    /// All bytes that the serving domain got.
+    pub got: Bytes,
+}
