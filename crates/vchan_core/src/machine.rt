@@ -251,33 +251,6 @@ impl Machine {
         next
     }
 
-    /// Takes the event of a phase into its own counts and its state: an own index that it stores is
-    /// its count, and its own live byte makes its state.
-    #[tactic(auto, using(vchan_protocol::proofs::Table::PlanLaws::bytes_laws), unfolding(vchan_protocol::specs::Table::Ends::standing_after, crate::specs::OneMachine::Phases::rest_at, vchan_protocol::specs::Table::Calls::write, vchan_protocol::specs::Table::Calls::write_open, vchan_protocol::specs::Table::Calls::read, vchan_protocol::specs::Table::Calls::read_live, vchan_protocol::specs::Table::Calls::send, vchan_protocol::specs::Table::Calls::send_open, vchan_protocol::specs::Table::Calls::recv, vchan_protocol::specs::Table::Calls::recv_live, vchan_protocol::specs::Table::Calls::drain, vchan_protocol::specs::Table::Calls::drain_second, vchan_protocol::specs::Table::Calls::drain_live, vchan_protocol::specs::Table::Calls::drain_further, vchan_protocol::specs::Table::Calls::drain_gone, vchan_protocol::specs::Table::Calls::drain_last, vchan_protocol::specs::Table::Calls::connect, vchan_protocol::specs::Table::Calls::connect_right))]
-    #[inline(always)]
-    fn count(&mut self, phase: Phase)
-        ensures standing { standing self.new ≡ standing_after (standing self.old) (next_op (rest_at (standing self.old) phase)) }
-        ensures role { self.new.role ≡ self.old.role }
-        ensures orders { self.new.orders ≡ self.old.orders }
-        ensures phase { self.new.phase ≡ self.old.phase }
-    {
-        match phase {
-            Phase::Put { at, count, .. } if at >= count => {
-                self.prod = self.prod.wrapping_add(count);
-            }
-            Phase::Take { at, count, .. } if at >= count => {
-                self.cons = self.cons.wrapping_add(count);
-            }
-            Phase::ConnectStore => {
-                if matches!(self.role, Role::Client) {
-                    self.state = EndState::Open;
-                }
-            }
-            Phase::CloseStore | Phase::RetireStore => self.state = EndState::Shut,
-            _ => {}
-        }
-    }
-
     /// Takes the phase out of a machine that is inside a call: the machine is then as one between two
     /// calls, and its caller has the phase.
     #[inline(always)]
@@ -311,62 +284,6 @@ impl Machine {
     }
 
     // ---- the events
-
-    #[tactic(auto, using(vchan_protocol::proofs::Table::PlanLaws::bytes_laws), unfolding(crate::specs::OneMachine::Phases::rest_at, vchan_protocol::specs::Table::Calls::write, vchan_protocol::specs::Table::Calls::write_open, vchan_protocol::specs::Table::Calls::read, vchan_protocol::specs::Table::Calls::read_live, vchan_protocol::specs::Table::Calls::send, vchan_protocol::specs::Table::Calls::send_open, vchan_protocol::specs::Table::Calls::recv, vchan_protocol::specs::Table::Calls::recv_live, vchan_protocol::specs::Table::Calls::drain, vchan_protocol::specs::Table::Calls::drain_second, vchan_protocol::specs::Table::Calls::drain_live, vchan_protocol::specs::Table::Calls::drain_further, vchan_protocol::specs::Table::Calls::drain_gone, vchan_protocol::specs::Table::Calls::drain_last, vchan_protocol::specs::Table::Calls::connect, vchan_protocol::specs::Table::Calls::connect_right))]
-    #[inline(always)]
-    pub(crate) fn op_at(&self, phase: Phase) -> Op
-        ensures op { result ≡ next_op (rest_at (standing self.now) phase) }
-        ensures some { result ≢ Op.Nothing }
-        ensures fits { Fits self.now.orders (payload_at phase) (buffer_at (read_size (standing self.now)) phase) result }
-    {
-        match phase {
-            Phase::WriteLive { .. }
-            | Phase::SendLive { .. }
-            | Phase::ReadLive { .. }
-            | Phase::RecvLive { .. }
-            | Phase::DrainLive { .. } => self.load_live(),
-            Phase::WriteLook { .. }
-            | Phase::WriteLookAgain { .. }
-            | Phase::SendLook { .. }
-            | Phase::SendLookAgain { .. }
-            | Phase::SpaceLook => self.look_write(),
-            Phase::ReadLook { .. }
-            | Phase::ReadLookAgain { .. }
-            | Phase::RecvLook { .. }
-            | Phase::RecvLookAgain { .. }
-            | Phase::ReadyLook
-            | Phase::DrainLook { .. }
-            | Phase::DrainSecond { .. }
-            | Phase::DrainFurther { .. }
-            | Phase::DrainLast { .. } => self.look_read(),
-            Phase::WriteAsk { .. } | Phase::SendAsk { .. } | Phase::SpaceAsk => self.ask(
-                Bit::Consumed,
-            ),
-            Phase::ReadAsk { .. }
-            | Phase::RecvAsk { .. }
-            | Phase::DrainAsk { .. }
-            | Phase::ReadyAsk => self.ask(Bit::Written),
-            Phase::DrainGone { .. } | Phase::LoadGone => self.load_gone(),
-            Phase::ConnectLeft => Op::Load {
-                word: WordName::LeftOrder,
-            },
-            Phase::ConnectRight { .. } => Op::Load {
-                word: WordName::RightOrder,
-            },
-            Phase::ConnectStore => Op::Store {
-                word: WordName::CliLive,
-                value: 1,
-            },
-            Phase::CloseStore | Phase::RetireStore => self.store_live(),
-            Phase::RetireSignal => self.signal(),
-            Phase::GoneStore => self.store_gone(),
-            Phase::TakePending => self.take_pending(),
-            Phase::Put { at, count, .. } => self.put_event(at, count),
-            Phase::Take { at, count, .. } => self.take_event(at, count),
-            Phase::Notify { bit, .. } => self.notify(bit),
-            Phase::Signal { .. } => self.signal(),
-        }
-    }
 
     fn look_read(&self) -> Op
         ensures { result ≡ Op.Load (prod_word_of (read_ring_of self.now.role)) }
