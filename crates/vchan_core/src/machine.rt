@@ -58,6 +58,20 @@ impl Machine {
         }
     }
 
+    /// Which end it is.
+    pub fn role(&self) -> Role
+        ensures { result ≡ (standing self.now).role }
+    {
+        self.role
+    }
+
+    /// The orders of the page's rings.
+    pub fn orders(&self) -> Orders
+        ensures { result ≡ (standing self.now).orders }
+    {
+        self.orders
+    }
+
     /// Whether the end is between two calls.
     pub fn idle(&self) -> bool
         ensures { IsTrue result ↔ IsIdle self.now }
@@ -100,14 +114,13 @@ impl Machine {
             return Some(Refusal::Busy);
         }
         match (self.state, call) {
-            (_, Call::Retire) => None,
+            (EndState::Open, Call::Connect) => Some(Refusal::Connected),
+            (EndState::Open, Call::Drain { most: 0 }) => Some(Refusal::NoBytes),
+            (EndState::Open, _) | (_, Call::Retire) => None,
             (EndState::Shut, _) => Some(Refusal::Shut),
             (EndState::Fresh, Call::Close) => None,
             (EndState::Fresh, Call::Connect) if matches!(self.role, Role::Client) => None,
             (EndState::Fresh, _) => Some(Refusal::Unconnected),
-            (EndState::Open, Call::Connect) => Some(Refusal::Connected),
-            (EndState::Open, Call::Drain { most: 0 }) => Some(Refusal::NoBytes),
-            (EndState::Open, _) => None,
         }
     }
 

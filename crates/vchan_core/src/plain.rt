@@ -3,8 +3,7 @@ ghost use Rattle.ring_words.specs.declared.page.Role.TheVariants.{Server, Client
 
 use crate::carry::carry_out;
 use crate::machine::Machine;
-use crate::phase::{Next, Phase};
-use crate::steps::Steps;
+use crate::start::start_words;
 use crate::totals::Totals;
 use crate::words::{own_gone, peer_pending};
 use ring_words::{Layout, Orders, Ring, Role, WordName, Words};
@@ -68,33 +67,8 @@ impl Plain {
         ensures stands { IfOk result (λ page. StandsFor (opened orders start said state) page) }
         ensures invariant { IfOk result (λ page. Invariant (opened orders start said state)) }
     {
-        let index = u64::from(start);
-        let live = match state {
-            EndState::Fresh => 2,
-            EndState::Open => 1,
-            EndState::Shut => 0,
-        };
-        let head = [
-            index,
-            index,
-            index,
-            index,
-            u64::from(said.0),
-            u64::from(said.1),
-            live,
-            1,
-            1,
-            1,
-            0,
-            0,
-            0,
-            0,
-        ];
-        let mut list = Vec::with_capacity(alloc, Layout::new(orders).count())?;
-        list.extend_from_slice(&head)?;
-        list.resize(Layout::new(orders).count(), 0)?;
         Ok(Plain {
-            words: Words::of(orders, list),
+            words: start_words(alloc, orders, start, said, state)?,
             server: Machine::new(Role::Server, orders, EndState::Open, start),
             client: Machine::new(Role::Client, orders, state, start),
             left: Totals::NONE,
