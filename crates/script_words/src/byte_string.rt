@@ -97,7 +97,9 @@ pub fn push_bytes(out: &mut Vec<u8>, word: &[u8], most: usize) -> Result<(), Pus
     ensures bad { IfErr result (λ e. IsPushRefusal e (at_most most (byte_string word.now))) }
     ensures err { OnErr result (out.new.items ≡ out.old.items) }
 {
-    if word == b"-".as_slice() {
+    if let [high, low] = word {
+        push_pair(out, *high, *low, most)
+    } else if word == b"-".as_slice() {
         Ok(())
     } else if word.len() > 2 && word[2] == b'*' {
         push_repeated(out, word[0], word[1], &word[3..], most)
@@ -147,9 +149,6 @@ fn push_pairs(out: &mut Vec<u8>, digits: &[u8], most: usize) -> Result<(), PushE
     if digits.len() % 2 != 0 {
         return Err(PushError::BAD_HEX);
     }
-    if let [high, low] = digits {
-        return push_pair(out, *high, *low, most);
-    }
     let count = digits.len() / 2;
     if count > most {
         return Err(refusal_of(digits, PushError::TOO_MANY_BYTES));
@@ -166,7 +165,8 @@ fn push_pairs(out: &mut Vec<u8>, digits: &[u8], most: usize) -> Result<(), PushE
     }
 }
 
-/// Appends the byte of a single pair of digits, which needs no place made for it before.
+/// Appends the byte of a single pair of digits, which needs no place made for it before. Streams that
+/// are captured byte by byte have no other words.
 #[tactic(auto, unfolding(crate::specs::ByteStrings::bytes_of_pairs))]
 #[inline(always)]
 fn push_pair(out: &mut Vec<u8>, high: u8, low: u8, most: usize) -> Result<(), PushError>
