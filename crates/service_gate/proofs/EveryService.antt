@@ -1,6 +1,6 @@
 -- What holds of every built-in service: its input doesn't decide whether there is one, and its code is small.
 use Rattle.std.proofs.Common.{◌≡◌, ℕ, ◌<◌, ◌≤◌, ◌^◌, List, length, map, take, refl, ap, sym, ◌∙◌, arith, lit<, Option, Some, None}
-use Rattle.std.specs.Prelude.{true, false, Bool, nat_le, ◌&&◌, bytes_eq, codes, decimal, is_some, option_map, option_and_then, pos, if◌then◌else◌}
+use Rattle.std.specs.Prelude.{true, false, Bool, bytes_eq, codes, is_some, option_map, option_and_then, pos, if◌then◌else◌}
 use Rattle.std.specs.Option.{option_or}
 use Rattle.std.specs.Char.{to_ascii_uppercase}
 use Rattle.script_words.specs.Numbers.{number_of}

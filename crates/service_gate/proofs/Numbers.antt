@@ -1,15 +1,14 @@
 -- The numbers in the names of services are spelled as they are printed.
-use Rattle.std.proofs.Common.{◌≡◌, ◌⊎◌, ℕ, ◌<◌, ◌≤◌, ◌^◌, Bool, true, false, ◌&&◌, nat_le, ◌==◌, if◌then◌else◌, List, ◌++◌, length, take, drop, get_or, decimal, bytes_eq, Option, Some, None, refl, sym, ap, ◌∙◌, subst, arith, lit<, inl, inr, ⊎_elim}
+use Rattle.std.proofs.Common.{◌≡◌, ◌⊎◌, ℕ, ◌<◌, ◌≤◌, ◌^◌, Bool, true, false, ◌&&◌, nat_le, ◌==◌, if◌then◌else◌, List, ◌++◌, length, take, drop, get_or, decimal, bytes_eq, Option, Some, None, refl, sym, ap, ◌∙◌, arith, lit<, inl, inr, ⊎_elim}
 use Rattle.std.specs.Prelude.{◌||◌, not, nat_lt, slice_index, codes, option_and_then}
 use Rattle.std.specs.Str.{all_ascii_digits}
 use Rattle.std.specs.Str.Parse.{digits_value}
-use Rattle.std.proofs.lemmas.Bool.Decides.{nat_tests}
 use Rattle.std.proofs.lemmas.Bool.{eqb-true, eqb-false, ltb-true, leb-true, le-leb, lt-ltb, ne_eqb}
 use Rattle.std.proofs.lemmas.Fmt.{first_decimal, decimal_digit, digits_decimal, digits_value-decimal, decimal_is_IsNumeral, decimal-digits_value}
 use Rattle.std.proofs.lemmas.List.{take-append-drop}
 use Rattle.std.proofs.lemmas.Slice.Eq.{bytes_eq-Decides}
 use Rattle.std.proofs.lemmas.Str.Parse.{IsNumeralModel, numerals_by_value, tells_all_ascii_digits}
-use Rattle.script_words.specs.Numbers.{is_number, number_of}
+use Rattle.script_words.specs.Numbers.{number_of}
 use Rattle.service_gate.specs.ServiceResult.{service, number_after, most_first, most_exit, IsNumbered, IsName}
 use Rattle.service_gate.specs.Triple.{Triple}
 
