@@ -2,7 +2,7 @@
 //!
 //! The machine that says which event comes next stands apart, so that a whole call can keep it in a
 //! local variable.
-ghost use Rattle.std.specs.Prelude.{◌≡◌, ◌≤◌, ◌||◌, ℕ, [], ◌∷◌, length, IsSome, None, Some, ◌↔◌, false, true};
+ghost use Rattle.std.specs.Prelude.{◌≡◌, ◌≤◌, ◌+◌, ◌||◌, ℕ, [], ◌∷◌, length, IsSome, None, Some, ◌↔◌, false, true};
 ghost use Rattle.ring_words.specs.Page.{word_count};
 ghost use Rattle.vchan_protocol.specs.declared.call.EndState.TheVariants.{Shut};
 ghost use Rattle.vchan_protocol.specs.Table.Plan.{after, GoesOn};
@@ -198,6 +198,123 @@ impl<'p> EndSeat<'p> {
                 span.count - span.at
             }
             Ahead::Elsewhere => 0,
+        }
+    }
+
+    /// The next event of the call under way; `steps` counts it.
+    #[inline(always)]
+    fn counted_event<L: Ledger>(
+        &mut self,
+        machine: &mut Machine,
+        payload: &[u8],
+        buf: &mut [u8],
+        steps: &mut Steps<L>,
+    ) -> Option<Answer>
+        requires { IsReady (driven self.old machine.old) payload.now buf.old }
+        ensures begun { self.new.begun ≡ None }
+        ensures goes { Goes (driven self.old machine.old) payload.now buf.old result (driven self.new machine.new) buf.new }
+        ensures steps { steps.new + length (seen (driven self.old machine.old) payload.now).trail ≡ steps.old + length (seen (driven self.new machine.new) payload.now).trail }
+    {
+        steps.tick();
+        self.event(machine, payload, buf)
+    }
+
+    /// The events on bytes of a ring that come next; `steps` counts them.
+    #[inline(always)]
+    fn counted_bytes<L: Ledger>(
+        &mut self,
+        machine: &mut Machine,
+        payload: &[u8],
+        buf: &mut [u8],
+        steps: &mut Steps<L>,
+    )
+        requires ready { IsReady (driven self.old machine.old) payload.now buf.old }
+        requires begun { self.old.begun ≡ None }
+        ensures begun { self.new.begun ≡ None }
+        ensures goes { Goes (driven self.old machine.old) payload.now buf.old None (driven self.new machine.new) buf.new }
+        ensures steps { steps.new + length (seen (driven self.old machine.old) payload.now).trail ≡ steps.old + length (seen (driven self.new machine.new) payload.now).trail }
+    {
+        let moved = self.move_bytes(machine, payload, buf);
+        steps.add(moved);
+    }
+
+    /// A look at the peer's index, the bytes, the index that shows or releases them, and the look
+    /// whether the peer asked for a signal: the events of most calls that move bytes.
+    #[inline(always)]
+    fn look_and_move<L: Ledger>(
+        &mut self,
+        machine: &mut Machine,
+        payload: &[u8],
+        buf: &mut [u8],
+        steps: &mut Steps<L>,
+    ) -> Option<Answer>
+        requires { IsReady (driven self.old machine.old) payload.now buf.old }
+        ensures goes { Goes (driven self.old machine.old) payload.now buf.old result (driven self.new machine.new) buf.new }
+        ensures steps { steps.new + length (seen (driven self.old machine.old) payload.now).trail ≡ steps.old + length (seen (driven self.new machine.new) payload.now).trail }
+    {
+        if let Some(answer) = self.counted_event(machine, payload, buf, steps) {
+            return Some(answer);
+        }
+        self.counted_bytes(machine, payload, buf, steps);
+        self.two_events(machine, payload, buf, steps)
+    }
+
+    #[inline(always)]
+    fn two_events<L: Ledger>(
+        &mut self,
+        machine: &mut Machine,
+        payload: &[u8],
+        buf: &mut [u8],
+        steps: &mut Steps<L>,
+    ) -> Option<Answer>
+        requires { IsReady (driven self.old machine.old) payload.now buf.old }
+        ensures goes { Goes (driven self.old machine.old) payload.now buf.old result (driven self.new machine.new) buf.new }
+        ensures steps { steps.new + length (seen (driven self.old machine.old) payload.now).trail ≡ steps.old + length (seen (driven self.new machine.new) payload.now).trail }
+    {
+        if let Some(answer) = self.counted_event(machine, payload, buf, steps) {
+            return Some(answer);
+        }
+        self.counted_event(machine, payload, buf, steps)
+    }
+
+    /// A write that has begun: a look whether the peer is live, and then as in `look_and_move`.
+    #[inline(always)]
+    fn live_and_move<L: Ledger>(
+        &mut self,
+        machine: &mut Machine,
+        payload: &[u8],
+        buf: &mut [u8],
+        steps: &mut Steps<L>,
+    ) -> Option<Answer>
+        requires { IsReady (driven self.old machine.old) payload.now buf.old }
+        ensures goes { Goes (driven self.old machine.old) payload.now buf.old result (driven self.new machine.new) buf.new }
+        ensures steps { steps.new + length (seen (driven self.old machine.old) payload.now).trail ≡ steps.old + length (seen (driven self.new machine.new) payload.now).trail }
+    {
+        if let Some(answer) = self.counted_event(machine, payload, buf, steps) {
+            return Some(answer);
+        }
+        self.look_and_move(machine, payload, buf, steps)
+    }
+
+    /// The first events of a call that was just begun, in an order that the compiler can see; most
+    /// calls that move bytes are over then. No other call makes an event here.
+    #[inline(always)]
+    pub(crate) fn quickly<L: Ledger>(
+        &mut self,
+        call: Call,
+        machine: &mut Machine,
+        payload: &[u8],
+        buf: &mut [u8],
+        steps: &mut Steps<L>,
+    ) -> Option<Answer>
+        requires { IsReady (driven self.old machine.old) payload.now buf.old }
+        ensures goes { Goes (driven self.old machine.old) payload.now buf.old result (driven self.new machine.new) buf.new }
+        ensures steps { steps.new + length (seen (driven self.old machine.old) payload.now).trail ≡ steps.old + length (seen (driven self.new machine.new) payload.now).trail }
+    {
+        match call {
+            Call::Write { len: _ } => self.live_and_move(machine, payload, buf, steps),
+            Call::Read { most: _ } => self.look_and_move(machine, payload, buf, steps),
+            _ => None,
         }
     }
 
