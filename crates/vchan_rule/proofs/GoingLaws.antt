@@ -9,14 +9,15 @@ use Rattle.vchan_protocol.specs.Table.Plan.{answers, GoesOn}
 use Rattle.vchan_protocol.specs.Table.Calls.{plan_of, payload_of, loaded_most, most_events}
 use Rattle.vchan_protocol.specs.History.Core.{standing_of, plan_left}
 use Rattle.vchan_protocol.specs.OneEnd.OneCall.{OnWay, IsOver, IsThen}
+use Rattle.vchan_protocol.proofs.OneEnd.OneCallWay.{way_begins}
 use Rattle.vchan_protocol.proofs.Table.Bounds.{ends_call, length-Leads}
 use Rattle.vchan_core.specs.OneMachine.Phases.{IsIdle, payload_needed, buffer_needed}
 use Rattle.vchan_core.specs.Page.StandsFor.{HasPayload}
 use Rattle.vchan_rule.specs.Seated.{SeatedEnd}
-use Rattle.vchan_rule.specs.Ends.{seen, Agrees, Pays, IsSameEnd}
+use Rattle.vchan_rule.specs.Ends.{seen, seen_by, Agrees, Pays, IsSameEnd}
 use Rattle.vchan_rule.specs.Along.{GoesAlong}
-use Rattle.vchan_rule.specs.Going.{IsReady, Goes}
-use Rattle.vchan_rule.proofs.CallLaws.{way_on, InCalls, MakesOne, made_long, seen_now}
+use Rattle.vchan_rule.specs.Going.{IsReady, Goes, InCalls, Starts}
+use Rattle.vchan_rule.proofs.CallLaws.{way_on, MakesOne, made_long, seen_now}
 
 pub goes_none : (e : SeatedEnd) (payload buffer : List ℕ) → IsReady e payload buffer → Goes e payload buffer None e buffer
 goes_none e payload buffer ready =
@@ -110,3 +111,29 @@ in_calls_over was call payload start e buffer answer e' buffer' i goes =
 -- a call that is over made no more events than it may
 pub over_few : (was : Side) (call : Call) (given start : List ℕ) (s : Side) (buffer : List ℕ) (answer : Answer) → IsOver was call given start s buffer answer → length s.trail ≤ most_events (standing_of was) call
 over_few was call given start s buffer answer over = length-Leads (plan_of (standing_of was) call) s.trail (answers answer) (most_events (standing_of was) call) (ends_call (standing_of was) call) over.trace
+
+-- a call that was begun, of which no event is made
+pub starts_in : (was : SeatedEnd) (call : Call) (payload start : List ℕ) (e : SeatedEnd) → e.page ≡ was.page → e.start ≡ was.start → e.side ≡ was.side → e.begun ≡ Some call → ¬ IsIdle e.machine → payload_needed e.machine ≤ payload_of call →
+    buffer_needed e.machine ≤ loaded_most (standing_of was.side) call → payload_of call ≤ length payload → loaded_most (standing_of was.side) call ≤ length start → InCalls was call payload start e start
+starts_in was call payload start e page starts side begun busy out into enough room =
+    record {
+      same = (page, ap (λ (s : Side). s.role) side, ap (λ (s : Side). s.orders) side, starts);
+      busy = busy;
+      out = omega (arith, out, enough);
+      into = omega (arith, into, room);
+      long = refl;
+      enough = room;
+      pays = subst (λ (b : Option Call). Pays b e.side payload) (sym begun) enough;
+      way = subst (λ (z : Option Call × Side). OnWay was.side call (take (payload_of call) payload) start (seen_by z.0 z.1 payload) start) (λ i. (sym begun i, sym side i)) (way_begins was.side call (take (payload_of call) payload) start);
+    }
+
+pub starts_from : (was : SeatedEnd) (call : Call) (payload start : List ℕ) (e : SeatedEnd) (result : Option Answer) (e' : SeatedEnd) (buffer' : List ℕ) → InCalls was call payload start e start → Goes e payload start result e' buffer' → Starts was call payload start result e' buffer'
+starts_from was call payload start e result e' buffer' i goes =
+    record {
+      same = (goes.same.0 ∙ i.same.0, goes.same.1 ∙ i.same.1, goes.same.2 ∙ i.same.2, goes.same.3 ∙ i.same.3);
+      long = goes.long;
+      on = λ none. in_calls_on was call payload start e start e' buffer' i (goes_on_then e payload start result e' buffer' none goes);
+      over = λ answer is.
+          let g = subst (λ (r : Option Answer). Goes e payload start r e' buffer') is goes in
+          (in_calls_over was call payload start e start answer e' buffer' i g, (g.over refl).0, (g.over refl).1);
+    }

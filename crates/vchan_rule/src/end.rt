@@ -16,6 +16,7 @@ ghost use Rattle.end_view.specs.AfterCall.{MayCall, answered_view, SeesAsTold};
 ghost use Rattle.vchan_rule.specs.declared.rule.View.TheVariants.{One};
 ghost use Rattle.vchan_rule.specs.Seated.{view};
 ghost use Rattle.vchan_rule.specs.Along.{GoesAlong};
+ghost use Rattle.vchan_rule.specs.Going.{Starts};
 ghost use Rattle.vchan_rule.specs.Ends.{Pays, IsSameEnd, seen};
 
 use crate::end_seat::EndSeat;
@@ -175,6 +176,33 @@ impl<'p> End<'p> {
         self.seat.move_bytes(&mut self.machine, payload, buf)
     }
 
+    /// Begins a call and makes its first events, on a machine of its own, as long as the compiler can
+    /// see their order. `steps` counts them.
+    #[inline(always)]
+    fn start<L: Ledger>(
+        &mut self,
+        call: Call,
+        payload: &[u8],
+        buf: &mut [u8],
+        steps: &mut Steps<L>,
+    ) -> Option<Answer>
+        requires allowed { MayCall (view self.old) call }
+        requires payload { payload_of call ≤ length payload.now }
+        requires buf { loaded_most (standing_of self.old.side) call ≤ length buf.old }
+        ensures starts { Starts self.old call payload.now buf.old result self.new buf.new }
+        ensures honest { self.old.side.turned ≡ false }
+        ensures steps { steps.new ≡ steps.old + length (seen self.new payload.now).trail }
+    {
+        let mut machine = self.machine.inside(call);
+        self.seat.begin(call);
+        if let Some(answer) = self.seat.quickly(call, &mut machine, payload, buf, steps) {
+            self.machine.take_over(&machine);
+            return Some(answer);
+        }
+        self.machine = machine;
+        None
+    }
+
     /// A whole call; `steps` counts its events.
     pub fn counted_call<L: Ledger>(
         &mut self,
@@ -197,7 +225,9 @@ impl<'p> End<'p> {
         ensures steps { steps.new ≡ steps.old + length self.new.side.trail }
         ensures bound { steps.new ≤ steps.old + most_events (standing_of self.old.side) call }
     {
-        self.begin(call);
+        if let Some(answer) = self.start(call, payload, buf, steps) {
+            return answer;
+        }
         'events: loop {
             steps.tick();
             if let Some(answer) = self.step(payload, buf) {
