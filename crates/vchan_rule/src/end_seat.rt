@@ -82,12 +82,7 @@ fn retired_after(op: Op, role: Role, retired: bool) -> bool
 
 impl<'p> EndSeat<'p> {
     /// The seat of an end that has not retired and is in no call.
-    pub(crate) fn new(
-        words: &'p PageWords,
-        seat: Place,
-        role: Role,
-        orders: Orders,
-    ) -> EndSeat<'p>
+    pub(crate) fn new(words: &'p PageWords, seat: Place, role: Role, orders: Orders) -> EndSeat<'p>
         requires page { (seat.table_id ≡ words.now.table_id) × (words.now.table_id.words ≡ word_count orders) × (words.now.key.orders ≡ orders) }
         requires one { seat.me ≡ (One (end_in seat.me.0), []) }
         requires side { ((end_in seat.me.0).orders ≡ orders) × ((end_in seat.me.0).role ≡ role) × ((end_in seat.me.0).retired ≡ false) }
@@ -188,12 +183,27 @@ impl<'p> EndSeat<'p> {
     {
         match machine.ahead() {
             Ahead::Puts(span) => {
-                put_bytes(self.words, &mut self.seat, &self.layout, machine, span, payload);
+                put_bytes(
+                    self.words,
+                    &mut self.seat,
+                    &self.layout,
+                    machine,
+                    span,
+                    payload,
+                );
                 machine.put_all(span);
                 span.count - span.at
             }
             Ahead::Takes(span) => {
-                take_bytes(self.words, &mut self.seat, &self.layout, machine, span, payload, buf);
+                take_bytes(
+                    self.words,
+                    &mut self.seat,
+                    &self.layout,
+                    machine,
+                    span,
+                    payload,
+                    buf,
+                );
                 machine.take_all(span);
                 span.count - span.at
             }

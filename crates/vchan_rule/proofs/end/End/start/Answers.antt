@@ -13,8 +13,8 @@ returns-in-Some-clause-starts g c =
     let b = c.begin.ensures in
     let i = starts_in (driven c.self.inside.seat c.self.inside.machine) c.args.call c.args.payload.now c.args.buf.now begun b.same.0 b.same.1 b.same.2 b.begun c.inside-machine.ensures.busy c.inside-machine.ensures.payload_left (search rules) c.requires.payload (search rules) in
     subst (λ (m : Machine). Starts c.args.self.now c.args.call c.args.payload.now c.args.buf.now (Some c.in-Some.answer) (driven c.quickly.new.self m) c.quickly.new.buf) (sym c.take_over.ensures)
-        (subst (λ (w : SeatedEnd). Starts w c.args.call c.args.payload.now c.args.buf.now (Some c.in-Some.answer) went c.quickly.new.buf) c.self.view_is
-        (starts_from (driven c.self.inside.seat c.self.inside.machine) c.args.call c.args.payload.now c.args.buf.now begun (Some c.in-Some.answer) went c.quickly.new.buf i c.in-Some.ensures.goes))
+    (subst (λ (w : SeatedEnd). Starts w c.args.call c.args.payload.now c.args.buf.now (Some c.in-Some.answer) went c.quickly.new.buf) c.self.view_is
+    (starts_from (driven c.self.inside.seat c.self.inside.machine) c.args.call c.args.payload.now c.args.buf.now begun (Some c.in-Some.answer) went c.quickly.new.buf i c.in-Some.ensures.goes))
 
 pub returns-clause-starts : goal.returns-clause-starts
 returns-clause-starts g c =
@@ -23,4 +23,4 @@ returns-clause-starts g c =
     let b = c.begin.ensures in
     let i = starts_in (driven c.self.inside.seat c.self.inside.machine) c.args.call c.args.payload.now c.args.buf.now begun b.same.0 b.same.1 b.same.2 b.begun c.inside-machine.ensures.busy c.inside-machine.ensures.payload_left (search rules) c.requires.payload (search rules) in
     subst (λ (w : SeatedEnd). Starts w c.args.call c.args.payload.now c.args.buf.now None went c.quickly.new.buf) c.self.view_is
-        (starts_from (driven c.self.inside.seat c.self.inside.machine) c.args.call c.args.payload.now c.args.buf.now begun None went c.quickly.new.buf i c.in_default.ensures.goes)
+    (starts_from (driven c.self.inside.seat c.self.inside.machine) c.args.call c.args.payload.now c.args.buf.now begun None went c.quickly.new.buf i c.in_default.ensures.goes)

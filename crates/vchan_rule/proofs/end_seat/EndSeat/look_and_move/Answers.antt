@@ -9,4 +9,4 @@ returns-clause-goes g c =
     let two = driven c.counted_bytes.new.self c.counted_bytes.new.machine in
     let three = driven c.two_events.new.self c.two_events.new.machine in
     goes_then was c.args.payload.now c.args.buf.now one c.counted_event.new.buf c.two_events.result three c.two_events.new.buf c.in_default.ensures.goes
-        (goes_then one c.args.payload.now c.counted_event.new.buf two c.counted_bytes.new.buf c.two_events.result three c.two_events.new.buf c.counted_bytes.ensures.goes c.two_events.ensures.goes)
+    (goes_then one c.args.payload.now c.counted_event.new.buf two c.counted_bytes.new.buf c.two_events.result three c.two_events.new.buf c.counted_bytes.ensures.goes c.two_events.ensures.goes)
