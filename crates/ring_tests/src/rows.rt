@@ -1,22 +1,32 @@
 //! Worked rows on a page whose left ring has 1,024 places and whose right one has 2,048.
-ghost use Rattle.std.specs.Prelude.{◌≡◌, [], IfSome};
+ghost use Rattle.std.specs.Prelude.{◌≡◌, ◌++◌, [], length, true, false, IfNone, IfSome, codes};
 ghost use Rattle.ring_words.specs.declared.page.Role.TheVariants.{Server, Client};
 ghost use Rattle.vchan_rule.specs.Seated.{view, IsOpen};
-ghost use Rattle.ring_tests.specs.Rows.{IsNew, HasMoved};
+ghost use Rattle.vchan_rule.specs.Ends.{IsSameEnd};
+ghost use Rattle.ring_words.specs.Rings.{size};
+ghost use Rattle.ring_tests.specs.Rows.{HasCounts, HasMoved, IsNew, IsUnderWay};
 
+use crate::whole::{
+    check_bytes, drain_all, end_stream, letters, read_all, receive_none, receive_whole, send_none,
+    send_whole, write_all, write_none, write_some,
+};
 use hostile_seat::turn;
 use ring_words::{Orders, Ring, WordName, check_orders};
 use std::alloc::Global;
-use vchan_core::EndState;
+use vchan_core::{Answer, Call, EndState};
 use vchan_lifecycle::{DrainAnswer, close, connect, drain, retire};
 use vchan_notify::{buffer_space, data_ready, peer_gone, take_event};
 use vchan_rule::{End, IdleSeat, Page, Settled};
 use vchan_stream::{ReadAnswer, WriteAnswer, read, write};
 
 fn small_page(alloc: Global) -> Option<(Page, IdleSeat, IdleSeat)>
-    ensures { IfSome result (λ p. (p.1 ≡ record { page = p.0; role = Server }) × (p.2 ≡ record { page = p.0; role = Client })) }
+    ensures seats { IfSome result (λ p. (p.1 ≡ record { page = p.0; role = Server }) × (p.2 ≡ record { page = p.0; role = Client })) }
+    ensures size { IfSome result (λ p. size p.0.orders.left ≡ 1024) }
 {
     let orders: Orders = check_orders(10, 11).ok()?;
+    if orders.left.size() != 1024 {
+        return None;
+    }
     Page::open(alloc, orders, 0).ok()
 }
 
@@ -49,6 +59,119 @@ pub fn fresh_page(alloc: Global) -> Option<Settled>
     Some(page.finish(server, client))
 }
 
+/// A client writes five bytes, and the server reads them.
+pub fn five_bytes(alloc: Global) -> Option<Settled>
+    ensures { IfSome result (λ page. HasMoved page (codes "hello") (codes "hello") [] []) }
+{
+    let (page, server, client) = small_page(alloc)?;
+    let (mut server, mut client) = connected(&page, server, client)?;
+    let mut bytes = [0; 5];
+    write_all(&mut client, b"hello")?;
+    read_all(&mut server, &mut bytes)?;
+    check_bytes(&bytes, b"hello")?;
+    let server = retire(server);
+    let client = retire(client);
+    Some(page.finish(server, client))
+}
+
+/// A client writes one byte more than the ring holds, and then another.
+pub fn full_ring(alloc: Global) -> Option<Settled>
+    ensures { IfSome result (λ page. HasCounts page 1024 0 0 0) }
+{
+    let (page, server, client) = small_page(alloc)?;
+    let (server, mut client) = connected(&page, server, client)?;
+    write_some(&mut client, letters(1025), 1024)?;
+    write_none(&mut client, b"b", 1024, 0)?;
+    let server = retire(server);
+    let client = retire(client);
+    Some(page.finish(server, client))
+}
+
+/// A client sends a packet that fills the ring, and another has no room. The server gets four bytes
+/// of it, and then asks for one more than wait.
+pub fn packets(alloc: Global) -> Option<(Settled, [u8; 4])>
+    ensures { IfSome result (λ p. HasCounts p.0 1024 4 0 0 × (p.0.server.got ≡ p.1)) }
+{
+    let (page, server, client) = small_page(alloc)?;
+    let (mut server, mut client) = connected(&page, server, client)?;
+    send_whole(&mut client, letters(1024))?;
+    send_none(&mut client, b"b", 1024, 0)?;
+    let mut bytes = [0; 4];
+    receive_whole(&mut server, &mut bytes)?;
+    receive_none(&mut server, &mut [0; 1021], 1024, 4)?;
+    let server = retire(server);
+    let client = retire(client);
+    Some((page.finish(server, client), bytes))
+}
+
+/// A client sends a packet that is longer than the ring.
+pub fn long_packet(alloc: Global) -> Option<Settled>
+    ensures { IfSome result (λ page. HasMoved page [] [] [] []) }
+{
+    let (page, server, client) = small_page(alloc)?;
+    let (server, mut client) = connected(&page, server, client)?;
+    send_none(&mut client, letters(1025), 0, 0)?;
+    let server = retire(server);
+    let client = retire(client);
+    Some(page.finish(server, client))
+}
+
+/// Makes so many events of a call under way that sends nothing, or less where its answer comes before.
+fn make_events(end: &mut End<'_>, most: u32, buf: &mut [u8]) -> Option<Answer>
+    requires { IsUnderWay end.old buf.old }
+    ensures same { IsSameEnd end.old end.new }
+    ensures long { length buf.new ≡ length buf.old }
+    ensures goes_on { IfNone result (IsUnderWay end.new buf.new) }
+{
+    'events: for _ in 0..most {
+        if let Some(answer) = end.step(&[], buf) {
+            return Some(answer);
+        }
+    }
+    None
+}
+
+/// A server has begun a read and found no byte, when the client writes two and closes. The read then
+/// finds the client shut, a drain still finds the bytes, and a second one all read.
+pub fn closed_race(alloc: Global) -> Option<Settled>
+    ensures { IfSome result (λ page. (page.client.sent ≡ codes "ab") × (page.server.got ≡ codes "ab") × (page.client.got ≡ [])) }
+{
+    let (page, server, client) = small_page(alloc)?;
+    let (mut server, mut client) = connected(&page, server, client)?;
+    let mut bytes = [0; 8];
+    server.begin(Call::Read { most: 4 });
+    if let Some(_) = make_events(&mut server, 3, &mut bytes) {
+        return None;
+    }
+    write_all(&mut client, b"ab")?;
+    close(&mut client);
+    let answer = make_events(&mut server, 8, &mut bytes);
+    if answer != Some(Answer::PeerClosed) || !server.idle() || server.state() != EndState::Open {
+        return None;
+    }
+    if drain(&mut server, &mut bytes) != (DrainAnswer::More { count: 2 }) {
+        return None;
+    }
+    end_stream(&mut server)?;
+    let server = retire(server);
+    let client = retire(client);
+    let settled = page.finish(server, client);
+    if settled.server_turned() || settled.client_turned() {
+        return None;
+    }
+    all_was_got(&settled);
+    Some(settled)
+}
+
+/// Where the left ring of two honest ends was drained, all that was sent was got.
+fn all_was_got(page: &Settled)
+    requires honest { (page.now.server.turned ≡ false) × (page.now.client.turned ≡ false) }
+    requires drained { page.now.server.drained ≡ true }
+    ensures { page.now.server.got ≡ page.now.client.sent }
+{
+    page.promise();
+}
+
 /// A server that found nothing to read is signalled once for two writes.
 pub fn events(alloc: Global) -> Option<(bool, bool)> {
     let (page, server, client) = small_page(alloc)?;
@@ -77,14 +200,15 @@ pub fn ready_space_gone(alloc: Global) -> Option<(u32, u32, bool, bool)> {
 
 /// A client writes six bytes, of which the server reads two. Then the client is given up, and its
 /// hostile user overwrites all six. It gives the four bytes that the server still drains.
-pub fn consumed_prefix(alloc: Global) -> Option<(Settled, [u8; 4])> {
+pub fn consumed_prefix(alloc: Global) -> Option<(Settled, [u8; 4])>
+    ensures { IfSome result (λ p. (p.0.client.sent ≡ codes "abcdef") × (p.0.server.got ≡ codes "ab" ++ p.1)) }
+{
     let (page, server, client) = small_page(alloc)?;
     let (mut server, mut client) = connected(&page, server, client)?;
-    if write(&mut client, b"abcdef") != (WriteAnswer::Wrote { count: 6 })
-        || read(&mut server, &mut [0; 2]) != (ReadAnswer::Got { count: 2 })
-    {
-        return None;
-    }
+    let mut first = [0; 2];
+    write_all(&mut client, b"abcdef")?;
+    read_all(&mut server, &mut first)?;
+    check_bytes(&first, b"ab")?;
     let mut client = turn(client);
     'stores: for at in 0..6 {
         let word = WordName::RingByte {
@@ -97,12 +221,42 @@ pub fn consumed_prefix(alloc: Global) -> Option<(Settled, [u8; 4])> {
     }
     let client = client.retire();
     let mut bytes = [0; 4];
-    if drain(&mut server, &mut bytes) != (DrainAnswer::More { count: 4 }) {
-        return None;
-    }
+    drain_all(&mut server, &mut bytes)?;
     close(&mut server);
     let server = retire(server);
     Some((page.finish(server, client), bytes))
+}
+
+/// A server reads two bytes of a full ring, and the client fills it again. Then the client is given
+/// up: how much the server had got is known by the contracts alone, since no more than one ring can
+/// be on its way, and no less than what was got can have been consumed.
+pub fn consumed_of_full_ring(alloc: Global) -> Option<Settled>
+    ensures { IfSome result (λ page. (page.client.consumed ≡ 2) × HasCounts page 1026 2 0 0) }
+{
+    let (page, server, client) = small_page(alloc)?;
+    let (mut server, mut client) = connected(&page, server, client)?;
+    write_all(&mut client, letters(1024))?;
+    read_all(&mut server, &mut [0; 2])?;
+    write_all(&mut client, b"bc")?;
+    let client = turn(client).retire();
+    let server = retire(server);
+    let settled = page.finish(server, client);
+    if settled.server_turned() || !settled.client_turned() {
+        return None;
+    }
+    two_consumed(&settled);
+    Some(settled)
+}
+
+/// Where the client was given up when it had sent 1,026 bytes, of which its honest server got two, it
+/// had given up the places of just these.
+fn two_consumed(page: &Settled)
+    requires turned { (page.now.client.turned ≡ true) × (page.now.server.turned ≡ false) }
+    requires size { size page.now.orders.left ≡ 1024 }
+    requires moved { (length page.now.client.sent ≡ 1026) × (length page.now.server.got ≡ 2) }
+    ensures { page.now.client.consumed ≡ 2 }
+{
+    page.promise();
 }
 
 /// A hostile user says 2,000 bytes on an untouched ring. It gives how many had room, the user's own

@@ -6,17 +6,24 @@ use ring_words::check_orders;
 use std::alloc::{AllocError, Global};
 use std::test::Fail;
 use std::thread::join;
-use vchan_lifecycle::{connect, retire};
+use vchan_lifecycle::{close, connect};
 use vchan_rule::{IdleSeat, Page};
 
 #[test]
 fn rows_answer_as_they_should(rt: HostRuntime) -> Result<(), Fail> {
     let settled = fresh_page(rt.alloc()).ok_or("fresh page")?;
     assert!(rt; !settled.server_turned() && !settled.client_turned());
+    assert!(rt; five_bytes(rt.alloc()).is_some());
+    assert!(rt; full_ring(rt.alloc()).is_some());
+    let (_, bytes) = packets(rt.alloc()).ok_or("packets")?;
+    assert!(rt; bytes == *b"aaaa");
+    assert!(rt; long_packet(rt.alloc()).is_some());
+    assert!(rt; closed_race(rt.alloc()).is_some());
     assert!(rt; events(rt.alloc()) == Some((true, false)));
     assert!(rt; ready_space_gone(rt.alloc()) == Some((0, 1024, false, true)));
     let (settled, bytes) = consumed_prefix(rt.alloc()).ok_or("consumed prefix")?;
     assert!(rt; bytes == [99; 4] && settled.client_turned() && !settled.server_turned());
+    assert!(rt; consumed_of_full_ring(rt.alloc()).is_some());
     assert!(rt; said_by_hand(rt.alloc()) == Some((1024, 1024, [false; 3])));
     Ok(())
 }
@@ -75,7 +82,7 @@ fn client_sends(page: &Page, seat: IdleSeat, data: &[u8]) -> bool
     match connect(&mut end) {
         Ok(()) => {
             let sent = send_all(&mut end, data);
-            let _ = retire(end);
+            close(&mut end);
             sent
         }
         Err(_) => false,

@@ -23,7 +23,6 @@ use toml::Table;
 ///
 /// [`ScenarioError::Bad`] exactly where the bytes are no scenario, with the first check that fails
 /// and the path of what it looked at; `ScenarioError::Memory`.
-
 pub fn read(alloc: Global, bytes: &[u8]) -> Result<Scenario, ScenarioError>
     ensures scenario { IfOk result (λ scenario. scenario_of bytes.now ≡ Ok (written scenario)) }
     ensures bad { IfErr result (λ e. IsFault e (scenario_of bytes.now)) }

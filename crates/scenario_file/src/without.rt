@@ -13,7 +13,6 @@ use vchan_io::Memory;
 /// The scenario without its hostile domains and without the calls that name one. The other calls keep
 /// their numbers, and their callers have the places that they then have in the list of domains, which
 /// may be empty.
-
 pub fn without_hostile(alloc: Global, scenario: &Scenario) -> Result<Scenario, Memory>
     ensures { IfOk result (λ left. left ≡ without_hostile scenario.now) }
 {

@@ -12,11 +12,11 @@ fn told(rt: &impl AllocGlobal, file: &[u8]) -> Result<Vec<u8>, Fail> {
     }
 }
 
-/// The line of a fault.
+/// The line of a fault. Want of memory is none, and fails the test.
 fn line_of(rt: &impl AllocGlobal, error: ScenarioError) -> Result<Vec<u8>, Fail> {
     match error {
         ScenarioError::Bad { kind, at } => fault_line(rt, kind, &at),
-        ScenarioError::Memory => Ok(Vec::from_slice(rt.alloc(), b"out of memory")?),
+        ScenarioError::Memory => Err(Fail::from(ScenarioError::Memory)),
     }
 }
 
