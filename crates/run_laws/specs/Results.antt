@@ -1,7 +1,6 @@
 -- A run from what its tasks answered and from its settled pages.
 -- Source: this project's own.
 use Rattle.std.specs.Prelude.{◌≡◌, ◌≢◌, ℕ, ◌^◌, ◌<◌, ◌≤◌, true, false, List, [], ◌∷◌, length, map, slice_index_or, None, Contains, IsPermutation, AllPairs, if◌then◌else◌}
-use Rattle.atomic_table.specs.Seated.{TableId}
 use Rattle.ring_words.specs.declared.order.Orders.{Orders}
 use Rattle.ring_words.specs.declared.page.Role.TheVariants.{Server}
 use Rattle.vchan_protocol.specs.declared.call.EndState.TheVariants.{Shut}

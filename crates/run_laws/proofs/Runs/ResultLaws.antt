@@ -1,11 +1,10 @@
 -- What tasks answered and settled pages make up a run.
 use Rattle.std.proofs.Common.{◌≡◌, ◌≢◌, ℕ, ◌≤◌, zero, suc, List, [], ◌∷◌, length, map, refl, ap, sym, ◌∙◌, arith, ◌⊎◌, inl, inr, Option, Some, None, subst}
-use Rattle.std.specs.Prelude.{true, false, Bool, ◌==◌, ◌||◌, is_some, filter, Contains, IsPermutation, AllPairs, if◌then◌else◌}
+use Rattle.std.specs.Prelude.{true, false, Bool, ◌==◌, ◌||◌, is_some, Contains, IsPermutation, AllPairs}
 use Rattle.std.proofs.lemmas.Bool.Decides.{nat_tests}
 use Rattle.qrexec_frame.specs.Streams.{Each}
-use Rattle.call_broker.specs.Domains.{is_domain}
 use Rattle.end_view.specs.EndView.{EndView}
-use Rattle.end_view.specs.Settled.{Settled, IsSettled}
+use Rattle.end_view.specs.Settled.{IsSettled}
 use Rattle.scenario_file.specs.Scenario.{Plan as Scenario, domain_of, is_hostile, hostile_at}
 use Rattle.scenario_file.specs.declared.scenario.Domain.{Domain}
 use Rattle.std.specs.Option.{option_map_or}
@@ -17,16 +16,16 @@ use Rattle.task_duties.specs.Agent.Owes.{AgentOwes}
 use Rattle.task_duties.specs.Broker.Owes.{BrokerOwes}
 use Rattle.task_duties.specs.Hostile.Trail.{IsTrail}
 use Rattle.task_duties.specs.TaskOwes.{EndAt, IsSameEnd, AreEnds, TaskGiven, Agent, Broker, Hostile, TaskDone, AgentDone, BrokerDone, HostileDone, NoMemory, places_in, TaskOwes}
-use Rattle.task_duties.proofs.Elements.{Has, has-from, each-at, has-map, has-map-back, has-filter, has-filter-back, has-left}
+use Rattle.task_duties.proofs.Elements.{Has, has-from, each-at, has-map, has-map-back, has-filter, has-filter-back}
 use Rattle.task_duties.proofs.OutboxLaw.{same-self}
 use Rattle.task_duties.proofs.ServedLaw.{same-place}
 use Rattle.task_duties.proofs.OwesLaws.{agent-owes-same, broker-owes-same}
 use Rattle.run_laws.specs.Laid.{all_domains, laid, places_of, is_data, is_end_of, server_of, client_of, hub_of, awaited_by, agent_plan, hostile_plan}
 use Rattle.run_laws.specs.Report.{SettledPage}
 use Rattle.run_laws.specs.Lawful.{hostile_execs, comes_before, IsServed, IsLawful}
-use Rattle.run_laws.specs.Run.{Run, IsRun, IsPlace, IsHonest, end_of, broker_end}
+use Rattle.run_laws.specs.Run.{IsPlace, IsHonest, end_of, broker_end}
 use Rattle.run_laws.specs.ReadOff.{page_read}
-use Rattle.run_laws.specs.Results.{answer_at, ends_of, journal_of, calls_of, served_of, control_of, view_in, view_at, page_at, orders_of, run_of, IsGivenTo, HasAnswered, IsJoined, AreResults, ResultsAreRuns, ResultsAreLawful, report_by}
+use Rattle.run_laws.specs.Results.{answer_at, ends_of, journal_of, calls_of, served_of, control_of, view_in, view_at, page_at, run_of, IsGivenTo, IsJoined, AreResults, ResultsAreRuns, ResultsAreLawful, report_by}
 use Rattle.run_laws.proofs.Scenarios.Numbers.{domain-is}
 use Rattle.run_laws.proofs.Scenarios.Names.{domain-there}
 use Rattle.run_laws.proofs.Scenarios.Places.{is-laid, has-domain}
