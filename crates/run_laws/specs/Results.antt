@@ -21,7 +21,8 @@ use Rattle.task_duties.specs.TaskOwes.{EndAt, TaskGiven, Agent, Broker, Hostile,
 use Rattle.run_laws.specs.Laid.{all_domains, laid, places_of, server_of, client_of, hub_of, awaited_by, agent_plan, hostile_plan}
 use Rattle.run_laws.specs.declared.report.ServedLine.{ServedLine}
 use Rattle.run_laws.specs.Report.{SettledPage, Report}
-use Rattle.run_laws.specs.Lawful.{ExecAt, hostile_execs, comes_before, IsServed, IsLawful}
+use Rattle.run_laws.specs.Lawful.{IsLawful}
+use Rattle.run_laws.specs.HostileSessions.{HostileSession, hostile_sessions, stands_before, session_line}
 use Rattle.run_laws.specs.Run.{Run, IsRun, IsHonest}
 use Rattle.run_laws.specs.ReadOff.{page_read, line_read}
 
@@ -140,9 +141,8 @@ ResultsAreRuns = (s : Scenario) (dones : List TaskDone) (pages : List SettledPag
 abbrev pub report_by : Scenario → List TaskDone → List SettledPage → List ServedLine → Report
 report_by s dones pages served = record { calls = map (line_read s (run_of s dones)) s.calls; served = served; pages = pages }
 
--- it is lawful with any lines of sessions with hostile callers that stand, one for each such session, in order
+-- it is lawful with the lines of all sessions that honest domains report with hostile callers, once they are sorted
 abbrev pub ResultsAreLawful : Type 0
 ResultsAreLawful =
-    (s : Scenario) (dones : List TaskDone) (pages : List SettledPage) → AreResults s dones pages → (served : List ServedLine) (execs : List ExecAt)
-    → IsPermutation execs (hostile_execs s (report_by s dones pages served)) → AllPairs (λ a b. comes_before a b ≡ true) execs
-    → EachPair (IsServed s (report_by s dones pages served)) execs served → IsLawful s (report_by s dones pages served)
+    (s : Scenario) (dones : List TaskDone) (pages : List SettledPage) → AreResults s dones pages → (sorted : List HostileSession) → IsPermutation (hostile_sessions s (run_of s dones)) sorted
+    → AllPairs (λ a b. stands_before b a ≡ false) sorted → IsLawful s (report_by s dones pages (map (session_line s) sorted))

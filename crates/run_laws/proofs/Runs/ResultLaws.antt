@@ -22,7 +22,8 @@ use Rattle.task_duties.proofs.ServedLaw.{same-place}
 use Rattle.task_duties.proofs.OwesLaws.{agent-owes-same, broker-owes-same}
 use Rattle.run_laws.specs.Laid.{all_domains, laid, places_of, is_data, is_end_of, server_of, client_of, hub_of, awaited_by, agent_plan, hostile_plan}
 use Rattle.run_laws.specs.Report.{SettledPage}
-use Rattle.run_laws.specs.Lawful.{hostile_execs, comes_before, IsServed, IsLawful}
+use Rattle.run_laws.specs.Lawful.{IsLawful}
+use Rattle.run_laws.specs.HostileSessions.{session_line}
 use Rattle.run_laws.specs.Run.{IsPlace, IsHonest, end_of, broker_end}
 use Rattle.run_laws.specs.ReadOff.{page_read}
 use Rattle.run_laws.specs.Results.{answer_at, ends_of, journal_of, calls_of, served_of, control_of, view_in, view_at, page_at, run_of, IsGivenTo, IsJoined, AreResults, ResultsAreRuns, ResultsAreLawful, report_by}
@@ -30,7 +31,8 @@ use Rattle.run_laws.proofs.Scenarios.Numbers.{domain-is}
 use Rattle.run_laws.proofs.Scenarios.Names.{domain-there}
 use Rattle.run_laws.proofs.Scenarios.Places.{is-laid, has-domain}
 use Rattle.run_laws.proofs.Reports.ReadLaws.{control-laid}
-use Rattle.run_laws.proofs.Reports.WholeReport.{laid-place, lawful_with_served}
+use Rattle.run_laws.proofs.Reports.SessionLines.{sorted_sessions_are_lawful}
+use Rattle.run_laws.proofs.Reports.WholeReport.{laid-place}
 
 -- ---- the view at a place is that of an end that was given back
 
@@ -287,9 +289,6 @@ results_are_runs s dones pages h = (
 )
 
 pub results_are_lawful : ResultsAreLawful
-results_are_lawful s dones pages h served execs =
+results_are_lawful s dones pages h sorted permuted order' =
     let both = results_are_runs s dones pages h in
-    let Lawful : List SettledPage → Type 0 = λ ps.
-    IsPermutation execs (hostile_execs s (report_by s dones ps served)) → AllPairs (λ a b. comes_before a b ≡ true) execs → EachPair (IsServed s (report_by s dones ps served)) execs served
-    → IsLawful s (report_by s dones ps served) in
-    subst Lawful both.1 (lawful_with_served s (run_of s dones) both.0 served execs)
+    subst (λ ps. IsLawful s (report_by s dones ps (map (session_line s) sorted))) both.1 (sorted_sessions_are_lawful s (run_of s dones) both.0 sorted permuted order')
