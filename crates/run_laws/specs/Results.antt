@@ -16,7 +16,6 @@ use Rattle.task_duties.specs.declared.done.ServedDone.{ServedDone}
 use Rattle.task_duties.specs.declared.done.ControlEnd.{ControlEnd}
 use Rattle.task_duties.specs.declared.done.ControlEnd.TheVariants.{Drained}
 use Rattle.task_duties.specs.Places.{is_place}
-use Rattle.task_duties.specs.Pairwise.{EachPair}
 use Rattle.task_duties.specs.TaskOwes.{EndAt, TaskGiven, Agent, Broker, Hostile, TaskDone, AgentDone, BrokerDone, HostileDone, NoMemory, places_in, TaskOwes}
 use Rattle.run_laws.specs.Laid.{all_domains, laid, places_of, server_of, client_of, hub_of, awaited_by, agent_plan, hostile_plan}
 use Rattle.run_laws.specs.declared.report.ServedLine.{ServedLine}

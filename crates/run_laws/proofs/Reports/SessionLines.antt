@@ -1,6 +1,6 @@
 -- The lines of the sessions that agents report, sorted, are those of a lawful report.
-use Rattle.std.proofs.Common.{◌≡◌, ◌≢◌, ℕ, ◌+◌, ◌<◌, ◌≤◌, zero, suc, List, [], ◌∷◌, ◌++◌, length, map, refl, ap, sym, ◌∙◌, arith, ◌⊎◌, inl, inr, Option, Some, None, subst}
-use Rattle.std.specs.Prelude.{true, false, Bool, ◌==◌, ◌&&◌, ◌||◌, nat_lt, filter, filter_map, is_some, slice_set, slice_index_or, swap, Contains, AllPairs, IsPermutation, if◌then◌else◌}
+use Rattle.std.proofs.Common.{◌≡◌, ℕ, ◌≤◌, suc, List, [], ◌∷◌, ◌++◌, length, map, refl, ap, sym, ◌∙◌, arith, ◌⊎◌, inl, inr, Option, Some, None, subst}
+use Rattle.std.specs.Prelude.{true, false, Bool, ◌==◌, ◌&&◌, filter, filter_map, is_some, slice_set, slice_index_or, swap, IsPermutation, if◌then◌else◌}
 use Rattle.std.specs.List.{flat_map, list_any}
 use Rattle.std.specs.List.Sorted.{apply_swaps, SwapsInRange}
 use Rattle.std.proofs.lemmas.Bool.Decides.{nat_tests}
@@ -12,7 +12,7 @@ use Rattle.std.proofs.Math.ListN.{get_or-map}
 use Rattle.qrexec_frame.specs.declared.message.Message.{Message}
 use Rattle.qrexec_frame.specs.declared.message.Message.TheVariants.{Hello, Exec, JustExec, Connect, Refused, Terminated, Trigger3, Trigger, Stdin, Stdout, Stderr, ExitCode}
 use Rattle.qrexec_frame.specs.Streams.{Each}
-use Rattle.scenario_file.specs.Scenario.{Plan as Scenario, domain_of, hostile_at, name_at, version_at}
+use Rattle.scenario_file.specs.Scenario.{Plan as Scenario, domain_of, hostile_at, version_at}
 use Rattle.task_duties.specs.declared.place.PagePlace.{PagePlace}
 use Rattle.task_duties.specs.declared.place.PagePlace.TheVariants.{Control, Payload}
 use Rattle.task_duties.specs.declared.done.ServedDone.{ServedDone}
@@ -26,7 +26,7 @@ use Rattle.task_duties.proofs.Elements.{Has, tally, tally-none, tally-permuted}
 use Rattle.task_duties.proofs.ServedLaw.{AreApart, IsUnusedBy, unused-after}
 use Rattle.run_laws.specs.declared.report.ServedLine.{ServedLine}
 use Rattle.run_laws.specs.Laid.{all_domains, laid, agent_plan}
-use Rattle.run_laws.specs.Lawful.{ExecAt, exec_at, execs_on, hostile_execs, control_messages, comes_before, IsServed, IsLawful}
+use Rattle.run_laws.specs.Lawful.{ExecAt, exec_at, hostile_execs, control_messages, comes_before, IsServed}
 use Rattle.run_laws.specs.Run.{Run, IsRun, IsHonest, end_of}
 use Rattle.run_laws.specs.Laws.{agent_heard}
 use Rattle.run_laws.specs.ReadOff.{report_of}
