@@ -1,6 +1,7 @@
 -- What a side sent is what it may send.
 use Rattle.std.proofs.Common.{◌≡◌, ℕ, ◌<◌, List, [], ◌∷◌, ◌++◌, length, take, drop, map, refl, ap, sym, ◌∙◌, subst, arith, append_assoc, Option, Some, None}
 use Rattle.std.proofs.lemmas.List.{append-nil, take-append-drop}
+use Rattle.std.proofs.lemmas.Bool.{false≢true}
 use Rattle.std.specs.Prelude.{true, false, Bool, ℤ, min, nat_lt, is_some, MatchOption, MatchBool}
 use Rattle.std.specs.List.{flat_map}
 use Rattle.qrexec_frame.specs.declared.message.Message.{Message}
@@ -10,6 +11,8 @@ use Rattle.qrexec_frame.specs.Streams.{IsPrefixOf}
 use Rattle.service_gate.specs.Triple.{Triple}
 use Rattle.qrexec_data.specs.Pieces.{Stream, In, Out, Err as Errors, Piece, message_of, end_of, joined, is_stream, ArePieces, is_input, is_output}
 use Rattle.qrexec_data.specs.Seeing.{serving_sees}
+use Rattle.qrexec_data.specs.Laws.{HasSent}
+use Rattle.qrexec_data.specs.declared.outcome.Outcome.TheVariants as outcome
 use Rattle.qrexec_data.specs.Sending.{most, IsCallerStream, IsServingStream, IsServingBegun, Begins, CallerMaySend, ServingMaySend}
 use Rattle.qrexec_data.specs.Requests.{RequestsState, end_if, SendsInput, SendsRequests}
 use Rattle.qrexec_data.specs.CallerSide.{CallerState, CallerStandsFor}
@@ -126,10 +129,10 @@ serving-begun {S} owes owed limit a input sent s none =
     nothing true None is = refl
     nothing true (Some x) is = cc
 
--- behind the input's end
-serving-whole : {S : Type 0} (owes : S → List ℕ → Triple) (owed : List ℕ → Triple) (limit : ℕ) (a : AnsweringState S) (input sent : List ℕ) (code : ℤ) → 0 < limit → SendsOutputs owes owed limit a input sent
-    → a.code ≡ Some code → (b : Bool) → a.closed ≡ b → Begins (IsServingStream a.own limit (owed input)) sent
-serving-whole {S} owes owed limit a input sent code some s is true closed =
+-- behind the input's end, where the ends and the exit code stand in messages
+whole-stream : {S : Type 0} (owes : S → List ℕ → Triple) (owed : List ℕ → Triple) (limit : ℕ) (a : AnsweringState S) (input sent : List ℕ) (code : ℤ) → SendsOutputs owes owed limit a input sent
+    → a.code ≡ Some code → a.closed ≡ true → (stream : List Message) × IsServingStream a.own limit (owed input) stream × (sent ++ a.waiting ≡ flat_map written stream)
+whole-stream {S} owes owed limit a input sent code s is closed =
     let G : Option ℤ → Type 0 = λ c. Gives owes owed c a input s.pieces in
     let g : Gives owes owed (Some code) a input s.pieces = subst G is s.gives in
     let d = s.done closed in
@@ -145,12 +148,19 @@ serving-whole {S} owes owed limit a input sent code some s is true closed =
         stderr = sym (ap (λ t. t.stderr) g ∙ ap (λ o. joined Errors s.pieces ++ o) d.1 ∙ append-nil (joined Errors s.pieces));
         is = refl;
       },
-      (a.waiting, s.stream ∙ ap (λ e. flat_map written (Hello a.own ∷ (map message_of s.pieces ++ e))) ends_are ∙ ap (λ ms. flat_map written (Hello a.own ∷ ms)) tail),
+      s.stream ∙ ap (λ e. flat_map written (Hello a.own ∷ (map message_of s.pieces ++ e))) ends_are ∙ ap (λ ms. flat_map written (Hello a.own ∷ ms)) tail,
     )
   where
     tails : (ps : List Piece) (code : ℤ) → map message_of ps ++ Stdout [] ∷ Stderr [] ∷ ExitCode code ∷ [] ≡ map message_of (ps ++ end_of Out ∷ end_of Errors ∷ []) ++ ExitCode code ∷ []
     tails [] code = refl
     tails (p ∷ ps) code = ap (λ r. message_of p ∷ r) (tails ps code)
+
+-- behind the input's end
+serving-whole : {S : Type 0} (owes : S → List ℕ → Triple) (owed : List ℕ → Triple) (limit : ℕ) (a : AnsweringState S) (input sent : List ℕ) (code : ℤ) → 0 < limit → SendsOutputs owes owed limit a input sent
+    → a.code ≡ Some code → (b : Bool) → a.closed ≡ b → Begins (IsServingStream a.own limit (owed input)) sent
+serving-whole {S} owes owed limit a input sent code some s is true closed =
+    let w = whole-stream owes owed limit a input sent code s is closed in
+    (w.0, w.1, (a.waiting, w.2))
 serving-whole {S} owes owed limit a input sent code some s is false closed =
     let G : Option ℤ → Type 0 = λ c. Gives owes owed c a input s.pieces in
     let g : Gives owes owed (Some code) a input s.pieces = subst G is s.gives in
@@ -206,3 +216,32 @@ serving_may_send {S} owes owed s sent stands = subst M stands.read.serves.versio
     by_version : (v : Option ℕ) → SendsAnswers owes owed v a input sent → M v
     by_version None n = n.none
     by_version (Some v) h = by_code v h a.code refl
+
+-- a side that is done has sent its whole stream, with that code
+pub serving_sent_all : {S : Type 0} (owes : S → List ℕ → Triple) (owed : List ℕ → Triple) (s : ServingState S) (sent : List ℕ) (code : ℤ) → ServingStandsFor owes owed s sent
+    → s.answering.outcome ≡ Some (outcome.Done code) → HasSent owed s sent code
+serving_sent_all {S} owes owed s sent code stands is = by_version a.version refl stands.read.serves.sends
+  where
+    a : AnsweringState S
+    a = s.answering
+
+    input : List ℕ
+    input = (serving_sees s.inbox.got).input
+
+    by_version : (v : Option ℕ) → a.version ≡ v → SendsAnswers owes owed v a input sent → HasSent owed s sent code
+    by_version None v_is h = absurd (false≢true (sym h.unclosed ∙ (stands.read.done code is).0.0))
+    by_version (Some v) v_is h =
+        let d = stands.read.done code is in
+        let w = whole-stream owes owed (min a.chunk (most v)) a input sent code h d.1 d.0.0 in
+        let G : Option ℤ → Type 0 = λ c. Gives owes owed c a input h.pieces in
+        let g : Gives owes owed (Some code) a input h.pieces = subst G d.1 h.gives in
+        record {
+          all = record {
+            version = v;
+            agreed = sym stands.read.serves.version ∙ v_is;
+            stream = w.0;
+            is_stream = w.1;
+            whole = sym (append-nil sent) ∙ ap (λ r. sent ++ r) (sym d.0.1) ∙ w.2;
+          };
+          code_is = sym (ap (λ t. t.code) g);
+        }

@@ -1,20 +1,24 @@
 -- A side that serves keeps what it stands for.
-use Rattle.std.proofs.Common.{◌≡◌, ℕ, ◌+◌, ◌<◌, ◌^◌, List, ◌++◌, length, take, refl, ap, sym, ◌∙◌, subst, ◌⊎◌, inl, inr, Option, Some, None}
-use Rattle.std.proofs.lemmas.List.{take-append-le}
+use Rattle.std.proofs.Common.{◌≡◌, ℕ, ◌+◌, ◌<◌, ◌^◌, List, [], ◌++◌, length, take, append_assoc, refl, ap, sym, ◌∙◌, subst, ◌⊎◌, inl, inr, Option, Some, None, Result, Ok, Err}
+use Rattle.std.proofs.lemmas.List.{take-append-le, append-nil}
 use Rattle.std.specs.Prelude.{true, false, Bool, is_none, is_some}
 use Rattle.qrexec_frame.specs.declared.channel.Channel.TheVariants.{Data}
 use Rattle.qrexec_frame.specs.declared.message.Message.{Message}
+use Rattle.qrexec_frame.specs.declared.message.Message.TheVariants.{Hello}
+use Rattle.qrexec_frame.specs.Messages.{written}
 use Rattle.qrexec_frame.specs.Grammar.{Fault}
 use Rattle.qrexec_frame.specs.Fronts.{front, reading, fault_at}
 use Rattle.qrexec_frame.specs.Streams.{Whole, Bad, Short, Placed, Reading, Rest}
+use Rattle.qrexec_hello.specs.Greeting.{greeting}
+use Rattle.qrexec_hello.specs.declared.hello.HelloFault.{HelloFault}
 use Rattle.service_gate.specs.Triple.{Triple}
 use Rattle.qrexec_data.specs.declared.fault.SessionFault.TheVariants as fault
 use Rattle.qrexec_data.specs.declared.outcome.Outcome.{Outcome}
 use Rattle.qrexec_data.specs.declared.outcome.Outcome.TheVariants as outcome
 use Rattle.qrexec_data.specs.Seeing.{Seen, Undecided, serving_use, sees_all}
 use Rattle.qrexec_data.specs.Reading.{InboxState, unread, read_messages, IsAtMessage}
-use Rattle.qrexec_data.specs.Answering.{AnsweringState, AnswersTo, faulted}
-use Rattle.qrexec_data.specs.ServingSide.{ServingState, Serves, ReadsInput, NothingLeft, OneMessage, OneFault, IsServing, HasServed, ServingStandsFor}
+use Rattle.qrexec_data.specs.Answering.{AnsweringState, AnswersTo, Greets, Stray, Late, Fed, Ended, after_greeting, faulted}
+use Rattle.qrexec_data.specs.ServingSide.{ServingState, Serves, ReadsInput, NothingLeft, OneMessage, OneFault, IsServing, HasServed, ServingStandsFor, StillWaits}
 use Rattle.qrexec_data.proofs.ReadingLaws.{ReadsNext, reading-short, reading-bad, reading-next, more-bytes}
 use Rattle.qrexec_data.proofs.HearingLaws.{left-over, seen-frame}
 use Rattle.qrexec_data.proofs.RepliesLaws.{placed_at}
@@ -126,11 +130,36 @@ serves-bad {S} owes old inside g answering is bad failed =
     let P : ServingState S → Type 0 = λ s. ReadsInput owes s (record inside { answering = answering }) false in
     subst P is (OneFault g bad (λ i. record inside { answering = failed i }) refl)
 
+-- ---- what waited still waits
+
+pub waits-on : {S : Type 0} (old new : AnsweringState S) → new.waiting ≡ old.waiting → StillWaits old new
+waits-on old new same = ([], append-nil old.waiting ∙ sym same)
+
+pub waits-then : {S : Type 0} (old mid new : AnsweringState S) → StillWaits old mid → StillWaits mid new → StillWaits old new
+waits-then old mid new (a, first) (b, second) = (a ++ b, sym (append_assoc old.waiting a b) ∙ ap (λ l. l ++ b) first ∙ second)
+
+greeted-waits : {S : Type 0} (old new : AnsweringState S) (r : Result ℕ HelloFault) → new ≡ after_greeting r old → StillWaits old new
+greeted-waits old new (Ok version) is = (written (Hello old.own), sym (ap (λ a. a.waiting) is))
+greeted-waits old new (Err f) is = waits-on old new (ap (λ a. a.waiting) is)
+
+answers-waits : {S : Type 0} (owes : S → List ℕ → Triple) (m : Message) (at : ℕ) (old new : AnsweringState S) → AnswersTo owes m at old new → StillWaits old new
+answers-waits owes m at old new (Greets none is) = greeted-waits old new (greeting old.own m) is
+answers-waits owes m at old new (Stray some strays is) = waits-on old new (ap (λ a. a.waiting) is)
+answers-waits owes m at old new (Late some bytes carries ended is) = waits-on old new (ap (λ a. a.waiting) is)
+answers-waits owes m at old new (Fed some bytes carries more going feeds) = waits-on old new (ap (λ a. a.waiting) feeds.rest)
+answers-waits owes m at old new (Ended some carries going ends) = waits-on old new (ap (λ a. a.waiting) ends.rest)
+
+pub step-waits : {S : Type 0} (owes : S → List ℕ → Triple) (old new : ServingState S) (more : Bool) → ReadsInput owes old new more → StillWaits old.answering new.answering
+step-waits owes old new more (NothingLeft short same stops) = waits-on old.answering new.answering (ap (λ s. s.answering.waiting) same)
+step-waits owes old new more (OneMessage m n whole inbox answers goes) = answers-waits owes m old.inbox.read old.answering new.answering answers
+step-waits owes old new more (OneFault g bad is stops) = waits-on old.answering new.answering (ap (λ s. s.answering.waiting) is)
+
 -- what the loop of `read_on` keeps
 pub record KeepsServing {S : Type 0} (owes : S → List ℕ → Triple) (start now : ServingState S) : Type 0 where
   pub got : now.inbox.got ≡ start.inbox.got
   pub own : now.answering.own ≡ start.answering.own
   pub chunk : now.answering.chunk ≡ start.answering.chunk
+  pub waits : StillWaits start.answering now.answering
   pub serves : (owed : List ℕ → Triple) (sent : List ℕ) → IsServing owes owed start sent → IsServing owes owed now sent
 
 pub keeps-serving : {S : Type 0} (owes : S → List ℕ → Triple) (start old new : ServingState S) (more : Bool) → KeepsServing owes start old → new.inbox.got ≡ old.inbox.got
@@ -139,6 +168,7 @@ keeps-serving owes start old new more k got own chunk small step goes = record {
   got = got ∙ k.got;
   own = own ∙ k.own;
   chunk = chunk ∙ k.chunk;
+  waits = waits-then start.answering old.answering new.answering k.waits (step-waits owes old new more step);
   serves = λ owed sent h. (serves-on owes owed old new more sent small (k.serves owed sent h) step).0 goes;
 }
 

@@ -12,15 +12,16 @@ use Rattle.qrexec_frame.specs.declared.message.Message.TheVariants.{Hello, ExitC
 use Rattle.qrexec_frame.specs.Messages.{written}
 use Rattle.qrexec_frame.specs.Grammar.{Fault}
 use Rattle.qrexec_frame.specs.Fronts.{front, reading}
+use Rattle.qrexec_frame.specs.Laws.{IsGood}
 use Rattle.qrexec_frame.specs.Streams.{Placed, Ending, Rest, Each, IsPrefixOf, Begins}
-use Rattle.qrexec_frame.proofs.StreamLaws.{begins, reads-all, all-came, extends}
+use Rattle.qrexec_frame.proofs.StreamLaws.{begins, reads-all}
 use Rattle.qrexec_frame.proofs.GrammarLaws.{is_prefix_code}
 use Rattle.qrexec_frame.proofs.WrittenLaws.{is_read_again}
 use Rattle.service_gate.specs.Triple.{Triple}
 use Rattle.qrexec_data.specs.Pieces.{Stream, In, Out, Err as Errors, Piece, message_of, end_of, joined, has_ended, ArePieces, is_input, is_output}
 use Rattle.qrexec_data.specs.Seeing.{Seen, Use, Carries, Undecided, Exited, sees_on, sees_all, seen_by, caller_use, serving_use, caller_sees, serving_sees, fault_of}
 use Rattle.qrexec_data.specs.Sending.{IsCallerStream, IsServingStream}
-use Rattle.qrexec_data.specs.Laws.{IsGood, FitsTriple, ReadsInput, WrittenBeginnings, WholeStreams, LongerStreams, CallersSeeTriples, CallersAreDone, CallersWait, InputsAreRead, GreetingsAreNoFault}
+use Rattle.qrexec_data.specs.Laws.{FitsTriple, ReadsInput, CallersSeeTriples, CallersAreDone, CallersWait, InputsAreRead, GreetingsAreNoFault}
 use Rattle.qrexec_data.proofs.PieceLaws.{the_messages, NoneEnded, none-more, all_first, Within, Beyond, on-pieces, caller-carries, serving-carries, joined-append, ended-append, none-in, take-pieces}
 
 -- ---- what is written is read again
@@ -289,15 +290,6 @@ serving-waits own got two small prefix =
     (ap fault_of h.0, ap (has_ended In) h.1)
 
 -- ---- the laws as they are stated
-
-pub written_beginnings : WrittenBeginnings
-written_beginnings channel stream got good prefix = begins (front channel) written (IsGood channel) (is_prefix_code channel) (is_read_again channel) stream good got prefix.0 0 prefix.1
-
-pub whole_streams : WholeStreams
-whole_streams channel stream got good prefix all = all-came (front channel) written stream got (written_beginnings channel stream got good prefix) all
-
-pub longer_streams : LongerStreams
-longer_streams channel got more = extends (front channel) (is_prefix_code channel) got more 0 0
 
 pub callers_see_triples : CallersSeeTriples
 callers_see_triples own limit t stream got version least fits is prefix = caller-fits own limit t stream got version.least version.small least fits is prefix

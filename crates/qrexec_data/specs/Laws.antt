@@ -1,45 +1,24 @@
--- What one side sees of what the other may send, and what more bytes change of it.
-use Rattle.std.specs.Prelude.{◌≡◌, ℕ, ◌<◌, ◌≤◌, ◌^◌, ◌⊎◌, true, false, List, ◌∷◌, ◌++◌, length, map, None}
+-- What one side sees of what the other may send.
+use Rattle.std.specs.Prelude.{◌≡◌, ℕ, ℤ, ◌<◌, ◌≤◌, ◌^◌, ◌⊎◌, true, false, List, ◌∷◌, ◌++◌, length, map, Some, None}
 use Rattle.std.specs.Int.{w32}
 use Rattle.std.specs.Int.RustNames.{FitsSigned}
 use Rattle.std.specs.List.{flat_map}
-use Rattle.qrexec_frame.specs.declared.channel.Channel.{Channel}
 use Rattle.qrexec_frame.specs.declared.message.Message.{Message}
 use Rattle.qrexec_frame.specs.declared.message.Message.TheVariants.{Hello}
-use Rattle.qrexec_frame.specs.Messages.{written, IsSpellable, GoesOn}
-use Rattle.qrexec_frame.specs.Fronts.{front, reading}
-use Rattle.qrexec_frame.specs.Streams.{Each, IsPrefixOf, Begins, Extends, messages}
+use Rattle.qrexec_frame.specs.Messages.{written}
+use Rattle.qrexec_frame.specs.Streams.{IsPrefixOf}
 use Rattle.service_gate.specs.Triple.{Triple}
+use Rattle.qrexec_data.specs.declared.outcome.Outcome.TheVariants.{Done}
 use Rattle.qrexec_data.specs.CallerSide.{CallerState, CallerStandsFor}
 use Rattle.qrexec_data.specs.ServingSide.{ServingState, ServingStandsFor}
 use Rattle.qrexec_data.specs.Pieces.{Piece, message_of, ArePieces, is_output}
 use Rattle.qrexec_data.specs.Seeing.{Undecided, Exited, CallerSeen, caller_sees, ServingSeen, serving_sees}
-use Rattle.qrexec_data.specs.Sending.{IsCallerStream, IsServingStream, CallerMaySend, ServingMaySend}
-
--- a message that has a spelling, of a channel
-abbrev pub IsGood : Channel → Message → Type 0
-IsGood channel message = IsSpellable message × GoesOn channel message
+use Rattle.qrexec_data.specs.Sending.{IsCallerStream, IsServingStream, CallerMaySend, ServingMaySend, SentAll}
 
 -- a version that a side may announce
 pub record IsVersion (own : ℕ) : Type 0 where
   pub least : 2 ≤ own
   pub small : own < 2 ^ 32
-
--- ---- streams of any messages
-
--- a beginning of written messages reads without fault, as the first of them
-abbrev pub WrittenBeginnings : Type 0
-WrittenBeginnings = (channel : Channel) (stream : List Message) (got : List ℕ) → Each (IsGood channel) stream → IsPrefixOf got (flat_map written stream)
-    → Begins (front channel) written stream got 0
-
--- where as many messages were read as were written, all the bytes came
-abbrev pub WholeStreams : Type 0
-WholeStreams = (channel : Channel) (stream : List Message) (got : List ℕ) → Each (IsGood channel) stream → IsPrefixOf got (flat_map written stream)
-    → length stream ≤ length (messages (reading channel got)) → got ≡ flat_map written stream
-
--- more bytes only extend a reading, and a fault stays
-abbrev pub LongerStreams : Type 0
-LongerStreams = (channel : Channel) (got more : List ℕ) → Extends (reading channel got) (reading channel (got ++ more))
 
 -- ---- the two sides
 
@@ -87,3 +66,13 @@ CallersSendStreams = (c : CallerState) (sent : List ℕ) → CallerStandsFor c s
 abbrev pub ServingSendsStreams : (S : Type 0) → Type 0
 ServingSendsStreams S = (owes : S → List ℕ → Triple) (owed : List ℕ → Triple) (s : ServingState S) (sent : List ℕ) → ServingStandsFor owes owed s sent
     → ServingMaySend s.answering.own s.answering.chunk owed s.inbox.got sent
+
+-- all of the serving stream went, and its exit code is this
+pub record HasSent {S : Type 0} (owed : List ℕ → Triple) (s : ServingState S) (sent : List ℕ) (code : ℤ) : Type 0 where
+  pub all : SentAll s.answering.own s.answering.chunk (owed (serving_sees s.inbox.got).input) s.inbox.got sent
+  pub code_is : code ≡ (owed (serving_sees s.inbox.got).input).code
+
+-- a side that serves and is done has sent its whole stream, whatever its service
+abbrev pub DoneSendsAll : (S : Type 0) → Type 0
+DoneSendsAll S = (owes : S → List ℕ → Triple) (owed : List ℕ → Triple) (s : ServingState S) (sent : List ℕ) (code : ℤ) → ServingStandsFor owes owed s sent
+    → s.answering.outcome ≡ Some (Done code) → HasSent owed s sent code

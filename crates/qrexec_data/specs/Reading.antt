@@ -1,9 +1,11 @@
 -- The bytes that a side has got, and how far it has read them.
-use Rattle.std.specs.Prelude.{◌≡◌, ℕ, ◌≤◌, List, length, take, drop}
+use Rattle.std.specs.Prelude.{◌≡◌, ℕ, ◌≤◌, List, length, take, drop, Option, Some}
 use Rattle.qrexec_frame.specs.declared.channel.Channel.TheVariants.{Data}
 use Rattle.qrexec_frame.specs.declared.message.Message.{Message}
 use Rattle.qrexec_frame.specs.Fronts.{reading}
 use Rattle.qrexec_frame.specs.Streams.{Placed, Rest}
+use Rattle.qrexec_data.specs.declared.outcome.Outcome.{Outcome}
+use Rattle.qrexec_data.specs.declared.outcome.Outcome.TheVariants.{Closed, Gone}
 
 -- all bytes got, and how many of them are whole messages that were read
 pub record InboxState : Type 0 where
@@ -26,3 +28,9 @@ read_messages inbox = (reading Data (read_bytes inbox)).placed
 pub record IsAtMessage (inbox : InboxState) : Type 0 where
   pub within : inbox.read ≤ length inbox.got
   pub whole : (reading Data (read_bytes inbox)).ending ≡ Rest 0
+
+-- nothing has decided yet, or bytes have: the owner has said nothing of the channel's end
+abbrev pub IsByBytes : Option Outcome → Type 0
+IsByBytes (Some Closed) = ⊥
+IsByBytes (Some Gone) = ⊥
+IsByBytes outcome = Unit {0}

@@ -7,7 +7,7 @@ use Rattle.qrexec_frame.specs.declared.message.Message.TheVariants.{Hello, Stdou
 use Rattle.qrexec_frame.specs.Messages.{written}
 use Rattle.qrexec_frame.specs.Grammar.{Fault}
 use Rattle.qrexec_frame.specs.Fronts.{front, reading, fault_at}
-use Rattle.qrexec_frame.specs.Streams.{Whole, Bad, Short, Placed, Rest}
+use Rattle.qrexec_frame.specs.Streams.{Whole, Bad, Short, Placed, Rest, IsPrefixOf}
 use Rattle.service_gate.specs.Triple.{Triple, after_outputs}
 use Rattle.qrexec_data.specs.declared.fault.SessionFault.TheVariants as fault
 use Rattle.qrexec_data.specs.declared.outcome.Outcome.{Outcome}
@@ -110,6 +110,10 @@ pub record LendsAnswers {S : Type 0} (owes : S → List ℕ → Triple) (old new
   pub piece_is : piece ≡ (if is_none old.answering.outcome then new.answering.waiting else [])
   pub new_is : new ≡ record old { answering = if is_none old.answering.outcome then laid_on old.answering.version old.answering else old.answering }
   pub stands : (owed : List ℕ → Triple) (sent : List ℕ) → ServingStandsFor owes owed old sent → ServingStandsFor owes owed new sent
+
+-- the bytes that waited still wait, before any others
+abbrev pub StillWaits : {S : Type 0} → AnsweringState S → AnsweringState S → Type 0
+StillWaits old new = IsPrefixOf old.waiting new.waiting
 
 -- all that the service gave stands in messages that have gone, and its input has not ended
 pub record HasGivenAll {S : Type 0} (a : AnsweringState S) : Type 0 where

@@ -6,6 +6,7 @@ ghost use Rattle.qrexec_frame.specs.Kinds.{least_len, IsData};
 ghost use Rattle.qrexec_frame.specs.Messages.{written};
 ghost use Rattle.qrexec_frame.specs.declared.message.Message.TheVariants as message;
 ghost use Rattle.qrexec_hello.specs.Greeting.{greeting};
+ghost use Rattle.qrexec_data.specs.Reading.{IsByBytes};
 ghost use Rattle.qrexec_data.specs.Answering.{AnswersTo, FeedsOn, EndsOn, after_greeting, faulted, laid_next, laid_on, end_bytes, over_if, after_gone};
 
 use crate::fault::SessionFault;
@@ -87,6 +88,7 @@ impl<S: Service> Answering<S> {
         requires { least_len body.kind ≤ length body.bytes.now }
         ensures ok { OnOk result (AnswersTo S.owes (made body.entry.kind body.entry.bytes.now) at self.old self.new) }
         ensures same { (self.new.own ≡ self.old.own) × (self.new.chunk ≡ self.old.chunk) }
+        ensures bytes { IsByBytes self.old.outcome → IsByBytes self.new.outcome }
     {
         if self.version.is_none() {
             return self.greet(body);
@@ -106,6 +108,7 @@ impl<S: Service> Answering<S> {
         requires { least_len body.kind ≤ length body.bytes.now }
         ensures ok { OnOk result (self.new ≡ after_greeting (greeting self.old.own (made body.entry.kind body.entry.bytes.now)) self.old) }
         ensures same { (self.new.own ≡ self.old.own) × (self.new.chunk ≡ self.old.chunk) }
+        ensures bytes { IsByBytes self.old.outcome → IsByBytes self.new.outcome }
     {
         let mut hello = Hello::start(self.own);
         match hello.took_body(body) {
@@ -126,6 +129,7 @@ impl<S: Service> Answering<S> {
         requires { IsSome self.old.version }
         ensures ok { OnOk result (AnswersTo S.owes (message.Stdin bytes.now) at self.old self.new) }
         ensures same { (self.new.own ≡ self.old.own) × (self.new.chunk ≡ self.old.chunk) }
+        ensures bytes { IsByBytes self.old.outcome → IsByBytes self.new.outcome }
     {
         if self.code.is_some() {
             let kind = Kind::Stdin.number();
@@ -142,6 +146,7 @@ impl<S: Service> Answering<S> {
     fn feed(&mut self, bytes: &[u8]) -> Result<(), Memory>
         ensures ok { OnOk result (FeedsOn S.owes bytes.now self.old self.new) }
         ensures same { (self.new.own ≡ self.old.own) × (self.new.chunk ≡ self.old.chunk) }
+        ensures bytes { IsByBytes self.old.outcome → IsByBytes self.new.outcome }
     {
         self.service.feed(bytes, &mut self.out, &mut self.err)
     }
@@ -149,6 +154,7 @@ impl<S: Service> Answering<S> {
     fn end_input(&mut self) -> Result<(), Memory>
         ensures ok { OnOk result (EndsOn S.owes self.old self.new) }
         ensures same { (self.new.own ≡ self.old.own) × (self.new.chunk ≡ self.old.chunk) }
+        ensures bytes { IsByBytes self.old.outcome → IsByBytes self.new.outcome }
     {
         let code = self.service.end(&mut self.out, &mut self.err)?;
         self.code = Some(code);

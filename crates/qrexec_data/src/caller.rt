@@ -34,6 +34,7 @@ impl Caller {
     ghost use Rattle.std.specs.Borrow.{sem};
     ghost use Rattle.qrexec_data.specs.Seeing.{caller_sees};
     ghost use Rattle.qrexec_data.specs.CallerSide.{CallerStandsFor, ReadsReply, IsReading, HasRead, IsStill};
+    ghost use Rattle.qrexec_data.specs.Reading.{IsByBytes};
     ghost use Rattle.qrexec_data.specs.CallerLent.{RestsLent};
 
     /// A caller with this input, of this version, 2 or 3. No message of its input has more than `chunk`
@@ -53,18 +54,28 @@ impl Caller {
         })
     }
 
-    /// Reads the next bytes that came. With an outcome it changes nothing.
+    /// Reads the next bytes that came. With an outcome it changes nothing. Want of memory leaves what was
+    /// got as it was.
     pub fn take(&mut self, piece: &[u8]) -> Result<(), Memory>
         ensures over { IsSome self.old.replies.outcome → IsOk result × (self.new ≡ self.old) }
         ensures got { self.old.replies.outcome ≡ None → OnOk result (self.new.inbox.got ≡ self.old.inbox.got ++ piece.now) }
+        ensures no_memory { OnErr result (self.new.inbox.got ≡ self.old.inbox.got) }
         ensures same { (self.new.requests ≡ self.old.requests) × (self.new.replies.own ≡ self.old.replies.own) }
         ensures stands { (sent : List ℕ) → CallerStandsFor self.old sent → OnOk result (CallerStandsFor self.new sent) }
+        ensures bytes { IsByBytes self.old.replies.outcome → IsByBytes self.new.replies.outcome }
     {
         if self.replies.outcome().is_some() {
             return Ok(());
         }
+        let before = self.inbox.got().len();
         self.inbox.take(piece)?;
-        self.read_on()
+        match self.read_on() {
+            Ok(()) => Ok(()),
+            Err(refused) => {
+                self.inbox.cut(before);
+                Err(refused)
+            }
+        }
     }
 
     // Reads all whole messages that are left, up to the first that decides.
@@ -73,6 +84,7 @@ impl Caller {
         ensures same { (self.new.requests ≡ self.old.requests) × (self.new.replies.own ≡ self.old.replies.own) }
         ensures version { (v : ℕ) → self.old.replies.version ≡ Some v → self.new.replies.version ≡ Some v }
         ensures read { IsReading self.old → OnOk result (HasRead self.new) }
+        ensures bytes { IsByBytes self.old.replies.outcome → IsByBytes self.new.replies.outcome }
     {
         loop {
             if !self.read_one()? {
@@ -89,6 +101,7 @@ impl Caller {
         ensures at { self.old.inbox.read < 2 ^ 64 }
         ensures nearer { result ≡ Ok true → (self.old.inbox.read < self.new.inbox.read) × (self.new.inbox.read ≤ length self.old.inbox.got) }
         ensures step { IfOk result (λ more. ReadsReply self.old self.new more) }
+        ensures bytes { IsByBytes self.old.replies.outcome → IsByBytes self.new.replies.outcome }
     {
         let at = self.inbox.read();
         match self.inbox.front() {
@@ -168,10 +181,35 @@ impl Caller {
         self.replies.stderr()
     }
 
-    /// All bytes that came while there was no outcome.
+    /// The bytes of all pieces that were taken while there was no outcome.
     pub fn got(&self) -> &[u8]
         ensures { result.now ≡ self.now.inbox.got }
     {
         self.inbox.got()
     }
+
+    /// What is left of a caller that is done with, without a copy.
+    pub fn into_parts(self) -> CallerParts
+        ensures outputs { (result.stdout.items ≡ self.replies.stdout) × (result.stderr.items ≡ self.replies.stderr) }
+        ensures got { result.got.items ≡ self.inbox.got }
+    {
+        let Caller { inbox, replies, .. } = self;
+        let (stdout, stderr) = replies.into_outputs();
+        CallerParts {
+            stdout,
+            stderr,
+            got: inbox.into_got(),
+        }
+    }
+}
+
+/// The bytes that a caller has when it is done with.
+#[derive(Debug, Drop)]
+pub struct CallerParts {
+    /// The output that came before what decided.
+    pub stdout: Vec<u8>,
+    /// The error output that came before what decided.
+    pub stderr: Vec<u8>,
+    /// All bytes that came while there was no outcome.
+    pub got: Vec<u8>,
 }

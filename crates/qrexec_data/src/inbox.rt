@@ -1,5 +1,5 @@
 //! The bytes that a side of a call gets.
-ghost use Rattle.std.specs.Prelude.{◌≡◌, ◌+◌, ◌≤◌, ◌++◌, [], length, OnOk, OnErr};
+ghost use Rattle.std.specs.Prelude.{◌≡◌, ◌+◌, ◌≤◌, ◌++◌, [], length, take, OnOk, OnErr};
 ghost use Rattle.qrexec_frame.specs.declared.channel.Channel.TheVariants.{Data};
 ghost use Rattle.qrexec_frame.specs.Bodies.{StandsAtFront};
 ghost use Rattle.qrexec_data.specs.Reading.{unread};
@@ -46,11 +46,27 @@ impl Inbox {
         Ok(())
     }
 
+    /// Forgets all bytes but the first, so many.
+    pub(crate) fn cut(&mut self, len: usize)
+        ensures { self.new.got ≡ take len self.old.got }
+    {
+        self.got.truncate(len);
+        self.read = self.read.min(self.got.len());
+    }
+
     /// What stands at the front of the bytes that were not read.
     pub(crate) fn front(&self) -> Result<Option<Body<'_>>, FrameFault>
         ensures { StandsAtFront Data self.now.read (unread self.now) result }
     {
         Body::at_front(Channel::Data, self.read as u64, &self.got[self.read..])
+    }
+
+    /// All bytes got.
+    pub(crate) fn into_got(self) -> Vec<u8>
+        ensures { result.items ≡ self.got }
+    {
+        let Inbox { got, read: _ } = self;
+        got
     }
 
     /// How many bytes were read, which is the offset of the next message.

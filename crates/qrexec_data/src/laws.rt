@@ -1,23 +1,8 @@
 //! Laws of what one side of a call sees of what the other sends. A law is a function with no body, whose
 //! contract states it.
-ghost use Rattle.qrexec_data.specs.Laws.{WrittenBeginnings, WholeStreams, LongerStreams, CallersSeeTriples, CallersAreDone, CallersWait, InputsAreRead, GreetingsAreNoFault, CallersSendStreams, ServingSendsStreams};
+ghost use Rattle.qrexec_data.specs.Laws.{CallersSeeTriples, CallersAreDone, CallersWait, InputsAreRead, GreetingsAreNoFault, CallersSendStreams, ServingSendsStreams, DoneSendsAll};
 
 use service_gate::Service;
-
-/// A beginning of written messages reads without fault, as the first of them.
-pub fn written_beginnings()
-    ensures { WrittenBeginnings }
-{}
-
-/// Where as many messages were read as were written, all the bytes came.
-pub fn whole_streams()
-    ensures { WholeStreams }
-{}
-
-/// More bytes only extend a reading: the messages before stay, and so does a fault.
-pub fn longer_streams()
-    ensures { LongerStreams }
-{}
 
 /// What a caller sees of a beginning of a serving stream: nothing that decides, or the exit code behind
 /// the whole of both outputs.
@@ -57,4 +42,9 @@ pub fn callers_send_streams()
 /// its whole stream.
 pub fn serving_sends_streams<S: Service>()
     ensures { ServingSendsStreams S }
+{}
+
+/// A serving side that is done has sent its whole stream, and its code is the service's.
+pub fn done_sends_all<S: Service>()
+    ensures { DoneSendsAll S }
 {}

@@ -20,7 +20,7 @@ mod serving;
 #[cfg(test)]
 mod tests;
 
-pub use caller::Caller;
+pub use caller::{Caller, CallerParts};
 pub use fault::SessionFault;
 pub use outcome::Outcome;
 pub use serving::Serving;

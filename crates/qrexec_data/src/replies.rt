@@ -5,6 +5,7 @@ ghost use Rattle.qrexec_frame.specs.Fronts.{made};
 ghost use Rattle.qrexec_frame.specs.Kinds.{least_len};
 ghost use Rattle.qrexec_data.specs.Replies.{no_replies, after_message, after_greeting, after_piece, faulted};
 ghost use Rattle.qrexec_data.specs.Pieces.{Out, Err};
+ghost use Rattle.qrexec_data.specs.Reading.{IsByBytes};
 ghost use Rattle.qrexec_hello.specs.Greeting.{greeting};
 ghost use Rattle.qrexec_data.specs.declared.fault.SessionFault.TheVariants as fault;
 
@@ -70,6 +71,7 @@ impl Replies {
         ensures ok { OnOk result (self.new ≡ after_message (made body.entry.kind body.entry.bytes.now) at self.old) }
         ensures own { self.new.own ≡ self.old.own }
         ensures version { (v : ℕ) → self.old.version ≡ Some v → self.new.version ≡ Some v }
+        ensures bytes { IsByBytes self.old.outcome → IsByBytes self.new.outcome }
     {
         if self.version.is_none() {
             self.greet(body);
@@ -96,6 +98,7 @@ impl Replies {
         requires { least_len body.kind ≤ length body.bytes.now }
         ensures after { self.new ≡ after_greeting (greeting self.old.own (made body.entry.kind body.entry.bytes.now)) self.old }
         ensures own { self.new.own ≡ self.old.own }
+        ensures bytes { IsByBytes self.old.outcome → IsByBytes self.new.outcome }
     {
         let mut hello = Hello::start(self.own);
         match hello.took_body(body) {
@@ -107,6 +110,7 @@ impl Replies {
     fn hear_stdout(&mut self, bytes: &[u8], at: u64) -> Result<(), Memory>
         ensures ok { OnOk result (self.new ≡ after_piece Out bytes.now at 401 self.old) }
         ensures same { (self.new.own ≡ self.old.own) × (self.new.version ≡ self.old.version) }
+        ensures bytes { IsByBytes self.old.outcome → IsByBytes self.new.outcome }
     {
         if self.stdout_ended {
             let kind = Kind::Stdout.number();
@@ -121,6 +125,7 @@ impl Replies {
     fn hear_stderr(&mut self, bytes: &[u8], at: u64) -> Result<(), Memory>
         ensures ok { OnOk result (self.new ≡ after_piece Err bytes.now at 402 self.old) }
         ensures same { (self.new.own ≡ self.old.own) × (self.new.version ≡ self.old.version) }
+        ensures bytes { IsByBytes self.old.outcome → IsByBytes self.new.outcome }
     {
         if self.stderr_ended {
             let kind = Kind::Stderr.number();
@@ -170,5 +175,13 @@ impl Replies {
         ensures { result.now ≡ self.now.stderr }
     {
         &self.stderr
+    }
+
+    /// The two outputs.
+    pub(crate) fn into_outputs(self) -> (Vec<u8>, Vec<u8>)
+        ensures { (result.0.items ≡ self.stdout) × (result.1.items ≡ self.stderr) }
+    {
+        let Replies { stdout, stderr, .. } = self;
+        (stdout, stderr)
     }
 }

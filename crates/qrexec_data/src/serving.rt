@@ -1,4 +1,4 @@
-ghost use Rattle.std.specs.Prelude.{◌≡◌, ◌≤◌, ◌<◌, ◌^◌, ◌++◌, ◌↔◌, ℕ, List, [], Ok, Some, None, IsSome, length, take, drop, IsOk, IfOk, OnOk, true, false};
+ghost use Rattle.std.specs.Prelude.{◌≡◌, ◌≤◌, ◌<◌, ◌^◌, ◌++◌, ◌↔◌, ℕ, List, [], Ok, Some, None, IsSome, length, take, drop, IsOk, IfOk, OnOk, OnErr, true, false};
 ghost use Rattle.std.specs.Option.{option_or};
 ghost use Rattle.service_gate.specs.Triple.{Triple};
 
@@ -34,8 +34,9 @@ impl<S: Service> Serving<S> {
     ghost use Rattle.std.specs.Borrow.{sem};
     ghost use Rattle.std.specs.Io.BufRead.{Rests};
     ghost use Rattle.qrexec_data.specs.contracts.serving.Serving.{the_row};
+    ghost use Rattle.qrexec_data.specs.Reading.{IsByBytes};
     ghost use Rattle.qrexec_data.specs.Answering.{after_gone};
-    ghost use Rattle.qrexec_data.specs.ServingSide.{ServingStandsFor, ReadsInput, IsServing, HasServed, LendsAnswers, IsStill};
+    ghost use Rattle.qrexec_data.specs.ServingSide.{ServingStandsFor, ReadsInput, IsServing, HasServed, LendsAnswers, IsStill, StillWaits};
 
     /// A side that serves with this service, of this version, 2 or 3. No message of an output has more than
     /// `chunk` bytes, 1 to 65,536, nor more than the version allows that both sides go on with.
@@ -53,27 +54,40 @@ impl<S: Service> Serving<S> {
         })
     }
 
-    /// Reads the next bytes that came. With an outcome it changes nothing.
+    /// Reads the next bytes that came. With an outcome it changes nothing. Want of memory leaves what was
+    /// got as it was.
     pub fn take(&mut self, piece: &[u8]) -> Result<(), Memory>
         ensures over { IsSome self.old.answering.outcome → IsOk result × (self.new ≡ self.old) }
         ensures got { self.old.answering.outcome ≡ None → OnOk result (self.new.inbox.got ≡ self.old.inbox.got ++ piece.now) }
+        ensures no_memory { OnErr result (self.new.inbox.got ≡ self.old.inbox.got) }
         ensures same { (self.new.answering.own ≡ self.old.answering.own) × (self.new.answering.chunk ≡ self.old.answering.chunk) }
+        ensures waits { OnOk result (StillWaits self.old.answering self.new.answering) }
         ensures stands { (owed : List ℕ → Triple) (sent : List ℕ) → ServingStandsFor S.owes owed self.old sent →
             OnOk result (ServingStandsFor S.owes owed self.new sent) }
+        ensures bytes { IsByBytes self.old.answering.outcome → IsByBytes self.new.answering.outcome }
     {
         if self.answering.outcome().is_some() {
             return Ok(());
         }
+        let before = self.inbox.got().len();
         self.inbox.take(piece)?;
-        self.read_on()
+        match self.read_on() {
+            Ok(()) => Ok(()),
+            Err(refused) => {
+                self.inbox.cut(before);
+                Err(refused)
+            }
+        }
     }
 
     // Reads all whole messages that are left, up to the first that decides.
     fn read_on(&mut self) -> Result<(), Memory>
         ensures got { self.new.inbox.got ≡ self.old.inbox.got }
         ensures same { (self.new.answering.own ≡ self.old.answering.own) × (self.new.answering.chunk ≡ self.old.answering.chunk) }
+        ensures waits { OnOk result (StillWaits self.old.answering self.new.answering) }
         ensures read { (owed : List ℕ → Triple) (sent : List ℕ) → IsServing S.owes owed self.old sent →
             OnOk result (HasServed S.owes owed self.new sent) }
+        ensures bytes { IsByBytes self.old.answering.outcome → IsByBytes self.new.answering.outcome }
     {
         loop {
             if !self.read_one()? {
@@ -89,6 +103,7 @@ impl<S: Service> Serving<S> {
         ensures at { self.old.inbox.read < 2 ^ 64 }
         ensures nearer { result ≡ Ok true → (self.old.inbox.read < self.new.inbox.read) × (self.new.inbox.read ≤ length self.old.inbox.got) }
         ensures step { IfOk result (λ more. ReadsInput S.owes self.old self.new more) }
+        ensures bytes { IsByBytes self.old.answering.outcome → IsByBytes self.new.answering.outcome }
     {
         let at = self.inbox.read();
         match self.inbox.front() {
@@ -153,10 +168,18 @@ impl<S: Service> Serving<S> {
         self.answering.outcome()
     }
 
-    /// All bytes that came while there was no outcome.
+    /// The bytes of all pieces that were taken while there was no outcome.
     pub fn got(&self) -> &[u8]
         ensures { result.now ≡ self.now.inbox.got }
     {
         self.inbox.got()
+    }
+
+    /// All bytes that came while there was no outcome, without a copy, of a side that is done with.
+    pub fn into_got(self) -> Vec<u8>
+        ensures { result.items ≡ self.inbox.got }
+    {
+        let Serving { inbox, .. } = self;
+        inbox.into_got()
     }
 }

@@ -2,7 +2,7 @@
 use Rattle.std.proofs.Common.{◌≡◌, ℕ, ◌+◌, ◌<◌, ◌≤◌, ◌%◌, ◌^◌, ◌⊎◌, inl, inr, List, [], ◌∷◌, ◌++◌, length, take, drop, Option, Some, None, Result, Ok, Err, Bool, true, false, refl, sym, ◌∙◌, ap, subst, arith, length-append, append_assoc}
 use Rattle.std.proofs.lemmas.List.{length-take-le, length-drop, append-nil, take-append-drop}
 use Rattle.std.proofs.lemmas.Bool.{eqb-true, cases_Bool}
-use Rattle.std.specs.Prelude.{find, ◌==◌, IfOk, IfSome}
+use Rattle.std.specs.Prelude.{nat_le, if◌then◌else◌, find, ◌==◌, IfOk, IfSome}
 use Rattle.qrexec_frame.specs.declared.channel.Channel.{Channel}
 use Rattle.qrexec_frame.specs.declared.fault.FrameFault.{FrameFault}
 use Rattle.qrexec_frame.specs.declared.fault.NextError.{NextError}
@@ -13,12 +13,13 @@ use Rattle.qrexec_frame.specs.Kinds.{kinds_of, kind_on, number_of, least_len, mo
 use Rattle.qrexec_frame.specs.Messages.{kind_of, Fits, IsSpellable, GoesOn}
 use Rattle.qrexec_frame.specs.Grammar.{number_at, Fault, UnknownType, TooLong, BadLength, NoNul, Says, Spelled, Shows}
 use Rattle.qrexec_frame.specs.Fronts.{front, reading, fault_at}
-use Rattle.qrexec_frame.specs.Streams.{Front, Whole, Bad, Placed, Rest, FaultAt, read_on, then_reading}
+use Rattle.qrexec_frame.specs.Streams.{Front, Whole, Bad, Short, Placed, Rest, FaultAt, IsPrefixOf, read_on, then_reading}
 use Rattle.qrexec_frame.specs.Decoding.{DecoderState, after_message, after_feed, Answers, IsOnlySpelled, FollowsGrammar, StandsFor, Reads}
 use Rattle.qrexec_frame.proofs.TextLaws.{FitsText-field, FitsText-line}
 use Rattle.qrexec_frame.proofs.StreamLaws.{read_on-whole, read_on-short, read_on-bad, reads-then}
 use Rattle.qrexec_frame.proofs.BegunLaws.{short-begun}
-use Rattle.qrexec_frame.proofs.SpellingLaws.{shown-front, front-shown}
+use Rattle.qrexec_frame.proofs.FrontLaws.{front-no_type, front-too_long, front-bad_length, front-no_nul, front-whole}
+use Rattle.qrexec_frame.proofs.SpellingLaws.{Standing, NoHeader, NoType, Long, OffRange, NoBody, Unended, Said, standing, shown-front, front-shown}
 use Rattle.qrexec_frame.proofs.GrammarLaws.{Spelled-front, front-spelled, only_spelling, is_prefix_code}
 
 -- ---- the type and the lengths of what was read
@@ -101,7 +102,7 @@ answers-grammar old new (Err error.Memory) answer = answer.3
 -- ---- all bytes fed
 
 -- a new decoder stands for nothing
-pub new-stands : (channel : Channel) → StandsFor (record { channel = channel; left = []; at = 0; fault = None }) [] []
+pub new-stands : (channel : Channel) → StandsFor (record { channel = channel; passed = 0; left = []; at = 0; fault = None }) [] []
 new-stands channel = record { before = []; after = []; fed_is = refl; at_is = refl; given_is = refl; none_after = λ _. refl; faulty = λ f is. cc }
 
 -- the reading of all bytes fed goes on from what was given
@@ -124,7 +125,7 @@ feed-stands d fed piece given s = by_fault d.fault refl
     by_fault : (o : Option FrameFault) → d.fault ≡ o → StandsFor (after_feed d piece) (fed ++ piece) given
     by_fault None is =
         let none : s.after ≡ [] = s.none_after is in
-        let state : record d { left = d.left ++ piece } ≡ after_feed d piece = rw is refl in
+        let state : record d { passed = if nat_le (length d.left) d.passed then 0 else d.passed; left = d.left ++ piece } ≡ after_feed d piece = rw is refl in
         let P : DecoderState → Type 0 = λ e. StandsFor e (fed ++ piece) given in
         subst P state (record {
           before = s.before;
@@ -216,12 +217,17 @@ message-stands d fed given s m n sound whole = record {
     one : read_on (front d.channel) (take n d.left) (length s.before) 0 ≡ record { placed = record { at = length s.before; message = m } ∷ []; ending = Rest 0 }
     one = ap (λ bytes. read_on (front d.channel) bytes (length s.before) 0) (sym (append-nil (take n d.left))) ∙ last
 
+-- what was given is the beginning of the reading of all bytes fed
+given-read : (d : DecoderState) (fed : List ℕ) (given : List (Placed Message)) → StandsFor d fed given → IsPrefixOf given (reading d.channel fed).placed
+given-read d fed given s = (_, ap (λ r. r.placed) (sym (stands-reading d fed given s)))
+
 -- an answer of a decoder that is not faulted tells the reading of all bytes fed
 answers-reads : (old new : DecoderState) (r : Result (Option Message) NextError) → old.fault ≡ None → Answers old new r → (fed : List ℕ) (given : List (Placed Message)) → StandsFor old fed given
     → Reads old new fed given r
 answers-reads old new (Ok (Some m)) sound answer fed given s =
     let P : DecoderState → Type 0 = λ d. StandsFor d fed (given ++ record { at = length s.before; message = m } ∷ []) in
-    (length s.before, s.at_is, subst P (sym answer.2) (message-stands old fed given s m answer.0 sound answer.1))
+    let stands = message-stands old fed given s m answer.0 sound answer.1 in
+    (length s.before, s.at_is, subst P (sym answer.2) stands, given-read (after_message old answer.0) fed (given ++ record { at = length s.before; message = m } ∷ []) stands)
 answers-reads old new (Ok None) sound answer fed given s =
     let P : DecoderState → Type 0 = λ d. StandsFor d fed given in
     let left : old.left ++ s.after ≡ old.left = rw (s.none_after sound) (append-nil old.left) in
@@ -283,3 +289,27 @@ pub next-fits : (old new : DecoderState) (r : Result (Option Message) NextError)
 next-fits old new (Ok (Some m)) answer faulted fits = (fits, next-goes old new m answer faulted)
 next-fits old new (Ok None) answer faulted fits = fits
 next-fits old new (Err e) answer faulted fits = fits
+
+-- less than a message is fewer bytes than the longest message has
+pub short-less : (channel : Channel) (bytes : List ℕ) → front channel bytes ≡ Short → length bytes < 65544
+short-less channel bytes is = by_standing (standing channel bytes)
+  where
+    by_standing : Standing channel bytes → length bytes < 65544
+    by_standing (NoHeader less) = omega (arith, less)
+    by_standing (NoType there none) = let here = front-no_type channel bytes there none in cc
+    by_standing (Long kind header long) = let here = front-too_long channel bytes _ _ kind header long in cc
+    by_standing (OffRange kind header short off) = let here = front-bad_length channel bytes _ _ kind header short off in cc
+    by_standing (NoBody kind header range less) = omega (arith, less, range.short)
+    by_standing (Unended kind header range there line last) = let here = front-no_nul channel bytes _ _ kind header range there line last in cc
+    by_standing (Said kind header range there ended) = let here = front-whole channel bytes _ _ kind header range there ended in cc
+
+-- so few bytes are left where a decoder gives nothing
+pub next-short : (old new : DecoderState) (r : Result (Option Message) NextError) → (old.fault ≡ None → Answers old new r)
+    → ((f : FrameFault) → old.fault ≡ Some f → (r ≡ Err (error.Fault f)) × (new ≡ old)) → r ≡ Ok None → length old.left < 65544
+next-short old new r answer faulted is = by_fault old.fault refl
+  where
+    by_fault : (o : Option FrameFault) → old.fault ≡ o → length old.left < 65544
+    by_fault None none =
+        let P : Result (Option Message) NextError → Type 0 = λ q. Answers old new q in
+        short-less old.channel old.left (subst P is (answer none)).0
+    by_fault (Some f) some = let told = (faulted f some).0 in absurd (cc)

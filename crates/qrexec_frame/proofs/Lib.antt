@@ -7,3 +7,4 @@ pub mod WrittenLaws
 pub mod BegunLaws
 pub mod DecodingLaws
 pub mod PrintingLaws
+pub mod NulLaws

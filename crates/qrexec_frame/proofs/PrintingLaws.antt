@@ -9,14 +9,13 @@ use Rattle.qrexec_frame.specs.Streams.{Placed}
 use Rattle.qrexec_frame.specs.Decoding.{DecoderState, Answers, StandsFor, Reads}
 use Rattle.qrexec_frame.specs.Printing.{Printed}
 use Rattle.qrexec_frame.proofs.GrammarLaws.{front-spelled}
-use Rattle.qrexec_frame.proofs.DecodingLaws.{next-reads}
+use Rattle.qrexec_frame.proofs.DecodingLaws.{next-reads, short-less}
 
 -- what holds of an answer of `next` holds of the same answer printed
 Printed-map : (P Q : Result (Option Message) NextError → Type 0) (before after : List ℕ) (r : Result Bool NextError) → ((q : Result (Option Message) NextError) → P q → Q q) → Printed P before after r → Printed Q before after r
 Printed-map P Q before after (Ok true) f p = (p.0, f (Ok (Some p.0)) p.1, p.2)
 Printed-map P Q before after (Ok false) f p = (f (Ok None) p.0, p.1)
-Printed-map P Q before after (Err (error.Fault g)) f p = (f (Err (error.Fault g)) p.0, p.1)
-Printed-map P Q before after (Err error.Memory) f p = f (Err error.Memory) p
+Printed-map P Q before after (Err e) f p = (f (Err e) p.0, p.1)
 
 -- what is printed tells the reading of all bytes fed
 pub printed-reads : (old new : DecoderState) (before after : List ℕ) (r : Result Bool NextError) → (old.fault ≡ None → Printed (Answers old new) before after r)
@@ -57,7 +56,7 @@ answered-channel : (old new : DecoderState) (before after : List ℕ) (r : Resul
 answered-channel old new before after (Ok true) p = ap (λ d. d.channel) p.1.2
 answered-channel old new before after (Ok false) p = ap (λ d. d.channel) p.0.1
 answered-channel old new before after (Err (error.Fault f)) p = ap (λ d. d.channel) p.0.3
-answered-channel old new before after (Err error.Memory) p = ap (λ d. d.channel) p.3
+answered-channel old new before after (Err error.Memory) p = ap (λ d. d.channel) p.0.3
 
 -- the channel stays
 pub printed-channel : (old new : DecoderState) (before after : List ℕ) (r : Result Bool NextError) → (old.fault ≡ None → Printed (Answers old new) before after r)
@@ -79,3 +78,15 @@ printed-stays old new before after r answer faulted is = by_fault old.fault refl
         let printed : Printed (Answers old new) before after (Ok false) = subst P is (answer none) in
         printed.0.1
     by_fault (Some f) some = (faulted f some).1
+
+-- and so few bytes are left then
+pub printed-short : (old new : DecoderState) (before after : List ℕ) (r : Result Bool NextError) → (old.fault ≡ None → Printed (Answers old new) before after r)
+    → ((f : FrameFault) → old.fault ≡ Some f → (r ≡ Err (error.Fault f)) × (new ≡ old) × (after ≡ before)) → r ≡ Ok false → length old.left < 65544
+printed-short old new before after r answer faulted is = by_fault old.fault refl
+  where
+    by_fault : (o : Option FrameFault) → old.fault ≡ o → length old.left < 65544
+    by_fault None none =
+        let P : Result Bool NextError → Type 0 = λ q. Printed (Answers old new) before after q in
+        let printed : Printed (Answers old new) before after (Ok false) = subst P is (answer none) in
+        short-less old.channel old.left printed.0.0
+    by_fault (Some f) some = let told = (faulted f some).0 in absurd (cc)

@@ -1,5 +1,5 @@
 -- What a decoder answers, of the bytes it holds and of all bytes that it was fed.
-use Rattle.std.specs.Prelude.{◌≡◌, ℕ, ◌+◌, ◌%◌, ◌^◌, ◌≤◌, List, [], ◌∷◌, ◌++◌, length, take, drop, Option, Some, None, Result, Ok, Err}
+use Rattle.std.specs.Prelude.{◌≡◌, ℕ, ◌+◌, ◌%◌, ◌^◌, ◌≤◌, nat_le, if◌then◌else◌, List, [], ◌∷◌, ◌++◌, length, take, drop, Option, Some, None, Result, Ok, Err}
 use Rattle.qrexec_frame.specs.declared.channel.Channel.{Channel}
 use Rattle.qrexec_frame.specs.declared.fault.FrameFault.{FrameFault}
 use Rattle.qrexec_frame.specs.declared.fault.NextError.{NextError}
@@ -7,26 +7,32 @@ use Rattle.qrexec_frame.specs.declared.fault.NextError.TheVariants as error
 use Rattle.qrexec_frame.specs.declared.message.Message.{Message}
 use Rattle.qrexec_frame.specs.Grammar.{Fault, Spelled, Shows, IsBegun}
 use Rattle.qrexec_frame.specs.Fronts.{front, reading, fault_at}
-use Rattle.qrexec_frame.specs.Streams.{Whole, Bad, Short, Placed, Rest, FaultAt}
+use Rattle.qrexec_frame.specs.Streams.{Whole, Bad, Short, Placed, Rest, FaultAt, IsPrefixOf}
 
--- a decoder: its channel, the bytes not yet given out, the offset of the first of them modulo 2 ^ 64, and
--- the fault that it has answered
+-- a decoder: its channel, how many of the bytes given out it still holds, the bytes not yet given out, the
+-- offset of the first of them modulo 2 ^ 64, and the fault that it has answered
 pub record DecoderState : Type 0 where
   pub channel : Channel
+  pub passed : ℕ
   pub left : List ℕ
   pub at : ℕ
   pub fault : Option FrameFault
 
+-- how many bytes a decoder holds
+abbrev pub held : DecoderState → ℕ
+held d = d.passed + length d.left
+
 -- a decoder that gave out so many bytes
 abbrev pub after_message : DecoderState → ℕ → DecoderState
-after_message d n = record d { left = drop n d.left; at = (d.at + n) % 2 ^ 64 }
+after_message d n = record d { passed = d.passed + n; left = drop n d.left; at = (d.at + n) % 2 ^ 64 }
 
--- a decoder that was fed a piece; a faulted one stays as it is
+-- a decoder that was fed a piece: where it held no fewer bytes given out than others, it holds none of them
+-- any more; a faulted one stays as it is
 abbrev pub after_feed : DecoderState → List ℕ → DecoderState
 after_feed d piece = by_fault d.fault
   where
     by_fault : Option FrameFault → DecoderState
-    by_fault None = record d { left = d.left ++ piece }
+    by_fault None = record d { passed = if nat_le (length d.left) d.passed then 0 else d.passed; left = d.left ++ piece }
     by_fault (Some f) = d
 
 -- what `next` answers and leaves, by what stands at the front; want of memory comes only at a message
@@ -68,6 +74,7 @@ pub record StandsFor (d : DecoderState) (fed : List ℕ) (given : List (Placed M
 -- what `next` answers of all bytes fed: the next message of their reading, or how that reading ends
 abbrev pub Reads : DecoderState → DecoderState → List ℕ → List (Placed Message) → Result (Option Message) NextError → Type 0
 Reads old new fed given (Ok (Some m)) = (at : ℕ) × (old.at ≡ at % 2 ^ 64) × StandsFor new fed (given ++ record { at = at; message = m } ∷ [])
+    × IsPrefixOf (given ++ record { at = at; message = m } ∷ []) (reading old.channel fed).placed
 Reads old new fed given (Ok None) = StandsFor new fed given × (reading old.channel fed ≡ record { placed = given; ending = Rest (length old.left) })
 Reads old new fed given (Err (error.Fault f)) = (at : ℕ) × (g : Fault) × StandsFor new fed given × (reading old.channel fed ≡ record { placed = given; ending = FaultAt at g }) × (f ≡ fault_at at g)
 Reads old new fed given (Err error.Memory) = StandsFor new fed given

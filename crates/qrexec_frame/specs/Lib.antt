@@ -10,3 +10,4 @@ pub mod Lines
 pub mod Printing
 pub mod Names
 pub mod Lent
+pub mod Laws

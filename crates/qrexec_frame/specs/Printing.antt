@@ -1,14 +1,12 @@
 -- A decoder that prints its messages in place of giving them.
 use Rattle.std.specs.Prelude.{◌≡◌, ℕ, Bool, true, false, List, ◌++◌, Option, Some, None, Result, Ok, Err}
 use Rattle.qrexec_frame.specs.declared.fault.NextError.{NextError}
-use Rattle.qrexec_frame.specs.declared.fault.NextError.TheVariants as error
 use Rattle.qrexec_frame.specs.declared.message.Message.{Message}
 use Rattle.qrexec_frame.specs.Lines.{line_of}
 
--- what is so of the answer of `next`, where the line of its message was appended to some bytes; after want
--- of memory nothing is said of them
+-- what is so of the answer of `next`, where the line of its message was appended to some bytes, and nothing
+-- else changes them
 abbrev pub Printed : (Result (Option Message) NextError → Type 0) → List ℕ → List ℕ → Result Bool NextError → Type 0
 Printed P before after (Ok true) = (m : Message) × P (Ok (Some m)) × (after ≡ before ++ line_of m)
 Printed P before after (Ok false) = P (Ok None) × (after ≡ before)
-Printed P before after (Err (error.Fault f)) = P (Err (error.Fault f)) × (after ≡ before)
-Printed P before after (Err error.Memory) = P (Err error.Memory)
+Printed P before after (Err e) = P (Err e) × (after ≡ before)

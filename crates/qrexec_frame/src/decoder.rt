@@ -1,13 +1,13 @@
-ghost use Rattle.std.specs.Prelude.{◌≡◌, ◌<◌, ℕ, List, [], ◌++◌, length, Option, Some, None, true, false, IsOk, IsSome, IfOk, IfSome, OnOk, OnErr};
+ghost use Rattle.std.specs.Prelude.{◌≡◌, ◌<◌, ◌≤◌, ◌+◌, ◌*◌, ℕ, List, [], ◌++◌, length, drop, vec_len, vec_capacity, Option, Some, None, true, false, IsOk, IsSome, IfOk, IfSome, OnOk, OnErr};
 ghost use Rattle.qrexec_frame.specs.declared.fault.FrameFault.{FrameFault};
 ghost use Rattle.qrexec_frame.specs.declared.message.Message.{Message};
 ghost use Rattle.qrexec_frame.specs.Streams.{Placed};
 ghost use Rattle.qrexec_frame.specs.Messages.{IsSpellable, GoesOn};
 ghost use Rattle.qrexec_frame.specs.Printing.{Printed};
-ghost use Rattle.qrexec_frame.specs.Decoding.{after_feed, Answers, FollowsGrammar, StandsFor, Reads};
+ghost use Rattle.qrexec_frame.specs.Decoding.{after_feed, held, Answers, FollowsGrammar, StandsFor, Reads};
 
 use crate::channel::Channel;
-use crate::encoding::HEADER;
+use crate::encoding::{HEADER, put};
 use crate::fault::{FrameFault, NextError};
 use crate::front::{Body, message_of};
 use crate::line::put_body;
@@ -34,7 +34,7 @@ impl Model for Decoder {
 
     ghost Value = { DecoderState };
 
-    ghost view = { λ d. record { channel = d.channel; left = drop d.given d.bytes.items; at = d.at; fault = d.fault } };
+    ghost view = { λ d. record { channel = d.channel; passed = d.given; left = drop d.given d.bytes.items; at = d.at; fault = d.fault } };
 
     ghost invariant = { λ d. d.given ≤ length d.bytes.items };
 }
@@ -46,7 +46,7 @@ impl Decoder {
 
     /// A decoder of a channel's messages, which was fed nothing.
     pub fn new(alloc: Global, channel: Channel) -> Decoder
-        ensures state { result ≡ record { channel = channel; left = []; at = 0; fault = None } }
+        ensures state { result ≡ record { channel = channel; passed = 0; left = []; at = 0; fault = None } }
         ensures stream { StandsFor result [] [] }
     {
         Decoder {
@@ -58,11 +58,13 @@ impl Decoder {
         }
     }
 
-    /// Takes the next bytes of the stream. A faulted decoder stays as it is.
+    /// Takes the next bytes of the stream, and holds then at most twice the bytes not given out. A faulted
+    /// decoder stays as it is.
     ///
     /// Want of memory leaves the decoder as it was.
     pub fn feed(&mut self, piece: &[u8]) -> Result<(), Memory>
         ensures ok { OnOk result (self.new ≡ after_feed self.old piece.now) }
+        ensures held { self.old.fault ≡ None → OnOk result (held self.new ≤ 2 * length self.new.left) }
         ensures err { OnErr result (self.new ≡ self.old) }
         ensures faulted { IsSome self.old.fault → IsOk result }
 
@@ -82,25 +84,18 @@ impl Decoder {
         if self.fault.is_some() {
             return Ok(());
         }
-        if self.given >= self.bytes.len() - self.given {
-            self.close_up();
+        let left = self.bytes.len() - self.given;
+        if left <= self.given {
+            put_behind(&mut self.bytes, self.given, piece)?;
+            self.given = 0;
+        } else {
+            self.bytes.extend_from_slice(piece)?;
         }
-        self.bytes.extend_from_slice(piece)?;
         Ok(())
     }
 
-    // Moves the bytes that weren't given out to the beginning.
-    fn close_up(&mut self)
-        ensures { self.new ≡ self.old }
-    {
-        let left = self.bytes.len() - self.given;
-        self.bytes.copy_within(self.given.., 0);
-        self.bytes.truncate(left);
-        self.given = 0;
-    }
-
     /// Gives the next message of the stream, or `None` where the bytes not yet given out are no whole
-    /// message and no fault shows in them.
+    /// message and no fault shows in them. They are fewer than 65,544 then.
     ///
     /// `Fault` comes where the bytes show a fault in a message's place, the first that applies, and at
     /// every later call. Want of memory leaves the decoder as it was.
@@ -110,6 +105,7 @@ impl Decoder {
         ensures faulted { (f : FrameFault) → self.old.fault ≡ Some f →
             (result ≡ Err (NextError.Fault f)) × (self.new ≡ self.old) }
         ensures fits { IfOk result (λ found. IfSome found (λ m. IsSpellable m × GoesOn self.old.channel m)) }
+        ensures short { result ≡ Ok None → length self.old.left < 65544 }
 
         // The messages and the end of all bytes fed, however they were cut.
         ensures stream { (fed : List ℕ) (given : List (Placed Message)) → StandsFor self.old fed given →
@@ -173,7 +169,7 @@ impl Decoder {
     /// Takes the next message of the stream as `next` does, and appends its line, as `message_line` has it,
     /// to `out` in place of giving it. The message isn't copied. It is false where `next` gives `None`.
     ///
-    /// After want of memory the decoder is as it was, and nothing is said of what `out` holds.
+    /// Want of memory leaves the decoder and `out` as they were.
     pub fn next_line(&mut self, out: &mut Vec<u8>) -> Result<bool, NextError>
         ensures answer { self.old.fault ≡ None → Printed (Answers self.old self.new) out.old.items out.new.items result }
         ensures faulted { (f : FrameFault) → self.old.fault ≡ Some f →
@@ -181,6 +177,7 @@ impl Decoder {
         ensures channel { self.new.channel ≡ self.old.channel }
         ensures shorter { result ≡ Ok true → length self.new.left < length self.old.left }
         ensures stays { result ≡ Ok false → self.new ≡ self.old }
+        ensures short { result ≡ Ok false → length self.old.left < 65544 }
 
         // The messages and the end of all bytes fed, however they were cut.
         ensures stream { (fed : List ℕ) (given : List (Placed Message)) → StandsFor self.old fed given →
@@ -214,6 +211,13 @@ impl Decoder {
         }
     }
 
+    /// How many bytes it holds, those among them that were given out.
+    pub fn held(&self) -> usize
+        ensures { result ≡ held self.now }
+    {
+        self.bytes.len()
+    }
+
     /// How many bytes were not given out yet.
     pub fn rest(&self) -> usize
         ensures { result ≡ length self.now.left }
@@ -227,4 +231,28 @@ impl Decoder {
     {
         self.at
     }
+}
+
+// Appends a piece in place of the first bytes, so many.
+fn put_behind(bytes: &mut Vec<u8>, passed: usize, piece: &[u8]) -> Result<(), Memory>
+    requires { passed ≤ vec_len bytes.old }
+    ensures ok { OnOk result (bytes.new.items ≡ drop passed bytes.old.items ++ piece.now) }
+    ensures err { OnErr result (bytes.new.items ≡ bytes.old.items) }
+{
+    bytes.reserve(piece.len().saturating_sub(passed))?;
+    drop_first(bytes, passed);
+    put(bytes, piece);
+    Ok(())
+}
+
+// Drops the first bytes, so many, and moves the others to the beginning.
+fn drop_first(bytes: &mut Vec<u8>, count: usize)
+    requires { count ≤ vec_len bytes.old }
+    ensures items { bytes.new.items ≡ drop count bytes.old.items }
+    ensures len { vec_len bytes.new + count ≡ vec_len bytes.old }
+    ensures capacity { vec_capacity bytes.old ≤ vec_capacity bytes.new }
+{
+    let left = bytes.len() - count;
+    bytes.copy_within(count.., 0);
+    bytes.truncate(left);
 }

@@ -172,8 +172,8 @@ fn put_number(out: &mut Vec<u8>, number: u32)
     put(out, &number.to_le_bytes());
 }
 
-// Appends bytes for which there is room.
-fn put(out: &mut Vec<u8>, bytes: &[u8])
+/// Appends bytes for which there is room.
+pub(crate) fn put(out: &mut Vec<u8>, bytes: &[u8])
     requires { vec_len out.old + length bytes.now ≤ vec_capacity out.old }
     ensures items { out.new.items ≡ out.old.items ++ bytes.now }
     ensures len { vec_len out.new ≡ vec_len out.old + length bytes.now }

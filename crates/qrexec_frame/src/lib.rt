@@ -15,6 +15,7 @@ mod encoding;
 mod fault;
 mod front;
 mod kind;
+pub mod laws;
 mod line;
 mod message;
 #[cfg(test)]

@@ -1,17 +1,21 @@
 //! The lines that messages are printed as.
-ghost use Rattle.std.specs.Prelude.{◌≡◌, ◌≤◌, ◌++◌, length, codes, map, IfOk, OnOk};
+ghost use Rattle.std.specs.Prelude.{◌≡◌, ◌+◌, ◌*◌, ◌≤◌, ◌++◌, length, codes, map, IfOk, IfSome, OnOk, OnErr, vec_len, vec_capacity};
 ghost use Rattle.std.specs.Fmt.{decimal, signed_decimal};
 ghost use Rattle.hex.specs.Hex.{encode_lower};
 ghost use Rattle.qrexec_frame.specs.Fronts.{made};
 ghost use Rattle.qrexec_frame.specs.Kinds.{least_len, most_len};
 ghost use Rattle.qrexec_frame.specs.Lines.{line_of, shown_byte, shown_bytes, shown_text, three_texts};
 
+use crate::encoding::put;
 use crate::front::{field_bytes, line_bytes, u32_at};
 use crate::kind::Kind;
 use crate::message::Message;
 use itoa::Buffer;
 use std::alloc::{AllocError, Global};
 use vchan_io::Memory;
+
+/// The most bytes that the name, the numbers and the spaces of a line take, and `-`.
+const FRAME: usize = 40;
 
 /// The line that a message is printed as, without a line feed: its name, and its numbers, bytes and texts
 /// with spaces between.
@@ -26,18 +30,18 @@ pub fn message_line(alloc: Global, message: &Message) -> Result<Vec<u8>, Memory>
     Ok(line)
 }
 
-/// Appends the line of a message, as `message_line` has it.
-///
-/// After want of memory nothing is said of what `out` holds.
+/// Appends the line of a message, as `message_line` has it. Want of memory leaves `out` as it was.
 pub fn push_message_line(out: &mut Vec<u8>, message: &Message) -> Result<(), Memory>
-    ensures { OnOk result (out.new.items ≡ out.old.items ++ line_of message.now) }
+    ensures ok { OnOk result (out.new.items ≡ out.old.items ++ line_of message.now) }
+    ensures no_memory { OnErr result (out.new.items ≡ out.old.items) }
 {
     put_message(out, message)?;
     Ok(())
 }
 
 fn put_message(out: &mut Vec<u8>, message: &Message) -> Result<(), AllocError>
-    ensures { OnOk result (out.new.items ≡ out.old.items ++ line_of message.now) }
+    ensures ok { OnOk result (out.new.items ≡ out.old.items ++ line_of message.now) }
+    ensures no_memory { OnErr result (out.new.items ≡ out.old.items) }
 {
     match message {
         Message::Hello { version } => put_hello(out, *version),
@@ -57,7 +61,7 @@ fn put_message(out: &mut Vec<u8>, message: &Message) -> Result<(), AllocError>
             ident,
         } => put_command(out, b"connect ", *domain, *port, ident.bytes()),
         Message::Refused { ident } => put_refused(out, ident.bytes()),
-        Message::Terminated { domain, port } => put_place(out, b"terminated ", *domain, *port),
+        Message::Terminated { domain, port } => put_terminated(out, *domain, *port),
         Message::Trigger3 {
             target,
             ident,
@@ -83,11 +87,13 @@ fn put_message(out: &mut Vec<u8>, message: &Message) -> Result<(), AllocError>
     }
 }
 
-/// Appends the line of the message of this type and body, whose length is in the type's range.
+/// Appends the line of the message of this type and body, whose length is in the type's range. Want of
+/// memory leaves `out` as it was.
 pub(crate) fn put_body(out: &mut Vec<u8>, kind: Kind, bytes: &[u8]) -> Result<(), AllocError>
     requires least { least_len kind ≤ length bytes.now }
     requires most { length bytes.now ≤ most_len kind }
-    ensures { OnOk result (out.new.items ≡ out.old.items ++ line_of (made kind bytes.now)) }
+    ensures ok { OnOk result (out.new.items ≡ out.old.items ++ line_of (made kind bytes.now)) }
+    ensures no_memory { OnErr result (out.new.items ≡ out.old.items) }
 {
     match kind {
         Kind::Hello => put_hello(out, u32_at(bytes, 0)),
@@ -117,7 +123,7 @@ pub(crate) fn put_body(out: &mut Vec<u8>, kind: Kind, bytes: &[u8]) -> Result<()
             field_bytes(bytes, 8, 32),
         ),
         Kind::Refused => put_refused(out, field_bytes(bytes, 0, 32)),
-        Kind::Terminated => put_place(out, b"terminated ", u32_at(bytes, 0), u32_at(bytes, 4)),
+        Kind::Terminated => put_terminated(out, u32_at(bytes, 0), u32_at(bytes, 4)),
         Kind::Trigger3 => put_call(
             out,
             b"trigger3 ",
@@ -136,26 +142,39 @@ pub(crate) fn put_body(out: &mut Vec<u8>, kind: Kind, bytes: &[u8]) -> Result<()
 }
 
 fn put_hello(out: &mut Vec<u8>, version: u32) -> Result<(), AllocError>
-    ensures { OnOk result (out.new.items ≡ out.old.items ++ (codes "hello " ++ decimal version)) }
+    ensures ok { OnOk result (out.new.items ≡ out.old.items ++ (codes "hello " ++ decimal version)) }
+    ensures no_memory { OnErr result (out.new.items ≡ out.old.items) }
 {
-    out.extend_from_slice(b"hello ")?;
-    put_number(out, version)
+    out.reserve(FRAME)?;
+    put(out, b"hello ");
+    put_number(out, version);
+    Ok(())
 }
 
 fn put_data(out: &mut Vec<u8>, name: &[u8], bytes: &[u8]) -> Result<(), AllocError>
-    ensures { OnOk result (out.new.items ≡ out.old.items ++ ((name.now ++ (decimal (length bytes.now) ++ codes " ")) ++ shown_bytes bytes.now)) }
+    requires { length name.now ≤ 8 }
+    ensures ok { OnOk result (out.new.items ≡ out.old.items ++ ((name.now ++ (decimal (length bytes.now) ++ codes " ")) ++ shown_bytes bytes.now)) }
+    ensures no_memory { OnErr result (out.new.items ≡ out.old.items) }
 {
-    out.extend_from_slice(name)?;
-    out.extend_from_slice(Buffer::new().format(bytes.len()).as_bytes())?;
-    out.push(b' ')?;
-    put_bytes(out, bytes)
+    let Some(room) = room_of(bytes.len(), bytes.len(), 0) else {
+        return Err(AllocError);
+    };
+    out.reserve(room)?;
+    put(out, name);
+    put(out, Buffer::new().format(bytes.len()).as_bytes());
+    put(out, b" ");
+    put_bytes(out, bytes);
+    Ok(())
 }
 
 fn put_exit(out: &mut Vec<u8>, code: i32) -> Result<(), AllocError>
-    ensures { OnOk result (out.new.items ≡ out.old.items ++ (codes "exit " ++ signed_decimal code)) }
+    ensures ok { OnOk result (out.new.items ≡ out.old.items ++ (codes "exit " ++ signed_decimal code)) }
+    ensures no_memory { OnErr result (out.new.items ≡ out.old.items) }
 {
-    out.extend_from_slice(b"exit ")?;
-    out.extend_from_slice(Buffer::new().format(code).as_bytes())
+    out.reserve(FRAME)?;
+    put(out, b"exit ");
+    put(out, Buffer::new().format(code).as_bytes());
+    Ok(())
 }
 
 /// A name, a domain, a port and a text.
@@ -166,31 +185,34 @@ fn put_command(
     port: u32,
     text: &[u8],
 ) -> Result<(), AllocError>
-    ensures { OnOk result (out.new.items ≡ out.old.items ++ ((name.now ++ (decimal domain ++ (codes " " ++ (decimal port ++ codes " ")))) ++ shown_text text.now)) }
+    requires { length name.now ≤ 12 }
+    ensures ok { OnOk result (out.new.items ≡ out.old.items ++ ((name.now ++ (decimal domain ++ (codes " " ++ (decimal port ++ codes " ")))) ++ shown_text text.now)) }
+    ensures no_memory { OnErr result (out.new.items ≡ out.old.items) }
 {
-    out.extend_from_slice(name)?;
-    put_number(out, domain)?;
-    out.push(b' ')?;
-    put_number(out, port)?;
-    out.push(b' ')?;
-    put_text(out, text)
+    out.reserve(FRAME + text.len())?;
+    put_place(out, name, domain, port);
+    put(out, b" ");
+    put_text(out, text);
+    Ok(())
 }
 
 fn put_refused(out: &mut Vec<u8>, ident: &[u8]) -> Result<(), AllocError>
-    ensures { OnOk result (out.new.items ≡ out.old.items ++ (codes "refused " ++ shown_text ident.now)) }
+    ensures ok { OnOk result (out.new.items ≡ out.old.items ++ (codes "refused " ++ shown_text ident.now)) }
+    ensures no_memory { OnErr result (out.new.items ≡ out.old.items) }
 {
-    out.extend_from_slice(b"refused ")?;
-    put_text(out, ident)
+    out.reserve(FRAME + ident.len())?;
+    put(out, b"refused ");
+    put_text(out, ident);
+    Ok(())
 }
 
-/// A name, a domain and a port.
-fn put_place(out: &mut Vec<u8>, name: &[u8], domain: u32, port: u32) -> Result<(), AllocError>
-    ensures { OnOk result (out.new.items ≡ out.old.items ++ (name.now ++ (decimal domain ++ (codes " " ++ decimal port)))) }
+fn put_terminated(out: &mut Vec<u8>, domain: u32, port: u32) -> Result<(), AllocError>
+    ensures ok { OnOk result (out.new.items ≡ out.old.items ++ (codes "terminated " ++ (decimal domain ++ (codes " " ++ decimal port)))) }
+    ensures no_memory { OnErr result (out.new.items ≡ out.old.items) }
 {
-    out.extend_from_slice(name)?;
-    put_number(out, domain)?;
-    out.push(b' ')?;
-    put_number(out, port)
+    out.reserve(FRAME)?;
+    put_place(out, b"terminated ", domain, port);
+    Ok(())
 }
 
 /// A name and three texts.
@@ -201,40 +223,79 @@ fn put_call(
     ident: &[u8],
     service: &[u8],
 ) -> Result<(), AllocError>
-    ensures { OnOk result (out.new.items ≡ out.old.items ++ (name.now ++ three_texts target.now ident.now service.now)) }
+    requires { length name.now ≤ 12 }
+    ensures ok { OnOk result (out.new.items ≡ out.old.items ++ (name.now ++ three_texts target.now ident.now service.now)) }
+    ensures no_memory { OnErr result (out.new.items ≡ out.old.items) }
 {
-    out.extend_from_slice(name)?;
-    put_text(out, target)?;
-    out.push(b' ')?;
-    put_text(out, ident)?;
-    out.push(b' ')?;
-    put_text(out, service)
+    let Some(room) = room_of(target.len(), ident.len(), service.len()) else {
+        return Err(AllocError);
+    };
+    out.reserve(room)?;
+    put(out, name);
+    put_text(out, target);
+    put(out, b" ");
+    put_text(out, ident);
+    put(out, b" ");
+    put_text(out, service);
+    Ok(())
 }
 
-fn put_number(out: &mut Vec<u8>, number: u32) -> Result<(), AllocError>
-    ensures { OnOk result (out.new.items ≡ out.old.items ++ decimal number) }
+/// The room that a line takes at most whose parts have these lengths, where it is a length.
+fn room_of(first: usize, second: usize, third: usize) -> Option<usize>
+    ensures { IfSome result (λ room. room ≡ first + second + third + FRAME) }
 {
-    out.extend_from_slice(Buffer::new().format(number).as_bytes())
+    first
+        .checked_add(second)?
+        .checked_add(third)?
+        .checked_add(FRAME)
 }
 
-fn put_text(out: &mut Vec<u8>, text: &[u8]) -> Result<(), AllocError>
-    ensures { OnOk result (out.new.items ≡ out.old.items ++ shown_text text.now) }
+// What follows appends where there is room.
+
+/// A name, a domain and a port.
+fn put_place(out: &mut Vec<u8>, name: &[u8], domain: u32, port: u32)
+    requires { vec_len out.old + (length name.now + 21) ≤ vec_capacity out.old }
+    ensures items { out.new.items ≡ out.old.items ++ (name.now ++ (decimal domain ++ (codes " " ++ decimal port))) }
+    ensures len { vec_len out.new ≤ vec_len out.old + (length name.now + 21) }
+    ensures capacity { vec_capacity out.old ≤ vec_capacity out.new }
+{
+    put(out, name);
+    put_number(out, domain);
+    put(out, b" ");
+    put_number(out, port);
+}
+
+fn put_number(out: &mut Vec<u8>, number: u32)
+    requires { vec_len out.old + 10 ≤ vec_capacity out.old }
+    ensures items { out.new.items ≡ out.old.items ++ decimal number }
+    ensures len { vec_len out.new ≤ vec_len out.old + 10 }
+    ensures capacity { vec_capacity out.old ≤ vec_capacity out.new }
+{
+    put(out, Buffer::new().format(number).as_bytes());
+}
+
+fn put_text(out: &mut Vec<u8>, text: &[u8])
+    requires { vec_len out.old + (length text.now + 1) ≤ vec_capacity out.old }
+    ensures items { out.new.items ≡ out.old.items ++ shown_text text.now }
+    ensures len { vec_len out.new ≤ vec_len out.old + (length text.now + 1) }
+    ensures capacity { vec_capacity out.old ≤ vec_capacity out.new }
 {
     if text.is_empty() {
-        out.push(b'-')?;
-        return Ok(());
+        put(out, b"-");
+        return;
     }
-    put_shown(out, text)
+    put_shown(out, text);
 }
 
-fn put_shown(line: &mut Vec<u8>, text: &[u8]) -> Result<(), AllocError>
-    ensures { OnOk result (line.new.items ≡ line.old.items ++ map shown_byte text.now) }
+fn put_shown(out: &mut Vec<u8>, text: &[u8])
+    requires { vec_len out.old + length text.now ≤ vec_capacity out.old }
+    ensures items { out.new.items ≡ out.old.items ++ map shown_byte text.now }
+    ensures len { vec_len out.new ≡ vec_len out.old + length text.now }
+    ensures capacity { vec_capacity out.old ≤ vec_capacity out.new }
 {
-    line.reserve(text.len())?;
     for b in text {
-        line.push(shown(*b))?;
+        out.push_reserved(shown(*b));
     }
-    Ok(())
 }
 
 // A byte of a text, or `_` where it doesn't print.
@@ -248,28 +309,22 @@ fn shown(byte: u8) -> u8
     }
 }
 
-fn put_bytes(out: &mut Vec<u8>, bytes: &[u8]) -> Result<(), AllocError>
-    ensures { OnOk result (out.new.items ≡ out.old.items ++ shown_bytes bytes.now) }
+fn put_bytes(out: &mut Vec<u8>, bytes: &[u8])
+    requires { vec_len out.old + (2 * length bytes.now + 1) ≤ vec_capacity out.old }
+    ensures { out.new.items ≡ out.old.items ++ shown_bytes bytes.now }
 {
     if bytes.is_empty() {
-        out.push(b'-')?;
-        return Ok(());
+        put(out, b"-");
+        return;
     }
-    put_hex(out, bytes)
+    put_hex(out, bytes);
 }
 
-fn put_hex(out: &mut Vec<u8>, bytes: &[u8]) -> Result<(), AllocError>
-    ensures { OnOk result (out.new.items ≡ out.old.items ++ encode_lower bytes.now) }
+fn put_hex(out: &mut Vec<u8>, bytes: &[u8])
+    requires { vec_len out.old + 2 * length bytes.now ≤ vec_capacity out.old }
+    ensures { out.new.items ≡ out.old.items ++ encode_lower bytes.now }
 {
     let start = out.len();
-    let Some(end) = bytes
-        .len()
-        .checked_mul(2)
-        .and_then(|n| n.checked_add(start))
-    else {
-        return Err(AllocError);
-    };
-    out.resize(end, 0)?;
+    out.resize(start + 2 * bytes.len(), 0).unwrap();
     hex::encode_to_slice(bytes, &mut out[start..]).unwrap();
-    Ok(())
 }

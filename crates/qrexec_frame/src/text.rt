@@ -1,4 +1,4 @@
-ghost use Rattle.std.specs.Prelude.{◌≡◌, ◌↔◌, ◌≤◌, length, position, Contains, IfOk, bytes_eq};
+ghost use Rattle.std.specs.Prelude.{◌≡◌, ◌↔◌, ◌≤◌, length, position, Contains, IsSome, IfOk, bytes_eq};
 ghost use Rattle.std.specs.List.{before_first, position_or_len};
 ghost use Rattle.std.specs.Cmp.{partial_equiv_from_equiv};
 ghost use Rattle.std.specs.Cmp.Lexicographic.{nat_list_eq_equiv};
@@ -7,6 +7,7 @@ ghost use Rattle.qrexec_frame.specs.Texts.{HasNoNul, is_nul};
 ghost use Rattle.qrexec_frame.specs.declared.text.TextError.TheVariants as error;
 
 use crate::clean::Letters;
+use memchr::memchr;
 use std::alloc::{AllocError, Global};
 use std::marker::Model;
 use thiserror::Error;
@@ -77,7 +78,7 @@ impl Text {
         ensures text { IfOk result (λ text. text ≡ bytes.now) }
         ensures nul { (result ≡ Err TextError.Nul) ↔ Contains bytes.now 0 }
     {
-        if bytes.contains(&0) {
+        if first_nul(bytes).is_some() {
             return Err(TextError::Nul);
         }
         let bytes = Vec::from_slice(alloc, bytes)?;
@@ -131,8 +132,10 @@ fn len_to_nul(bytes: &[u8]) -> usize
 }
 
 // Where the first NUL stands.
+#[tactic(auto, using(crate::proofs::NulLaws::first_place, crate::proofs::NulLaws::some_nul))]
 fn first_nul(bytes: &[u8]) -> Option<usize>
-    ensures { result ≡ position is_nul bytes.now }
+    ensures place { result ≡ position is_nul bytes.now }
+    ensures some { IsSome result ↔ Contains bytes.now 0 }
 {
-    bytes.iter().position(|b| *b == 0)
+    memchr(0, bytes)
 }

@@ -1,4 +1,4 @@
-ghost use Rattle.std.specs.Prelude.{◌≡◌, ◌≤◌, true, false, length};
+ghost use Rattle.std.specs.Prelude.{◌≡◌, ◌≤◌, true, false, length, IfOk};
 ghost use Rattle.qrexec_frame.specs.Fronts.{made};
 ghost use Rattle.qrexec_frame.specs.Kinds.{least_len};
 ghost use Rattle.qrexec_hello.specs.Greeting.{greet, greeting};
@@ -9,7 +9,7 @@ use std::marker::Model;
 /// The lowest version that is spoken.
 const LOWEST: u32 = 2;
 
-/// One side's greeting: its own version, and whether it still waits for the other side's.
+/// One side's greeting: its own version, 2 or 3, and whether it still waits for the other side's.
 #[derive(Debug, Drop)]
 pub struct Hello {
     own: u32,
@@ -23,6 +23,8 @@ impl Model for Hello {
     ghost Value = { GreetingSide };
 
     ghost view = { λ h. record { own = h.own; waiting = h.waiting } };
+
+    ghost invariant = { λ h. (2 ≤ h.own) × (h.own ≤ 3) };
 }
 
 /// Why the other side's greeting was refused.
@@ -59,13 +61,14 @@ impl Hello {
     }
 
     /// Takes the other side's first message, and answers the version that both go on with: the lower
-    /// of the two. It may be called once, which `waiting` tests.
+    /// of the two, 2 or 3. It may be called once, which `waiting` tests.
     ///
     /// `NotHello` comes exactly where the message is no `MSG_HELLO`, and `Version` exactly where it
     /// says a version below 2.
     pub fn took(&mut self, message: &Message) -> Result<u32, HelloFault>
         requires { self.old.waiting ≡ true }
         ensures greeting { result ≡ greeting self.old.own message.now }
+        ensures spoken { IfOk result (λ version. (2 ≤ version) × (version ≤ 3)) }
         ensures spent { self.new ≡ record self.old { waiting = false } }
     {
         self.waiting = false;
@@ -82,6 +85,7 @@ impl Hello {
         requires waiting { self.old.waiting ≡ true }
         requires whole { least_len body.kind ≤ length body.bytes.now }
         ensures greeting { result ≡ greeting self.old.own (made body.entry.kind body.entry.bytes.now) }
+        ensures spoken { IfOk result (λ version. (2 ≤ version) × (version ≤ 3)) }
         ensures spent { self.new ≡ record self.old { waiting = false } }
     {
         self.waiting = false;
@@ -95,7 +99,8 @@ impl Hello {
 
     /// The version that both go on with, where the other side says this one.
     fn answer(&self, version: u32) -> Result<u32, HelloFault>
-        ensures { result ≡ greet self.now.own version }
+        ensures greet { result ≡ greet self.now.own version }
+        ensures spoken { IfOk result (λ version. (2 ≤ version) × (version ≤ 3)) }
     {
         if version < LOWEST {
             return Err(HelloFault::Version { got: version });

@@ -12,7 +12,7 @@ use crate::names::{is_name, is_service};
 use crate::text::text_of;
 use qrexec_frame::{Bytes, Text};
 use ring_words::{Ring, WordName};
-use script_words::{ByteError, Words, bytes_of, parse_number};
+use script_words::{ByteError, WordsOfLine, bytes_of, parse_number};
 use std::alloc::Global;
 use vchan_io::Memory;
 
@@ -53,7 +53,7 @@ pub(crate) fn read_act(alloc: Global, text: &[u8]) -> Result<Act, ActError>
     ensures act { Spells (λ act. act) result (act_of text.now) }
     ensures fits { IfOk result ActFits }
 {
-    let mut words = Words::of(text);
+    let mut words = WordsOfLine::of(text);
     let verb = words.next().ok_or(ActError::Bad)?;
     if verb == b"hello".as_slice() {
         alone(Act::Hello, words)
@@ -77,7 +77,7 @@ pub(crate) fn read_act(alloc: Global, text: &[u8]) -> Result<Act, ActError>
 }
 
 /// This act, where no word is left.
-fn alone(act: Act, mut words: Words) -> Result<Act, ActError>
+fn alone(act: Act, mut words: WordsOfLine) -> Result<Act, ActError>
     ensures act { Spells (λ act. act) result (alone act (words_left words.entry)) }
     ensures same { IfOk result (λ made. made ≡ act) }
 {
@@ -88,7 +88,7 @@ fn alone(act: Act, mut words: Words) -> Result<Act, ActError>
 }
 
 /// The bytes of `say BYTES`.
-fn read_say(alloc: Global, words: Words) -> Result<Act, ActError>
+fn read_say(alloc: Global, words: WordsOfLine) -> Result<Act, ActError>
     ensures act { Spells (λ act. act) result (say_of (words_left words.entry)) }
     ensures fits { IfOk result ActFits }
 {
@@ -98,7 +98,7 @@ fn read_say(alloc: Global, words: Words) -> Result<Act, ActError>
 }
 
 /// The words of `trigger TO SERVICE K`.
-fn read_trigger(alloc: Global, mut words: Words) -> Result<Act, ActError>
+fn read_trigger(alloc: Global, mut words: WordsOfLine) -> Result<Act, ActError>
     ensures act { Spells (λ act. act) result (trigger_of (words_left words.entry)) }
     ensures fits { IfOk result ActFits }
 {
@@ -121,7 +121,7 @@ fn trigger_from(alloc: Global, to: &[u8], service: &[u8], count: &[u8]) -> Resul
 }
 
 /// The words of `terminate DOMAIN PORT`.
-fn read_terminate(mut words: Words) -> Result<Act, ActError>
+fn read_terminate(mut words: WordsOfLine) -> Result<Act, ActError>
     ensures act { Spells (λ act. act) result (terminate_of (words_left words.entry)) }
     ensures fits { IfOk result ActFits }
 {
@@ -134,7 +134,7 @@ fn read_terminate(mut words: Words) -> Result<Act, ActError>
 }
 
 /// The words of `scribble SEED K`.
-fn read_scribble(mut words: Words) -> Result<Act, ActError>
+fn read_scribble(mut words: WordsOfLine) -> Result<Act, ActError>
     ensures act { Spells (λ act. act) result (scribble_of (words_left words.entry)) }
     ensures fits { IfOk result ActFits }
 {
@@ -147,7 +147,7 @@ fn read_scribble(mut words: Words) -> Result<Act, ActError>
 }
 
 /// The word of `rest K`.
-fn read_rest(words: Words) -> Result<Act, ActError>
+fn read_rest(words: WordsOfLine) -> Result<Act, ActError>
     ensures act { Spells (λ act. act) result (rest_of (words_left words.entry)) }
     ensures fits { IfOk result ActFits }
 {
@@ -158,7 +158,7 @@ fn read_rest(words: Words) -> Result<Act, ActError>
 }
 
 /// The words of `poke PAGE WORD VALUE`.
-fn read_poke(alloc: Global, mut words: Words) -> Result<Act, ActError>
+fn read_poke(alloc: Global, mut words: WordsOfLine) -> Result<Act, ActError>
     ensures act { Spells (λ act. act) result (poke_of (words_left words.entry)) }
     ensures fits { IfOk result ActFits }
 {

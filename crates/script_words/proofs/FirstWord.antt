@@ -8,7 +8,7 @@ use Rattle.std.proofs.lemmas.List.{take-append-drop}
 use Rattle.std.proofs.lemmas.List.Splits.{length-slice_split}
 use Rattle.std.proofs.lemmas.Slice.Eq.{bytes_eq-Decides}
 use denote.Ref.{Bor}
-use Rattle.script_words.specs.declared.words.Words.{Words}
+use Rattle.script_words.specs.declared.words.WordsOfLine.{WordsOfLine}
 use Rattle.script_words.specs.Words.{words_of}
 use Rattle.script_words.specs.WordsLeft.{IsNotFirst, left_of, words_left}
 use Rattle.script_words.proofs.WordLaws.{not_true}
@@ -105,7 +105,7 @@ first_word p bytes word behind rest separator none same is cut at =
     ap (slice_split p) (sym (rebuilt bytes word behind same is) ∙ ap (λ (l : List ℕ). word ++ l) cut) ∙ word_before p word separator rest none at
 
 -- the words of what is left of a line
-pub left_behind : (words : Words) (rest : Bor (List ℕ)) → words.rest ≡ Some rest → words_left words ≡ words_of rest.now
+pub left_behind : (words : WordsOfLine) (rest : Bor (List ℕ)) → words.rest ≡ Some rest → words_left words ≡ words_of rest.now
 left_behind words rest is = ap left_of is
 
 pub no_byte : (bytes : List ℕ) → length bytes ≡ 0 → bytes ≡ []

@@ -2,3 +2,4 @@ pub mod WordLaws
 pub mod NumberLaws
 pub mod PairLaws
 pub mod FirstWord
+pub mod LineLaws

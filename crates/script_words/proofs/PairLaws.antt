@@ -1,11 +1,16 @@
 -- Pairs of digits, read one after another.
-use Rattle.std.proofs.Common.{◌≡◌, ℕ, ◌+◌, ◌*◌, ◌%◌, ◌<◌, ◌≤◌, List, [], ◌∷◌, ◌++◌, length, take, drop, get_or, set, Option, Some, None, unwrap_or, inl, inr, refl, sym, ap, ◌∙◌, arith, max}
+use Rattle.std.proofs.Common.{◌≡◌, ◌⊎◌, true, false, is_some, ℕ, ◌+◌, ◌-◌, ◌*◌, ◌%◌, ◌<◌, ◌≤◌, List, [], ◌∷◌, ◌++◌, length, take, drop, get_or, set, Option, Some, None, Result, Ok, Err, OnOk, length-append, cond, ltb, subst, unwrap_or, suc, inl, inr, refl, sym, ap, ◌∙◌, arith, max, codes}
+use Rattle.std.specs.Prelude.{bytes_eq, slice_index}
 use Rattle.std.proofs.lemmas.List.{append_assoc, append-nil, drop_all, drop_more, take_all, take_more_set}
 use Rattle.std.specs.Option.{option_and_then}
 use Rattle.std.proofs.lemmas.Bool.{cases_lt}
 use Rattle.std.proofs.lemmas.Bool.Decides.{nat_tests}
 use Rattle.hex.specs.Hex.{hex_digit_value}
-use Rattle.script_words.specs.ByteStrings.{byte_of, bytes_of_pairs, ◌>>=◌}
+use Rattle.script_words.proofs.WordLaws.{tail_whole}
+use Rattle.script_words.specs.ByteStrings.{at_most, byte_of, byte_string, bytes_of_pairs, has_star, repeated, Gains, IsPushRefusal, ◌>>=◌}
+use Rattle.script_words.specs.declared.byte_string.ByteFault.TheVariants.{BadHex, TooManyBytes}
+use Rattle.script_words.specs.declared.byte_string.PushError.{PushError}
+use Rattle.script_words.specs.declared.byte_string.PushError.TheVariants as push
 
 -- the bytes before those of the pairs that are left
 abbrev pub behind : List ℕ → Option (List ℕ) → Option (List ℕ)
@@ -132,3 +137,86 @@ pub reads_all : (digits out : List ℕ) (i greatest : ℕ) → length out ≤ i 
 unfolding bytes_of_pairs
 reads_all digits out i greatest whole none_left below reads =
     reads.good below ∙ ap (behind (take i out)) (ap bytes_of_pairs (drop_all (2 * i) digits none_left)) ∙ ap Some (append-nil (take i out) ∙ take_all i out whole)
+
+-- a value that isn't 16 is that of a digit
+digit_known : (o : Option ℕ) (v : ℕ) → v ≡ unwrap_or o 16 → ¬ (v ≡ 16) → o ≡ Some v
+digit_known None v is other = absurd (other is)
+digit_known (Some w) v is other = ap Some (sym is)
+
+one_more : (byte : ℕ) (o : Option (List ℕ)) → is_some (o >>= (λ bytes. Some (byte ∷ bytes))) ≡ is_some o
+one_more byte None = refl
+one_more byte (Some bytes) = refl
+
+-- behind a pair that is a byte, all are pairs where the rest are
+pub pairs_further : (digits : List ℕ) (i high low : ℕ) → 2 * i + 1 < length digits → high ≡ unwrap_or (hex_digit_value (get_or digits (2 * i) 0)) 16 → low ≡ unwrap_or (hex_digit_value (get_or digits (2 * i + 1) 0)) 16 → ¬ (high ≡ 16) → ¬ (low ≡ 16) →
+    is_some (bytes_of_pairs (drop (2 * i) digits)) ≡ is_some (bytes_of_pairs (drop (2 * (i + 1)) digits))
+pairs_further digits i high low within high_is low_is good also =
+    let rest : List ℕ = drop (2 * (i + 1)) digits in
+    let h = digit_known (hex_digit_value (get_or digits (2 * i) 0)) high high_is good in
+    let l = digit_known (hex_digit_value (get_or digits (2 * i + 1) 0)) low low_is also in
+    let byte : byte_of (get_or digits (2 * i) 0) (get_or digits (2 * i + 1) 0) ≡ Some (high * 16 + low) = rw (h, l) refl in
+    ap (λ (l : List ℕ). is_some (bytes_of_pairs l)) (drop-pair digits i within)
+    ∙ ap (is_some {T = List ℕ}) (pairs-byte (get_or digits (2 * i) 0) (get_or digits (2 * i + 1) 0) (high * 16 + low) rest byte)
+    ∙ one_more (high * 16 + low) (bytes_of_pairs rest)
+
+-- a pair with a byte that is no digit is no byte
+pub pairs_fail : (digits : List ℕ) (i high low : ℕ) → 2 * i + 1 < length digits → high ≡ unwrap_or (hex_digit_value (get_or digits (2 * i) 0)) 16 → low ≡ unwrap_or (hex_digit_value (get_or digits (2 * i + 1) 0)) 16 → (high ≡ 16) ⊎ (low ≡ 16) →
+    is_some (bytes_of_pairs (drop (2 * i) digits)) ≡ false
+pairs_fail digits i high low within high_is low_is bad =
+    let none : byte_of (get_or digits (2 * i) 0) (get_or digits (2 * i + 1) 0) ≡ None =
+    elim bad [
+      | inl is ↦ no_byte_high (get_or digits (2 * i) 0) (get_or digits (2 * i + 1) 0) (omega arith)
+      | inr is ↦ no_byte_low (get_or digits (2 * i) 0) (get_or digits (2 * i + 1) 0) (omega arith)
+    ] in
+    ap (λ (l : List ℕ). is_some (bytes_of_pairs l)) (drop-pair digits i within)
+    ∙ ap (is_some {T = List ℕ}) (pairs-none (get_or digits (2 * i) 0) (get_or digits (2 * i + 1) 0) (drop (2 * (i + 1)) digits) none)
+
+-- no digit is left
+pub pairs_end : (digits : List ℕ) (i : ℕ) → length digits ≤ 2 * i → is_some (bytes_of_pairs (drop (2 * i) digits)) ≡ true
+unfolding bytes_of_pairs
+pairs_end digits i none = ap (λ (l : List ℕ). is_some (bytes_of_pairs l)) (drop_all (2 * i) digits none)
+
+-- a word with a star is a byte that is repeated
+pub starred : (word dash : List ℕ) → dash ≡ codes "-" → bytes_eq word dash ≡ false → has_star word ≡ true → byte_string word ≡ repeated (slice_index word 0) (slice_index word 1) (take (length word - 3) (drop 3 word))
+starred word dash is other star =
+    let no : bytes_eq word (codes "-") ≡ false = ap (bytes_eq word) (sym is) ∙ other in rw (no, star, tail_whole 3 word) refl
+
+-- the bytes of pairs are half as many as the digits
+one_pair : (byte : Option ℕ) (more : Option (List ℕ)) (bytes : List ℕ) → (byte >>= (λ b. more >>= (λ rest. Some (b ∷ rest)))) ≡ Some bytes → (rest : List ℕ) × (more ≡ Some rest) × (length bytes ≡ suc (length rest))
+one_pair None more bytes is = absurd (cc)
+one_pair (Some b) None bytes is = absurd (cc)
+one_pair (Some b) (Some rest) bytes is = (rest, refl, ap (λ (o : Option (List ℕ)). length (unwrap_or o [])) (sym is))
+
+pub pairs_len : (digits bytes : List ℕ) → bytes_of_pairs digits ≡ Some bytes → 2 * length bytes ≡ length digits
+unfolding bytes_of_pairs
+pairs_len [] bytes is = omega (arith, ap (λ (o : Option (List ℕ)). length (unwrap_or o [])) is)
+pairs_len (digit ∷ []) bytes is = absurd (cc)
+pairs_len (high ∷ low ∷ rest) bytes is =
+    let found = one_pair (byte_of high low) (bytes_of_pairs rest) bytes is in omega (arith, found.2, pairs_len rest found.0 found.1)
+
+-- the refusal of digits that are more than may be
+pub refused_many : (most : ℕ) (due : Option (List ℕ)) (e : PushError) → ((bytes : List ℕ) → due ≡ Some bytes → most < length bytes) → e ≡ cond (is_some due) (push.Bad TooManyBytes) (push.Bad BadHex) → IsPushRefusal e (at_most most due)
+refused_many most None e many is = subst (λ (e : PushError). IsPushRefusal e (Err BadHex)) (sym is) refl
+refused_many most (Some bytes) e many is =
+    let over : ltb most (length bytes) ≡ true = grind (arith, nat_tests, many bytes refl) in
+    subst (λ (e : PushError). IsPushRefusal e (at_most most (Some bytes))) (sym is) (rw over refl)
+
+-- and of digits for which there is no memory
+pub refused_memory : (most : ℕ) (due : Option (List ℕ)) (e : PushError) → ((bytes : List ℕ) → due ≡ Some bytes → length bytes ≤ most) → e ≡ cond (is_some due) push.Memory (push.Bad BadHex) → IsPushRefusal e (at_most most due)
+refused_memory most None e few is = subst (λ (e : PushError). IsPushRefusal e (Err BadHex)) (sym is) refl
+refused_memory most (Some bytes) e few is =
+    let under : ltb most (length bytes) ≡ false = grind (arith, nat_tests, few bytes refl) in
+    subst (λ (e : PushError). IsPushRefusal e (at_most most (Some bytes))) (sym is) (rw under refl)
+
+-- a list gains no more bytes than may be
+gained : (most : ℕ) (due : Option (List ℕ)) (old new : List ℕ) → Gains (at_most most due) old new → length new ≤ length old + most
+gained most None old new is = absurd is
+gained most (Some bytes) old new is =
+    elim (cases_lt most (length bytes)) [
+      | inl over ↦ absurd (let many : ltb most (length bytes) ≡ true = grind (arith, nat_tests) in rw many at is)
+      | inr few ↦ let some : ltb most (length bytes) ≡ false = grind (arith, nat_tests) in let is : new ≡ old ++ bytes = rw some at is in omega (arith, ap (length {A = ℕ}) is, length-append old bytes)
+    ]
+
+pub gains_within : (r : Result (Unit {0}) PushError) (most : ℕ) (due : Option (List ℕ)) (old new : List ℕ) → OnOk r (Gains (at_most most due) old new) → OnOk r (length new ≤ length old + most)
+gains_within (Ok x) most due old new is = gained most due old new is
+gains_within (Err e) most due old new is = tt

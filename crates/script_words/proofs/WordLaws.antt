@@ -38,7 +38,7 @@ found_at at count i is = grind (arith)
 missing : (at count : ℕ) → cond (ltb at count) (Some at) None ≡ None → count ≤ at
 missing at count is = grind (arith)
 
-tail_whole : (k : ℕ) (xs : List ℕ) → take (length xs - k) (drop k xs) ≡ drop k xs
+pub tail_whole : (k : ℕ) (xs : List ℕ) → take (length xs - k) (drop k xs) ≡ drop k xs
 tail_whole k xs = ap (λ n. take n (drop k xs)) (sym (length-drop k xs)) ∙ take-length (drop k xs)
 
 -- where the first separator lies at i, the first piece ends there

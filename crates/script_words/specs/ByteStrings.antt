@@ -1,9 +1,13 @@
 -- The byte strings of scripts: which words are one, and of which bytes.
 -- Source: this project's own.
-use Rattle.std.specs.Prelude.{◌≡◌, ◌++◌, ℕ, ◌+◌, ◌*◌, ◌==◌, ◌&&◌, nat_lt, Bool, List, [], ◌∷◌, length, drop, slice_index, replicate, Option, Some, None, if◌then◌else◌, codes, bytes_eq}
+use Rattle.std.specs.Prelude.{◌≡◌, ◌++◌, ℕ, ◌+◌, ◌*◌, ◌==◌, ◌&&◌, nat_lt, Bool, List, [], ◌∷◌, length, drop, slice_index, replicate, Option, Some, None, Result, Ok, Err, IsOk, if◌then◌else◌, codes, bytes_eq}
 use Rattle.std.specs.Option.{option_and_then}
 use Rattle.hex.specs.Hex.{hex_digit_value}
 use Rattle.script_words.specs.Numbers.{number_of}
+use Rattle.script_words.specs.declared.byte_string.ByteFault.{ByteFault}
+use Rattle.script_words.specs.declared.byte_string.ByteFault.TheVariants.{BadHex, TooManyBytes}
+use Rattle.script_words.specs.declared.byte_string.PushError.{PushError}
+use Rattle.script_words.specs.declared.byte_string.PushError.TheVariants as push
 
 -- the second step, where the first gave a value
 infixl 10 ◌>>=◌
@@ -45,7 +49,17 @@ byte_string word =
     else if length word == 0 then None
     else bytes_of_pairs word
 
--- a list that gains the bytes of a byte string
-abbrev pub Gains : Option (List ℕ) → List ℕ → List ℕ → Type 0
-Gains None old new = ⊥
-Gains (Some bytes) old new = new ≡ old ++ bytes
+-- the bytes of a word, where it has some and they are at most so many; or what is wrong with it
+abbrev pub at_most : ℕ → Option (List ℕ) → Result (List ℕ) ByteFault
+at_most most None = Err BadHex
+at_most most (Some bytes) = if nat_lt most (length bytes) then Err TooManyBytes else Ok bytes
+
+-- a list that gains these bytes
+abbrev pub Gains : Result (List ℕ) ByteFault → List ℕ → List ℕ → Type 0
+Gains (Err fault) old new = ⊥
+Gains (Ok bytes) old new = new ≡ old ++ bytes
+
+-- the refusal of a word is the one that is due; want of memory comes only where none is
+abbrev pub IsPushRefusal : PushError → Result (List ℕ) ByteFault → Type 0
+IsPushRefusal (push.Bad fault) due = due ≡ Err fault
+IsPushRefusal push.Memory due = IsOk due

@@ -1,7 +1,7 @@
 -- The words of a line that aren't read yet.
 use Rattle.std.specs.Prelude.{◌≡◌, ℕ, false, List, [], ◌∷◌, Option, None, Some, bytes_eq}
 use Rattle.script_words.specs.Words.{words_of}
-use Rattle.script_words.specs.declared.words.Words.{Words}
+use Rattle.script_words.specs.declared.words.WordsOfLine.{WordsOfLine}
 use denote.Ref.{Bor}
 
 -- the words of what is left of the line, where anything is left
@@ -10,7 +10,7 @@ left_of None = []
 left_of (Some rest) = words_of rest.now
 
 -- the words that aren't read yet
-abbrev pub words_left : Words → List (List ℕ)
+abbrev pub words_left : WordsOfLine → List (List ℕ)
 words_left words = left_of words.rest
 
 -- the first of these words isn't this one, or there is none

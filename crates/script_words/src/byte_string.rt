@@ -1,7 +1,7 @@
 //! Byte strings: words that spell bytes.
-ghost use Rattle.std.specs.Prelude.{◌≡◌, ◌*◌, ◌∷◌, [], length, true, false, Some, None, unwrap_or, IfOk, OnOk, OnErr};
+ghost use Rattle.std.specs.Prelude.{◌≡◌, ◌≤◌, ◌+◌, ◌*◌, ◌%◌, ◌∷◌, ◌↔◌, [], length, true, false, Some, None, unwrap_or, is_some, if◌then◌else◌, IfOk, IfErr, OnOk, OnErr};
 ghost use Rattle.hex.specs.Hex.{hex_digit_value};
-ghost use Rattle.script_words.specs.ByteStrings.{byte_string, bytes_of_pairs, repeated, Gains};
+ghost use Rattle.script_words.specs.ByteStrings.{byte_string, bytes_of_pairs, repeated, at_most, Gains, IsPushRefusal};
 
 use crate::number::parse_number;
 use std::alloc::{AllocError, Global};
@@ -24,13 +24,43 @@ pub enum ByteError {
     Memory,
 }
 
-impl From<AllocError> for ByteError {
-    ghost use Rattle.script_words.specs.declared.byte_string.ByteError.TheVariants.{Memory};
+/// What is wrong with a word that should spell bytes, at most so many.
+#[derive(Clone, Copy, Debug, PartialEq, Eq, Error)]
+pub enum ByteFault {
+    /// The word is no byte string.
+    #[error("bad hex")]
+    BadHex,
+    /// The word is a byte string of more bytes.
+    #[error("too many bytes")]
+    TooManyBytes,
+}
+
+/// Why the bytes of a word weren't appended.
+#[derive(Clone, Copy, Debug, PartialEq, Eq, Error)]
+pub enum PushError {
+    /// The word doesn't spell bytes, or too many.
+    #[error("{0}")]
+    Bad(ByteFault),
+    /// There was no memory for its bytes.
+    #[error("out of memory")]
+    Memory,
+}
+
+impl PushError {
+    /// The word is no byte string.
+    const BAD_HEX: PushError = PushError::Bad(ByteFault::BadHex);
+
+    /// The word is a byte string of more bytes than may be.
+    const TOO_MANY_BYTES: PushError = PushError::Bad(ByteFault::TooManyBytes);
+}
+
+impl From<AllocError> for PushError {
+    ghost use Rattle.script_words.specs.declared.byte_string.PushError.TheVariants.{Memory};
 
     ghost from_gives = { λ _ e. e ≡ Memory };
 
-    fn from(_refused: AllocError) -> ByteError {
-        ByteError::Memory
+    fn from(_refused: AllocError) -> PushError {
+        PushError::Memory
     }
 }
 
@@ -40,95 +70,148 @@ impl From<AllocError> for ByteError {
 ///
 /// # Errors
 ///
-/// `BadHex` exactly where the word is no byte string; `Memory`.
+/// `BadHex` exactly where the word is no byte string, whatever memory there is; `Memory`.
 pub fn bytes_of(alloc: Global, word: &[u8]) -> Result<Vec<u8>, ByteError>
     ensures ok { IfOk result (λ bytes. byte_string word.now ≡ Some bytes.items) }
-    ensures bad { result ≡ Err ByteError.BadHex → byte_string word.now ≡ None }
+    ensures bad { (result ≡ Err ByteError.BadHex) ↔ (byte_string word.now ≡ None) }
 {
     let mut bytes = Vec::new(alloc);
-    push_bytes(&mut bytes, word)?;
-    Ok(bytes)
+    match push_bytes(&mut bytes, word, usize::MAX) {
+        Ok(()) => Ok(bytes),
+        Err(PushError::Bad(ByteFault::BadHex)) => Err(ByteError::BadHex),
+        // There is no memory for more bytes than a vector may have.
+        Err(PushError::Bad(ByteFault::TooManyBytes) | PushError::Memory) => Err(ByteError::Memory),
+    }
 }
 
-/// Appends the bytes of a byte string, as `bytes_of` has them, to `out`.
+/// Appends the bytes of a byte string, as `bytes_of` has them, to `out`, where there are at most
+/// `most`.
 ///
 /// # Errors
 ///
-/// Those of `bytes_of`; `out` then has the bytes that it had.
-pub fn push_bytes(out: &mut Vec<u8>, word: &[u8]) -> Result<(), ByteError>
-    ensures ok { OnOk result (Gains (byte_string word.now) out.old.items out.new.items) }
-    ensures bad { result ≡ Err ByteError.BadHex → byte_string word.now ≡ None }
+/// `BadHex` exactly where the word is no byte string, and `TooManyBytes` exactly where it is one of
+/// more than `most` bytes, whatever memory there is; `Memory`. `out` then has the bytes that it had.
+pub fn push_bytes(out: &mut Vec<u8>, word: &[u8], most: usize) -> Result<(), PushError>
+    ensures ok { OnOk result (Gains (at_most most (byte_string word.now)) out.old.items out.new.items) }
+    ensures within { OnOk result (length out.new.items ≤ length out.old.items + most) }
+    ensures bad { IfErr result (λ e. IsPushRefusal e (at_most most (byte_string word.now))) }
     ensures err { OnErr result (out.new.items ≡ out.old.items) }
 {
     if word == b"-".as_slice() {
         Ok(())
     } else if word.len() > 2 && word[2] == b'*' {
-        push_repeated(out, word[0], word[1], &word[3..])
+        push_repeated(out, word[0], word[1], &word[3..], most)
     } else if word.is_empty() {
-        Err(ByteError::BadHex)
+        Err(PushError::BAD_HEX)
     } else {
-        push_pairs(out, word)
+        push_pairs(out, word, most)
     }
 }
 
 /// Appends the byte of two digits as often as a number says.
-fn push_repeated(out: &mut Vec<u8>, high: u8, low: u8, count: &[u8]) -> Result<(), ByteError>
-    ensures ok { OnOk result (Gains (repeated high low count.now) out.old.items out.new.items) }
-    ensures bad { result ≡ Err ByteError.BadHex → repeated high low count.now ≡ None }
+fn push_repeated(
+    out: &mut Vec<u8>,
+    high: u8,
+    low: u8,
+    count: &[u8],
+    most: usize,
+) -> Result<(), PushError>
+    ensures ok { OnOk result (Gains (at_most most (repeated high low count.now)) out.old.items out.new.items) }
+    ensures bad { IfErr result (λ e. IsPushRefusal e (at_most most (repeated high low count.now))) }
     ensures err { OnErr result (out.new.items ≡ out.old.items) }
 {
     let high = digit_value(high);
     let low = digit_value(low);
     if high == NO_DIGIT || low == NO_DIGIT {
-        return Err(ByteError::BadHex);
+        return Err(PushError::BAD_HEX);
     }
     let Some(times) = parse_number(count, MOST_TIMES) else {
-        return Err(ByteError::BadHex);
+        return Err(PushError::BAD_HEX);
     };
     if times == 0 {
-        return Err(ByteError::BadHex);
+        return Err(PushError::BAD_HEX);
+    }
+    if times > most as u64 {
+        return Err(PushError::TOO_MANY_BYTES);
     }
     out.resize(out.len() + times as usize, high * 16 + low)?;
     Ok(())
 }
 
 /// Appends the bytes of pairs of digits.
-fn push_pairs(out: &mut Vec<u8>, digits: &[u8]) -> Result<(), ByteError>
-    ensures ok { OnOk result (Gains (bytes_of_pairs digits.now) out.old.items out.new.items) }
-    ensures bad { result ≡ Err ByteError.BadHex → bytes_of_pairs digits.now ≡ None }
+fn push_pairs(out: &mut Vec<u8>, digits: &[u8], most: usize) -> Result<(), PushError>
+    ensures ok { OnOk result (Gains (at_most most (bytes_of_pairs digits.now)) out.old.items out.new.items) }
+    ensures bad { IfErr result (λ e. IsPushRefusal e (at_most most (bytes_of_pairs digits.now))) }
     ensures err { OnErr result (out.new.items ≡ out.old.items) }
 {
     if digits.len() % 2 != 0 {
-        return Err(ByteError::BadHex);
+        return Err(PushError::BAD_HEX);
     }
     if let [high, low] = digits {
-        return push_pair(out, *high, *low);
+        return push_pair(out, *high, *low, most);
+    }
+    let count = digits.len() / 2;
+    if count > most {
+        return Err(refusal_of(digits, PushError::TOO_MANY_BYTES));
     }
     let start = out.len();
-    out.resize(start + digits.len() / 2, 0)?;
+    if out.resize(start + count, 0).is_err() {
+        return Err(refusal_of(digits, PushError::Memory));
+    }
     if put_pairs(digits, &mut out[start..]) {
         Ok(())
     } else {
         out.truncate(start);
-        Err(ByteError::BadHex)
+        Err(PushError::BAD_HEX)
     }
 }
 
 /// Appends the byte of a single pair of digits, which needs no place made for it before.
 #[tactic(auto, unfolding(crate::specs::ByteStrings::bytes_of_pairs))]
 #[inline(always)]
-fn push_pair(out: &mut Vec<u8>, high: u8, low: u8) -> Result<(), ByteError>
-    ensures ok { OnOk result (Gains (bytes_of_pairs (high ∷ low ∷ [])) out.old.items out.new.items) }
-    ensures bad { result ≡ Err ByteError.BadHex → bytes_of_pairs (high ∷ low ∷ []) ≡ None }
+fn push_pair(out: &mut Vec<u8>, high: u8, low: u8, most: usize) -> Result<(), PushError>
+    ensures ok { OnOk result (Gains (at_most most (bytes_of_pairs (high ∷ low ∷ []))) out.old.items out.new.items) }
+    ensures bad { IfErr result (λ e. IsPushRefusal e (at_most most (bytes_of_pairs (high ∷ low ∷ [])))) }
     ensures err { OnErr result (out.new.items ≡ out.old.items) }
 {
     let high = digit_value(high);
     let low = digit_value(low);
     if high == NO_DIGIT || low == NO_DIGIT {
-        return Err(ByteError::BadHex);
+        return Err(PushError::BAD_HEX);
+    }
+    if most == 0 {
+        return Err(PushError::TOO_MANY_BYTES);
     }
     out.extend_from_slice(&[high * 16 + low])?;
     Ok(())
+}
+
+/// Why the bytes of these digits weren't appended: one of them is no digit, or else `why`.
+#[inline(never)]
+fn refusal_of(digits: &[u8], why: PushError) -> PushError
+    requires { length digits.now % 2 ≡ 0 }
+    ensures { result ≡ if is_some (bytes_of_pairs digits.now) then why else PushError.Bad ByteFault.BadHex }
+{
+    if are_pairs(digits) {
+        why
+    } else {
+        PushError::BAD_HEX
+    }
+}
+
+/// Whether all of these are digits.
+fn are_pairs(digits: &[u8]) -> bool
+    requires { length digits.now % 2 ≡ 0 }
+    ensures { result ≡ is_some (bytes_of_pairs digits.now) }
+{
+    'pairs: for i in 0..digits.len() / 2 {
+        let high = digit_value(digits[2 * i]);
+        let low = digit_value(digits[2 * i + 1]);
+        if high == NO_DIGIT || low == NO_DIGIT {
+            return false;
+        }
+    }
+    true
 }
 
 /// Writes the bytes of pairs of digits. It is false exactly where one of them is no digit, and then

@@ -6,12 +6,14 @@
 #![tactic(auto)]
 
 mod byte_string;
+mod lines;
 mod number;
 mod words;
 
-pub use byte_string::{ByteError, bytes_of, push_bytes};
-pub use number::parse_number;
-pub use words::{Words, cut_at, first_line};
+pub use byte_string::{ByteError, ByteFault, PushError, bytes_of, push_bytes};
+pub use lines::{LineReader, MOST_LINES, NextLine, TooManyLines};
+pub use number::{is_number, parse_number};
+pub use words::{WordsOfLine, cut_at, first_line};
 
 #[cfg(test)]
 mod tests;

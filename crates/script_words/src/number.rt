@@ -1,6 +1,7 @@
 //! The decimal numbers of scripts.
 ghost use Rattle.std.specs.Prelude.{◌≡◌, ◌+◌, ◌*◌, ◌≤◌, ◌^◌, MatchOption};
-ghost use Rattle.script_words.specs.Numbers.{number_of};
+ghost use Rattle.std.specs.Str.{all_ascii_digits};
+ghost use Rattle.script_words.specs.Numbers.{is_number, number_of};
 
 /// The number of a word of decimal digits without a leading zero, or of `0`, where it is at most
 /// `most`. It is `None` exactly where the word is no such number.
@@ -31,4 +32,23 @@ fn longer_by(value: u64, digit: u8) -> Option<u64>
     ensures { MatchOption result (2 ^ 64 ≤ value * 10 + digit) (λ longer. longer ≡ value * 10 + digit) }
 {
     value.checked_mul(10)?.checked_add(u64::from(digit))
+}
+
+/// Whether a word is decimal digits without a leading zero, or `0`.
+pub fn is_number(word: &[u8]) -> bool
+    ensures { result ≡ is_number word.now }
+{
+    are_digits(word) && !word.is_empty() && (word.len() == 1 || word[0] != b'0')
+}
+
+/// Whether all bytes are decimal digits.
+fn are_digits(word: &[u8]) -> bool
+    ensures { result ≡ all_ascii_digits word.now }
+{
+    for digit in word {
+        if !digit.is_ascii_digit() {
+            return false;
+        }
+    }
+    true
 }

@@ -42,22 +42,46 @@ fn byte_strings_spell_their_bytes(rt: HostRuntime) -> Result<(), Fail> {
 #[test]
 fn bytes_stand_behind_those_before(rt: HostRuntime) -> Result<(), Fail> {
     let mut bytes = Vec::from_slice(rt.alloc(), b"a")?;
-    push_bytes(&mut bytes, b"6263")?;
-    assert_eq!(rt; push_bytes(&mut bytes, b"646x"), Err(ByteError::BadHex));
-    push_bytes(&mut bytes, b"64*2")?;
+    push_bytes(&mut bytes, b"6263", 2)?;
+    assert_eq!(rt;
+        push_bytes(&mut bytes, b"646x", 2),
+        Err(PushError::Bad(ByteFault::BadHex))
+    );
+    assert_eq!(rt;
+        push_bytes(&mut bytes, b"64*3", 2),
+        Err(PushError::Bad(ByteFault::TooManyBytes))
+    );
+    assert_eq!(rt;
+        push_bytes(&mut bytes, b"646566", 2),
+        Err(PushError::Bad(ByteFault::TooManyBytes))
+    );
+    assert_eq!(rt;
+        push_bytes(&mut bytes, b"64656x", 2),
+        Err(PushError::Bad(ByteFault::BadHex))
+    );
+    push_bytes(&mut bytes, b"64*2", 2)?;
     assert!(rt; bytes.as_slice() == b"abcdd".as_slice());
     Ok(())
 }
 
 #[test]
 fn lines_words_and_numbers_are_read(rt: HostRuntime) {
+    let mut reader = LineReader::of(b"\n# rings\nhead\n");
+    assert_eq!(rt;
+        reader.next(),
+        Ok(NextLine::Line {
+            number: 3,
+            text: b"head"
+        })
+    );
+    assert_eq!(rt; reader.next(), Ok(NextLine::End { number: 4 }));
     let (line, rest) = first_line(b"step 7\nlast").expect(&rt, "a line");
     assert!(rt; line == b"step 7".as_slice());
     assert!(rt; first_line(rest).is_some_and(|found| found.0 == b"last".as_slice()));
-    let mut words = Words::of(line);
+    let mut words = WordsOfLine::of(line);
     assert!(rt; words.next().is_some_and(|word| word == b"step".as_slice()));
     assert!(rt; words.only().is_some_and(|word| word == b"7".as_slice()));
-    let words = Words::of(b"read 7");
+    let words = WordsOfLine::of(b"read 7");
     assert!(rt; words.behind(b"rea").is_none());
     let rest = words.behind(b"read").expect(&rt, "a word behind");
     assert!(rt; rest.only().is_some_and(|word| word == b"7".as_slice()));
@@ -70,5 +94,27 @@ fn lines_words_and_numbers_are_read(rt: HostRuntime) {
     ];
     for (word, most, number) in numbers {
         assert_eq!(rt; parse_number(word, most), number);
+        assert_eq!(rt; is_number(word), word != b"00".as_slice());
     }
+}
+
+#[test]
+fn errors_are_told_in_words(rt: HostRuntime) -> Result<(), Fail> {
+    let told = format!(in rt.alloc();
+        "{}; {}; {}; {}; {}; {}; {}; {}",
+        ByteError::BadHex,
+        ByteError::Memory,
+        ByteFault::BadHex,
+        ByteFault::TooManyBytes,
+        PushError::Bad(ByteFault::BadHex),
+        PushError::Bad(ByteFault::TooManyBytes),
+        PushError::Memory,
+        TooManyLines { line: 65_537 },
+    )?;
+    assert_eq!(rt;
+        told.as_str(),
+        "bad hex; out of memory; bad hex; too many bytes; bad hex; too many bytes; out of memory; \
+         line 65537: too many lines"
+    );
+    Ok(())
 }

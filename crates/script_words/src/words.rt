@@ -64,19 +64,19 @@ fn find_among_many(bytes: &[u8], wanted: u8) -> Option<usize>
 
 /// The words of a line that aren't read yet, with one space between each two.
 #[derive(Drop)]
-pub struct Words<'a> {
+pub struct WordsOfLine<'a> {
     rest: Option<&'a [u8]>,
 }
 
-impl<'a> Words<'a> {
+impl<'a> WordsOfLine<'a> {
     ghost use Rattle.script_words.specs.Words.{words_of, only};
     ghost use Rattle.script_words.specs.WordsLeft.{IsNotFirst, words_left};
 
     /// All words of a line.
-    pub fn of(line: &'a [u8]) -> Words<'a>
+    pub fn of(line: &'a [u8]) -> WordsOfLine<'a>
         ensures { words_left result ≡ words_of line.now }
     {
-        Words { rest: Some(line) }
+        WordsOfLine { rest: Some(line) }
     }
 
     /// The next word. It is `None` exactly where there is none, and then from then on.
@@ -96,16 +96,16 @@ impl<'a> Words<'a> {
     /// space.
     #[inline(always)]
     #[tactic(auto, using(crate::proofs::FirstWord::other_front, crate::proofs::FirstWord::goes_on, crate::proofs::FirstWord::only_word, crate::proofs::FirstWord::first_word))]
-    pub fn behind(&self, word: &[u8]) -> Option<Words<'a>>
+    pub fn behind(&self, word: &[u8]) -> Option<WordsOfLine<'a>>
         requires spaceless { list_any (λ byte. byte == 32) word.now ≡ false }
         ensures { MatchOption result (IsNotFirst word.now (words_left self.now)) (λ rest. words_left self.now ≡ word.now ∷ words_left rest) }
     {
         let behind = self.rest?.strip_prefix(word)?;
         let Some((first, rest)) = behind.split_first() else {
-            return Some(Words { rest: None });
+            return Some(WordsOfLine { rest: None });
         };
         if *first == b' ' {
-            Some(Words { rest: Some(rest) })
+            Some(WordsOfLine { rest: Some(rest) })
         } else {
             None
         }

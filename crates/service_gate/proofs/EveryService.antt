@@ -1,12 +1,12 @@
 -- What holds of every built-in service: its input doesn't decide whether there is one, and its code is small.
-use Rattle.std.proofs.Common.{◌≡◌, ℕ, ◌≤◌, List, length, map, take, refl, ap, sym, ◌∙◌, arith, Option, Some, None}
+use Rattle.std.proofs.Common.{◌≡◌, ℕ, ◌<◌, ◌≤◌, ◌^◌, List, length, map, take, refl, ap, sym, ◌∙◌, arith, lit<, Option, Some, None}
 use Rattle.std.specs.Prelude.{true, false, Bool, nat_le, ◌&&◌, bytes_eq, codes, decimal, is_some, option_map, option_and_then, pos, if◌then◌else◌}
 use Rattle.std.specs.Option.{option_or}
 use Rattle.std.specs.Char.{to_ascii_uppercase}
-use Rattle.std.specs.Str.Parse.{digits_value}
-use Rattle.std.proofs.lemmas.Bool.Decides.{nat_tests}
+use Rattle.script_words.specs.Numbers.{number_of}
+use Rattle.service_gate.proofs.Numbers.{spelled}
 use Rattle.service_gate.specs.Triple.{Triple, writes}
-use Rattle.service_gate.specs.ServiceResult.{service, numbered_service, number_after, number_to, after_prefix, most_first, most_exit, exits, splits, count_line, IsSmallCode}
+use Rattle.service_gate.specs.ServiceResult.{service, numbered_service, number_after, after_prefix, most_first, most_exit, exits, splits, count_line, IsSmallCode}
 
 -- ---- whether there is one
 
@@ -50,17 +50,12 @@ small_tests x false false false false o small = small
 abbrev IsAtMost : ℕ → Option ℕ → Type 0
 IsAtMost most o = (n : ℕ) → o ≡ Some n → n ≤ most
 
-number_small : (most : ℕ) (text : List ℕ) → IsAtMost most (number_to most text)
-number_small most text = by_test (nat_le (digits_value 10 text) most) refl (bytes_eq text (decimal (digits_value 10 text)))
-  where
-    by_test : (a : Bool) → nat_le (digits_value 10 text) most ≡ a → (b : Bool) → IsAtMost most (if a && b then Some (digits_value 10 text) else None)
-    by_test true is true = λ n e. let same : digits_value 10 text ≡ n = cc in let low : digits_value 10 text ≤ most = grind (arith, nat_tests, is) in omega (arith, same, low)
-    by_test true is false = λ n e. cc
-    by_test false is b = λ n e. cc
+number_small : (most : ℕ) (text : List ℕ) → most < 2 ^ 64 → IsAtMost most (number_of most text)
+number_small most text small = λ n is. (spelled most text n small is).0
 
-after_small : (most : ℕ) (o : Option (List ℕ)) → IsAtMost most (option_and_then (number_to most) o)
-after_small most None = λ n e. cc
-after_small most (Some text) = number_small most text
+after_small : (most : ℕ) (o : Option (List ℕ)) → most < 2 ^ 64 → IsAtMost most (option_and_then (number_of most) o)
+after_small most None small = λ n e. cc
+after_small most (Some text) small = number_small most text small
 
 numbered_small : (x : List ℕ) (first exit : Option ℕ) → IsAtMost 255 exit → HasSmallCode (option_or (option_map (λ n. writes (take n x)) first) (option_map exits exit))
 numbered_small x None None small = λ t e. cc
@@ -71,4 +66,4 @@ pub small_codes : (name input : List ℕ) (t : Triple) → service name input �
 unfolding service
 small_codes name input =
     small_tests input (bytes_eq name (codes "echo")) (bytes_eq name (codes "upper")) (bytes_eq name (codes "count")) (bytes_eq name (codes "split")) (numbered_service name input)
-    (numbered_small input (number_after (codes "first+") most_first name) (number_after (codes "exit+") most_exit name) (after_small 255 (after_prefix (codes "exit+") name)))
+    (numbered_small input (number_after (codes "first+") most_first name) (number_after (codes "exit+") most_exit name) (after_small 255 (after_prefix (codes "exit+") name) (lit< tt)))

@@ -5,9 +5,9 @@ use Rattle.std.proofs.lemmas.Bool.Decides.{nat_tests}
 use mathlib.Core.Bool.{beq}
 use Rattle.service_gate.specs.Triple.{Triple, Feeds, writes, after_outputs}
 use Rattle.service_gate.specs.ServiceResult.{splits, every_other}
-use Rattle.service_gate.specs.Owing.{builtin_owes}
-use Rattle.service_gate.specs.declared.builtin.Builtin.{Builtin}
-use Rattle.service_gate.specs.declared.builtin.Builtin.TheVariants.{Count, First, Split}
+use Rattle.service_gate.specs.Owing.{state_owes}
+use Rattle.service_gate.specs.declared.builtin.State.{State}
+use Rattle.service_gate.specs.declared.builtin.State.TheVariants.{Count, First, Split}
 
 -- a feed that appends nothing
 pub silent_feeds : (before now : List ℕ → Triple) (piece out err : List ℕ) → ((more : List ℕ) → before (piece ++ more) ≡ now more) → Feeds before now piece out out err err
@@ -19,7 +19,7 @@ silent_feeds before now piece out err same = record {
   owed = same;
 }
 
-pub count_owed : (taken : ℕ) (piece more : List ℕ) → builtin_owes (Count taken) (piece ++ more) ≡ builtin_owes (Count ((taken + length piece) % 18446744073709551616)) more
+pub count_owed : (taken : ℕ) (piece more : List ℕ) → state_owes (Count taken) (piece ++ more) ≡ state_owes (Count ((taken + length piece) % 18446744073709551616)) more
 count_owed taken piece more =
     let same : (taken + length (piece ++ more)) % 2 ^ 64 ≡ ((taken + length piece) % 2 ^ 64 + length more) % 2 ^ 64 =
     ap (λ n. n % 2 ^ 64) (omega (arith, length-append piece more)) ∙ sym (mod-add-mod (taken + length piece) (2 ^ 64) (length more)) in
@@ -32,7 +32,7 @@ take_over (suc left) (x ∷ piece) more =
     let less : left - length piece ≡ suc left - suc (length piece) = omega arith in
     ap (λ l. x ∷ l) (take_over left piece more ∙ ap (λ k. take left piece ++ take k more) less)
 
-pub first_feeds : (left : ℕ) (piece out err : List ℕ) → Feeds (builtin_owes (First left)) (builtin_owes (First (left - length piece))) piece out (out ++ take left piece) err err
+pub first_feeds : (left : ℕ) (piece out err : List ℕ) → Feeds (state_owes (First left)) (state_owes (First (left - length piece))) piece out (out ++ take left piece) err err
 first_feeds left piece out err = record {
   stdout = take left piece;
   stderr = [];
@@ -87,16 +87,16 @@ same_turn true false = refl
 same_turn false true = refl
 same_turn false false = refl
 
-pub split_feeds : (self : Builtin) (to_stderr : Bool) (piece out out' err err' : List ℕ) → self ≡ Split to_stderr
+pub split_feeds : (self : State) (to_stderr : Bool) (piece out out' err err' : List ℕ) → self ≡ Split to_stderr
     → out' ≡ out ++ every_other (not to_stderr) piece → err' ≡ err ++ every_other (not (not to_stderr)) piece
-    → Feeds (builtin_owes self) (builtin_owes (Split (not (beq to_stderr (nat_eq (length piece % 2) 1))))) piece out out' err err'
+    → Feeds (state_owes self) (state_owes (Split (not (beq to_stderr (nat_eq (length piece % 2) 1))))) piece out out' err err'
 split_feeds self to_stderr piece out out' err err' is to_out to_err = record {
   stdout = every_other (not to_stderr) piece;
   stderr = every_other (not (not to_stderr)) piece;
   out_grows = to_out;
   err_grows = to_err;
   owed = λ more.
-      ap (λ s. builtin_owes s (piece ++ more)) is
+      ap (λ s. state_owes s (piece ++ more)) is
       ∙ (split_owed (not to_stderr) piece more
       ∙ ap (λ b. after_outputs (every_other (not to_stderr) piece) (every_other (not (not to_stderr)) piece) (splits b more))
       (turned_is (not to_stderr) piece ∙ same_turn to_stderr (nat_eq (length piece % 2) 1)));

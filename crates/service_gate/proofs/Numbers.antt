@@ -1,101 +1,110 @@
--- Which texts spell a number in decimal digits without a leading zero.
-use Rattle.std.proofs.Common.{◌≡◌, ◌≢◌, ◌⊎◌, ℕ, ◌<◌, ◌≤◌, ◌^◌, Bool, true, false, ◌&&◌, nat_le, ◌==◌, if◌then◌else◌, List, [], ◌∷◌, length, get_or, decimal, bytes_eq, Option, Some, None, refl, sym, ap, ◌∙◌, subst, arith, lit<, inl, inr, ⊎_elim}
-use Rattle.std.proofs.lemmas.Fmt.{first_decimal, decimal_digit, decimal_is_IsNumeral, decimal-digits_value, IsAscii-decimal}
-use Rattle.std.proofs.lemmas.Bool.{eqb-true, leb-true, le-leb}
-use Rattle.std.specs.Cmp.Derive.{both_true}
+-- The numbers in the names of services are spelled as they are printed.
+use Rattle.std.proofs.Common.{◌≡◌, ◌⊎◌, ℕ, ◌<◌, ◌≤◌, ◌^◌, Bool, true, false, ◌&&◌, nat_le, ◌==◌, if◌then◌else◌, List, ◌++◌, length, take, drop, get_or, decimal, bytes_eq, Option, Some, None, refl, sym, ap, ◌∙◌, subst, arith, lit<, inl, inr, ⊎_elim}
+use Rattle.std.specs.Prelude.{◌||◌, not, nat_lt, slice_index, codes, option_and_then}
+use Rattle.std.specs.Str.{all_ascii_digits}
+use Rattle.std.specs.Str.Parse.{digits_value}
+use Rattle.std.proofs.lemmas.Bool.Decides.{nat_tests}
+use Rattle.std.proofs.lemmas.Bool.{eqb-true, eqb-false, ltb-true, leb-true, le-leb, lt-ltb, ne_eqb}
+use Rattle.std.proofs.lemmas.Fmt.{first_decimal, decimal_digit, digits_decimal, digits_value-decimal, decimal_is_IsNumeral, decimal-digits_value}
+use Rattle.std.proofs.lemmas.List.{take-append-drop}
 use Rattle.std.proofs.lemmas.Slice.Eq.{bytes_eq-Decides}
-use Rattle.std.proofs.lemmas.Str.{IsUtf8-from_ascii}
-use Rattle.std.proofs.lemmas.Str.Parse.{IsNumeralModel, without_leading_plus_none}
-use Rattle.std.specs.Str.{IsUtf8}
-use Rattle.std.specs.Str.Parse.{AllDigits, IsNumeral, digits_value, without_leading_plus}
-use Rattle.service_gate.specs.ServiceResult.{number_to}
+use Rattle.std.proofs.lemmas.Str.Parse.{IsNumeralModel, numerals_by_value, tells_all_ascii_digits}
+use Rattle.script_words.specs.Numbers.{is_number, number_of}
+use Rattle.service_gate.specs.ServiceResult.{service, number_after, most_first, most_exit, IsNumbered, IsName}
+use Rattle.service_gate.specs.Triple.{Triple}
 
--- both tests of a conjunction
-pub both : (a b : Bool) → (a && b) ≡ true → (a ≡ true) × (b ≡ true)
-both true b h = (refl, h)
-both false b h = (h, cc)
+own : IsNumeralModel (λ ds. all_ascii_digits ds ≡ true) (digits_value 10)
+own = numerals_by_value _ tells_all_ascii_digits
 
-unless : {A : Type 0} (b : Bool) (x : A) → (b ≡ true → ⊥) → ◌≡◌ {A = Option A} None (if b then Some x else None)
-unless true x h = absurd (h refl)
-unless false x h = refl
+-- what the tests of a spelled number say
+record IsSpelled (digits some one zero low : Bool) (value n : ℕ) : Type 0 where
+  digits_is : digits ≡ true
+  some_is : some ≡ true
+  first_is : (one ≡ true) ⊎ (zero ≡ false)
+  low_is : low ≡ true
+  value_is : value ≡ n
 
-provided : {A : Type 0} (b : Bool) (x : A) → b ≡ true → ◌≡◌ {A = Option A} (Some x) (if b then Some x else None)
-provided true x h = refl
-provided false x h = cc
+by_tests : (digits some one zero low : Bool) (value n : ℕ) → (if ((digits && some) && (one || not zero)) && low then Some value else None) ≡ Some n
+    → IsSpelled digits some one zero low value n
+by_tests true true true zero true value n is = record { digits_is = refl; some_is = refl; first_is = inl refl; low_is = refl; value_is = cc }
+by_tests true true false false true value n is = record { digits_is = refl; some_is = refl; first_is = inr refl; low_is = refl; value_is = cc }
+by_tests true true false true low value n is = cc
+by_tests true true true zero false value n is = cc
+by_tests true true false false false value n is = cc
+by_tests true false one zero low value n is = cc
+by_tests false some one zero low value n is = cc
 
--- a text that is the spelling of no number is none
-pub not_spelled : (most : ℕ) (text : List ℕ) → most < 2 ^ 32 → ((n : ℕ) → n < 2 ^ 32 → text ≢ decimal n) → None ≡ number_to most text
-not_spelled most text small none =
-    unless _ _ (λ yes. let h = both (nat_le (digits_value 10 text) most) (bytes_eq text (decimal (digits_value 10 text))) yes in
-    let le : digits_value 10 text ≤ most = leb-true (digits_value 10 text) most h.0 in
-    none (digits_value 10 text) (omega arith) ((bytes_eq-Decides text (decimal (digits_value 10 text))).0 h.1))
+-- the number that a text spells is printed as that text
+pub spelled : (most : ℕ) (text : List ℕ) (n : ℕ) → most < 2 ^ 64 → number_of most text ≡ Some n → (n ≤ most) × (text ≡ decimal n)
+spelled most text n small is =
+    let s = by_tests (all_ascii_digits text) (nat_lt 0 (length text)) (length text == 1) (slice_index text 0 == 48) (nat_le (digits_value 10 text) most) (digits_value 10 text) n is in
+    let low : digits_value 10 text ≤ most = leb-true (digits_value 10 text) most s.low_is in
+    let some : 0 < length text = ltb-true 0 (length text) s.some_is in
+    let first : get_or text 0 0 ≡ 48 → length text ≡ 1 = λ zero. ⊎_elim (λ (one : (length text == 1) ≡ true). eqb-true (length text) 1 one) (λ (other : (slice_index text 0 == 48) ≡ false). absurd (eqb-false (get_or text 0 0) 48 other zero)) s.first_is in
+    (omega (arith, low, s.value_is), sym (decimal-digits_value own text s.digits_is some first (omega (arith, low))) ∙ ap decimal s.value_is)
 
--- `0` is spelled by itself, and every other number begins with a digit above 0
-first_of : (n : ℕ) → n < 2 ^ 32 → (decimal n ≡ 48 ∷ []) ⊎ (48 < get_or (decimal n) 0 0)
-first_of n small = let by : (n ≡ 0) ⊎ (0 < n) = grind arith in
-    ⊎_elim (λ (zero : n ≡ 0). inl (ap decimal zero ∙ decimal_digit 0 (lit< tt))) (λ (above : 0 < n). inr (first_decimal n above (omega arith))) by
+-- a name that is no such text has no number
+pub unnumbered : (prefix : List ℕ) (most : ℕ) (name : List ℕ) → most < 2 ^ 64 → ¬ IsNumbered prefix most name → number_after prefix most name ≡ None
+unnumbered prefix most name small other = by_prefix (bytes_eq (take (length prefix) name) prefix) refl
+  where
+    rest : List ℕ
+    rest = drop (length prefix) name
 
-pub leading_zero : (most : ℕ) (text : List ℕ) → most < 2 ^ 32 → 1 < length text → get_or text 0 0 ≡ 48 → None ≡ number_to most text
-leading_zero most text small long zero = not_spelled most text small (λ n lt e. ⊎_elim
-    (λ (one : decimal n ≡ 48 ∷ []). let len : length text ≡ 1 = ap length (e ∙ one) in absurd (omega arith))
-    (λ (above : 48 < get_or (decimal n) 0 0). let same : get_or text 0 0 ≡ get_or (decimal n) 0 0 = ap (λ l. get_or l 0 0) e in absurd (omega arith)) (first_of n lt))
+    by_number : (o : Option ℕ) → number_of most (drop (length prefix) name) ≡ o → name ≡ prefix ++ drop (length prefix) name → o ≡ None
+    by_number None is parts = refl
+    by_number (Some n) is parts = let s = spelled most (drop (length prefix) name) n small is in absurd (other (n, s.0, parts ∙ ap (λ t. prefix ++ t) s.1))
 
-pub leading_plus : (most : ℕ) (text : List ℕ) → most < 2 ^ 32 → get_or text 0 0 ≡ 43 → None ≡ number_to most text
-leading_plus most text small plus = not_spelled most text small (λ n lt e. let same : get_or text 0 0 ≡ get_or (decimal n) 0 0 = ap (λ l. get_or l 0 0) e in ⊎_elim
-    (λ (one : decimal n ≡ 48 ∷ []). let first : get_or (decimal n) 0 0 ≡ 48 = ap (λ l. get_or l 0 0) one in absurd (omega arith))
-    (λ (above : 48 < get_or (decimal n) 0 0). absurd (omega arith)) (first_of n lt))
-
-pub not_text : (most : ℕ) (text : List ℕ) → most < 2 ^ 32 → ¬ (IsUtf8 text) → None ≡ number_to most text
-not_text most text small other = not_spelled most text small (λ n lt e. other (subst IsUtf8 (sym e) (IsUtf8-from_ascii _ (IsAscii-decimal n (omega arith)))))
-
-pub not_numeral : (most : ℕ) (text : List ℕ) → most < 2 ^ 32 → ¬ (IsNumeral 10 text × (digits_value 10 text < 2 ^ 32)) → None ≡ number_to most text
-not_numeral most text small other = not_spelled most text small (λ n lt e. let is = decimal_is_IsNumeral n (omega arith) in
-    other (subst (λ l. IsNumeral 10 l × (digits_value 10 l < 2 ^ 32)) (sym e) (is.0, let same = is.1 in omega arith)))
-
--- an empty text has no first byte
-pub no_first : (text : List ℕ) → (length text == 0) ≡ true → get_or text 0 0 ≢ 43
-no_first [] h e = absurd (omega arith)
-no_first (x ∷ xs) h e = let z : length (x ∷ xs) ≡ 0 = eqb-true (length (x ∷ xs)) 0 h in absurd (omega arith)
-
--- a text of at most one byte, with a first byte, has one
-pub one_byte : (text : List ℕ) → get_or text 0 0 ≡ 48 → length text ≤ 1 → length text ≡ 1
-one_byte [] h le = absurd (omega arith)
-one_byte (x ∷ xs) h le = omega arith
-
--- where the first byte is no plus, the text is read as it stands
-bare : (text s : List ℕ) → s ≡ text → get_or text 0 0 ≢ 43 → without_leading_plus s ≡ text
-bare text s same plain = ap without_leading_plus same ∙ without_leading_plus_none text plain
-
-own : IsNumeralModel (AllDigits 10) (digits_value 10)
-own = record { to = λ ds h. h; from = λ ds h. h; same = λ ds h. refl }
-
--- digits without a leading zero spell their value
-pub spelled : (most : ℕ) (text : List ℕ) → IsNumeral 10 text → digits_value 10 text < 2 ^ 32 → (get_or text 0 0 ≡ 48 → length text ≡ 1) → digits_value 10 text ≤ most
-    → Some (digits_value 10 text) ≡ number_to most text
-spelled most text is lt plain le =
-    provided _ _ (let a = le-leb (digits_value 10 text) most le in
-    let b = (bytes_eq-Decides text (decimal (digits_value 10 text))).1 (sym (decimal-digits_value own text is.1 is.0 plain (omega arith))) in
-    cc)
-
--- a text without a leading plus that is not read as a number spells none
-pub refused : (most : ℕ) (text s : List ℕ) → most < 2 ^ 32 → s ≡ text → get_or text 0 0 ≢ 43
-    → ¬ (IsNumeral 10 (without_leading_plus s) × (digits_value 10 (without_leading_plus s) < 2 ^ 32)) → None ≡ number_to most text
-refused most text s small same plain other = not_numeral most text small (λ h. other (subst (λ l. IsNumeral 10 l × (digits_value 10 l < 2 ^ 32)) (sym (bare text s same plain)) h))
-
--- and one that is read spells the number, unless it has a leading zero
-pub read : (most n : ℕ) (text s : List ℕ) → s ≡ text → get_or text 0 0 ≢ 43 → (get_or text 0 0 ≡ 48 → length text ≡ 1)
-    → (IsNumeral 10 (without_leading_plus s) × (digits_value 10 (without_leading_plus s) < 2 ^ 32)) × (n ≡ digits_value 10 (without_leading_plus s)) → n ≤ most
-    → Some n ≡ number_to most text
-read most n text s same plain zero h le =
-    let e = bare text s same plain in
-    let value : n ≡ digits_value 10 text = h.1 ∙ ap (digits_value 10) e in
-    let is = subst (λ l. IsNumeral 10 l × (digits_value 10 l < 2 ^ 32)) e h.0 in
-    ap Some value ∙ spelled most text is.0 is.1 zero (omega arith)
+    by_prefix : (b : Bool) → bytes_eq (take (length prefix) name) prefix ≡ b → option_and_then (number_of most) (if b then Some (drop (length prefix) name) else None) ≡ None
+    by_prefix true is =
+        let begins : take (length prefix) name ≡ prefix = (bytes_eq-Decides (take (length prefix) name) prefix).0 is in
+        by_number (number_of most (drop (length prefix) name)) refl (sym (take-append-drop (length prefix) name) ∙ ap (λ p. p ++ drop (length prefix) name) begins)
+    by_prefix false is = refl
 
 -- what is printed of a number spells it
-pub number_of : (most n : ℕ) → most < 2 ^ 32 → n ≤ most → number_to most (decimal n) ≡ Some n
-number_of most n small le =
-    let v : digits_value 10 (decimal n) ≡ n = (decimal_is_IsNumeral n (omega arith)).1 in
-    let a = le-leb (digits_value 10 (decimal n)) most (omega arith) in
-    let b = (bytes_eq-Decides (decimal n) (decimal (digits_value 10 (decimal n)))).1 (ap decimal (sym v)) in
-    sym (ap Some (sym v) ∙ provided _ _ (both_true a b))
+all_tests : (digits some one zero low : Bool) (value : ℕ) → digits ≡ true → some ≡ true → ((one ≡ true) ⊎ (zero ≡ false)) → low ≡ true
+    → (if ((digits && some) && (one || not zero)) && low then Some value else None) ≡ Some value
+all_tests true true true zero true value d s f l = refl
+all_tests true true false false true value d s f l = refl
+all_tests true true false true true value d s (inl one) l = cc
+all_tests true true false true true value d s (inr first) l = cc
+all_tests true true one zero false value d s f l = cc
+all_tests true false one zero low value d s f l = cc
+all_tests false some one zero low value d s f l = cc
+
+pub number_of-decimal : (most n : ℕ) → most < 2 ^ 64 → n ≤ most → number_of most (decimal n) ≡ Some n
+number_of-decimal most n small le =
+    let value : digits_value 10 (decimal n) ≡ n = digits_value-decimal own n (omega arith) in
+    let some : nat_lt 0 (length (decimal n)) ≡ true = lt-ltb 0 (length (decimal n)) ((decimal_is_IsNumeral n (omega arith)).0.0) in
+    let first : ((length (decimal n) == 1) ≡ true) ⊎ ((slice_index (decimal n) 0 == 48) ≡ false) = ⊎_elim
+    (λ (zero : n ≡ 0). inl (ap (λ l. length l == 1) (ap decimal zero ∙ decimal_digit 0 (lit< tt))))
+    (λ (above : 0 < n). let high = first_decimal n above (omega arith) in inr (ne_eqb (slice_index (decimal n) 0) 48 (λ e. omega (arith, high, e)))) (zero_or_more n) in
+    all_tests (all_ascii_digits (decimal n)) _ _ (slice_index (decimal n) 0 == 48) (nat_le (digits_value 10 (decimal n)) most) (digits_value 10 (decimal n))
+    (digits_decimal own n (omega arith)) some first (le-leb (digits_value 10 (decimal n)) most (omega (arith, value)))
+    ∙ ap Some value
+  where
+    zero_or_more : (k : ℕ) → (k ≡ 0) ⊎ (0 < k)
+    zero_or_more k = grind arith
+
+-- a text that is no service's name has no service
+no_tests : (echo upper count split : Bool) (a b c d : Triple) (o : Option Triple) → ¬ (echo ≡ true) → ¬ (upper ≡ true) → ¬ (count ≡ true) → ¬ (split ≡ true) → o ≡ None
+    → (if echo then Some a else if upper then Some b else if count then Some c else if split then Some d else o) ≡ None
+no_tests true upper count split a b c d o e u n s is = absurd (e refl)
+no_tests false true count split a b c d o e u n s is = absurd (u refl)
+no_tests false false true split a b c d o e u n s is = absurd (n refl)
+no_tests false false false true a b c d o e u n s is = absurd (s refl)
+no_tests false false false false a b c d o e u n s is = is
+
+is_text : (name text : List ℕ) → bytes_eq name text ≡ true → name ≡ text
+is_text name text = (bytes_eq-Decides name text).0
+
+pub unnamed : (name input : List ℕ) → ¬ IsName name → service name input ≡ None
+unfolding service
+unnamed name input other =
+    let first = unnumbered (codes "first+") most_first name (lit< tt) (λ is. other (inr (inr (inr (inr (inl is)))))) in
+    let exit = unnumbered (codes "exit+") most_exit name (lit< tt) (λ is. other (inr (inr (inr (inr (inr is)))))) in
+    no_tests _ _ _ _ _ _ _ _ _
+    (λ is. other (inl (is_text name _ is)))
+    (λ is. other (inr (inl (is_text name _ is))))
+    (λ is. other (inr (inr (inl (is_text name _ is)))))
+    (λ is. other (inr (inr (inr (inl (is_text name _ is))))))
+    (rw (first, exit) refl)

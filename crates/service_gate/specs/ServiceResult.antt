@@ -2,7 +2,7 @@
 use Rattle.std.specs.Prelude.{◌≡◌, ◌⊎◌, ℕ, ℤ, ◌≤◌, ◌%◌, ◌^◌, pos, nat_le, Bool, true, false, not, ◌&&◌, if◌then◌else◌, List, [], ◌∷◌, ◌++◌, take, drop, length, map, codes, decimal, bytes_eq, Option, Some, None, option_map, option_and_then}
 use Rattle.std.specs.Option.{option_or}
 use Rattle.std.specs.Char.{to_ascii_uppercase}
-use Rattle.std.specs.Str.Parse.{digits_value}
+use Rattle.script_words.specs.Numbers.{number_of}
 use Rattle.service_gate.specs.Triple.{Triple, writes}
 
 -- the greatest N of `first+N`, and of `exit+N`
@@ -12,19 +12,13 @@ most_first = 1048576
 abbrev pub most_exit : ℕ
 most_exit = 255
 
--- the number that the text spells in decimal digits without a leading zero, or as `0`, where it is at most `most`
-abbrev pub number_to : ℕ → List ℕ → Option ℕ
-number_to most text =
-    if nat_le (digits_value 10 text) most && bytes_eq text (decimal (digits_value 10 text)) then Some (digits_value 10 text)
-    else None
-
 -- what follows the prefix in the text, where the text begins with it
 abbrev pub after_prefix : List ℕ → List ℕ → Option (List ℕ)
 after_prefix prefix text = if bytes_eq (take (length prefix) text) prefix then Some (drop (length prefix) text) else None
 
--- the number N, at most `most`, where the name is the prefix and then N
+-- the number N, at most `most`, where the name is the prefix and then N in decimal digits without a leading zero
 abbrev pub number_after : List ℕ → ℕ → List ℕ → Option ℕ
-number_after prefix most name = option_and_then (number_to most) (after_prefix prefix name)
+number_after prefix most name = option_and_then (number_of most) (after_prefix prefix name)
 
 -- every other byte: those at places 0, 2, 4 and so on where `first` is true, else those at places 1, 3, 5 and so on
 abbrev pub every_other : Bool → List ℕ → List ℕ

@@ -3,6 +3,7 @@ ghost use Rattle.std.specs.Prelude.{◌≡◌, ◌-◌, List, [], ◌∷◌, ◌
 ghost use Rattle.std.specs.Char.{to_ascii_uppercase};
 ghost use Rattle.service_gate.specs.ServiceResult.{every_other};
 
+use itoa::Buffer;
 use vchan_io::Memory;
 
 /// Appends the piece with `a` to `z` as `A` to `Z`, or leaves `out` as it was.
@@ -57,7 +58,10 @@ pub(crate) fn append_count(taken: u64, out: &mut Vec<u8>) -> Result<(), Memory>
     ensures ok { OnOk result (out.new.items ≡ out.old.items ++ (decimal taken ++ 10 ∷ [])) }
     ensures no_memory { OnErr result (out.new.items ≡ out.old.items) }
 {
-    let line = format!(in *out.allocator(); "{taken}\n")?;
-    out.extend_from_slice(line.as_bytes())?;
+    let mut buffer = Buffer::new();
+    let digits = buffer.format(taken);
+    out.reserve(digits.len() + 1)?;
+    out.extend_from_slice(digits.as_bytes())?;
+    out.push_reserved(b'\n');
     Ok(())
 }

@@ -1,13 +1,19 @@
 //! The built-in services, and how each answers its input.
-ghost use Rattle.service_gate.specs.Owing.{builtin_owes};
-
 use crate::append::{append_count, append_first, append_in_turn, append_upper};
+use crate::naming::state_named;
 use crate::service::Service;
 use vchan_io::Memory;
 
-/// A built-in service, with what it has to remember of its input.
+/// A built-in service, with what it has to remember of its input. Only `named` makes one, so each
+/// is a service of a name.
 #[derive(Clone, Copy, Debug, PartialEq, Eq)]
-pub enum Builtin {
+pub struct Builtin {
+    state: State,
+}
+
+/// Which service it is, and what it remembers.
+#[derive(Clone, Copy, Debug, PartialEq, Eq)]
+pub(crate) enum State {
     /// `echo`: the input on stdout.
     Echo,
     /// `upper`: the input on stdout, with `a` to `z` as `A` to `Z`.
@@ -34,16 +40,34 @@ pub enum Builtin {
     },
 }
 
+impl Builtin {
+    ghost use Rattle.std.specs.Prelude.{◌≡◌, ℕ, List, option_map};
+    ghost use Rattle.service_gate.specs.ServiceResult.{service};
+    ghost use Rattle.service_gate.specs.Owing.{builtin_owes};
+
+    /// The service that the text names, before any input. `None` comes exactly where the text
+    /// names none: it is none of the six names, or its number is not in range, or not in decimal
+    /// digits without a leading zero.
+    pub fn named(text: &[u8]) -> Option<Builtin>
+        ensures { (input : List ℕ) → service text.now input ≡ option_map (λ b. builtin_owes b input) result }
+    {
+        let state = state_named(text)?;
+        Some(Builtin { state })
+    }
+}
+
 impl Service for Builtin {
+    ghost use Rattle.service_gate.specs.Owing.{builtin_owes};
+
     ghost owes = { builtin_owes };
 
     fn feed(&mut self, piece: &[u8], out: &mut Vec<u8>, err: &mut Vec<u8>) -> Result<(), Memory> {
-        match self {
-            Builtin::Echo => out.extend_from_slice(piece)?,
-            Builtin::Upper => append_upper(piece, out)?,
-            Builtin::Count { taken } => *taken = taken.wrapping_add(piece.len() as u64),
-            Builtin::First { left } => *left = append_first(*left, piece, out)?,
-            Builtin::Split { to_stderr } => {
+        match &mut self.state {
+            State::Echo => out.extend_from_slice(piece)?,
+            State::Upper => append_upper(piece, out)?,
+            State::Count { taken } => *taken = taken.wrapping_add(piece.len() as u64),
+            State::First { left } => *left = append_first(*left, piece, out)?,
+            State::Split { to_stderr } => {
                 if *to_stderr {
                     append_in_turn(piece, err, out)?;
                 } else {
@@ -51,18 +75,18 @@ impl Service for Builtin {
                 }
                 *to_stderr = *to_stderr != (piece.len() % 2 == 1);
             }
-            Builtin::Exit { .. } => {}
+            State::Exit { .. } => {}
         }
         Ok(())
     }
 
     fn end(&mut self, out: &mut Vec<u8>, _err: &mut Vec<u8>) -> Result<i32, Memory> {
-        match *self {
-            Builtin::Count { taken } => {
+        match self.state {
+            State::Count { taken } => {
                 append_count(taken, out)?;
                 Ok(0)
             }
-            Builtin::Exit { code } => Ok(i32::from(code)),
+            State::Exit { code } => Ok(i32::from(code)),
             _ => Ok(0),
         }
     }

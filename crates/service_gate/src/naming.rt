@@ -1,11 +1,13 @@
 //! Which built-in service a name asks for.
 ghost use Rattle.std.specs.Prelude.{◌≡◌, ◌≤◌, ◌++◌, ℕ, true, List, length, map, take, codes, decimal, IfSome, Some, is_some, option_map};
 ghost use Rattle.std.specs.Char.{to_ascii_uppercase};
-ghost use Rattle.service_gate.specs.ServiceResult.{service, numbered_service, count_line, splits, exits, IsName, IsSmallCode, number_to as spelled_to};
+ghost use Rattle.service_gate.specs.ServiceResult.{service, numbered_service, count_line, splits, exits, IsName, IsSmallCode};
+ghost use Rattle.script_words.specs.Numbers.{number_of};
 ghost use Rattle.service_gate.specs.Triple.{Triple, writes};
-ghost use Rattle.service_gate.specs.Owing.{builtin_owes};
+ghost use Rattle.service_gate.specs.Owing.{state_owes};
 
-use crate::builtin::Builtin;
+use crate::builtin::State;
+use script_words::parse_number;
 
 /// The greatest N of `first+N`.
 const MOST_FIRST: u32 = 1_048_576;
@@ -13,62 +15,46 @@ const MOST_FIRST: u32 = 1_048_576;
 /// The greatest N of `exit+N`.
 const MOST_EXIT: u32 = 255;
 
-impl Builtin {
-    /// The service that the text names, before any input. `None` comes exactly where the text
-    /// names none: it is none of the six names, or its number is not in range, or not in decimal
-    /// digits without a leading zero.
-    #[tactic(auto, unfolding(crate::specs::ServiceResult::service))]
-    pub fn named(text: &[u8]) -> Option<Builtin>
-        ensures { (input : List ℕ) → service text.now input ≡ option_map (λ b. builtin_owes b input) result }
-    {
-        if text == b"echo".as_slice() {
-            return Some(Builtin::Echo);
-        }
-        if text == b"upper".as_slice() {
-            return Some(Builtin::Upper);
-        }
-        if text == b"count".as_slice() {
-            return Some(Builtin::Count { taken: 0 });
-        }
-        if text == b"split".as_slice() {
-            return Some(Builtin::Split { to_stderr: false });
-        }
-        numbered(text)
+/// The service of the name, before any input, where the text names one.
+#[tactic(auto, unfolding(crate::specs::ServiceResult::service))]
+pub(crate) fn state_named(text: &[u8]) -> Option<State>
+    ensures { (input : List ℕ) → service text.now input ≡ option_map (λ s. state_owes s input) result }
+{
+    if text == b"echo".as_slice() {
+        return Some(State::Echo);
     }
+    if text == b"upper".as_slice() {
+        return Some(State::Upper);
+    }
+    if text == b"count".as_slice() {
+        return Some(State::Count { taken: 0 });
+    }
+    if text == b"split".as_slice() {
+        return Some(State::Split { to_stderr: false });
+    }
+    numbered(text)
 }
 
 // The services whose names end in a number.
-fn numbered(name: &[u8]) -> Option<Builtin>
-    ensures { (input : List ℕ) → numbered_service name.now input ≡ option_map (λ b. builtin_owes b input) result }
+fn numbered(name: &[u8]) -> Option<State>
+    ensures { (input : List ℕ) → numbered_service name.now input ≡ option_map (λ s. state_owes s input) result }
 {
     if let Some(digits) = name.strip_prefix(b"first+") {
         let left = number_to(MOST_FIRST, digits)?;
-        return Some(Builtin::First { left });
+        return Some(State::First { left });
     }
     let digits = name.strip_prefix(b"exit+")?;
     let code = number_to(MOST_EXIT, digits)?;
-    Some(Builtin::Exit { code: code as u8 })
+    Some(State::Exit { code: code as u8 })
 }
 
-// The number that the text spells in decimal digits without a leading zero, or as `0`, where it
-// is at most `most`.
+// The number that the text spells, as `parse_number` reads it.
 fn number_to(most: u32, text: &[u8]) -> Option<u32>
-    ensures value { result ≡ spelled_to most text.now }
+    ensures value { result ≡ number_of most text.now }
     ensures in_range { IfSome result (λ n. n ≤ most) }
 {
-    if text.len() > 1 && text[0] == b'0' {
-        return None;
-    }
-    if !text.is_empty() && text[0] == b'+' {
-        return None;
-    }
-    let Ok(spelling) = str::from_utf8(text) else {
-        return None;
-    };
-    let Ok(number) = spelling.parse::<u32>() else {
-        return None;
-    };
-    if number <= most { Some(number) } else { None }
+    let number = parse_number(text, u64::from(most))?;
+    Some(number as u32)
 }
 
 /// What the services are, name by name: each of the six kinds of name has its service, and a text

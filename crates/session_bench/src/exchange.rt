@@ -6,11 +6,16 @@ use service_gate::Builtin;
 use std::alloc::Global;
 use vchan_io::Memory;
 
-/// Passes a call of `echo` with this input to its end, in pieces of at most `most` bytes, and answers how
-/// many bytes of output the caller got.
-pub(crate) fn exchange(alloc: Global, input: Vec<u8>, most: usize) -> Result<usize, Memory> {
+/// Passes a call of a service with this input to its end, in pieces of at most `most` bytes, and answers
+/// how many bytes of output the caller got.
+pub(crate) fn exchange(
+    alloc: Global,
+    service: Builtin,
+    input: Vec<u8>,
+    most: usize,
+) -> Result<usize, Memory> {
     let mut caller = Caller::new(alloc, input, 3, 65_536)?;
-    let mut serving = Serving::new(alloc, Builtin::Echo, 3, 65_536)?;
+    let mut serving = Serving::new(alloc, service, 3, 65_536)?;
     for _ in 0..u64::MAX {
         let asked = pass_on(&mut caller, &mut serving, most)?;
         let answered = pass_back(&mut caller, &mut serving, most)?;

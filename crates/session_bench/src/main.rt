@@ -9,6 +9,7 @@ mod exchange;
 
 use anyhow::{Context, Result, bail};
 use exchange::exchange;
+use service_gate::Builtin;
 use std::env;
 use std::rt::{Clock, Env};
 use std::time::Instant;
@@ -31,8 +32,9 @@ fn run<R: Env + Clock + Print + AllocGlobal>(rt: &R) -> Result<()> {
     let words = asked(rt)?;
     let (size, most) = words.unwrap_or((100_000, 1_024));
     let input = vec![in rt.alloc(); 0x61; size]?;
+    let echo = Builtin::named(b"echo").context("no service of this name")?;
     let start = Instant::now(rt)?;
-    let Ok(passed) = exchange(rt.alloc(), input, most) else {
+    let Ok(passed) = exchange(rt.alloc(), echo, input, most) else {
         bail!("out of memory");
     };
     let time = start.elapsed(rt)?;

@@ -1,5 +1,4 @@
 -- The readers of words and lines read the language.
 pub mod OrdersLaws
 pub mod NameLaws
-pub mod KeptLinesLaws
 pub mod ScriptLaws

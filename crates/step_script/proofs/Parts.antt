@@ -2,7 +2,6 @@
 pub mod HexLaws
 pub mod SpacedLaws
 pub mod EndPlayerLaws
-pub mod MovedBytes
 pub mod DoesLaws
 pub mod PlayerLaws
 pub mod RunningLaws

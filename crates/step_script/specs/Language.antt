@@ -1,7 +1,6 @@
 -- The language: which bytes are a script, and its lines as values.
 pub mod Tables
 pub mod Operands
-pub mod KeptLines
 pub mod Pokes
 pub mod Opening
 pub mod Script

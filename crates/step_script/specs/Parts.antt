@@ -1,7 +1,7 @@
 -- What only the code needs: what its parts stand for.
-pub mod LinesLeft
 pub mod Forms
 pub mod ScriptLines
 pub mod Readings
 pub mod Spaced
 pub mod Players
+pub mod Refusals

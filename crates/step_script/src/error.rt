@@ -1,7 +1,7 @@
 //! Why bytes aren't a script.
 ghost use Rattle.std.specs.Prelude.{◌≡◌};
 
-use script_words::ByteError;
+use script_words::{ByteFault, PushError, TooManyLines};
 use std::alloc::{AllocError, AllocFailed};
 use thiserror::Error;
 
@@ -89,21 +89,6 @@ pub(crate) enum LineError {
 impl LineError {
     ghost use Rattle.step_script.specs.Parts.Readings.{error_at};
 
-    /// The first line is none that opens a page.
-    pub(crate) const BAD_HEADER: LineError = LineError::Bad(ScriptKind::BadHeader);
-
-    /// The line is none that may stand there.
-    pub(crate) const BAD_LINE: LineError = LineError::Bad(ScriptKind::BadLine);
-
-    /// A word isn't a number, or is one out of range.
-    pub(crate) const BAD_NUMBER: LineError = LineError::Bad(ScriptKind::BadNumber);
-
-    /// A page can't have these two orders.
-    pub(crate) const BAD_ORDERS: LineError = LineError::Bad(ScriptKind::BadOrders);
-
-    /// With this line the byte strings have too many bytes.
-    pub(crate) const TOO_MANY_BYTES: LineError = LineError::Bad(ScriptKind::TooManyBytes);
-
     /// The error of the script whose line of this number it is.
     pub(crate) fn at(self, line: u32) -> ScriptError
         ensures { result ≡ error_at self line }
@@ -115,25 +100,71 @@ impl LineError {
     }
 }
 
-impl From<ByteError> for LineError {
+impl From<ScriptKind> for LineError {
+    ghost use Rattle.step_script.specs.declared.error.LineError.TheVariants.{Bad};
+
+    ghost from_gives = { λ kind e. e ≡ Bad kind };
+
+    fn from(kind: ScriptKind) -> LineError {
+        LineError::Bad(kind)
+    }
+}
+
+impl From<PushError> for LineError {
     ghost use Rattle.step_script.specs.Parts.Readings.{line_error_of};
 
-    ghost from_gives = { λ byte_error e. e ≡ line_error_of byte_error };
+    ghost from_gives = { λ push_error e. e ≡ line_error_of push_error };
 
-    fn from(error: ByteError) -> LineError {
+    fn from(error: PushError) -> LineError {
         match error {
-            ByteError::BadHex => LineError::Bad(ScriptKind::BadHex),
-            ByteError::Memory => LineError::Memory,
+            PushError::Bad(ByteFault::BadHex) => LineError::Bad(ScriptKind::BadHex),
+            PushError::Bad(ByteFault::TooManyBytes) => LineError::Bad(ScriptKind::TooManyBytes),
+            PushError::Memory => LineError::Memory,
         }
     }
 }
 
-impl From<AllocError> for LineError {
-    ghost use Rattle.step_script.specs.declared.error.LineError.TheVariants.{Memory};
+/// A bad line, found where nothing takes memory.
+#[derive(Clone, Copy, Debug, PartialEq, Eq)]
+pub(crate) struct BadLine {
+    /// The number of the line, from 1 on.
+    pub(crate) line: u32,
+    /// What is wrong with it.
+    pub(crate) kind: ScriptKind,
+}
 
-    ghost from_gives = { λ _ e. e ≡ Memory };
+impl From<TooManyLines> for BadLine {
+    ghost use Rattle.step_script.specs.Parts.Readings.{bad_line_of};
 
-    fn from(_refused: AllocError) -> LineError {
-        LineError::Memory
+    ghost from_gives = { λ many e. e ≡ bad_line_of many };
+
+    fn from(many: TooManyLines) -> BadLine {
+        BadLine {
+            line: many.line,
+            kind: ScriptKind::TooManyLines,
+        }
+    }
+}
+
+impl From<BadLine> for ScriptError {
+    ghost use Rattle.step_script.specs.Parts.Readings.{bad_script};
+
+    ghost from_gives = { λ bad e. e ≡ bad_script bad };
+
+    fn from(bad: BadLine) -> ScriptError {
+        ScriptError::Bad {
+            line: bad.line,
+            kind: bad.kind,
+        }
+    }
+}
+
+impl From<TooManyLines> for ScriptError {
+    ghost use Rattle.step_script.specs.Parts.Readings.{bad_line_of, bad_script};
+
+    ghost from_gives = { λ many e. e ≡ bad_script (bad_line_of many) };
+
+    fn from(many: TooManyLines) -> ScriptError {
+        ScriptError::from(BadLine::from(many))
     }
 }

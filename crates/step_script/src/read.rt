@@ -4,24 +4,23 @@ ghost use Rattle.std.specs.List.{All};
 ghost use Rattle.vchan_protocol.specs.declared.call.EndState.TheVariants.{Shut};
 ghost use Rattle.step_script.specs.Language.Grammar.{at_number, front_from, opening_of, opening_from, start_from, line_of, lines_from, script_of};
 ghost use Rattle.step_script.specs.Parts.Forms.{LineKeeps};
-ghost use Rattle.step_script.specs.Parts.LinesLeft.{lines_left};
-ghost use Rattle.step_script.specs.Parts.Readings.{Gives, IsScriptRefusal, Reads};
+ghost use Rattle.script_words.specs.LinesLeft.{lines_left};
+ghost use Rattle.step_script.specs.Parts.Readings.{CanBeOpened, FindsAt, GivesAt, IsScriptRefusal, Reads};
 ghost use Rattle.step_script.specs.Language.Script.{LineFits};
 ghost use Rattle.step_script.specs.Parts.ScriptLines.{line_with, lines_seen, payload_len};
 ghost use Rattle.script_words.specs.Words.{words_of};
 
-use crate::error::{LineError, ScriptError};
+use crate::error::{BadLine, ScriptError, ScriptKind};
 use crate::script::{Line, Opening, Script, ScriptLine};
 use line::read_line;
-use lines::{LineReader, NextLine};
 use opening::{read_opening, read_start, start_word};
 use ring_words::Orders;
+use script_words::{LineReader, NextLine};
 use smallvec::SmallVec;
 use std::alloc::Global;
 
 mod forms;
 mod line;
-pub(crate) mod lines;
 mod opening;
 mod operand;
 mod poke;
@@ -35,10 +34,12 @@ pub(crate) const MOST_BYTES: usize = 8_388_608;
 /// # Errors
 ///
 /// [`ScriptError::Bad`] exactly where the bytes are no script, with the first line that doesn't
-/// fit and what is wrong with it; `ScriptError::Memory`.
+/// fit and what is wrong with it; `ScriptError::Memory` only where the page's opening fits, and in
+/// place of a bad line only where memory was short for a line before it.
 pub fn parse(alloc: Global, bytes: &[u8]) -> Result<Script, ScriptError>
     ensures script { IfOk result (λ script. script_of bytes.now ≡ Ok script) }
     ensures bad { IfErr result (λ e. IsScriptRefusal e (script_of bytes.now)) }
+    ensures memory { result ≡ Err ScriptError.Memory → CanBeOpened bytes.now }
 {
     let mut reader = LineReader::of(bytes);
     let opening = read_front(&mut reader)?;
@@ -47,9 +48,9 @@ pub fn parse(alloc: Global, bytes: &[u8]) -> Result<Script, ScriptError>
 }
 
 /// Reads how the page is opened: the first line, and a `start` line where one comes next.
-pub(crate) fn read_front(reader: &mut LineReader) -> Result<Opening, ScriptError>
+pub(crate) fn read_front(reader: &mut LineReader) -> Result<Opening, BadLine>
     ensures opening { let due = front_from (lines_left reader.old) in
-        Reads (λ opening. (opening, lines_left reader.new)) result due }
+        FindsAt (λ opening. (opening, lines_left reader.new)) result due }
     ensures state { IfOk result (λ opening. opening.state ≢ Shut) }
 {
     let opening = read_first(reader)?;
@@ -58,21 +59,26 @@ pub(crate) fn read_front(reader: &mut LineReader) -> Result<Opening, ScriptError
 }
 
 /// Reads the first line.
-fn read_first(reader: &mut LineReader) -> Result<Opening, ScriptError>
+fn read_first(reader: &mut LineReader) -> Result<Opening, BadLine>
     ensures opening { let due = opening_from (lines_left reader.old) in
-        Reads (λ opening. (opening, lines_left reader.new)) result due }
+        FindsAt (λ opening. (opening, lines_left reader.new)) result due }
     ensures state { IfOk result (λ opening. opening.state ≢ Shut) }
 {
     match reader.next()? {
-        NextLine::Line { number, text } => read_opening(text).map_err(|error| error.at(number)),
-        NextLine::End { number } => Err(LineError::BAD_HEADER.at(number)),
+        NextLine::Line { number, text } => {
+            read_opening(text).map_err(|kind| BadLine { line: number, kind })
+        }
+        NextLine::End { number } => Err(BadLine {
+            line: number,
+            kind: ScriptKind::BadHeader,
+        }),
     }
 }
 
 /// Where all indices begin, by a `start` line where one comes next. Any other line stays.
-fn start_at(reader: &mut LineReader) -> Result<u32, ScriptError>
+fn start_at(reader: &mut LineReader) -> Result<u32, BadLine>
     ensures { let due = start_from (lines_left reader.old) in
-        Reads (λ start. (start, lines_left reader.new)) result due }
+        FindsAt (λ start. (start, lines_left reader.new)) result due }
 {
     let mut ahead = *reader;
     let NextLine::Line { number, text } = ahead.next()? else {
@@ -82,7 +88,7 @@ fn start_at(reader: &mut LineReader) -> Result<u32, ScriptError>
         return Ok(0);
     };
     *reader = ahead;
-    read_start(word).map_err(|error| error.at(number))
+    read_start(word).map_err(|kind| BadLine { line: number, kind })
 }
 
 /// Reads the lines behind the opening of a page with these orders.
@@ -118,7 +124,7 @@ pub(crate) fn read_line_at(
 ) -> Result<Line, ScriptError>
     requires { room ≤ 8388608 }
     ensures line { let due = line_of orders room (words_of text.now) in
-        Reads (λ line. line_with line payload.new.items) result (at_number number due) }
+        GivesAt (λ line. line_with line payload.new.items) result (at_number number due) }
     ensures fits { IfOk result (λ line. LineKeeps orders room (line_with line payload.new.items)) }
     ensures len { IfOk result (λ line. payload_len (line_with line payload.new.items) ≡ length payload.new.items) }
 {

@@ -1,13 +1,13 @@
 //! Reading a script and playing it in one pass.
-ghost use Rattle.std.specs.Prelude.{IfErr, IfOk};
+ghost use Rattle.std.specs.Prelude.{◌≡◌, IfErr, IfOk};
 ghost use Rattle.step_script.specs.Language.Grammar.{script_of};
-ghost use Rattle.step_script.specs.Parts.Readings.{IsScriptRefusal};
+ghost use Rattle.step_script.specs.Parts.Readings.{CanBeOpened, IsScriptRefusal};
 ghost use Rattle.step_script.specs.Meaning.ScriptText.{IsTextOf};
 
 use crate::error::ScriptError;
 use crate::player::Player;
-use crate::read::lines::{LineReader, NextLine};
 use crate::read::{MOST_BYTES, read_front, read_line_at};
+use script_words::{LineReader, NextLine};
 use std::alloc::Global;
 
 /// The text that a script prints: what [`text`](crate::text) gives of [`play`](crate::play) of
@@ -16,10 +16,12 @@ use std::alloc::Global;
 /// # Errors
 ///
 /// [`ScriptError::Bad`] exactly where the bytes are no script, with the first line that doesn't
-/// fit and what is wrong with it; `ScriptError::Memory`.
+/// fit and what is wrong with it; `ScriptError::Memory` only where the page's opening fits, and in
+/// place of a bad line only where memory was short for a line before it.
 pub fn script_text(alloc: Global, bytes: &[u8]) -> Result<Vec<u8>, ScriptError>
     ensures text { IfOk result (λ text. IsTextOf bytes.now text.items) }
     ensures bad { IfErr result (λ e. IsScriptRefusal e (script_of bytes.now)) }
+    ensures memory { result ≡ Err ScriptError.Memory → CanBeOpened bytes.now }
 {
     let mut reader = LineReader::of(bytes);
     let opening = read_front(&mut reader)?;

@@ -1,8 +1,13 @@
 -- The input of decode: the pieces of a stream as byte strings, one a line.
 -- Source: this project's own.
-use Rattle.std.specs.Prelude.{◌≡◌, ℕ, ◌+◌, ◌==◌, ◌||◌, nat_lt, Bool, List, [], ◌∷◌, ◌++◌, length, slice_index, if◌then◌else◌, Option, Some, None, Result, Ok, Err}
+use Rattle.std.specs.Prelude.{◌≡◌, ℕ, ◌+◌, ◌-◌, List, [], ◌++◌, length, Result, Ok, Err, IsOk}
 use Rattle.script_words.specs.Words.{lines_of}
-use Rattle.script_words.specs.ByteStrings.{byte_string}
+use Rattle.script_words.specs.KeptLines.{Lines, stops, refused, line, kept_lines}
+use Rattle.script_words.specs.ByteStrings.{at_most, byte_string}
+use Rattle.script_words.specs.declared.byte_string.ByteFault.{ByteFault}
+use Rattle.script_words.specs.declared.byte_string.ByteFault.TheVariants as fault
+use Rattle.script_words.specs.declared.byte_string.PushError.{PushError}
+use Rattle.script_words.specs.declared.byte_string.PushError.TheVariants as push
 use Rattle.stream_text.specs.declared.error.DecodeKind.{DecodeKind}
 use Rattle.stream_text.specs.declared.error.DecodeKind.TheVariants.{BadHex, TooManyLines, TooManyBytes}
 use Rattle.stream_text.specs.declared.error.DecodeError.{DecodeError}
@@ -14,37 +19,59 @@ abbrev pub ◌>>=◌ : {A B E : Type 0} → Result A E → (A → Result B E) �
 Ok x >>= f = f x
 Err e >>= f = Err e
 
--- an empty line, and one that begins with `#` (35)
-abbrev pub is_passed_over : List ℕ → Bool
-is_passed_over line = length line == 0 || slice_index line 0 == 35
+-- what is wrong with a line, by what is wrong with its byte string
+abbrev pub fault_kind : ByteFault → DecodeKind
+fault_kind fault.BadHex = BadHex
+fault_kind fault.TooManyBytes = TooManyBytes
 
--- the piece of a line of this number, after lines that spell so many bytes: all lines spell at most 8,388,608
-abbrev pub within_limit : ℕ → ℕ → Option (List ℕ) → Result (List ℕ) (ℕ × DecodeKind)
-within_limit number before None = Err (number, BadHex)
-within_limit number before (Some piece) =
-    if nat_lt 8388608 (before + length piece) then Err (number, TooManyBytes) else Ok piece
+-- the bytes of the line of this number, or what is wrong with it
+abbrev pub in_line : ℕ → Result (List ℕ) ByteFault → Result (List ℕ) (ℕ × DecodeKind)
+in_line number (Ok piece) = Ok piece
+in_line number (Err fault) = Err (number, fault_kind fault)
 
--- the same from the line's bytes: there are at most 65,536 lines, and one that is passed over has no bytes
+-- the piece of the line of this number, after lines that spell so many bytes: all lines spell at most 8,388,608
 abbrev pub piece_at : ℕ → ℕ → List ℕ → Result (List ℕ) (ℕ × DecodeKind)
-piece_at number before line =
-    if nat_lt 65536 number then Err (number, TooManyLines)
-    else if is_passed_over line then Ok []
-    else within_limit number before (byte_string line)
+piece_at number before text = in_line number (at_most (8388608 - before) (byte_string text))
 
--- the stream of the lines from this number on, after lines that spell so many bytes; or the number of
--- the first bad line, and what is wrong with it
-unfoldable pub stream_from : List (List ℕ) → ℕ → ℕ → Result (List ℕ) (ℕ × DecodeKind)
-stream_from [] number before = Ok []
-stream_from (line ∷ more) number before = do
-  piece ← piece_at number before line
-  rest ← stream_from more (number + 1) (before + length piece)
+-- the stream of these lines, after lines that spell so many bytes; or the number of the first bad line,
+-- and what is wrong with it
+unfoldable pub stream_from : Lines → ℕ → Result (List ℕ) (ℕ × DecodeKind)
+stream_from (stops number) before = Ok []
+stream_from (refused number) before = Err (number, TooManyLines)
+stream_from (line number text more) before = do
+  piece ← piece_at number before text
+  rest ← stream_from more (before + length piece)
   Ok (piece ++ rest)
 
--- the stream of an input: the pieces of its lines, counted from 1, one behind the other
-abbrev pub stream_of : List ℕ → Result (List ℕ) (ℕ × DecodeKind)
-stream_of input = stream_from (lines_of input) 1 0
+-- the lines of an input
+abbrev pub input_lines : List ℕ → Lines
+input_lines input = kept_lines 1 (lines_of input)
 
--- a refusal is the one that is due; want of memory is free
+-- the stream of an input: the pieces of its lines, one behind the other
+abbrev pub stream_of : List ℕ → Result (List ℕ) (ℕ × DecodeKind)
+stream_of input = stream_from (input_lines input) 0
+
+-- a refusal of an input is the one that is due; want of memory may come at a line before the first bad one
 abbrev pub IsRefusal : {A : Type 0} → DecodeError → Result A (ℕ × DecodeKind) → Type 0
-IsRefusal (error.Bad line kind) due = due ≡ Err (line, kind)
+IsRefusal (error.Bad number kind) due = due ≡ Err (number, kind)
 IsRefusal error.Memory due = Unit {0}
+
+-- a refusal of a line is the one that is due; want of memory comes only where the line is good
+abbrev pub IsLineRefusal : {A : Type 0} → DecodeError → Result A (ℕ × DecodeKind) → Type 0
+IsLineRefusal (error.Bad number kind) due = due ≡ Err (number, kind)
+IsLineRefusal error.Memory due = IsOk due
+
+-- the first line has a piece, or there is none
+abbrev pub FirstIsGood : Lines → Type 0
+FirstIsGood (stops number) = Unit {0}
+FirstIsGood (refused number) = ⊥
+FirstIsGood (line number text more) = IsOk (piece_at number 0 text)
+
+-- so that memory is taken before a bad line is found
+abbrev pub BeginsWell : List ℕ → Type 0
+BeginsWell input = FirstIsGood (input_lines input)
+
+-- why the line of this number gave no piece
+abbrev pub refused_at : ℕ → PushError → DecodeError
+refused_at number (push.Bad fault) = error.Bad number (fault_kind fault)
+refused_at number push.Memory = error.Memory

@@ -1,13 +1,13 @@
 //! Decoding a whole input.
 ghost use Rattle.std.specs.Prelude.{◌≡◌, IfErr, IfOk};
-ghost use Rattle.stream_text.specs.Input.{IsRefusal};
+ghost use Rattle.stream_text.specs.Input.{BeginsWell, IsRefusal};
 ghost use Rattle.stream_text.specs.Texts.{decoded};
 
 use crate::error::DecodeError;
 use crate::listing::Listing;
 use crate::piece::read_piece;
 use qrexec_frame::Channel;
-use script_words::first_line;
+use script_words::{LineReader, NextLine};
 use std::alloc::Global;
 
 /// The text of a captured stream. Each line of the input is a byte string, and the next piece of the
@@ -20,22 +20,20 @@ use std::alloc::Global;
 ///
 /// `Bad` exactly where a line is bad, with the first such line: the 65,537th is `TooManyLines`, else one
 /// that is no byte string `BadHex`, else one with which all byte strings have more than 8,388,608 bytes
-/// `TooManyBytes`. `Memory`.
+/// `TooManyBytes`. `Memory`, which in place of `Bad` comes only where a line before the bad one has a piece.
 pub fn decode_text(alloc: Global, channel: Channel, bytes: &[u8]) -> Result<Vec<u8>, DecodeError>
     ensures text { IfOk result (λ text. decoded channel bytes.now ≡ Ok text.items) }
     ensures bad { IfErr result (λ e. IsRefusal e (decoded channel bytes.now)) }
+    ensures memory { result ≡ Err DecodeError.Memory → BeginsWell bytes.now }
 {
     let mut listing = Listing::new(alloc, channel);
     let mut piece = Vec::new(alloc);
-    let mut number = 1u32;
     let mut total = 0usize;
-    let mut rest = bytes;
-    'lines: while let Some((line, after)) = first_line(rest) {
-        read_piece(&mut piece, number, total, line)?;
+    let mut reader = LineReader::of(bytes);
+    while let NextLine::Line { number, text } = reader.next()? {
+        read_piece(&mut piece, number, total, text)?;
         listing.take(piece.as_slice())?;
-        number += 1;
         total += piece.len();
-        rest = after;
     }
     Ok(listing.into_text()?)
 }

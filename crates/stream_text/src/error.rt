@@ -1,6 +1,7 @@
 //! Why an input was not decoded.
 ghost use Rattle.std.specs.Prelude.{◌≡◌};
 
+use script_words::{ByteFault, PushError, TooManyLines};
 use std::alloc::AllocError;
 use thiserror::Error;
 use vchan_io::Memory;
@@ -49,5 +50,40 @@ impl From<Memory> for DecodeError {
 
     fn from(_refused: Memory) -> DecodeError {
         DecodeError::Memory
+    }
+}
+
+impl From<TooManyLines> for DecodeError {
+    ghost use Rattle.stream_text.specs.declared.error.DecodeError.TheVariants as error;
+    ghost use Rattle.stream_text.specs.declared.error.DecodeKind.TheVariants as kind;
+
+    ghost from_gives = { λ many e. e ≡ error.Bad many.line kind.TooManyLines };
+
+    fn from(many: TooManyLines) -> DecodeError {
+        DecodeError::Bad {
+            line: many.line,
+            kind: DecodeKind::TooManyLines,
+        }
+    }
+}
+
+impl DecodeError {
+    ghost use Rattle.stream_text.specs.Input.{refused_at};
+
+    /// Why the line of this number gave no piece.
+    pub(crate) fn at(line: u32, refused: PushError) -> DecodeError
+        ensures { result ≡ refused_at line refused }
+    {
+        match refused {
+            PushError::Bad(ByteFault::BadHex) => DecodeError::Bad {
+                line,
+                kind: DecodeKind::BadHex,
+            },
+            PushError::Bad(ByteFault::TooManyBytes) => DecodeError::Bad {
+                line,
+                kind: DecodeKind::TooManyBytes,
+            },
+            PushError::Memory => DecodeError::Memory,
+        }
     }
 }

@@ -1,5 +1,5 @@
 -- The statuses of the program: their numbers, and the lines that it prints with them.
-use Rattle.std.specs.Prelude.{ℕ, List, [], ◌++◌, codes, decimal}
+use Rattle.std.specs.Prelude.{ℕ, List, [], ◌++◌, Option, Some, None, codes, decimal}
 use Rattle.step_script.specs.declared.error.ScriptKind.{ScriptKind}
 use Rattle.step_script.specs.declared.error.ScriptKind.TheVariants as script
 use Rattle.stream_text.specs.declared.error.DecodeKind.{DecodeKind}
@@ -9,6 +9,7 @@ use Rattle.vchan.specs.declared.status.Status.TheVariants.{Done, BadWords, ReadF
 use Rattle.vchan.specs.declared.status.Bad.{Bad}
 use Rattle.vchan.specs.declared.status.Bad.TheVariants.{Script, Decode}
 
+-- the number of a status
 abbrev pub code_of : Status → ℕ
 code_of Done = 0
 code_of BadWords = 2
@@ -17,6 +18,11 @@ code_of TooLong = 4
 code_of (BadInput bad) = 5
 code_of WriteFault = 6
 code_of OutOfMemory = 7
+
+-- the number that the program ends with: that of its status, or 8 where its words weren't handed over
+abbrev pub number_of_exit : Option Status → ℕ
+number_of_exit (Some status) = code_of status
+number_of_exit None = 8
 
 -- what is wrong with a line of a script, in the program's words
 abbrev pub script_word : ScriptKind → List ℕ

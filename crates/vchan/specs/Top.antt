@@ -8,12 +8,12 @@ use Rattle.step_script.specs.Language.Grammar.{script_of}
 use Rattle.step_script.specs.Meaning.ListScript.{ToldByLists}
 use Rattle.step_script.specs.Meaning.Played.{step_text}
 use Rattle.step_script.specs.declared.error.ScriptKind.{ScriptKind}
+use Rattle.step_script.specs.Parts.Readings.{CanBeOpened}
+use Rattle.stream_text.specs.Input.{BeginsWell}
 use Rattle.stream_text.specs.Texts.{decoded}
 use Rattle.stream_text.specs.declared.error.DecodeKind.{DecodeKind}
 use Rattle.vchan.specs.declared.command.Command.{Command}
 use Rattle.vchan.specs.declared.command.Command.TheVariants.{Step, Decode}
-use Rattle.vchan.specs.declared.output.OutputError.{OutputError}
-use Rattle.vchan.specs.declared.output.OutputError.TheVariants as error
 use Rattle.vchan.specs.declared.status.Status.{Status}
 use Rattle.vchan.specs.declared.status.Status.TheVariants.{Done, BadWords, ReadFault, TooLong, BadInput, WriteFault, OutOfMemory}
 use Rattle.vchan.specs.declared.status.Bad.{Bad}
@@ -54,10 +54,16 @@ abbrev pub Prints : List (List ℕ) → List ℕ → List ℕ → Type 0
 Prints words input text =
     (command : Command) × (command_of words ≡ Some command) × (output_of command input ≡ Ok text) × ToldIn command input text
 
--- the refusal of the input is the one that is due; want of memory is free
-abbrev pub IsDue : OutputError → Result (List ℕ) Bad → Type 0
-IsDue (error.Refused bad) due = due ≡ Err bad
-IsDue error.Memory due = Unit {0}
+-- the first line of the input is good, so that memory is taken before a bad line is found
+abbrev pub TakesMemory : Command → List ℕ → Type 0
+TakesMemory Step input = CanBeOpened input
+TakesMemory (Decode channel) input = BeginsWell input
+
+-- a status with which the program may end in place of a text for this input
+abbrev pub IsDue : Command → List ℕ → Status → Type 0
+IsDue command input (BadInput bad) = output_of command input ≡ Err bad
+IsDue command input OutOfMemory = TakesMemory command input
+IsDue command input _ = ⊥
 
 -- what a status says of the bytes taken, of the source afterwards, and of the sink for the output before and after
 abbrev pub Ends : Status → List (List ℕ) → List ℕ → Option (List ℕ) → ℕ → ℕ → Option (List ℕ) → Option (List ℕ) → ℕ → ℕ → Type 0

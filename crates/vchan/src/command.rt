@@ -1,4 +1,4 @@
-ghost use Rattle.std.specs.Prelude.{◌≡◌, map, string_bytes};
+ghost use Rattle.std.specs.Prelude.{◌≡◌, drop, map, string_bytes};
 ghost use Rattle.vchan.specs.Command.{channel_of, command_of};
 
 use stream_text::Channel;
@@ -31,5 +31,15 @@ fn channel_in(word: &String) -> Option<Channel>
         "control" => Some(Channel::Control),
         "data" => Some(Channel::Data),
         _ => None,
+    }
+}
+
+/// The words of a command among all arguments: those behind the first, which is the program's own name.
+pub fn command_words(arguments: &[String]) -> &[String]
+    ensures { result.now ≡ drop 1 arguments.now }
+{
+    match arguments {
+        [] => arguments,
+        [_, words @ ..] => words,
     }
 }

@@ -12,7 +12,8 @@ mod status;
 mod top;
 
 pub use about::{About, about_in, tell};
-pub use status::{Bad, Status};
+use command::command_words;
+pub use status::{Bad, Status, exit_number};
 use std::alloc::Global;
 use std::env;
 use std::process::ExitCode;
@@ -21,31 +22,31 @@ pub use stream_text::{Channel, DecodeError, DecodeKind, decode_text};
 pub use top::{GREATEST_INPUT, top};
 use vchan_io::{StdSink, StdSource};
 
-/// The program's status where it wasn't handed its words, as where one isn't UTF-8.
-const NO_WORDS: u8 = 8;
-
 fn main(rt: HostRuntime) -> ExitCode {
-    match words(&rt, rt.alloc()) {
-        Some(words) => {
-            let mut out = StdSink::new(rt.stdout());
-            let mut err = StdSink::new(rt.stderr());
-            let words = words.as_slice();
-            let status = match about_in(words) {
-                Some(about) => tell(about.text(), &mut out, &mut err),
-                None => {
-                    let mut source = StdSource::new(rt.stdin());
-                    top(rt.alloc(), words, &mut source, &mut out, &mut err)
-                }
-            };
-            ExitCode::from(status.code())
-        }
-        None => ExitCode::from(NO_WORDS),
-    }
+    let status = match arguments(&rt, rt.alloc()) {
+        Some(arguments) => Some(carry_out(&rt, command_words(arguments.as_slice()))),
+        None => None,
+    };
+    ExitCode::from(exit_number(status))
 }
 
-/// The words after the program's own name.
-fn words(rt: &(impl Env + AllocGlobal), alloc: Global) -> Option<Vec<String>> {
-    env::args(rt).ok()?.skip(1).collect(alloc).ok()
+/// All that the program was handed, its own name first. It is `None` where one is no UTF-8, and where
+/// memory is short.
+fn arguments(rt: &(impl Env + AllocGlobal), alloc: Global) -> Option<Vec<String>> {
+    env::args(rt).ok()?.collect(alloc).ok()
+}
+
+/// Does what these words say, with the real source and sinks.
+fn carry_out(rt: &HostRuntime, words: &[String]) -> Status {
+    let mut out = StdSink::new(rt.stdout());
+    let mut err = StdSink::new(rt.stderr());
+    match about_in(words) {
+        Some(about) => tell(about.text(), &mut out, &mut err),
+        None => {
+            let mut source = StdSource::new(rt.stdin());
+            top(rt.alloc(), words, &mut source, &mut out, &mut err)
+        }
+    }
 }
 
 #[cfg(test)]

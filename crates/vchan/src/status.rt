@@ -1,5 +1,5 @@
 ghost use Rattle.std.specs.Prelude.{◌≡◌};
-ghost use Rattle.vchan.specs.Status.{code_of};
+ghost use Rattle.vchan.specs.Status.{code_of, number_of_exit};
 
 use step_script::ScriptKind;
 use stream_text::DecodeKind;
@@ -59,5 +59,19 @@ impl Status {
             Status::WriteFault => 6,
             Status::OutOfMemory => 7,
         }
+    }
+}
+
+/// The number that the program ends with where its words weren't handed over, as where one isn't UTF-8.
+const NO_WORDS: u8 = 8;
+
+/// The number that the program ends with: that of its status, or 8 where it has none since its words
+/// weren't handed over.
+pub fn exit_number(status: Option<Status>) -> u8
+    ensures { result ≡ number_of_exit status }
+{
+    match status {
+        Some(status) => status.code(),
+        None => NO_WORDS,
     }
 }

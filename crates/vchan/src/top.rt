@@ -5,7 +5,7 @@ ghost use Rattle.vchan.specs.Status.{status_line, bad_input, bad_line, script_wo
 ghost use Rattle.vchan.specs.Top.{IsRun};
 
 use crate::command::command_in;
-use crate::output::{OutputError, output};
+use crate::output::output;
 use crate::status::{Bad, Status};
 use itoa::Buffer;
 use std::alloc::Global;
@@ -60,8 +60,7 @@ fn run<S: Source, K: Sink>(alloc: Global, words: &[String], source: &mut S, out:
     };
     let output = match output(alloc, command, input.as_slice()) {
         Ok(output) => output,
-        Err(OutputError::Refused(bad)) => return Status::BadInput { bad },
-        Err(OutputError::Memory) => return Status::OutOfMemory,
+        Err(status) => return status,
     };
     match write_all(out, output.as_slice()) {
         Ok(()) => Status::Done,

@@ -3,3 +3,4 @@ pub mod RunLaws
 pub mod LoopLaws
 pub mod LookLaws
 pub mod PieceLaws
+pub mod AdvanceLaws

@@ -1,3 +1,4 @@
 -- What a machine still does of its call.
 pub mod Phases
 pub mod Ahead
+pub mod Refusals

@@ -11,13 +11,17 @@ mod carry;
 mod machine;
 mod phase;
 mod plain;
+mod refusal;
+mod start;
 mod steps;
 mod totals;
 mod whole_call;
-mod words;
+pub mod words;
 
 pub use machine::{Ahead, Machine, Span};
 pub use plain::Plain;
+pub use refusal::Refusal;
+pub use start::start_words;
 pub use steps::Steps;
 pub use vchan_protocol::{
     Answer, Asked, Begun, Bit, Call, EndState, EndedBy, Notes, Op, PastEvent, Side, laws,

@@ -1,4 +1,5 @@
 use crate::phase::{Next, Phase};
+use crate::refusal::Refusal;
 use crate::words::{
     ask_word, cons_word, mask, notify_word, own_gone, own_live, own_pending, peer_gone, peer_live,
     peer_pending, prod_word, read_ring, written_ring,
@@ -27,14 +28,15 @@ pub struct Machine {
 }
 
 impl Machine {
-    ghost use Rattle.std.specs.Prelude.{◌≡◌, ◌↔◌, ◌+◌, ◌-◌, ◌++◌, ◌∷◌, [], List, IsTrue, IsSome, ◌≢◌, ◌≤◌, ℕ};
+    ghost use Rattle.std.specs.Prelude.{◌≡◌, ◌↔◌, ◌+◌, ◌-◌, ◌++◌, ◌∷◌, [], List, IsTrue, IsSome, IsNone, ◌≢◌, ◌≤◌, ℕ};
     ghost use Rattle.ring_words.specs.Page.{order_of, Has};
     ghost use Rattle.ring_words.specs.Rings.{place as place_of};
     ghost use Rattle.vchan_protocol.specs.Table.Apply.{Fits};
     ghost use Rattle.vchan_protocol.specs.Table.Plan.{next_op, after, rest_after, past};
     ghost use Rattle.vchan_protocol.specs.Table.Ends.{Standing, written_ring as written_ring_of, read_ring as read_ring_of, ask_word as ask_word_of, notify_word as notify_word_of, peer_live as peer_live_of, peer_pending as peer_pending_of, prod_word as prod_word_of, cons_word as cons_word_of, mask as mask_of, own_live as own_live_of, own_gone as own_gone_of, own_pending as own_pending_of, peer_gone as peer_gone_of, free_at, ready_at, read_size, standing_after};
-    ghost use Rattle.vchan_protocol.specs.Table.Calls.{plan_of, payload_of, loaded_most, IsAllowed};
-    ghost use Rattle.vchan_core.specs.OneMachine.Phases.{standing, rest, rest_at, plan_at, rest_or_answer, IsIdle, Allows, payload_at, buffer_at, payload_needed, buffer_needed, payload_next, buffer_next, Stands, StandsOrAnswered};
+    ghost use Rattle.vchan_protocol.specs.Table.Calls.{plan_of, payload_of, loaded_most};
+    ghost use Rattle.vchan_core.specs.OneMachine.Refusals.{refusal_of};
+    ghost use Rattle.vchan_core.specs.OneMachine.Phases.{standing, at_phase, rest, rest_at, plan_at, rest_or_answer, IsIdle, Allows, payload_at, buffer_at, payload_needed, buffer_needed, payload_next, buffer_next, Stands, StandsOrAnswered};
     ghost use Rattle.vchan_protocol.specs.declared.call.Call.{Call};
     ghost use Rattle.vchan_protocol.specs.declared.call.Answer.{Answer};
     ghost use Rattle.vchan_protocol.specs.declared.op.PastEvent.{PastEvent};
@@ -54,6 +56,20 @@ impl Machine {
             cons: start,
             phase: None,
         }
+    }
+
+    /// Which end it is.
+    pub fn role(&self) -> Role
+        ensures { result ≡ (standing self.now).role }
+    {
+        self.role
+    }
+
+    /// The orders of the page's rings.
+    pub fn orders(&self) -> Orders
+        ensures { result ≡ (standing self.now).orders }
+    {
+        self.orders
     }
 
     /// Whether the end is between two calls.
@@ -78,28 +94,46 @@ impl Machine {
         (self.prod, self.cons)
     }
 
-    /// Whether this call may be begun now: between two calls, a connect on a fresh client, a close
-    /// on an end that isn't shut, a retire in any state, and every other call on an open end. A
-    /// drain asks for at least one byte.
+    /// Whether this call may be begun now: [`Machine::refusal`] names no reason against it.
     pub fn allows(&self, call: Call) -> bool
         ensures { IsTrue result ↔ Allows self.now call }
     {
-        self.phase.is_none() && self.may_begin(call)
+        self.refusal(call).is_none()
     }
 
-    fn may_begin(&self, call: Call) -> bool
-        ensures { IsTrue result ↔ IsAllowed self.now.role self.now.state call }
+    /// Why this call can't be begun now: the first reason that applies, and none exactly where it may
+    /// be begun. Between two calls a fresh client may connect, an end that isn't shut may close, an end
+    /// in any state may retire, and an open end may begin every other call; a drain asks for at least
+    /// one byte.
+    #[inline(always)]
+    pub fn refusal(&self, call: Call) -> Option<Refusal>
+        ensures refusal { result ≡ refusal_of self.now call }
+        ensures none { IsNone result ↔ Allows self.now call }
     {
-        match (call, self.state) {
-            (Call::Retire, _) => true,
-            (Call::Close, EndState::Shut) => false,
-            (Call::Close, _) => true,
-            (Call::Connect, EndState::Fresh) => matches!(self.role, Role::Client),
-            (Call::Connect, _) => false,
-            (Call::Drain { most }, EndState::Open) => most > 0,
-            (_, EndState::Open) => true,
-            _ => false,
+        if self.phase.is_some() {
+            return Some(Refusal::Busy);
         }
+        match (self.state, call) {
+            (EndState::Open, Call::Connect) => Some(Refusal::Connected),
+            (EndState::Open, Call::Drain { most: 0 }) => Some(Refusal::NoBytes),
+            (EndState::Open, _) | (_, Call::Retire) => None,
+            (EndState::Shut, _) => Some(Refusal::Shut),
+            (EndState::Fresh, Call::Close) => None,
+            (EndState::Fresh, Call::Connect) if matches!(self.role, Role::Client) => None,
+            (EndState::Fresh, _) => Some(Refusal::Unconnected),
+        }
+    }
+
+    /// The most bytes that a call takes from the ring that the end reads.
+    pub fn most_taken(&self, call: Call) -> u32
+        ensures { result ≡ loaded_most (standing self.now) call }
+    {
+        let most = match call {
+            Call::Read { most } | Call::Drain { most } => most,
+            Call::Recv { len } => len,
+            _ => return 0,
+        };
+        most.min(self.orders.order_of(self.read()).size())
     }
 
     /// Begins a call, and makes no event.
@@ -230,31 +264,28 @@ impl Machine {
         next
     }
 
-    /// Takes the event of a phase into its own counts and its state: an own index that it stores is
-    /// its count, and its own live byte makes its state.
-    #[tactic(auto, using(vchan_protocol::proofs::Table::PlanLaws::bytes_laws), unfolding(vchan_protocol::specs::Table::Ends::standing_after, crate::specs::OneMachine::Phases::rest_at, vchan_protocol::specs::Table::Calls::write, vchan_protocol::specs::Table::Calls::write_open, vchan_protocol::specs::Table::Calls::read, vchan_protocol::specs::Table::Calls::read_live, vchan_protocol::specs::Table::Calls::send, vchan_protocol::specs::Table::Calls::send_open, vchan_protocol::specs::Table::Calls::recv, vchan_protocol::specs::Table::Calls::recv_live, vchan_protocol::specs::Table::Calls::drain, vchan_protocol::specs::Table::Calls::drain_second, vchan_protocol::specs::Table::Calls::drain_live, vchan_protocol::specs::Table::Calls::drain_further, vchan_protocol::specs::Table::Calls::drain_gone, vchan_protocol::specs::Table::Calls::drain_last, vchan_protocol::specs::Table::Calls::connect, vchan_protocol::specs::Table::Calls::connect_right))]
+    /// Takes the phase out of a machine that is inside a call: the machine is then as one between two
+    /// calls, and its caller has the phase.
     #[inline(always)]
-    fn count(&mut self, phase: Phase)
-        ensures standing { standing self.new ≡ standing_after (standing self.old) (next_op (rest_at (standing self.old) phase)) }
-        ensures role { self.new.role ≡ self.old.role }
-        ensures orders { self.new.orders ≡ self.old.orders }
-        ensures phase { self.new.phase ≡ self.old.phase }
+    pub(crate) fn take_phase(&mut self) -> Phase
+        requires { ¬ IsIdle self.old }
+        ensures idle { IsIdle self.new }
+        ensures standing { standing self.new ≡ standing self.old }
+        ensures phase { self.old ≡ at_phase self.new result }
     {
-        match phase {
-            Phase::Put { at, count, .. } if at >= count => {
-                self.prod = self.prod.wrapping_add(count);
-            }
-            Phase::Take { at, count, .. } if at >= count => {
-                self.cons = self.cons.wrapping_add(count);
-            }
-            Phase::ConnectStore => {
-                if matches!(self.role, Role::Client) {
-                    self.state = EndState::Open;
-                }
-            }
-            Phase::CloseStore | Phase::RetireStore => self.state = EndState::Shut,
-            _ => {}
-        }
+        let Some(phase) = self.phase else {
+            unreachable!()
+        };
+        self.phase = None;
+        phase
+    }
+
+    /// Puts a phase back that was taken out.
+    #[inline(always)]
+    pub(crate) fn set_phase(&mut self, phase: Phase)
+        ensures { self.new ≡ at_phase self.old phase }
+    {
+        self.phase = Some(phase);
     }
 
     /// Drops the call under way, as where the end is turned over to a hostile user.
@@ -266,62 +297,6 @@ impl Machine {
     }
 
     // ---- the events
-
-    #[tactic(auto, using(vchan_protocol::proofs::Table::PlanLaws::bytes_laws), unfolding(crate::specs::OneMachine::Phases::rest_at, vchan_protocol::specs::Table::Calls::write, vchan_protocol::specs::Table::Calls::write_open, vchan_protocol::specs::Table::Calls::read, vchan_protocol::specs::Table::Calls::read_live, vchan_protocol::specs::Table::Calls::send, vchan_protocol::specs::Table::Calls::send_open, vchan_protocol::specs::Table::Calls::recv, vchan_protocol::specs::Table::Calls::recv_live, vchan_protocol::specs::Table::Calls::drain, vchan_protocol::specs::Table::Calls::drain_second, vchan_protocol::specs::Table::Calls::drain_live, vchan_protocol::specs::Table::Calls::drain_further, vchan_protocol::specs::Table::Calls::drain_gone, vchan_protocol::specs::Table::Calls::drain_last, vchan_protocol::specs::Table::Calls::connect, vchan_protocol::specs::Table::Calls::connect_right))]
-    #[inline(always)]
-    pub(crate) fn op_at(&self, phase: Phase) -> Op
-        ensures op { result ≡ next_op (rest_at (standing self.now) phase) }
-        ensures some { result ≢ Op.Nothing }
-        ensures fits { Fits self.now.orders (payload_at phase) (buffer_at (read_size (standing self.now)) phase) result }
-    {
-        match phase {
-            Phase::WriteLive { .. }
-            | Phase::SendLive { .. }
-            | Phase::ReadLive { .. }
-            | Phase::RecvLive { .. }
-            | Phase::DrainLive { .. } => self.load_live(),
-            Phase::WriteLook { .. }
-            | Phase::WriteLookAgain { .. }
-            | Phase::SendLook { .. }
-            | Phase::SendLookAgain { .. }
-            | Phase::SpaceLook => self.look_write(),
-            Phase::ReadLook { .. }
-            | Phase::ReadLookAgain { .. }
-            | Phase::RecvLook { .. }
-            | Phase::RecvLookAgain { .. }
-            | Phase::ReadyLook
-            | Phase::DrainLook { .. }
-            | Phase::DrainSecond { .. }
-            | Phase::DrainFurther { .. }
-            | Phase::DrainLast { .. } => self.look_read(),
-            Phase::WriteAsk { .. } | Phase::SendAsk { .. } | Phase::SpaceAsk => self.ask(
-                Bit::Consumed,
-            ),
-            Phase::ReadAsk { .. }
-            | Phase::RecvAsk { .. }
-            | Phase::DrainAsk { .. }
-            | Phase::ReadyAsk => self.ask(Bit::Written),
-            Phase::DrainGone { .. } | Phase::LoadGone => self.load_gone(),
-            Phase::ConnectLeft => Op::Load {
-                word: WordName::LeftOrder,
-            },
-            Phase::ConnectRight { .. } => Op::Load {
-                word: WordName::RightOrder,
-            },
-            Phase::ConnectStore => Op::Store {
-                word: WordName::CliLive,
-                value: 1,
-            },
-            Phase::CloseStore | Phase::RetireStore => self.store_live(),
-            Phase::RetireSignal => self.signal(),
-            Phase::GoneStore => self.store_gone(),
-            Phase::TakePending => self.take_pending(),
-            Phase::Put { at, count, .. } => self.put_event(at, count),
-            Phase::Take { at, count, .. } => self.take_event(at, count),
-            Phase::Notify { bit, .. } => self.notify(bit),
-            Phase::Signal { .. } => self.signal(),
-        }
-    }
 
     fn look_read(&self) -> Op
         ensures { result ≡ Op.Load (prod_word_of (read_ring_of self.now.role)) }

@@ -1,12 +1,11 @@
-ghost use Rattle.std.specs.Prelude.{◌≡◌, ◌≢◌, ℕ, ◌<◌, ◌≤◌, ◌+◌, ◌^◌, ◌∷◌, ◌++◌, [], List, length, take, ◌↔◌, IsSome, IfOk, IsTrue, true, false, slice_set};
+ghost use Rattle.std.specs.Prelude.{◌≡◌, ◌≢◌, ℕ, ◌<◌, ◌≤◌, ◌+◌, ◌^◌, ◌∷◌, ◌++◌, [], List, length, take, ◌↔◌, IsSome, IfOk, IsTrue, true, false, not, ◌==◌, slice_index, slice_set};
 ghost use Rattle.ring_words.specs.declared.page.Role.TheVariants.{Server, Client};
 
 use crate::carry::carry_out;
 use crate::machine::Machine;
-use crate::phase::{Next, Phase};
-use crate::steps::Steps;
+use crate::start::start_words;
 use crate::totals::Totals;
-use crate::words::peer_pending;
+use crate::words::{own_gone, peer_pending};
 use ring_words::{Layout, Orders, Ring, Role, WordName, Words};
 use std::alloc::Global;
 use std::sync::ledger::Ledger;
@@ -35,7 +34,7 @@ pub struct Plain {
 impl Plain {
     ghost use Rattle.vchan_protocol.specs.Table.Apply.{Fits, words_after, value_taken, buffer_after, filled};
     ghost use Rattle.vchan_protocol.specs.Table.Plan.{after, next_op, past};
-    ghost use Rattle.vchan_protocol.specs.Table.Ends.{Standing, standing_after, peer_pending as peer_pending_of};
+    ghost use Rattle.vchan_protocol.specs.Table.Ends.{Standing, standing_after, own_gone as own_gone_of, peer_pending as peer_pending_of};
     ghost use Rattle.ring_words.specs.Rings.{diff};
     ghost use Rattle.vchan_protocol.specs.Table.Calls.{plan_of, payload_of, loaded_most, most_events, Trace};
     ghost use Rattle.vchan_core.specs.OneMachine.Phases.{standing, at_phase, rest, rest_at, plan_at, rest_or_answer, IsIdle, Allows, payload_needed, buffer_needed, payload_at, buffer_at, payload_next, buffer_next, Stands, StandsOrAnswered};
@@ -68,33 +67,8 @@ impl Plain {
         ensures stands { IfOk result (λ page. StandsFor (opened orders start said state) page) }
         ensures invariant { IfOk result (λ page. Invariant (opened orders start said state)) }
     {
-        let index = u64::from(start);
-        let live = match state {
-            EndState::Fresh => 2,
-            EndState::Open => 1,
-            EndState::Shut => 0,
-        };
-        let head = [
-            index,
-            index,
-            index,
-            index,
-            u64::from(said.0),
-            u64::from(said.1),
-            live,
-            1,
-            1,
-            1,
-            0,
-            0,
-            0,
-            0,
-        ];
-        let mut list = Vec::with_capacity(alloc, Layout::new(orders).count())?;
-        list.extend_from_slice(&head)?;
-        list.resize(Layout::new(orders).count(), 0)?;
         Ok(Plain {
-            words: Words::of(orders, list),
+            words: start_words(alloc, orders, start, said, state)?,
             server: Machine::new(Role::Server, orders, EndState::Open, start),
             client: Machine::new(Role::Client, orders, state, start),
             left: Totals::NONE,
@@ -130,6 +104,13 @@ impl Plain {
             Role::Server => self.server_turned,
             Role::Client => self.client_turned,
         }
+    }
+
+    /// Whether an end has retired: its own gone word is set.
+    pub fn has_retired(&self, who: Role) -> bool
+        ensures { result ≡ not (slice_index (words_of self.now) (index_of (orders_of self.now) (own_gone_of who)) == 0) }
+    {
+        self.words.load(own_gone(who)) != 0
     }
 
     /// How many bytes the writer of a ring has sent. It stays at 18446744073709551615 once it

@@ -19,6 +19,9 @@ mod events;
 mod looks;
 mod pieces;
 
+/// The most looks that are made at once.
+const MOST_LOOKS: u32 = 2;
+
 impl Plain {
     ghost use Rattle.vchan_protocol.specs.Table.Apply.{Fits, words_after, value_taken, buffer_after, filled};
     ghost use Rattle.vchan_protocol.specs.Table.Plan.{after, next_op, past};
@@ -37,6 +40,7 @@ impl Plain {
     ghost use Rattle.vchan_core.specs.WholeCall.EventsMade.{MakesEvents};
     ghost use Rattle.vchan_core.specs.WholeCall.Beside.{IsBeside};
     ghost use Rattle.vchan_core.specs.WholeCall.AtPhase.{page_at, page_to};
+    ghost use Rattle.vchan_core.specs.WholeCall.Stepped.{Advances};
     ghost use Rattle.vchan_core.specs.Page.StandsFor.{machine_of, other_of, words_of, orders_of, turned_of, other_turned_of, op_of, StandsFor, HasPayload};
     ghost use Rattle.vchan_protocol.specs.declared.call.Call.{Call};
     ghost use Rattle.vchan_protocol.specs.declared.op.PastEvent.{PastEvent};
@@ -60,6 +64,7 @@ impl Plain {
     /// how many they were, and the phase then.
     #[inline(always)]
     fn look_ahead(&self, who: Role, phase: Phase) -> (u32, Phase)
+        ensures most { result.0 ≤ MOST_LOOKS }
         ensures low { ((standing (machine_of self.now who)).prod < 2 ^ 32) × ((standing (machine_of self.now who)).cons < 2 ^ 32) }
         ensures events { (payload : List ℕ) → (buffer : List ℕ)
             → MakesEvents result.0 (orders_of self.now) payload (at_phase (machine_of self.now who) phase) (words_of self.now) buffer (at_phase (machine_of self.now who) result.1) (words_of self.now) buffer }
@@ -90,33 +95,107 @@ impl Plain {
         match who {
             Role::Server => self
                 .server
-                .move_piece(who, phase, u32::MAX, &mut self.words, payload, buf),
+                .move_piece(who, phase, &mut self.words, payload, buf),
             Role::Client => self
                 .client
-                .move_piece(who, phase, u32::MAX, &mut self.words, payload, buf),
+                .move_piece(who, phase, &mut self.words, payload, buf),
         }
     }
 
-    /// The next events of an end that is inside a call, at most so many, as long as they are all on
-    /// bytes of one piece of a ring. It answers how many they were; none gives an answer. The
-    /// conditions are those of `step`.
+    /// [`Plain::look_ahead`] where it makes at most so many events, and else no look.
     #[inline(always)]
-    pub fn step_piece(&mut self, who: Role, most: u32, payload: &[u8], buf: &mut [u8]) -> u32
-        requires busy { ¬ IsIdle (machine_of self.old who) }
-        requires payload { payload_needed (machine_of self.old who) ≤ length payload.now }
-        requires buf { buffer_needed (machine_of self.old who) ≤ length buf.old }
-        ensures within { result ≤ most }
+    fn look_few(&self, who: Role, phase: Phase, most: u32) -> (u32, Phase)
+        ensures within { result.0 ≤ most }
+        ensures low { ((standing (machine_of self.now who)).prod < 2 ^ 32) × ((standing (machine_of self.now who)).cons < 2 ^ 32) }
+        ensures events { (payload : List ℕ) → (buffer : List ℕ)
+            → MakesEvents result.0 (orders_of self.now) payload (at_phase (machine_of self.now who) phase) (words_of self.now) buffer (at_phase (machine_of self.now who) result.1) (words_of self.now) buffer }
+    {
+        let _counts = self.machine(who).counts();
+        if most < MOST_LOOKS {
+            return (0, phase);
+        }
+        self.look_ahead(who, phase)
+    }
+
+    /// [`Plain::move_piece`] of at most so many events.
+    #[inline(always)]
+    fn move_few(
+        &mut self,
+        who: Role,
+        phase: Phase,
+        most: u32,
+        payload: &[u8],
+        buf: &mut [u8],
+    ) -> (u32, Phase)
+        requires payload { payload_at phase ≤ length payload.now }
+        requires buf { buffer_at (read_size (standing (machine_of self.old who))) phase ≤ length buf.old }
+        ensures within { result.0 ≤ most }
         ensures page { IsBeside who self.old self.new }
+        ensures machine { machine_of self.new who ≡ machine_of self.old who }
         ensures low { ((standing (machine_of self.old who)).prod < 2 ^ 32) × ((standing (machine_of self.old who)).cons < 2 ^ 32) }
-        ensures events { MakesEvents result (orders_of self.old) payload.now (machine_of self.old who) (words_of self.old) buf.old (machine_of self.new who) (words_of self.new) buf.new }
+        ensures events { MakesEvents result.0 (orders_of self.old) payload.now (at_phase (machine_of self.old who) phase) (words_of self.old) buf.old (at_phase (machine_of self.old who) result.1) (words_of self.new) buf.new }
     {
         match who {
             Role::Server => self
                 .server
-                .step_piece(who, most, &mut self.words, payload, buf),
+                .move_few(who, phase, most, &mut self.words, payload, buf),
             Role::Client => self
                 .client
-                .step_piece(who, most, &mut self.words, payload, buf),
+                .move_few(who, phase, most, &mut self.words, payload, buf),
+        }
+    }
+
+    /// The events of an end that come next as long as they are looks that give no answer, and then on
+    /// bytes of one piece of a ring; at most so many. It answers how many they were, and the phase then.
+    #[inline(always)]
+    fn go_ahead(
+        &mut self,
+        who: Role,
+        phase: Phase,
+        most: u32,
+        payload: &[u8],
+        buf: &mut [u8],
+    ) -> (u32, Phase)
+        requires payload { payload_at phase ≤ length payload.now }
+        requires buf { buffer_at (read_size (standing (machine_of self.old who))) phase ≤ length buf.old }
+        ensures within { result.0 ≤ most }
+        ensures page { IsBeside who self.old self.new }
+        ensures machine { machine_of self.new who ≡ machine_of self.old who }
+        ensures payload_left { payload_at result.1 ≤ payload_at phase }
+        ensures buffer_left { buffer_at (read_size (standing (machine_of self.old who))) result.1 ≤ buffer_at (read_size (standing (machine_of self.old who))) phase }
+        ensures low { ((standing (machine_of self.old who)).prod < 2 ^ 32) × ((standing (machine_of self.old who)).cons < 2 ^ 32) }
+        ensures events { MakesEvents result.0 (orders_of self.old) payload.now (at_phase (machine_of self.old who) phase) (words_of self.old) buf.old (at_phase (machine_of self.old who) result.1) (words_of self.new) buf.new }
+    {
+        let (looks, looked) = self.look_few(who, phase, most);
+        let (moved, at) = self.move_few(who, looked, most - looks, payload, buf);
+        (looks + moved, at)
+    }
+
+    /// Takes the phase of an end that is inside a call out of its machine.
+    #[inline(always)]
+    fn take_phase(&mut self, who: Role) -> Phase
+        requires { ¬ IsIdle (machine_of self.old who) }
+        ensures idle { IsIdle (machine_of self.new who) }
+        ensures page { IsBeside who self.old self.new }
+        ensures words { words_of self.new ≡ words_of self.old }
+        ensures phase { machine_of self.old who ≡ at_phase (machine_of self.new who) result }
+    {
+        match who {
+            Role::Server => self.server.take_phase(),
+            Role::Client => self.client.take_phase(),
+        }
+    }
+
+    /// Puts the phase of an end back into its machine.
+    #[inline(always)]
+    fn set_phase(&mut self, who: Role, phase: Phase)
+        ensures page { IsBeside who self.old self.new }
+        ensures words { words_of self.new ≡ words_of self.old }
+        ensures phase { machine_of self.new who ≡ at_phase (machine_of self.old who) phase }
+    {
+        match who {
+            Role::Server => self.server.set_phase(phase),
+            Role::Client => self.client.set_phase(phase),
         }
     }
 
@@ -206,5 +285,42 @@ impl Plain {
                 Next::Done(answer) => return answer,
             }
         }
+    }
+
+    /// At most so many events of an end that is inside a call, up to its answer: fewer only where the
+    /// answer came. The conditions are those of `step`.
+    pub fn advance(
+        &mut self,
+        who: Role,
+        most: u32,
+        payload: &[u8],
+        buf: &mut [u8],
+    ) -> Option<Answer>
+        requires busy { ¬ IsIdle (machine_of self.old who) }
+        requires payload { payload_needed (machine_of self.old who) ≤ length payload.now }
+        requires buf { buffer_needed (machine_of self.old who) ≤ length buf.old }
+        ensures advances { (core : Core) → StandsFor core self.old → HasPayload (side_of core who) payload.now → Advances core who most self.new buf.old buf.new result }
+        ensures idle { IsSome result ↔ IsIdle (machine_of self.new who) }
+        ensures payload_left { payload_needed (machine_of self.new who) ≤ payload_needed (machine_of self.old who) }
+        ensures buffer_left { buffer_needed (machine_of self.new who) ≤ buffer_needed (machine_of self.old who) }
+        ensures other { other_of self.new who ≡ other_of self.old who }
+    {
+        let mut phase = self.take_phase(who);
+        let mut left = most;
+        'events: while left > 0 {
+            let (made, at) = self.go_ahead(who, phase, left, payload, buf);
+            phase = at;
+            left -= made;
+            if left == 0 {
+                break;
+            }
+            match self.event(who, at, payload, buf) {
+                Next::To(next) => phase = next,
+                Next::Done(answer) => return Some(answer),
+            }
+            left -= 1;
+        }
+        self.set_phase(who, phase);
+        None
     }
 }

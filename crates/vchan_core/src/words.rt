@@ -6,7 +6,7 @@ use ring_words::{Ring, Role, WordName};
 use vchan_protocol::Bit;
 
 /// The word that holds the producer index of a ring.
-pub(crate) fn prod_word(ring: Ring) -> WordName
+pub fn prod_word(ring: Ring) -> WordName
     ensures { result ≡ prod_word_of ring }
 {
     match ring {
@@ -16,7 +16,7 @@ pub(crate) fn prod_word(ring: Ring) -> WordName
 }
 
 /// The word that holds the consumer index of a ring.
-pub(crate) fn cons_word(ring: Ring) -> WordName
+pub fn cons_word(ring: Ring) -> WordName
     ensures { result ≡ cons_word_of ring }
 {
     match ring {
@@ -27,7 +27,7 @@ pub(crate) fn cons_word(ring: Ring) -> WordName
 
 /// The ring that an end writes.
 #[inline(always)]
-pub(crate) fn written_ring(role: Role) -> Ring
+pub fn written_ring(role: Role) -> Ring
     ensures { result ≡ written_ring_of role }
 {
     match role {
@@ -38,7 +38,7 @@ pub(crate) fn written_ring(role: Role) -> Ring
 
 /// The ring that an end reads.
 #[inline(always)]
-pub(crate) fn read_ring(role: Role) -> Ring
+pub fn read_ring(role: Role) -> Ring
     ensures { result ≡ read_ring_of role }
 {
     match role {
@@ -49,7 +49,7 @@ pub(crate) fn read_ring(role: Role) -> Ring
 
 /// The word in which an end asks to be signalled.
 #[inline(always)]
-pub(crate) fn ask_word(role: Role) -> WordName
+pub fn ask_word(role: Role) -> WordName
     ensures { result ≡ ask_word_of role }
 {
     match role {
@@ -60,7 +60,7 @@ pub(crate) fn ask_word(role: Role) -> WordName
 
 /// The word in which an end's peer has asked to be signalled.
 #[inline(always)]
-pub(crate) fn notify_word(role: Role) -> WordName
+pub fn notify_word(role: Role) -> WordName
     ensures { result ≡ notify_word_of role }
 {
     match role {
@@ -71,7 +71,7 @@ pub(crate) fn notify_word(role: Role) -> WordName
 
 /// An end's own live byte.
 #[inline(always)]
-pub(crate) fn own_live(role: Role) -> WordName
+pub fn own_live(role: Role) -> WordName
     ensures { result ≡ own_live_of role }
 {
     match role {
@@ -82,7 +82,7 @@ pub(crate) fn own_live(role: Role) -> WordName
 
 /// The live byte of an end's peer.
 #[inline(always)]
-pub(crate) fn peer_live(role: Role) -> WordName
+pub fn peer_live(role: Role) -> WordName
     ensures { result ≡ peer_live_of role }
 {
     match role {
@@ -93,7 +93,7 @@ pub(crate) fn peer_live(role: Role) -> WordName
 
 /// The word that says that an end is signalled.
 #[inline(always)]
-pub(crate) fn own_pending(role: Role) -> WordName
+pub fn own_pending(role: Role) -> WordName
     ensures { result ≡ own_pending_of role }
 {
     match role {
@@ -104,7 +104,7 @@ pub(crate) fn own_pending(role: Role) -> WordName
 
 /// The word that signals an end's peer.
 #[inline(always)]
-pub(crate) fn peer_pending(role: Role) -> WordName
+pub fn peer_pending(role: Role) -> WordName
     ensures { result ≡ peer_pending_of role }
 {
     match role {
@@ -115,7 +115,7 @@ pub(crate) fn peer_pending(role: Role) -> WordName
 
 /// The word in which an end says that it has retired.
 #[inline(always)]
-pub(crate) fn own_gone(role: Role) -> WordName
+pub fn own_gone(role: Role) -> WordName
     ensures { result ≡ own_gone_of role }
 {
     match role {
@@ -126,7 +126,7 @@ pub(crate) fn own_gone(role: Role) -> WordName
 
 /// The word in which an end's peer says that it has retired.
 #[inline(always)]
-pub(crate) fn peer_gone(role: Role) -> WordName
+pub fn peer_gone(role: Role) -> WordName
     ensures { result ≡ peer_gone_of role }
 {
     match role {

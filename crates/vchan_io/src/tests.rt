@@ -3,8 +3,8 @@
 ghost use Rattle.std.specs.Prelude.{◌≡◌, ◌≤◌, IfOk};
 
 use crate::{
-    Failed, GREATEST_LIMIT, MemSink, MemSource, ReadAllError, Sink, Source, StdSink, StdSource,
-    WriteFault, read_all, write_all,
+    Failed, GREATEST_LIMIT, MemSink, MemSource, Memory, ReadAllError, Sink, Source, StdSink,
+    StdSource, WriteFault, read_all, write_all,
 };
 use std::alloc::{AllocError, Global};
 use std::io::{ErrorKind, Read, Write};
@@ -185,5 +185,24 @@ fn std_streams_carry_a_file(rt: HostRuntime) -> Result<(), Fail> {
     )?;
     fs::remove_file(&rt, path.as_path())?;
     assert!(rt; got == bytes);
+    Ok(())
+}
+
+#[test]
+fn errors_are_told_in_words(rt: HostRuntime) -> Result<(), Fail> {
+    let told = format!(in rt.alloc();
+        "{}; {}; {}; {}; {}; {}",
+        ReadAllError::ReadFault,
+        ReadAllError::TooLong,
+        ReadAllError::Memory,
+        WriteFault,
+        Failed,
+        Memory,
+    )?;
+    assert_eq!(rt;
+        told.as_str(),
+        "read fault; input too long; out of memory; write fault; fault of a source or a sink; \
+         out of memory"
+    );
     Ok(())
 }

@@ -28,7 +28,7 @@ use Rattle.run_laws.specs.Laws.{LimitsKept, IsExpected}
 use Rattle.run_laws.proofs.Scenarios.Names.{target-is, target-there}
 use Rattle.run_laws.proofs.Scenarios.Calls.{IsOwnCall, own-call}
 use Rattle.run_laws.proofs.Domains.ControlLaws.{control_ends}
-use Rattle.run_laws.proofs.Sessions.Services.{known-anyway}
+use Rattle.service_gate.proofs.EveryService.{known_anyway}
 use Rattle.run_laws.proofs.Domains.SpentLaw.{decided-at, not-spent}
 use Rattle.run_laws.proofs.Domains.TiedLaw.{none-full}
 use Rattle.run_laws.proofs.Scenarios.Facts.{facts}
@@ -84,7 +84,7 @@ limits_kept s run h d honest call planned decided there = by_named (domain_named
     up pair = up-at s run h d honest x at pair
 
     known : is_some (service call.service call.stdin) ≡ is_service call.service
-    known = let clean = own.well.service_clean in known-anyway call.service call.stdin [] ∙ ap (λ n. is_some (service n [])) (sym clean)
+    known = let clean = own.well.service_clean in known_anyway call.service call.stdin [] ∙ ap (λ n. is_some (service n [])) (sym clean)
 
     on-pair : (to : ℕ) → domain_named s call.to ≡ Some to → (to == d) ≡ false → IsExpected s d (Some to) (by_service (service call.service call.stdin)) decided
     on-pair to named other =

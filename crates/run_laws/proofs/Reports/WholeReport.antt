@@ -58,7 +58,7 @@ use Rattle.run_laws.proofs.Scenarios.Numbers.{is-domain}
 use Rattle.run_laws.proofs.Scenarios.Places.{is-laid}
 use Rattle.run_laws.proofs.Reports.ReadLaws.{laid-control, control-laid, number-there, ports-is}
 use Rattle.run_laws.proofs.Sessions.ServedAllLaw.{heard-entry, is-of, answered-at}
-use Rattle.run_laws.proofs.Sessions.Services.{known-anyway}
+use Rattle.service_gate.proofs.EveryService.{known_anyway}
 use Rattle.run_laws.proofs.Domains.SpentLaw.{decided-at}
 use Rattle.run_laws.proofs.Scenarios.Facts.{facts}
 
@@ -222,7 +222,7 @@ was-dropped s run h d honest to call other named x there event refused = by_test
 
 no-service : (name x : List ℕ) (o : Option Triple) → service name x ≡ o → is_some o ≡ false → (q : Option Triple) → service name [] ≡ q → q ≡ None
 no-service name x o is none None isq = refl
-no-service name x o is none (Some t) isq = let same = known-anyway name x [] in let a = rw (is, isq) at same in cc
+no-service name x o is none (Some t) isq = let same = known_anyway name x [] in let a = rw (is, isq) at same in cc
 
 may-refuse : (s : Scenario) (run : Run) (h : IsRun s run) (served : List ServedLine) (call : CallPlan) → Has s.calls call → (to : ℕ) → domain_named s call.to ≡ Some to → hostile_at s to ≡ true → (x : Entry) → Has run.journal x
     → x.event ≡ Trigger call.from call.to call.service (ident_of call.number) → (cause : Cause) → x.decision ≡ decision.Refused cause → MayRefuse s (report_of s run served) call to

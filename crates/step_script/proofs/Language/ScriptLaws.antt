@@ -6,37 +6,19 @@ use Rattle.std.proofs.lemmas.List.Elements.{All-append}
 use Rattle.std.proofs.lemmas.List.Sums.{sum_by-append}
 use Rattle.ring_words.specs.declared.order.Orders.{Orders}
 use Rattle.step_script.specs.declared.error.ScriptKind.{ScriptKind}
-use Rattle.step_script.specs.declared.error.ScriptKind.TheVariants.{TooManyLines}
+use Rattle.step_script.specs.declared.error.ScriptKind.TheVariants as kind
 use Rattle.step_script.specs.declared.error.ScriptError.{ScriptError}
 use Rattle.step_script.specs.declared.error.ScriptError.TheVariants as script
-use Rattle.step_script.specs.declared.read.lines.NextLine.{NextLine}
-use Rattle.step_script.specs.declared.read.lines.NextLine.TheVariants as nexts
-use denote.Ref.{Bor}
+use Rattle.script_words.specs.declared.lines.TooManyLines.{TooManyLines}
 use Rattle.script_words.specs.Words.{words_of}
 use Rattle.step_script.specs.declared.script.ScriptLine.{ScriptLine}
 use Rattle.step_script.specs.Language.Grammar.{at_number, line_of, lines_from}
-use Rattle.step_script.specs.Language.KeptLines.{Lines, stops, refused, line}
-use Rattle.step_script.specs.Parts.LinesLeft.{IsNext}
+use Rattle.script_words.specs.KeptLines.{Lines, stops, refused, line}
+use Rattle.script_words.specs.LinesLeft.{IsNext}
 use Rattle.step_script.specs.Language.Operands.{◌>>=◌}
-use Rattle.step_script.specs.Parts.Readings.{IsScriptRefusal}
+use Rattle.step_script.specs.Parts.Readings.{IsNumberedRefusal, IsScriptRefusal, bad_line_of, bad_script}
 use Rattle.step_script.specs.Language.Script.{StepLine, LineFits}
 use Rattle.step_script.specs.Parts.ScriptLines.{line_seen, lines_seen, payload_len}
-
--- a line that is next is the first of those left
-pub next_line : (found : NextLine) (number : ℕ) (text : Bor (List ℕ)) (left after : Lines) → IsNext (Ok found) left after → found ≡ nexts.Line number text → left ≡ line number (words_of text.now) after
-next_line found number text left after is same =
-    let family : NextLine → Type 0 = λ n. IsNext (Ok n) left after in subst family same is
-
--- where the end is next, no line is left
-pub next_end : (found : NextLine) (number : ℕ) (left after : Lines) → IsNext (Ok found) left after → found ≡ nexts.End number → left ≡ stops number
-next_end found number left after is same =
-    let family : NextLine → Type 0 = λ n. IsNext (Ok n) left after in subst family same is
-
--- how many lines are left
-abbrev pub count_left : Lines → ℕ
-count_left (stops number) = 0
-count_left (refused number) = 0
-count_left (line number words more) = 1 + count_left more
 
 -- the lines read so far in front of those that follow
 abbrev pub behind : List StepLine → Result (List StepLine) (ℕ × ScriptKind) → Result (List StepLine) (ℕ × ScriptKind)
@@ -50,15 +32,15 @@ behind-first front next (Err bad) = refl
 goes_on : Orders → ℕ → Lines → Result StepLine (ℕ × ScriptKind) → Result (List StepLine) (ℕ × ScriptKind)
 goes_on orders room more found = found >>= (λ next. lines_from orders (room - payload_len next) more >>= (λ rest. Ok (next ∷ rest)))
 
-lines_from-line : (orders : Orders) (room number : ℕ) (words : List (List ℕ)) (more : Lines) → lines_from orders room (line number words more) ≡ goes_on orders room more (at_number number (line_of orders room words))
+lines_from-line : (orders : Orders) (room number : ℕ) (text : List ℕ) (more : Lines) → lines_from orders room (line number text more) ≡ goes_on orders room more (at_number number (line_of orders room (words_of text)))
 unfolding lines_from goes_on
-lines_from-line orders room number words more = refl
+lines_from-line orders room number text more = refl
 
 lines_from-stops : (orders : Orders) (room number : ℕ) → lines_from orders room (stops number) ≡ Ok []
 unfolding lines_from
 lines_from-stops orders room number = refl
 
-lines_from-refused : (orders : Orders) (room number : ℕ) → lines_from orders room (refused number) ≡ Err (number, TooManyLines)
+lines_from-refused : (orders : Orders) (room number : ℕ) → lines_from orders room (refused number) ≡ Err (number, kind.TooManyLines)
 unfolding lines_from
 lines_from-refused orders room number = refl
 
@@ -71,41 +53,46 @@ unfolding goes_on
 goes_on-Err orders room more bad = refl
 
 -- a read line joins those read so far
-pub read_further : (orders : Orders) (front : List StepLine) (next : StepLine) (left more : Lines) (room number : ℕ) (words : List (List ℕ)) (due : Result (List StepLine) (ℕ × ScriptKind))
-    → behind front (lines_from orders room left) ≡ due → left ≡ line number words more → at_number number (line_of orders room words) ≡ Ok next
+pub read_further : (orders : Orders) (front : List StepLine) (next : StepLine) (left more : Lines) (room number : ℕ) (text : List ℕ) (due : Result (List StepLine) (ℕ × ScriptKind))
+    → behind front (lines_from orders room left) ≡ due → left ≡ line number text more → at_number number (line_of orders room (words_of text)) ≡ Ok next
     → behind (front ++ next ∷ []) (lines_from orders (room - payload_len next) more) ≡ due
-read_further orders front next left more room number words due summary cut good =
+read_further orders front next left more room number text due summary cut good =
     sym (goes_on-Ok front orders room more next)
     ∙ ap (λ (r : Result StepLine (ℕ × ScriptKind)). behind front (goes_on orders room more r)) (sym good)
-    ∙ ap (behind front) (sym (lines_from-line orders room number words more))
+    ∙ ap (behind front) (sym (lines_from-line orders room number text more))
     ∙ ap (λ (l : Lines). behind front (lines_from orders room l)) (sym cut) ∙ summary
 
-pub read_on : (orders : Orders) (lines : List ScriptLine) (next : ScriptLine) (left more : Lines) (room number : ℕ) (words : List (List ℕ)) (due : Result (List StepLine) (ℕ × ScriptKind))
-    → behind (lines_seen lines) (lines_from orders room left) ≡ due → left ≡ line number words more → at_number number (line_of orders room words) ≡ Ok (line_seen next)
+pub read_on : (orders : Orders) (lines : List ScriptLine) (next : ScriptLine) (left more : Lines) (room number : ℕ) (text : List ℕ) (due : Result (List StepLine) (ℕ × ScriptKind))
+    → behind (lines_seen lines) (lines_from orders room left) ≡ due → left ≡ line number text more → at_number number (line_of orders room (words_of text)) ≡ Ok (line_seen next)
     → behind (lines_seen (lines ++ next ∷ [])) (lines_from orders (room - payload_len (line_seen next)) more) ≡ due
-read_on orders lines next left more room number words due summary cut good =
+read_on orders lines next left more room number text due summary cut good =
     ap (λ (front : List StepLine). behind front (lines_from orders (room - payload_len (line_seen next)) more)) (map-append line_seen lines (next ∷ []))
-    ∙ read_further orders (lines_seen lines) (line_seen next) left more room number words due summary cut good
+    ∙ read_further orders (lines_seen lines) (line_seen next) left more room number text due summary cut good
 
-bad_line : (e : ScriptError) (front : List StepLine) (orders : Orders) (room number : ℕ) (words : List (List ℕ)) (more : Lines) → IsScriptRefusal e (at_number number (line_of orders room words))
-    → IsScriptRefusal e (behind front (lines_from orders room (line number words more)))
-bad_line (script.Bad bad kind) front orders room number words more is =
-    ap (behind front) (lines_from-line orders room number words more ∙ ap (goes_on orders room more) is ∙ goes_on-Err orders room more (bad, kind))
-bad_line script.Memory front orders room number words more is = tt
+bad_line : (e : ScriptError) (front : List StepLine) (orders : Orders) (room number : ℕ) (text : List ℕ) (more : Lines) → IsScriptRefusal e (at_number number (line_of orders room (words_of text)))
+    → IsScriptRefusal e (behind front (lines_from orders room (line number text more)))
+bad_line (script.Bad bad kind) front orders room number text more is =
+    ap (behind front) (lines_from-line orders room number text more ∙ ap (goes_on orders room more) is ∙ goes_on-Err orders room more (bad, kind))
+bad_line script.Memory front orders room number text more is = tt
 
 -- a refused line is what the whole reading is refused for
-pub refused_line : (e : ScriptError) (front : List StepLine) (orders : Orders) (left more : Lines) (room number : ℕ) (words : List (List ℕ)) (due : Result (List StepLine) (ℕ × ScriptKind))
-    → behind front (lines_from orders room left) ≡ due → left ≡ line number words more → IsScriptRefusal e (at_number number (line_of orders room words)) → IsScriptRefusal e due
-refused_line e front orders left more room number words due summary cut bad =
+pub refused_line : (e : ScriptError) (front : List StepLine) (orders : Orders) (left more : Lines) (room number : ℕ) (text : List ℕ) (due : Result (List StepLine) (ℕ × ScriptKind))
+    → behind front (lines_from orders room left) ≡ due → left ≡ line number text more → IsScriptRefusal e (at_number number (line_of orders room (words_of text))) → IsScriptRefusal e due
+refused_line e front orders left more room number text due summary cut bad =
     let family : Result (List StepLine) (ℕ × ScriptKind) → Type 0 = λ r. IsScriptRefusal e r in
-    subst family (ap (λ (l : Lines). behind front (lines_from orders room l)) (sym cut) ∙ summary) (bad_line e front orders room number words more bad)
+    subst family (ap (λ (l : Lines). behind front (lines_from orders room l)) (sym cut) ∙ summary) (bad_line e front orders room number text more bad)
+
+-- the refusal of a line is one of a script
+pub refused_at : {Y : Type 0} (e : ScriptError) (due : Result Y (ℕ × ScriptKind)) → IsNumberedRefusal e due → IsScriptRefusal e due
+refused_at (script.Bad number bad) due is = is
+refused_at script.Memory due is = tt
 
 -- so is a line too many
-pub refused_next : (e : ScriptError) (front : List StepLine) (orders : Orders) (left after : Lines) (room : ℕ) (due : Result (List StepLine) (ℕ × ScriptKind))
-    → behind front (lines_from orders room left) ≡ due → IsNext (Err e) left after → IsScriptRefusal e due
-refused_next (script.Bad number kind) front orders left after room due summary is =
-    sym summary ∙ ap (λ (l : Lines). behind front (lines_from orders room l)) is.0 ∙ ap (behind front) (lines_from-refused orders room number) ∙ ap (λ (k : ScriptKind). Err (number, k)) (sym is.1)
-refused_next script.Memory front orders left after room due summary is = tt
+pub refused_next : (many : TooManyLines) (e : ScriptError) (front : List StepLine) (orders : Orders) (left after : Lines) (room : ℕ) (due : Result (List StepLine) (ℕ × ScriptKind))
+    → behind front (lines_from orders room left) ≡ due → IsNext (Err many) left after → e ≡ bad_script (bad_line_of many) → IsScriptRefusal e due
+refused_next many e front orders left after room due summary is same =
+    let family : ScriptError → Type 0 = λ e. IsScriptRefusal e due in
+    subst family (sym same) (sym summary ∙ ap (λ (l : Lines). behind front (lines_from orders room l)) is ∙ ap (behind front) (lines_from-refused orders room many.line))
 
 -- where no line is left, all is read
 pub all_read : (front : List StepLine) (orders : Orders) (left : Lines) (room number : ℕ) (due : Result (List StepLine) (ℕ × ScriptKind))

@@ -24,7 +24,7 @@ use Rattle.vchan_protocol.proofs.History.WholeCallLaws.{alone-after, alone-answe
 use Rattle.vchan_protocol.proofs.History.EventLaws.{event_by-answers, event_by-on, side_of-with_side}
 use Rattle.vchan_core.proofs.Page.StepLaws.{InCall, in_call, plan_left-is}
 use Rattle.vchan_protocol.proofs.History.EventLaws.{event_by}
-use Rattle.step_script.specs.Meaning.Played.{stepped, unless_answered}
+use Rattle.vchan_core.specs.WholeCall.Stepped.{stepped, unless_answered}
 
 -- ---- how many events are left
 

@@ -25,7 +25,8 @@ use Rattle.vchan_protocol.proofs.History.EventLaws.{side_of-with_side}
 use Rattle.step_script.specs.declared.player.end_player.EndPlayer.{EndPlayer}
 use Rattle.step_script.specs.declared.player.refusal.Refusal.{Refusal}
 use Rattle.step_script.specs.Meaning.Output.{TextLine, answered as line_answered, refused, line_text, text_of}
-use Rattle.step_script.specs.Meaning.Played.{Outcome, bytes_got, ends_with, finished, finishes_call, followed_by, makes_call, begins_call, prints, quiet, steps_call, steps_on, stepped, stops_with, unless_refused}
+use Rattle.vchan_core.specs.WholeCall.Stepped.{stepped}
+use Rattle.step_script.specs.Meaning.Played.{Outcome, bytes_got, ends_with, finished, finishes_call, followed_by, makes_call, begins_call, prints, quiet, steps_call, steps_on, stops_with, unless_refused}
 use Rattle.step_script.specs.Parts.Players.{Does, HasLoaded, IsAt, IsHeld, IsKnown, IsTaken, got_front}
 use Rattle.step_script.specs.Language.Script.{StepCall}
 use Rattle.step_script.proofs.Meaning.GotLaws.{got_by_call}

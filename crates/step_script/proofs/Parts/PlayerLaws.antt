@@ -32,7 +32,8 @@ use Rattle.step_script.specs.declared.player.Player.{Player}
 use Rattle.step_script.specs.declared.script.Opening.{Opening}
 use Rattle.step_script.specs.declared.player.refusal.Refusal.{Refusal}
 use Rattle.step_script.specs.Meaning.Output.{TextLine, line_text, text_of}
-use Rattle.step_script.specs.Meaning.Played.{Outcome, finished, finishes_call, makes_call, begins_call, line_done, steps_call, steps_on, stepped, stops_with, unless_answered, unless_refused, call_refusal, step_refusal, plays, prints, quiet, ring_line, step_text}
+use Rattle.vchan_core.specs.WholeCall.Stepped.{stepped, unless_answered}
+use Rattle.step_script.specs.Meaning.Played.{Outcome, finished, finishes_call, makes_call, begins_call, line_done, steps_call, steps_on, stops_with, unless_refused, call_refusal, step_refusal, plays, prints, quiet, ring_line, step_text}
 use Rattle.step_script.specs.Parts.Players.{Does, HasLoaded, IsHeld, IsKnown, IsPlayedTo, Plays}
 use Rattle.step_script.specs.Language.Script.{StepCall, StepLine, opens, calls, begins, steps, finishes, pokes, signals, head, image, LineFits}
 use Rattle.step_script.proofs.Parts.DoesLaws.{held_idle, text_of_one}

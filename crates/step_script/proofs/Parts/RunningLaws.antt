@@ -10,13 +10,13 @@ use Rattle.script_words.specs.Words.{words_of}
 use Rattle.step_script.specs.declared.error.ScriptKind.{ScriptKind}
 use Rattle.step_script.specs.declared.error.ScriptError.{ScriptError}
 use Rattle.step_script.specs.declared.error.ScriptError.TheVariants as script
-use Rattle.step_script.specs.declared.read.lines.NextLine.{NextLine}
-use Rattle.step_script.specs.declared.read.lines.NextLine.TheVariants as nexts
+use Rattle.script_words.specs.declared.lines.NextLine.{NextLine}
+use Rattle.script_words.specs.declared.lines.NextLine.TheVariants as nexts
 use Rattle.step_script.specs.declared.player.Player.{Player}
 use Rattle.step_script.specs.declared.script.Opening.{Opening}
 use Rattle.step_script.specs.Language.Grammar.{at_number, line_of, lines_from, script_of, script_of_lines, front_from}
-use Rattle.step_script.specs.Language.KeptLines.{Lines, line, stops}
-use Rattle.step_script.specs.Parts.LinesLeft.{IsNext}
+use Rattle.script_words.specs.KeptLines.{Lines, line, stops}
+use Rattle.script_words.specs.LinesLeft.{IsNext}
 use Rattle.step_script.specs.Meaning.ListScript.{CanOpen}
 use Rattle.step_script.specs.Language.Operands.{◌>>=◌}
 use Rattle.step_script.specs.Meaning.Output.{text_of}
@@ -28,7 +28,8 @@ use Rattle.step_script.specs.Parts.ScriptLines.{payload_len}
 use Rattle.step_script.specs.Meaning.ScriptText.{IsTextOf}
 use Rattle.step_script.proofs.Meaning.ListScriptLaws.{script_text}
 use Rattle.step_script.proofs.Parts.PlayerLaws.{orders_kept, played_on}
-use Rattle.step_script.proofs.Language.ScriptLaws.{all_read, alone_fits, behind, next_line, read_further}
+use Rattle.script_words.proofs.LineLaws.{next_line}
+use Rattle.step_script.proofs.Language.ScriptLaws.{all_read, alone_fits, behind, read_further}
 
 -- the whole script, where these lines stand behind its opening
 abbrev opened_by : Opening → Result (List StepLine) (ℕ × ScriptKind) → Result (List StepLine) (ℕ × ScriptKind)
@@ -74,15 +75,15 @@ running_fits bytes o player room left next summary fits =
     subst (λ (orders : Orders). LineFits orders next) (sym (summary.to.stands.orders ∙ summary.orders)) fits
 
 -- one more line is read and played
-pub running_on : (bytes : List ℕ) (o : Opening) (player player' : Player) (room number : ℕ) (words : List (List ℕ)) (left more : Lines) (next : StepLine) → IsRunning bytes o player room left → left ≡ line number words more →
-    at_number number (line_of o.orders room words) ≡ Ok next → LineFits o.orders next → Plays (line_done next) player player' → IsRunning bytes o player' (room - payload_len next) more
-running_on bytes o player player' room number words left more next summary cut good fits p =
+pub running_on : (bytes : List ℕ) (o : Opening) (player player' : Player) (room number : ℕ) (text : List ℕ) (left more : Lines) (next : StepLine) → IsRunning bytes o player room left → left ≡ line number text more →
+    at_number number (line_of o.orders room (words_of text)) ≡ Ok next → LineFits o.orders next → Plays (line_done next) player player' → IsRunning bytes o player' (room - payload_len next) more
+running_on bytes o player player' room number text left more next summary cut good fits p =
     let front : List StepLine = summary.front ++ next ∷ [] in
     let fit : All (LineFits o.orders) front = All-append (LineFits o.orders) summary.front (next ∷ []) summary.fit (alone_fits o.orders next fits) in
     record {
       due = summary.due;
       front = front;
-      read = read_further o.orders summary.front next left more room number words summary.due summary.read cut good;
+      read = read_further o.orders summary.front next left more room number text summary.due summary.read cut good;
       whole = summary.whole;
       fit = fit;
       core = (line_done next summary.core).core;
@@ -101,7 +102,7 @@ pub running_next : (bytes : List ℕ) (o : Opening) (player player' : Player) (r
     found ≡ nexts.Line number text → at_number number (line_of o.orders room (words_of text.now)) ≡ Ok next → LineFits o.orders next → payload_len next ≡ len → Plays (line_done next) player player' → Running bytes o player' (room - len) more
 running_next bytes o player player' room number len found text left more next summary cut is good fits measured p =
     let on : IsRunning bytes o player' (room - payload_len next) more =
-    running_on bytes o player player' room number (words_of text.now) left more next summary.summary (next_line found number text left more cut is) good fits p in
+    running_on bytes o player player' room number text.now left more next summary.summary (next_line found number text left more cut is) good fits p in
     record {
       summary = subst (λ (n : ℕ). IsRunning bytes o player' (room - n) more) measured on;
       room = omega (arith, summary.room);

@@ -15,11 +15,11 @@ use Rattle.step_script.specs.declared.read.forms.CallForm.TheVariants.{Write, Se
 use Rattle.step_script.specs.declared.read.forms.Act.{Act}
 use Rattle.step_script.specs.declared.read.forms.Act.TheVariants.{Begin, Step, Finish, Poke, Signal}
 use Rattle.step_script.specs.declared.script.Opening.{Opening}
-use Rattle.script_words.specs.Words.{lines_of}
+use Rattle.script_words.specs.Words.{lines_of, words_of}
 use Rattle.step_script.specs.Language.Opening.{orders_of}
 use Rattle.step_script.specs.Parts.Forms.{without_payload}
 use Rattle.step_script.specs.Language.Operands.{◌>>=◌, given, operand_of, alone, number_between, count_of, payload_of}
-use Rattle.step_script.specs.Language.KeptLines.{Lines, stops, refused, line, kept_lines}
+use Rattle.script_words.specs.KeptLines.{Lines, stops, refused, line, kept_lines}
 use Rattle.step_script.specs.Language.Pokes.{poked_word}
 use Rattle.step_script.specs.Language.Script.{StepCall, StepLine, opens, calls, begins, steps, finishes, pokes, signals}
 use Rattle.step_script.specs.Parts.ScriptLines.{payload_len}
@@ -158,8 +158,8 @@ at_number number (Err kind) = Err (number, kind)
 abbrev pub opening_from : Lines → Result (Opening × Lines) (ℕ × ScriptKind)
 opening_from (stops number) = Err (number, BadHeader)
 opening_from (refused number) = Err (number, TooManyLines)
-opening_from (line number words more) = do
-  opening ← at_number number (opening_of words)
+opening_from (line number text more) = do
+  opening ← at_number number (opening_of (words_of text))
   Ok (opening, more)
 
 -- N of `start N`
@@ -184,7 +184,7 @@ started number None lines more = Ok (0, lines)
 abbrev pub start_from : Lines → Result (ℕ × Lines) (ℕ × ScriptKind)
 start_from (stops number) = Ok (0, stops number)
 start_from (refused number) = Err (number, TooManyLines)
-start_from (line number words more) = started number (start_word words) (line number words more) more
+start_from (line number text more) = started number (start_word (words_of text)) (line number text more) more
 
 -- how the page is opened, by the first line and a `start` line behind it; and the lines behind these
 abbrev pub front_from : Lines → Result (Opening × Lines) (ℕ × ScriptKind)
@@ -197,8 +197,8 @@ front_from lines = do
 unfoldable pub lines_from : Orders → ℕ → Lines → Result (List StepLine) (ℕ × ScriptKind)
 lines_from orders room (stops number) = Ok []
 lines_from orders room (refused number) = Err (number, TooManyLines)
-lines_from orders room (line number words more) = do
-  next ← at_number number (line_of orders room words)
+lines_from orders room (line number text more) = do
+  next ← at_number number (line_of orders room (words_of text))
   rest ← lines_from orders (room - payload_len next) more
   Ok (next ∷ rest)
 

@@ -5,7 +5,9 @@ use Rattle.step_script.specs.declared.error.ScriptKind.{ScriptKind}
 use Rattle.step_script.specs.declared.error.ScriptKind.TheVariants.{BadLine, BadNumber, BadHex, TooManyBytes}
 use Rattle.script_words.specs.Words.{only}
 use Rattle.script_words.specs.Numbers.{number_of}
-use Rattle.script_words.specs.ByteStrings.{byte_string}
+use Rattle.script_words.specs.ByteStrings.{at_most, byte_string}
+use Rattle.script_words.specs.declared.byte_string.ByteFault.{ByteFault}
+use Rattle.script_words.specs.declared.byte_string.ByteFault.TheVariants as fault
 
 -- the second step, where the first gave a value
 infixl 10 ◌>>=◌
@@ -40,9 +42,17 @@ count_of least most words = do
   word ← operand_of words
   number_between least most word
 
+-- what is wrong with a line, by what is wrong with its byte string
+abbrev pub fault_kind : ByteFault → ScriptKind
+fault_kind fault.BadHex = BadHex
+fault_kind fault.TooManyBytes = TooManyBytes
+
+abbrev pub in_a_line : {A : Type 0} → Result A ByteFault → Result A ScriptKind
+in_a_line (Ok x) = Ok x
+in_a_line (Err fault) = Err (fault_kind fault)
+
 -- a byte string as the only word that is left, with room for so many bytes
 abbrev pub payload_of : ℕ → List (List ℕ) → Result (List ℕ) ScriptKind
 payload_of room words = do
   word ← operand_of words
-  payload ← ok_or (byte_string word) BadHex
-  if nat_lt room (length payload) then Err TooManyBytes else Ok payload
+  in_a_line (at_most room (byte_string word))

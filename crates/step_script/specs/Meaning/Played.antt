@@ -1,6 +1,6 @@
 -- What a script prints: its lines carried out from the opening of the page on.
 -- Source: libxenvchan's io.c for the calls, as vchan_core has them; what is printed is this project's own.
-use Rattle.std.specs.Prelude.{ℕ, suc, zero, ◌==◌, Bool, false, not, Option, Some, None, List, [], ◌∷◌, ◌++◌, length, take, slice_index, if◌then◌else◌}
+use Rattle.std.specs.Prelude.{ℕ, ◌==◌, Bool, false, not, Option, Some, None, List, [], ◌∷◌, ◌++◌, length, take, slice_index, if◌then◌else◌}
 use Rattle.ring_words.specs.Image.{image_of}
 use Rattle.ring_words.specs.Page.{index_of}
 use Rattle.ring_words.specs.declared.page.Ring.{Ring}
@@ -16,8 +16,9 @@ use Rattle.vchan_protocol.specs.declared.op.PastEvent.{PastEvent}
 use Rattle.vchan_protocol.specs.declared.side.Begun.{Begun}
 use Rattle.vchan_protocol.specs.declared.side.Side.{Side}
 use Rattle.vchan_protocol.specs.History.WholeCall.{alone, whole_call}
-use Rattle.vchan_protocol.specs.History.Core.{Core, opened, side_of, writer_of, reader_of, bytes_loaded, begun, event, plan_left, plan_next, answer_in}
+use Rattle.vchan_protocol.specs.History.Core.{Core, opened, side_of, writer_of, reader_of, bytes_loaded, begun, plan_left}
 use Rattle.vchan_core.specs.Page.Counts.{capped}
+use Rattle.vchan_core.specs.WholeCall.Stepped.{stepped}
 use Rattle.vchan_protocol.specs.Table.Ends.{own_gone}
 use Rattle.vchan_protocol.specs.Hostile.Turned.{poked, signalled}
 use Rattle.step_script.specs.declared.player.refusal.Refusal.{Refusal}
@@ -107,22 +108,6 @@ finishes_call who (Some b) core = ends_with who b.call (alone core who (plan_lef
 
 abbrev pub finished : Role → Core → Outcome
 finished who core = finishes_call who (side_of core who).call core
-
--- where the answer came, the call ends in this core state; else it goes on
-abbrev pub unless_answered : Option Answer → Core → Core × Option Answer → Core × Option Answer
-unless_answered None core later = later
-unless_answered (Some answer) core later = (core, Some answer)
-
--- at most so many events of the call under way, up to its answer
-unfoldable pub stepped : ℕ → Core → Role → Core × Option Answer
-stepped zero core who = (core, None)
-stepped (suc more) core who =
-    unless_answered (answer_in (plan_next core who)) (event core who) (stepped more (event core who) who)
-
--- the core state after so many events of the call under way, none of which gives its answer
-abbrev pub events_made : ℕ → Core → Role → Core
-events_made zero core who = core
-events_made (suc more) core who = events_made more (event core who) who
 
 -- the answer is printed where it came
 abbrev pub stops_with : Role → Call → Core → Option Answer → Outcome

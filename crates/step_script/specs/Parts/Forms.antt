@@ -1,6 +1,6 @@
 -- The calls that the words of a script stand for.
 use Rattle.std.specs.Prelude.{ℕ, ◌≤◌, List, [], length, Option, None, Some}
-use Rattle.script_words.specs.declared.words.Words.{Words}
+use Rattle.script_words.specs.declared.words.WordsOfLine.{WordsOfLine}
 use Rattle.script_words.specs.WordsLeft.{words_left}
 use Rattle.ring_words.specs.declared.order.Orders.{Orders}
 use Rattle.ring_words.specs.declared.page.Role.{Role}
@@ -13,7 +13,7 @@ use Rattle.step_script.specs.Language.Script.{StepCall, StepLine, CallFits, Line
 use Rattle.step_script.specs.Parts.ScriptLines.{payload_len}
 
 -- what was found, and the words behind it, as contracts see them
-abbrev pub found_in : {A : Type 0} → Option (A × Words) → Option (A × List (List ℕ))
+abbrev pub found_in : {A : Type 0} → Option (A × WordsOfLine) → Option (A × List (List ℕ))
 found_in None = None
 found_in (Some found) = Some (found.0, words_left found.1)
 

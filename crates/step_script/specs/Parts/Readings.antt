@@ -1,34 +1,71 @@
 -- What a reader answers, against what the bytes are.
-use Rattle.std.specs.Prelude.{◌≡◌, ℕ, Result, Ok, Err}
-use Rattle.script_words.specs.declared.byte_string.ByteError.{ByteError}
-use Rattle.script_words.specs.declared.byte_string.ByteError.TheVariants as byte
+use Rattle.std.specs.Prelude.{◌≡◌, ℕ, List, Result, Ok, Err, IsOk}
+use Rattle.script_words.specs.KeptLines.{kept_lines}
+use Rattle.script_words.specs.Words.{lines_of}
+use Rattle.script_words.specs.declared.byte_string.PushError.{PushError}
+use Rattle.script_words.specs.declared.byte_string.PushError.TheVariants as push
+use Rattle.script_words.specs.declared.lines.TooManyLines.{TooManyLines}
+use Rattle.step_script.specs.Language.Grammar.{front_from}
+use Rattle.step_script.specs.Language.Operands.{fault_kind}
+use Rattle.step_script.specs.declared.error.BadLine.{BadLine}
 use Rattle.step_script.specs.declared.error.ScriptKind.{ScriptKind}
-use Rattle.step_script.specs.declared.error.ScriptKind.TheVariants.{BadHex}
+use Rattle.step_script.specs.declared.error.ScriptKind.TheVariants as kind
 use Rattle.step_script.specs.declared.error.ScriptError.{ScriptError}
 use Rattle.step_script.specs.declared.error.ScriptError.TheVariants as script
 use Rattle.step_script.specs.declared.error.LineError.{LineError}
 use Rattle.step_script.specs.declared.error.LineError.TheVariants as line
 
--- a refusal of a line is the one that is due; want of memory is free
+-- ---- readers that take no memory: they answer what is due, as contracts see it
+
+-- of a part of a line
+abbrev pub Finds : {X Y : Type 0} → (X → Y) → Result X ScriptKind → Result Y ScriptKind → Type 0
+Finds seen (Ok x) due = due ≡ Ok (seen x)
+Finds seen (Err kind) due = due ≡ Err kind
+
+-- of a line, under its number
+abbrev pub FindsAt : {X Y : Type 0} → (X → Y) → Result X BadLine → Result Y (ℕ × ScriptKind) → Type 0
+FindsAt seen (Ok x) due = due ≡ Ok (seen x)
+FindsAt seen (Err bad) due = due ≡ Err (bad.line, bad.kind)
+
+-- ---- readers of a line that take memory: want of memory comes only where the line is good
+
+-- a refusal of a part of a line
 abbrev pub IsLineRefusal : {Y : Type 0} → LineError → Result Y ScriptKind → Type 0
 IsLineRefusal (line.Bad kind) due = due ≡ Err kind
-IsLineRefusal line.Memory due = Unit {0}
+IsLineRefusal line.Memory due = IsOk due
 
--- a reader of a part of a line answers what is due, as contracts see it
+-- what a reader of a part of a line answers
 abbrev pub Gives : {X Y : Type 0} → (X → Y) → Result X LineError → Result Y ScriptKind → Type 0
 Gives seen (Ok x) due = due ≡ Ok (seen x)
 Gives seen (Err e) due = IsLineRefusal e due
 
--- a refusal of a script is the one that is due; want of memory is free
+-- likewise of a line, under its number
+abbrev pub IsNumberedRefusal : {Y : Type 0} → ScriptError → Result Y (ℕ × ScriptKind) → Type 0
+IsNumberedRefusal (script.Bad line kind) due = due ≡ Err (line, kind)
+IsNumberedRefusal script.Memory due = IsOk due
+
+abbrev pub GivesAt : {X Y : Type 0} → (X → Y) → Result X ScriptError → Result Y (ℕ × ScriptKind) → Type 0
+GivesAt seen (Ok x) due = due ≡ Ok (seen x)
+GivesAt seen (Err e) due = IsNumberedRefusal e due
+
+-- ---- readers of many lines: want of memory may come at a line before the first bad one
+
+-- a refusal of a script is the one that is due
 abbrev pub IsScriptRefusal : {Y : Type 0} → ScriptError → Result Y (ℕ × ScriptKind) → Type 0
 IsScriptRefusal (script.Bad line kind) due = due ≡ Err (line, kind)
 IsScriptRefusal script.Memory due = Unit {0}
 
--- a reader of lines answers what is due, as contracts see it; want of memory is free
+-- a reader of lines answers what is due, as contracts see it
 abbrev pub Reads :
     {X Y : Type 0} → (X → Y) → Result X ScriptError → Result Y (ℕ × ScriptKind) → Type 0
 Reads seen (Ok x) due = due ≡ Ok (seen x)
 Reads seen (Err e) due = IsScriptRefusal e due
+
+-- the page's opening fits, so that memory is taken before a bad line is found
+abbrev pub CanBeOpened : List ℕ → Type 0
+CanBeOpened bytes = IsOk (front_from (kept_lines 1 (lines_of bytes)))
+
+-- ---- errors of one kind as those of another
 
 -- the error of the script whose line of this number it is
 abbrev pub error_at : LineError → ℕ → ScriptError
@@ -36,6 +73,14 @@ error_at (line.Bad kind) number = script.Bad number kind
 error_at line.Memory number = script.Memory
 
 -- why a line with such a word wasn't read
-abbrev pub line_error_of : ByteError → LineError
-line_error_of byte.BadHex = line.Bad BadHex
-line_error_of byte.Memory = line.Memory
+abbrev pub line_error_of : PushError → LineError
+line_error_of (push.Bad fault) = line.Bad (fault_kind fault)
+line_error_of push.Memory = line.Memory
+
+-- the bad line where there are too many
+abbrev pub bad_line_of : TooManyLines → BadLine
+bad_line_of many = record { line = many.line; kind = kind.TooManyLines }
+
+-- a script that has this bad line
+abbrev pub bad_script : BadLine → ScriptError
+bad_script bad = script.Bad bad.line bad.kind

@@ -2,17 +2,19 @@
 ghost use Rattle.std.specs.Prelude.{◌≡◌, ◌<◌, ◌≤◌, ◌-◌, ◌↔◌, ℕ, [], length, IfSome, IsSome, OnOk, None, false, take};
 ghost use Rattle.vchan_protocol.specs.History.WholeCall.{alone, call_answer, called};
 ghost use Rattle.vchan_protocol.specs.Table.Apply.{filled};
-ghost use Rattle.vchan_protocol.specs.Table.Calls.{IsAllowed, loaded_most, payload_of};
-ghost use Rattle.vchan_protocol.specs.History.Core.{Core, answer_in, bytes_loaded, event as event_of, plan_left, plan_next, side_of};
+ghost use Rattle.vchan_protocol.specs.Table.Calls.{loaded_most, payload_of};
+ghost use Rattle.vchan_protocol.specs.History.Core.{Core, bytes_loaded, plan_left, side_of};
 ghost use Rattle.vchan_core.specs.Page.StandsFor.{StandsFor, machine_of, other_of, turned_of};
 ghost use Rattle.vchan_core.specs.OneMachine.Phases.{Allows, IsIdle, standing};
-ghost use Rattle.step_script.specs.Meaning.Played.{begins_call, call_refusal as call_refusal_of, events_made, finished, has_retired as has_retired_of, line_done, makes_call, state_refusal as state_refusal_of, step_refusal as step_refusal_of, stepped, unless_refused};
+ghost use Rattle.step_script.specs.Meaning.Played.{begins_call, call_refusal as call_refusal_of, finished, has_retired as has_retired_of, line_done, makes_call, step_refusal as step_refusal_of, unless_refused};
+ghost use Rattle.vchan_core.specs.WholeCall.Stepped.{stepped};
 ghost use Rattle.step_script.specs.Language.Script.{CallFits, CanSay, begins, calls, finishes, steps};
 ghost use Rattle.step_script.specs.Parts.ScriptLines.{call_with};
+ghost use Rattle.step_script.specs.Parts.Refusals.{is_second_retire};
 
 use crate::player::printer::{push_answer, push_refusal};
-use crate::player::refusal::Refusal;
-use ring_words::{Ring, Role, WordName};
+use crate::player::refusal::{Refusal, refusal_of_call};
+use ring_words::Role;
 use std::alloc::{AllocError, Global};
 use std::marker::Brand;
 use std::sync::ledger::{Blank, Ledger};
@@ -192,7 +194,7 @@ impl EndPlayer {
         ensures payload { self.new.payload ≡ self.old.payload }
         ensures call { self.new.call ≡ self.old.call }
     {
-        let most = most_taken(page, who, call);
+        let most = page.machine(who).most_taken(call) as usize;
         if self.buffer.len() < most {
             self.buffer.resize(most, 0)?;
         }
@@ -231,54 +233,12 @@ impl EndPlayer {
         ensures call { self.new.call ≡ self.old.call }
         ensures other { other_of page.new who ≡ other_of page.old who }
     {
-        let mut left = most;
-        'events: loop {
-            let moved = self.move_bytes(page, who, left);
-            left -= moved;
-            if left == 0 {
-                return None;
-            }
-            if let Some(answer) = self.event(page, who) {
-                return Some(answer);
-            }
-            left -= 1;
-        }
-    }
-
-    /// The next events of the call that the end is inside, at most so many, as long as they are all
-    /// on bytes of one piece of a ring. It answers how many they were; none gives an answer.
-    fn move_bytes(&mut self, page: &mut Plain, who: Role, most: u32) -> u32
-        requires known { IsKnown who page.old self.old }
-        requires busy { ¬ IsIdle (machine_of page.old who) }
-        ensures within { result ≤ most }
-        ensures at { (core : Core) → IsAt core who page.old self.old → IsAt (events_made result core who) who page.new self.new }
-        ensures steps { (core : Core) → IsAt core who page.old self.old
-            → (count : ℕ) → result ≤ count → stepped count core who ≡ stepped (count - result) (events_made result core who) who }
-        ensures busy { ¬ IsIdle (machine_of page.new who) }
-        ensures call { self.new.call ≡ self.old.call }
-        ensures other { other_of page.new who ≡ other_of page.old who }
-    {
-        page.step_piece(
+        page.advance(
             who,
             most,
             self.payload.as_slice(),
             self.buffer.as_mut_slice(),
         )
-    }
-
-    /// One event of the call that the end is inside, and the answer where it comes with it.
-    fn event(&mut self, page: &mut Plain, who: Role) -> Option<Answer>
-        requires known { IsKnown who page.old self.old }
-        requires busy { ¬ IsIdle (machine_of page.old who) }
-        ensures at { (core : Core) → IsAt core who page.old self.old → IsAt (event_of core who) who page.new self.new }
-        ensures answer { (core : Core) → IsAt core who page.old self.old → result ≡ answer_in (plan_next core who) }
-        ensures taken { IfSome result (λ answer. (core : Core) → IsAt core who page.old self.old
-            → IsTaken answer (side_of (event_of core who) who).trail self.new.buffer.items) }
-        ensures idle { IsSome result ↔ IsIdle (machine_of page.new who) }
-        ensures call { self.new.call ≡ self.old.call }
-        ensures other { other_of page.new who ≡ other_of page.old who }
-    {
-        page.step(who, self.payload.as_slice(), self.buffer.as_mut_slice())
     }
 }
 
@@ -328,46 +288,36 @@ fn run_counted<L: Ledger>(
     page.run_call(who, call, payload, buffer, &mut Steps::<L>::new(blank))
 }
 
-/// Why an end can't make a call now: the first reason that applies.
+/// Why an end between two calls can't make a call now: the first reason that applies. An end retires
+/// once.
 fn call_refusal(page: &Plain, who: Role, call: Call) -> Option<Refusal>
-    requires { CanSay who call }
+    requires idle { IsIdle (machine_of page.now who) }
+    requires said { CanSay who call }
     ensures refusal { (core : Core) → StandsFor core page.now → result ≡ call_refusal_of core who call }
     ensures honest { result ≡ None → turned_of page.now who ≡ false }
-    ensures allowed { result ≡ None → IsAllowed who (standing (machine_of page.now who)).state call }
+    ensures allowed { result ≡ None → Allows (machine_of page.now who) call }
 {
     if page.turned(who) {
         return Some(Refusal::Turned);
     }
-    match page.machine(who).state() {
-        EndState::Open if !matches!(call, Call::Connect) => None,
-        state => state_refusal(state, has_retired(page, who), call),
+    let machine = page.machine(who);
+    if let Some(why) = machine.refusal(call) {
+        return Some(refusal_of_call(why));
     }
+    if retires_again(page, who, call) {
+        return Some(Refusal::Shut);
+    }
+    None
 }
 
-/// Why an end in this state can't make a call, where it has retired or not.
-fn state_refusal(state: EndState, retired: bool, call: Call) -> Option<Refusal>
-    ensures refusal { result ≡ state_refusal_of state retired call }
-    ensures allowed { result ≡ None → (who : Role) → CanSay who call → IsAllowed who state call }
+/// Whether an end that has retired is to retire.
+fn retires_again(page: &Plain, who: Role, call: Call) -> bool
+    ensures { (core : Core) → StandsFor core page.now → result ≡ is_second_retire (side_of core who).state (has_retired_of core who) call }
 {
-    match (state, call) {
-        (EndState::Shut, Call::Retire) if !retired => None,
-        (EndState::Shut, _) => Some(Refusal::Shut),
-        (EndState::Fresh, Call::Connect | Call::Close | Call::Retire) => None,
-        (EndState::Fresh, _) => Some(Refusal::Unconnected),
-        (EndState::Open, Call::Connect) => Some(Refusal::Idle),
-        (EndState::Open, _) => None,
+    match (page.machine(who).state(), call) {
+        (EndState::Shut, Call::Retire) => page.has_retired(who),
+        _ => false,
     }
-}
-
-/// Whether an end has retired: its gone word is set.
-fn has_retired(page: &Plain, who: Role) -> bool
-    ensures { (core : Core) → StandsFor core page.now → result ≡ has_retired_of core who }
-{
-    let gone = match who {
-        Role::Server => WordName::SrvGone,
-        Role::Client => WordName::CliGone,
-    };
-    page.words().load(gone) != 0
 }
 
 /// Why an end can't go on with a call now: the first reason that applies.
@@ -382,21 +332,4 @@ fn step_refusal(page: &Plain, who: Role) -> Option<Refusal>
         return Some(Refusal::Idle);
     }
     None
-}
-
-/// The most bytes that a call can take from the ring that its end reads.
-fn most_taken(page: &Plain, who: Role, call: Call) -> usize
-    ensures { result ≡ loaded_most (standing (machine_of page.now who)) call }
-{
-    let most = match call {
-        Call::Read { most } => most,
-        Call::Recv { len } => len,
-        Call::Drain { most } => most,
-        _ => return 0,
-    };
-    let ring = match who {
-        Role::Server => Ring::Left,
-        Role::Client => Ring::Right,
-    };
-    most.min(page.words().orders().order_of(ring).size()) as usize
 }

@@ -1,4 +1,8 @@
 //! Why a line of a script can't be carried out.
+ghost use Rattle.std.specs.Prelude.{◌≡◌, ◌≢◌};
+ghost use Rattle.step_script.specs.Parts.Refusals.{line_refusal};
+
+use vchan_core::Refusal as CallRefusal;
 
 /// Why an end couldn't do what a line says: the first of these that applies.
 #[derive(Clone, Copy, Debug, PartialEq, Eq)]
@@ -11,4 +15,18 @@ pub(crate) enum Refusal {
     Shut,
     /// The client hasn't connected yet.
     Unconnected,
+}
+
+/// Why an end that is inside no call can't begin one that a script names.
+pub(crate) fn refusal_of_call(why: CallRefusal) -> Refusal
+    requires between { why ≢ CallRefusal.Busy }
+    requires some { why ≢ CallRefusal.NoBytes }
+    ensures { result ≡ line_refusal why }
+{
+    match why {
+        CallRefusal::Shut => Refusal::Shut,
+        CallRefusal::Unconnected => Refusal::Unconnected,
+        CallRefusal::Connected => Refusal::Idle,
+        CallRefusal::Busy | CallRefusal::NoBytes => unreachable!(),
+    }
 }

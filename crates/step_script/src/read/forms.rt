@@ -6,7 +6,7 @@ ghost use Rattle.step_script.specs.Parts.Forms.{FormFits, VerbFits, found_in};
 ghost use Rattle.step_script.specs.Language.Tables.{meaning_in, meaning_first, verb_first, ends, calls_of, common_calls, acts, fields};
 
 use ring_words::{Role, WordName};
-use script_words::Words;
+use script_words::WordsOfLine;
 use vchan_core::Call;
 
 /// A call as its word names it, and with that the form of the words behind it.
@@ -53,7 +53,7 @@ pub(crate) enum Verb {
 /// The end that the first of these words names, and the words behind it.
 #[inline(always)]
 #[tactic(auto, using(crate::proofs::Language::NameLaws::unnamed))]
-pub(crate) fn end_in<'a>(words: &Words<'a>) -> Option<(Role, Words<'a>)>
+pub(crate) fn end_in<'a>(words: &WordsOfLine<'a>) -> Option<(Role, WordsOfLine<'a>)>
     ensures { found_in result ≡ meaning_first ends (words_left words.now) }
 {
     if let Some(rest) = words.behind(b"client") {
@@ -69,7 +69,7 @@ pub(crate) fn end_in<'a>(words: &Words<'a>) -> Option<(Role, Words<'a>)>
 /// scripts have most are looked for where this is called.
 #[inline(always)]
 #[tactic(auto, using(crate::proofs::Language::NameLaws::frequent))]
-pub(crate) fn verb_in<'a>(who: Role, words: &Words<'a>) -> Option<(Verb, Words<'a>)>
+pub(crate) fn verb_in<'a>(who: Role, words: &WordsOfLine<'a>) -> Option<(Verb, WordsOfLine<'a>)>
     ensures verb { found_in result ≡ verb_first who (words_left words.now) }
     ensures fits { IfSome result (λ found. VerbFits who found.0) }
 {
@@ -90,7 +90,7 @@ pub(crate) fn verb_in<'a>(who: Role, words: &Words<'a>) -> Option<(Verb, Words<'
 
 /// [`verb_in`], by the tables.
 #[inline(never)]
-fn further_verb_in<'a>(who: Role, words: &Words<'a>) -> Option<(Verb, Words<'a>)>
+fn further_verb_in<'a>(who: Role, words: &WordsOfLine<'a>) -> Option<(Verb, WordsOfLine<'a>)>
     ensures verb { found_in result ≡ verb_first who (words_left words.now) }
     ensures fits { IfSome result (λ found. VerbFits who found.0) }
 {
@@ -105,7 +105,7 @@ fn further_verb_in<'a>(who: Role, words: &Words<'a>) -> Option<(Verb, Words<'a>)
 
 /// The call of this end that the first of these words names, and the words behind it.
 #[inline(always)]
-pub(crate) fn call_in<'a>(who: Role, words: &Words<'a>) -> Option<(CallForm, Words<'a>)>
+pub(crate) fn call_in<'a>(who: Role, words: &WordsOfLine<'a>) -> Option<(CallForm, WordsOfLine<'a>)>
     ensures form { found_in result ≡ meaning_first (calls_of who) (words_left words.now) }
     ensures fits { IfSome result (λ found. FormFits who found.0) }
 {
@@ -118,7 +118,7 @@ pub(crate) fn call_in<'a>(who: Role, words: &Words<'a>) -> Option<(CallForm, Wor
 /// The call of a client that the first of these words names, and the words behind it.
 #[inline(always)]
 #[tactic(auto, using(crate::proofs::Language::NameLaws::past_name))]
-fn client_call_in<'a>(words: &Words<'a>) -> Option<(CallForm, Words<'a>)>
+fn client_call_in<'a>(words: &WordsOfLine<'a>) -> Option<(CallForm, WordsOfLine<'a>)>
     ensures form { found_in result ≡ meaning_first (calls_of Role.Client) (words_left words.now) }
     ensures fits { IfSome result (λ found. FormFits Role.Client found.0) }
 {
@@ -133,7 +133,7 @@ fn client_call_in<'a>(words: &Words<'a>) -> Option<(CallForm, Words<'a>)>
 /// calls that scripts have most are looked for where this is called.
 #[inline(always)]
 #[tactic(auto, using(crate::proofs::Language::NameLaws::past_name))]
-fn common_call_in<'a>(words: &Words<'a>) -> Option<(CallForm, Words<'a>)>
+fn common_call_in<'a>(words: &WordsOfLine<'a>) -> Option<(CallForm, WordsOfLine<'a>)>
     ensures form { found_in result ≡ meaning_first common_calls (words_left words.now) }
     ensures fits { (who : Role) → IfSome result (λ found. FormFits who found.0) }
 {
@@ -150,7 +150,7 @@ fn common_call_in<'a>(words: &Words<'a>) -> Option<(CallForm, Words<'a>)>
 /// words behind it.
 #[inline(never)]
 #[tactic(auto, using(crate::proofs::Language::NameLaws::unnamed))]
-fn further_call_in<'a>(words: &Words<'a>) -> Option<(CallForm, Words<'a>)>
+fn further_call_in<'a>(words: &WordsOfLine<'a>) -> Option<(CallForm, WordsOfLine<'a>)>
     ensures form { found_in result ≡ meaning_first (drop 2 common_calls) (words_left words.now) }
     ensures fits { (who : Role) → IfSome result (λ found. FormFits who found.0) }
 {
@@ -179,7 +179,7 @@ fn further_call_in<'a>(words: &Words<'a>) -> Option<(CallForm, Words<'a>)>
 
 /// The act that the first of these words names, and the words behind it.
 #[tactic(auto, using(crate::proofs::Language::NameLaws::unnamed))]
-pub(crate) fn act_in<'a>(words: &Words<'a>) -> Option<(Act, Words<'a>)>
+pub(crate) fn act_in<'a>(words: &WordsOfLine<'a>) -> Option<(Act, WordsOfLine<'a>)>
     ensures { found_in result ≡ meaning_first acts (words_left words.now) }
 {
     if let Some(rest) = words.behind(b"begin") {

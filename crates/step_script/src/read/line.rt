@@ -9,13 +9,13 @@ ghost use Rattle.ring_words.specs.declared.order.Orders.{Orders};
 ghost use Rattle.ring_words.specs.declared.page.Role.{Role};
 ghost use Rattle.step_script.specs.Parts.ScriptLines.{call_with, line_with, payload_len};
 
-use crate::error::LineError;
+use crate::error::{LineError, ScriptKind};
 use crate::read::forms::{Act, CallForm, Verb, call_in, end_in, verb_in};
 use crate::read::operand::{read_count, read_nothing, read_number, read_operand, read_payload};
 use crate::read::poke::read_word_name;
 use crate::script::Line;
 use ring_words::{Orders, Role};
-use script_words::Words;
+use script_words::WordsOfLine;
 use vchan_core::Call;
 
 /// Reads a line of a script whose page has these orders, with `room` bytes left for its byte
@@ -24,7 +24,7 @@ use vchan_core::Call;
 /// # Errors
 ///
 /// A bad line where the line is none of the language; then, from the left, a bad number or bad hex
-/// where a word is none; too many bytes; `Memory`.
+/// where a word is none; too many bytes; `Memory` only where the line is none of these.
 pub(crate) fn read_line(
     payload: &mut Vec<u8>,
     orders: Orders,
@@ -37,7 +37,7 @@ pub(crate) fn read_line(
     ensures len { IfOk result (λ line. payload_len (line_with line payload.new.items) ≡ length payload.new.items) }
 {
     payload.clear();
-    let words = Words::of(line);
+    let words = WordsOfLine::of(line);
     match end_in(&words) {
         Some((who, words)) => read_end_line(payload, orders, room, who, words),
         None => read_page_line(words),
@@ -47,7 +47,7 @@ pub(crate) fn read_line(
 /// Reads `head` or `image`.
 #[tactic(auto, using(crate::proofs::Language::NameLaws::unnamed))]
 #[inline(never)]
-fn read_page_line(words: Words) -> Result<Line, LineError>
+fn read_page_line(words: WordsOfLine) -> Result<Line, LineError>
     ensures line { (payload : List ℕ) → Gives (λ line. line_with line payload) result (line_of_page (words_left words.entry)) }
     ensures fits { (payload : List ℕ) (orders : Orders) (room : ℕ) → IfOk result (λ line. LineKeeps orders room (line_with line payload)) }
     ensures len { (payload : List ℕ) → IfOk result (λ line. payload_len (line_with line payload) ≡ 0) }
@@ -59,7 +59,7 @@ fn read_page_line(words: Words) -> Result<Line, LineError>
         read_nothing(words)?;
         Ok(Line::Image)
     } else {
-        Err(LineError::BAD_LINE)
+        Err(LineError::Bad(ScriptKind::BadLine))
     }
 }
 
@@ -70,7 +70,7 @@ fn read_end_line(
     orders: Orders,
     room: usize,
     who: Role,
-    words: Words,
+    words: WordsOfLine,
 ) -> Result<Line, LineError>
     requires none { payload.old.items ≡ [] }
     requires room { room ≤ 8388608 }
@@ -79,7 +79,7 @@ fn read_end_line(
     ensures len { IfOk result (λ line. payload_len (line_with line payload.new.items) ≡ length payload.new.items) }
 {
     let Some((verb, words)) = verb_in(who, &words) else {
-        return Err(LineError::BAD_LINE);
+        return Err(LineError::Bad(ScriptKind::BadLine));
     };
     match verb {
         Verb::Makes(form) => {
@@ -98,7 +98,7 @@ fn read_line_of_act(
     room: usize,
     who: Role,
     act: Act,
-    words: Words,
+    words: WordsOfLine,
 ) -> Result<Line, LineError>
     requires none { payload.old.items ≡ [] }
     requires room { room ≤ 8388608 }
@@ -128,12 +128,12 @@ fn read_line_of_act(
 }
 
 /// Reads the words `WORD VALUE` of a poke.
-fn read_poke(orders: Orders, who: Role, mut words: Words) -> Result<Line, LineError>
+fn read_poke(orders: Orders, who: Role, mut words: WordsOfLine) -> Result<Line, LineError>
     ensures line { (payload : List ℕ) → Gives (λ line. line_with line payload) result (poke_of orders who (words_left words.entry)) }
     ensures fits { (payload : List ℕ) (room : ℕ) → IfOk result (λ line. LineKeeps orders room (line_with line payload)) }
     ensures len { (payload : List ℕ) → IfOk result (λ line. payload_len (line_with line payload) ≡ 0) }
 {
-    let name = words.next().ok_or(LineError::BAD_LINE)?;
+    let name = words.next().ok_or(ScriptKind::BadLine)?;
     let value = read_operand(words)?;
     let word = read_word_name(orders, name)?;
     let value = read_number(value, 0, u64::MAX)?;
@@ -141,7 +141,12 @@ fn read_poke(orders: Orders, who: Role, mut words: Words) -> Result<Line, LineEr
 }
 
 /// Reads a call of an end: its word, and the words behind it.
-fn read_call(payload: &mut Vec<u8>, room: usize, who: Role, words: Words) -> Result<Call, LineError>
+fn read_call(
+    payload: &mut Vec<u8>,
+    room: usize,
+    who: Role,
+    words: WordsOfLine,
+) -> Result<Call, LineError>
     requires none { payload.old.items ≡ [] }
     requires room { room ≤ 8388608 }
     ensures call { Gives (λ call. call_with call payload.new.items) result (call_of room who (words_left words.entry)) }
@@ -149,7 +154,7 @@ fn read_call(payload: &mut Vec<u8>, room: usize, who: Role, words: Words) -> Res
 {
     match call_in(who, &words) {
         Some((form, words)) => read_call_of_form(payload, room, form, words),
-        None => Err(LineError::BAD_LINE),
+        None => Err(LineError::Bad(ScriptKind::BadLine)),
     }
 }
 
@@ -159,7 +164,7 @@ fn read_call_of_form(
     payload: &mut Vec<u8>,
     room: usize,
     form: CallForm,
-    words: Words,
+    words: WordsOfLine,
 ) -> Result<Call, LineError>
     requires none { payload.old.items ≡ [] }
     requires room { room ≤ 8388608 }

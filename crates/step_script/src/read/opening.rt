@@ -5,14 +5,14 @@ ghost use Rattle.script_words.specs.WordsLeft.{words_left};
 ghost use Rattle.step_script.specs.declared.error.ScriptKind.TheVariants.{BadOrders};
 ghost use Rattle.step_script.specs.Language.Opening.{orders_of};
 ghost use Rattle.step_script.specs.Language.Operands.{number_between};
-ghost use Rattle.step_script.specs.Parts.Readings.{Gives};
+ghost use Rattle.step_script.specs.Parts.Readings.{Finds};
 ghost use Rattle.step_script.specs.Language.Grammar.{opening_of, open_operands, fresh_operands, open_of, fresh_of, laid, start_of, start_word};
 
-use crate::error::LineError;
+use crate::error::ScriptKind;
 use crate::read::operand::{read_given, read_number};
 use crate::script::Opening;
 use ring_words::{Orders, check_orders};
-use script_words::Words;
+use script_words::WordsOfLine;
 use vchan_core::EndState;
 
 /// The most that an order's word may say.
@@ -28,26 +28,26 @@ const MOST_INDEX: u64 = 4_294_967_295;
 /// A bad header where the line hasn't one of these words with as many words behind it; a bad line
 /// where one of those is empty; a bad number where one of them isn't a number up to 65,535; bad
 /// orders where `check_orders` refuses L and R.
-pub(crate) fn read_opening(line: &[u8]) -> Result<Opening, LineError>
-    ensures { Gives (λ opening. opening) result (opening_of (words_of line.now)) }
+pub(crate) fn read_opening(line: &[u8]) -> Result<Opening, ScriptKind>
+    ensures { Finds (λ opening. opening) result (opening_of (words_of line.now)) }
 {
-    let mut words = Words::of(line);
-    let verb = words.next().ok_or(LineError::BAD_HEADER)?;
+    let mut words = WordsOfLine::of(line);
+    let verb = words.next().ok_or(ScriptKind::BadHeader)?;
     if verb == b"open".as_slice() {
         read_open(words)
     } else if verb == b"fresh".as_slice() {
         read_fresh(words)
     } else {
-        Err(LineError::BAD_HEADER)
+        Err(ScriptKind::BadHeader)
     }
 }
 
 /// Reads the words `L R` of an open page.
-fn read_open(mut words: Words) -> Result<Opening, LineError>
-    ensures { Gives (λ opening. opening) result (open_operands (words_left words.entry)) }
+fn read_open(mut words: WordsOfLine) -> Result<Opening, ScriptKind>
+    ensures { Finds (λ opening. opening) result (open_operands (words_left words.entry)) }
 {
-    let left = words.next().ok_or(LineError::BAD_HEADER)?;
-    let right = words.only().ok_or(LineError::BAD_HEADER)?;
+    let left = words.next().ok_or(ScriptKind::BadHeader)?;
+    let right = words.only().ok_or(ScriptKind::BadHeader)?;
     let left = read_given(left)?;
     let right = read_given(right)?;
     let said = (read_order(left)?, read_order(right)?);
@@ -55,13 +55,13 @@ fn read_open(mut words: Words) -> Result<Opening, LineError>
 }
 
 /// Reads the words `L R A B` of a fresh page.
-fn read_fresh(mut words: Words) -> Result<Opening, LineError>
-    ensures { Gives (λ opening. opening) result (fresh_operands (words_left words.entry)) }
+fn read_fresh(mut words: WordsOfLine) -> Result<Opening, ScriptKind>
+    ensures { Finds (λ opening. opening) result (fresh_operands (words_left words.entry)) }
 {
-    let left = words.next().ok_or(LineError::BAD_HEADER)?;
-    let right = words.next().ok_or(LineError::BAD_HEADER)?;
-    let said_left = words.next().ok_or(LineError::BAD_HEADER)?;
-    let said_right = words.only().ok_or(LineError::BAD_HEADER)?;
+    let left = words.next().ok_or(ScriptKind::BadHeader)?;
+    let right = words.next().ok_or(ScriptKind::BadHeader)?;
+    let said_left = words.next().ok_or(ScriptKind::BadHeader)?;
+    let said_right = words.only().ok_or(ScriptKind::BadHeader)?;
     read_fresh_words(left, right, said_left, said_right)
 }
 
@@ -71,9 +71,9 @@ fn read_fresh_words(
     right: &[u8],
     said_left: &[u8],
     said_right: &[u8],
-) -> Result<Opening, LineError>
+) -> Result<Opening, ScriptKind>
     ensures { let due = fresh_of left.now right.now said_left.now said_right.now in
-        Gives (λ opening. opening) result due }
+        Finds (λ opening. opening) result due }
 {
     let left = read_given(left)?;
     let right = read_given(right)?;
@@ -85,16 +85,16 @@ fn read_fresh_words(
 }
 
 /// The number of a word that may be an order.
-fn read_order(word: &[u8]) -> Result<u16, LineError>
-    ensures { Gives (λ number. number) result (number_between 0 65535 word.now) }
+fn read_order(word: &[u8]) -> Result<u16, ScriptKind>
+    ensures { Finds (λ number. number) result (number_between 0 65535 word.now) }
 {
     let number = read_number(word, 0, MOST_ORDER)?;
     Ok(number as u16)
 }
 
 /// A page with two numbers as its orders, whose order words and client are so.
-fn lay(numbers: (u16, u16), said: (u16, u16), state: EndState) -> Result<Opening, LineError>
-    ensures { Gives (λ opening. opening) result (laid numbers said state) }
+fn lay(numbers: (u16, u16), said: (u16, u16), state: EndState) -> Result<Opening, ScriptKind>
+    ensures { Finds (λ opening. opening) result (laid numbers said state) }
 {
     let orders = page_orders(numbers.0, numbers.1)?;
     Ok(Opening {
@@ -107,12 +107,12 @@ fn lay(numbers: (u16, u16), said: (u16, u16), state: EndState) -> Result<Opening
 
 /// The orders of a page that two numbers are.
 #[tactic(auto, using(crate::proofs::Language::OrdersLaws::orders_of_bad))]
-fn page_orders(left: u16, right: u16) -> Result<Orders, LineError>
-    ensures { Gives (λ orders. orders) result (ok_or (orders_of left right) BadOrders) }
+fn page_orders(left: u16, right: u16) -> Result<Orders, ScriptKind>
+    ensures { Finds (λ orders. orders) result (ok_or (orders_of left right) BadOrders) }
 {
     match check_orders(left, right) {
         Ok(orders) => Ok(orders),
-        Err(_) => Err(LineError::BAD_ORDERS),
+        Err(_) => Err(ScriptKind::BadOrders),
     }
 }
 
@@ -120,7 +120,7 @@ fn page_orders(left: u16, right: u16) -> Result<Orders, LineError>
 pub(crate) fn start_word(line: &[u8]) -> Option<&[u8]>
     ensures { option_copied result ≡ start_word (words_of line.now) }
 {
-    let mut words = Words::of(line);
+    let mut words = WordsOfLine::of(line);
     if words.next()? == b"start".as_slice() {
         words.only()
     } else {
@@ -133,8 +133,8 @@ pub(crate) fn start_word(line: &[u8]) -> Option<&[u8]>
 /// # Errors
 ///
 /// A bad line where the word is empty; a bad number where it isn't a number up to 4,294,967,295.
-pub(crate) fn read_start(word: &[u8]) -> Result<u32, LineError>
-    ensures { Gives (λ start. start) result (start_of word.now) }
+pub(crate) fn read_start(word: &[u8]) -> Result<u32, ScriptKind>
+    ensures { Finds (λ start. start) result (start_of word.now) }
 {
     let start = read_number(read_given(word)?, 0, MOST_INDEX)?;
     Ok(start as u32)

@@ -1,12 +1,12 @@
 //! The words behind a verb.
-ghost use Rattle.std.specs.Prelude.{◌≡◌, ◌≤◌, nat_lt, [], length, IfOk};
+ghost use Rattle.std.specs.Prelude.{◌≡◌, ◌≤◌, [], length, IfOk};
 ghost use Rattle.script_words.specs.WordsLeft.{words_left};
 ghost use Rattle.vchan_protocol.specs.Honest.RingLaw.{AreBytes};
 ghost use Rattle.step_script.specs.Language.Operands.{given, operand_of, alone, number_between, count_of, payload_of};
-ghost use Rattle.step_script.specs.Parts.Readings.{Gives};
+ghost use Rattle.step_script.specs.Parts.Readings.{Finds, Gives};
 
-use crate::error::LineError;
-use script_words::{Words, parse_number, push_bytes};
+use crate::error::{LineError, ScriptKind};
+use script_words::{WordsOfLine, parse_number, push_bytes};
 
 /// The most that a count of bytes or of events may say.
 const MOST_COUNT: u32 = 2_147_483_647;
@@ -16,11 +16,11 @@ const MOST_COUNT: u32 = 2_147_483_647;
 /// # Errors
 ///
 /// A bad line where it is empty.
-pub(crate) fn read_given(word: &[u8]) -> Result<&[u8], LineError>
-    ensures { Gives (λ word. word.now) result (given word.now) }
+pub(crate) fn read_given(word: &[u8]) -> Result<&[u8], ScriptKind>
+    ensures { Finds (λ word. word.now) result (given word.now) }
 {
     if word.is_empty() {
-        Err(LineError::BAD_LINE)
+        Err(ScriptKind::BadLine)
     } else {
         Ok(word)
     }
@@ -31,10 +31,11 @@ pub(crate) fn read_given(word: &[u8]) -> Result<&[u8], LineError>
 /// # Errors
 ///
 /// A bad line where it isn't the only one, or is empty.
-pub(crate) fn read_operand<'a>(words: Words<'a>) -> Result<&'a [u8], LineError>
-    ensures { Gives (λ word. word.now) result (operand_of (words_left words.entry)) }
+#[inline(always)]
+pub(crate) fn read_operand<'a>(words: WordsOfLine<'a>) -> Result<&'a [u8], ScriptKind>
+    ensures { Finds (λ word. word.now) result (operand_of (words_left words.entry)) }
 {
-    read_given(words.only().ok_or(LineError::BAD_LINE)?)
+    read_given(words.only().ok_or(ScriptKind::BadLine)?)
 }
 
 /// Whether no word is left.
@@ -42,12 +43,12 @@ pub(crate) fn read_operand<'a>(words: Words<'a>) -> Result<&'a [u8], LineError>
 /// # Errors
 ///
 /// A bad line where one is.
-pub(crate) fn read_nothing(mut words: Words) -> Result<(), LineError>
-    ensures { Gives (λ x. x) result (alone tt (words_left words.entry)) }
+pub(crate) fn read_nothing(mut words: WordsOfLine) -> Result<(), ScriptKind>
+    ensures { Finds (λ x. x) result (alone tt (words_left words.entry)) }
 {
     match words.next() {
         None => Ok(()),
-        Some(_) => Err(LineError::BAD_LINE),
+        Some(_) => Err(ScriptKind::BadLine),
     }
 }
 
@@ -56,13 +57,13 @@ pub(crate) fn read_nothing(mut words: Words) -> Result<(), LineError>
 /// # Errors
 ///
 /// A bad number where the word is no such number.
-pub(crate) fn read_number(word: &[u8], least: u64, most: u64) -> Result<u64, LineError>
-    ensures number { Gives (λ number. number) result (number_between least most word.now) }
+pub(crate) fn read_number(word: &[u8], least: u64, most: u64) -> Result<u64, ScriptKind>
+    ensures number { Finds (λ number. number) result (number_between least most word.now) }
     ensures within { IfOk result (λ number. (least ≤ number) × (number ≤ most)) }
 {
-    let number = parse_number(word, most).ok_or(LineError::BAD_NUMBER)?;
+    let number = parse_number(word, most).ok_or(ScriptKind::BadNumber)?;
     if number < least {
-        Err(LineError::BAD_NUMBER)
+        Err(ScriptKind::BadNumber)
     } else {
         Ok(number)
     }
@@ -74,8 +75,8 @@ pub(crate) fn read_number(word: &[u8], least: u64, most: u64) -> Result<u64, Lin
 ///
 /// A bad line where it isn't the only word or is empty; a bad number where it is no such number.
 #[inline(always)]
-pub(crate) fn read_count(words: Words, least: u32) -> Result<u32, LineError>
-    ensures count { Gives (λ count. count) result (count_of least 2147483647 (words_left words.entry)) }
+pub(crate) fn read_count(words: WordsOfLine, least: u32) -> Result<u32, ScriptKind>
+    ensures count { Finds (λ count. count) result (count_of least 2147483647 (words_left words.entry)) }
     ensures within { IfOk result (λ count. least ≤ count) }
 {
     let word = read_operand(words)?;
@@ -89,11 +90,11 @@ pub(crate) fn read_count(words: Words, least: u32) -> Result<u32, LineError>
 /// # Errors
 ///
 /// A bad line where it isn't the only word or is empty; bad hex where it is no byte string; too
-/// many bytes; `Memory`.
+/// many bytes; `Memory` only where it is none of these.
 #[inline(always)]
 pub(crate) fn read_payload(
     payload: &mut Vec<u8>,
-    words: Words,
+    words: WordsOfLine,
     room: usize,
 ) -> Result<u32, LineError>
     requires none { payload.old.items ≡ [] }
@@ -104,17 +105,15 @@ pub(crate) fn read_payload(
     ensures bytes { IfOk result (λ count. AreBytes payload.new.items) }
 {
     let word = read_operand(words)?;
-    push_bytes(payload, word)?;
-    if is_too_long(payload.as_slice(), room) {
-        return Err(LineError::TOO_MANY_BYTES);
-    }
-    Ok(payload.len() as u32)
+    push_bytes(payload, word, room)?;
+    Ok(count_bytes(payload.as_slice()))
 }
 
-/// Whether there are more bytes than there is room for.
-fn is_too_long(bytes: &[u8], room: usize) -> bool
-    ensures long { result ≡ nat_lt room (length bytes.now) }
+/// How many bytes there are, of at most 8,388,608.
+fn count_bytes(bytes: &[u8]) -> u32
+    requires { length bytes.now ≤ 8388608 }
+    ensures count { result ≡ length bytes.now }
     ensures bytes { AreBytes bytes.now }
 {
-    bytes.len() > room
+    bytes.len() as u32
 }

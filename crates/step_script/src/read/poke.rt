@@ -1,15 +1,14 @@
 //! Reading the word of a page that a poke names.
 ghost use Rattle.std.specs.Prelude.{◌≡◌, option_copied, IfOk};
-ghost use Rattle.std.specs.Str.{all_ascii_digits};
-ghost use Rattle.script_words.specs.Numbers.{is_number};
 ghost use Rattle.step_script.specs.Language.Pokes.{place_in, ring_byte, poked_word};
-ghost use Rattle.step_script.specs.Parts.Readings.{Gives};
+ghost use Rattle.step_script.specs.Parts.Readings.{Finds};
 ghost use Rattle.vchan_protocol.specs.Hostile.Turned.{MayPoke};
 
-use crate::error::LineError;
+use crate::error::ScriptKind;
 use crate::read::forms::field_named;
 use crate::read::operand::read_number;
 use ring_words::{Orders, Ring, WordName};
+use script_words::is_number;
 
 /// The word of a page with these orders that a word names: a header field, or `left[K]` and
 /// `right[K]` for a byte of a ring.
@@ -17,8 +16,8 @@ use ring_words::{Orders, Ring, WordName};
 /// # Errors
 ///
 /// A bad line where there is no such name; a bad number where K isn't below the ring's size.
-pub(crate) fn read_word_name(orders: Orders, word: &[u8]) -> Result<WordName, LineError>
-    ensures name { Gives (λ name. name) result (poked_word orders word.now) }
+pub(crate) fn read_word_name(orders: Orders, word: &[u8]) -> Result<WordName, ScriptKind>
+    ensures name { Finds (λ name. name) result (poked_word orders word.now) }
     ensures within { IfOk result (λ name. MayPoke orders name) }
 {
     if let Some(field) = field_named(word) {
@@ -28,7 +27,7 @@ pub(crate) fn read_word_name(orders: Orders, word: &[u8]) -> Result<WordName, Li
     } else if let Some(place) = place_in(b"right[", word) {
         read_ring_byte(orders, Ring::Right, place)
     } else {
-        Err(LineError::BAD_LINE)
+        Err(ScriptKind::BadLine)
     }
 }
 
@@ -40,12 +39,12 @@ fn place_in<'a>(front: &[u8], word: &'a [u8]) -> Option<&'a [u8]>
 }
 
 /// The byte of a ring at the place that a word says.
-fn read_ring_byte(orders: Orders, ring: Ring, place: &[u8]) -> Result<WordName, LineError>
-    ensures byte { Gives (λ name. name) result (ring_byte orders ring place.now) }
+fn read_ring_byte(orders: Orders, ring: Ring, place: &[u8]) -> Result<WordName, ScriptKind>
+    ensures byte { Finds (λ name. name) result (ring_byte orders ring place.now) }
     ensures within { IfOk result (λ name. MayPoke orders name) }
 {
     if !is_number(place) {
-        return Err(LineError::BAD_LINE);
+        return Err(ScriptKind::BadLine);
     }
     let size = orders.order_of(ring).size();
     let at = read_number(place, 0, u64::from(size - 1))?;
@@ -53,23 +52,4 @@ fn read_ring_byte(orders: Orders, ring: Ring, place: &[u8]) -> Result<WordName, 
         ring,
         at: at as u32,
     })
-}
-
-/// Whether a word is decimal digits without a leading zero, or `0`.
-fn is_number(word: &[u8]) -> bool
-    ensures { result ≡ is_number word.now }
-{
-    are_digits(word) && !word.is_empty() && (word.len() == 1 || word[0] != b'0')
-}
-
-/// Whether all bytes are decimal digits.
-fn are_digits(word: &[u8]) -> bool
-    ensures { result ≡ all_ascii_digits word.now }
-{
-    for digit in word {
-        if !digit.is_ascii_digit() {
-            return false;
-        }
-    }
-    true
 }

@@ -74,7 +74,7 @@ invariant_begin core page who call payload h honest allows pays bytes kept =
     invariant_begun core who call payload kept (turned_stands core page who h honest) (may_begin core page who call payload h kept allows pays bytes)
 
 -- a busy machine has an event left, and so has its end
-goes_on_stands : (core : Core) (page : Plain) (who : Role) → StandsFor core page → ¬ IsIdle (machine_of page who) → GoesOn (plan_left (side_of core who))
+pub goes_on_stands : (core : Core) (page : Plain) (who : Role) → StandsFor core page → ¬ IsIdle (machine_of page who) → GoesOn (plan_left (side_of core who))
 goes_on_stands core page who h busy =
     subst GoesOn (sym (plan_left-is (side_of core who) (machine_of page who) (in_call (side_of core who) (machine_of page who) (machine_stands core page who h) busy))) (GoesOn-machine (machine_of page who) busy)
 

@@ -16,7 +16,7 @@ use Rattle.vchan_protocol.specs.Table.Calls.{write, write_open, write_looked, re
 use Rattle.vchan_protocol.specs.Table.Plan.{Plan, answers, does, next_op, after}
 use Rattle.vchan_protocol.specs.Table.Ends.{Standing, standing_after, read_size, peer_live, cons_word, prod_word, written_ring, read_ring, free_at, ready_at, low8, low32}
 use Rattle.vchan_protocol.specs.Table.Apply.{Fits, words_after, value_taken, buffer_after}
-use Rattle.vchan_core.specs.OneMachine.Phases.{standing, at_phase, rest, rest_at, payload_at, buffer_at}
+use Rattle.vchan_core.specs.OneMachine.Phases.{standing, at_phase, rest, rest_at, payload_at, buffer_at, payload_needed, buffer_needed}
 use Rattle.vchan_core.specs.WholeCall.EventsMade.{MakesEvent, MakesEvents}
 
 -- a load leaves the end's standing
@@ -92,3 +92,12 @@ write_is e n = refl
 pub read_is : (e : Standing) (n : ℕ) → rest_at e (ReadLook n) ≡ does (Load (prod_word (read_ring e.role))) (λ value. read_next e n (low32 value))
 unfolding rest_at read
 read_is e n = refl
+
+-- events that are made at once need no more bytes
+pub needs_less : (n : ℕ) (orders : Orders) (source : List ℕ) (m : Machine) (list buffer : List ℕ) (m' : Machine) (list' buffer' : List ℕ) → MakesEvents n orders source m list buffer m' list' buffer' →
+    (payload_needed m' ≤ payload_needed m) × (buffer_needed m' ≤ buffer_needed m)
+needs_less zero orders source m list buffer m' list' buffer' d =
+    (subst (λ (x : Machine). payload_needed x ≤ payload_needed m) (sym d.0) (omega arith), subst (λ (x : Machine). buffer_needed x ≤ buffer_needed m) (sym d.0) (omega arith))
+needs_less (suc n) orders source m list buffer m' list' buffer' d =
+    let later = needs_less n orders source d.0 d.1 d.2 m' list' buffer' d.4 in
+    (omega (arith, later.0, d.3.payload_left), omega (arith, later.1, d.3.buffer_left))

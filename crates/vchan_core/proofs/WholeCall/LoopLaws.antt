@@ -79,7 +79,7 @@ stands_event Client source buffer buffer' page page' low beside d core h has =
     low d beside.left beside.right h.left.sent h.right.got)
     beside.orders beside.other beside.other_turned beside.turned
 
-is_step : (who : Role) (source buffer buffer' : List ℕ) (page page' : Plain) → IsLow (machine_of page who) → IsBeside who page page' → EventOn who source page buffer page' buffer' → IsStep who source page page' None buffer buffer'
+pub is_step : (who : Role) (source buffer buffer' : List ℕ) (page page' : Plain) → IsLow (machine_of page who) → IsBeside who page page' → EventOn who source page buffer page' buffer' → IsStep who source page page' None buffer buffer'
 is_step who source buffer buffer' page page' low beside d = record {
   busy = d.busy;
   stands = stands_event who source buffer buffer' page page' low beside d;
@@ -311,19 +311,19 @@ loop_along first who call source start enough (suc n) page page' buffer buffer' 
 -- ---- the phase of a call that the page doesn't know of
 
 -- the end has its next event at a phase
-busy_at : (who : Role) (page : Plain) (phase : Phase) → ¬ IsIdle (machine_of (page_at page who phase) who)
+pub busy_at : (who : Role) (page : Plain) (phase : Phase) → ¬ IsIdle (machine_of (page_at page who phase) who)
 busy_at Server page phase = λ idle. false≢true (sym idle)
 busy_at Client page phase = λ idle. false≢true (sym idle)
 
-payload_needed_at : (who : Role) (page : Plain) (phase : Phase) → payload_needed (machine_of (page_at page who phase) who) ≡ payload_at phase
+pub payload_needed_at : (who : Role) (page : Plain) (phase : Phase) → payload_needed (machine_of (page_at page who phase) who) ≡ payload_at phase
 payload_needed_at Server page phase = refl
 payload_needed_at Client page phase = refl
 
-buffer_needed_at : (who : Role) (page : Plain) (phase : Phase) → buffer_needed (machine_of (page_at page who phase) who) ≡ buffer_at (read_size (standing (machine_of page who))) phase
+pub buffer_needed_at : (who : Role) (page : Plain) (phase : Phase) → buffer_needed (machine_of (page_at page who phase) who) ≡ buffer_at (read_size (standing (machine_of page who))) phase
 buffer_needed_at Server page phase = refl
 buffer_needed_at Client page phase = refl
 
-other_of_at : (who : Role) (page : Plain) (phase : Phase) → other_of (page_at page who phase) who ≡ other_of page who
+pub other_of_at : (who : Role) (page : Plain) (phase : Phase) → other_of (page_at page who phase) who ≡ other_of page who
 other_of_at Server page phase = refl
 other_of_at Client page phase = refl
 
@@ -392,7 +392,7 @@ pub record MovesAt (who : Role) (source : List ℕ) (page page' : Plain) (phase 
   pub buffer_left : buffer_next (read_size (standing (machine_of page' who))) move ≤ buffer_at (read_size (standing (machine_of page who))) phase
   pub other : other_of page' who ≡ other_of page who
 
-step_to : (who : Role) (source : List ℕ) (page page' : Plain) (phase next : Phase) (buffer buffer' : List ℕ) → MovesAt who source page page' phase (To next) buffer buffer' →
+pub step_to : (who : Role) (source : List ℕ) (page page' : Plain) (phase next : Phase) (buffer buffer' : List ℕ) → MovesAt who source page page' phase (To next) buffer buffer' →
     IsStep who source (page_at page who phase) (page_at page' who next) None buffer buffer'
 step_to Server source page page' phase next buffer buffer' d = record {
   busy = busy_at Server page phase;
@@ -411,7 +411,7 @@ step_to Client source page page' phase next buffer buffer' d = record {
   idle = (λ some. absurd (false≢true some), λ quiet. absurd (false≢true (sym quiet)));
 }
 
-step_done : (who : Role) (source : List ℕ) (page page' : Plain) (phase : Phase) (answer : Answer) (buffer buffer' : List ℕ) → MovesAt who source page page' phase (Done answer) buffer buffer' →
+pub step_done : (who : Role) (source : List ℕ) (page page' : Plain) (phase : Phase) (answer : Answer) (buffer buffer' : List ℕ) → MovesAt who source page page' phase (Done answer) buffer buffer' →
     IsStep who source (page_at page who phase) page' (Some answer) buffer buffer'
 step_done Server source page page' phase answer buffer buffer' d = record {
   busy = busy_at Server page phase;

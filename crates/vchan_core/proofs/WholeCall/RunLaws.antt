@@ -17,7 +17,7 @@ use Rattle.vchan_protocol.specs.Table.Ends.{Standing}
 use Rattle.vchan_protocol.specs.Table.Calls.{plan_of, payload_of}
 use Rattle.vchan_protocol.specs.Table.Apply.{Fits, words_after, value_taken, buffer_after, filled}
 use Rattle.vchan_core.specs.OneMachine.Phases.{standing, rest, rest_or_answer, IsIdle}
-use Rattle.vchan_protocol.specs.History.Core.{Core, side_of, with_side, event, begun, made, answered, carried_out, bytes_loaded}
+use Rattle.vchan_protocol.specs.History.Core.{Core, side_of, with_side, event, begun, made, answered, settled, carried_out, bytes_loaded}
 use Rattle.vchan_protocol.specs.History.WholeCall.{alone, whole_call}
 use Rattle.vchan_core.specs.Page.StandsFor.{IsMachineOf, HasPayload, StandsFor, machine_of, orders_of, words_of, op_of}
 use Rattle.vchan_core.proofs.OneMachine.PhaseLaws.{GoesOn-machine}
@@ -84,47 +84,63 @@ fills_next s m c orders out into busy fits = go (next_op (rest m)) (owed s m c b
 pub side_of-event : (now : Core) (who : Role) (m : Machine) → InCall (side_of now who) m → side_of (event now who) who ≡ side_by now.orders now.words (side_of now who) (rest m)
 side_of-event now who m c = ap (λ (k : Core). side_of k who) (event-by now who m c) ∙ side_of-with_side (record now { words = words_after now.orders now.words (side_of now who).payload (next_op (rest m)) }) who _
 
--- one more event of the call, whether an answer came or not
+-- one event of an end from a core state for which the page stands, whether an answer came or not
+module _ (now : Core) (who : Role) (source start buffer buffer' : List ℕ) (page page' : Plain) (result : Option Answer) (stands : StandsFor now page) (long : length buffer ≡ length start) (d : IsStep who source page page' result buffer buffer') where
+  pub event_here : InCall (side_of now who) (machine_of page who)
+  event_here = in_call (side_of now who) (machine_of page who) (machine_stands now page who stands) d.busy
+
+  abbrev next : Op
+  next = next_op (rest (machine_of page who))
+
+  abbrev value : ℕ
+  value = value_taken now.orders now.words next
+
+  pub event_side : side_of (event now who) who ≡ settled (made (side_of now who) next value) (after (rest (machine_of page who)) value)
+  event_side = side_of-event now who (machine_of page who) event_here
+
+  pub event_payload : (side_of (event now who) who).payload ≡ (side_of now who).payload
+  event_payload = ap (λ (s : Side). s.payload) event_side ∙ settled-payload (made (side_of now who) _ _) _
+
+  pub event_leads : rest_or_answer result (machine_of page' who) ≡ after (rest (machine_of page who)) value
+  event_leads =
+      d.leads ∙ ap (λ (o : Orders). after (rest (machine_of page who)) (value_taken o (words_of page) next)) stands.orders
+      ∙ ap (λ (w : List ℕ). after (rest (machine_of page who)) (value_taken now.orders w next)) stands.words
+
+  pub event_fills : buffer ≡ filled start (bytes_loaded (side_of now who).trail) → buffer' ≡ filled start (bytes_loaded (side_of (event now who) who).trail)
+  event_fills filled_so =
+      let fits : FillsNext (side_of now who).trail (length start) next =
+      subst (λ (n : ℕ). FillsNext (side_of now who).trail n next) long (fills_next (side_of now who) (machine_of page who) event_here (orders_of page) (length source) (length buffer) d.busy d.footprint) in
+      d.buffers ∙ ap (λ (o : Orders). buffer_after o (words_of page) buffer next) stands.orders ∙ ap (λ (w : List ℕ). buffer_after now.orders w buffer next) stands.words
+      ∙ ap (λ (b : List ℕ). buffer_after now.orders now.words b next) filled_so
+      ∙ fills_on now.orders now.words start (side_of now who).trail next fits
+      ∙ sym (ap (λ (s : Side). filled start (bytes_loaded s.trail)) event_side ∙ ap (λ (t : List PastEvent). filled start (bytes_loaded t)) (settled-trail (made (side_of now who) next value) (after (rest (machine_of page who)) value)))
+
+  -- the event of the page, with the value that it took there, stands behind the events before
+  pub event_trail : (side_of (event now who) who).trail ≡ (side_of now who).trail ++ past next (value_taken (orders_of page) (words_of page) next) ∷ []
+  event_trail =
+      ap (λ (s : Side). s.trail) event_side ∙ settled-trail (made (side_of now who) next value) (after (rest (machine_of page who)) value)
+      ∙ sym (ap (λ (o : Orders). (side_of now who).trail ++ past next (value_taken o (words_of page) next) ∷ []) stands.orders
+      ∙ ap (λ (w : List ℕ). (side_of now who).trail ++ past next (value_taken now.orders w next) ∷ []) stands.words)
+
+-- one more event of a whole call, whether an answer came or not
 module _ (core : Core) (who : Role) (call : Call) (source start buffer buffer' : List ℕ) (events : List PastEvent) (page page' : Plain) (result : Option Answer) (enough : payload_of call ≤ length source) (long : length buffer ≡ length start)
     (r : IsRunning core who call (take (payload_of call) source) start page buffer events) (d : IsStep who source page page' result buffer buffer') where
   here : InCall (side_of r.now who) (machine_of page who)
-  here = in_call (side_of r.now who) (machine_of page who) (machine_stands r.now page who r.stands) d.busy
-
-  op : Op
-  op = next_op (rest (machine_of page who))
+  here = event_here r.now who source start buffer buffer' page page' result r.stands long d
 
   pub then_stands : StandsFor (event r.now who) page'
   then_stands = d.stands r.now r.stands (has_payload (side_of r.now who) call source enough r.pays)
 
-  then_pays : (side_of (event r.now who) who).payload ≡ take (payload_of call) source
-  then_pays =
-      ap (λ (s : Side). s.payload) (side_of-event r.now who (machine_of page who) here) ∙ settled-payload (made (side_of r.now who) _ _) _ ∙ r.pays
-
   then_leads : rest_or_answer result (machine_of page' who) ≡ after (rest (machine_of page who)) (value_taken r.now.orders r.now.words (next_op (rest (machine_of page who))))
-  then_leads =
-      d.leads ∙ ap (λ (o : Orders). after (rest (machine_of page who)) (value_taken o (words_of page) (next_op (rest (machine_of page who))))) r.stands.orders
-      ∙ ap (λ (w : List ℕ). after (rest (machine_of page who)) (value_taken r.now.orders w (next_op (rest (machine_of page who))))) r.stands.words
+  then_leads = event_leads r.now who source start buffer buffer' page page' result r.stands long d
 
   pub then_fills : buffer' ≡ filled start (bytes_loaded (side_of (event r.now who) who).trail)
-  then_fills =
-      let next = next_op (rest (machine_of page who)) in
-      let fits : FillsNext (side_of r.now who).trail (length start) next =
-      subst (λ (n : ℕ). FillsNext (side_of r.now who).trail n next) long (fills_next (side_of r.now who) (machine_of page who) here (orders_of page) (length source) (length buffer) d.busy d.footprint) in
-      d.buffers ∙ ap (λ (o : Orders). buffer_after o (words_of page) buffer next) r.stands.orders ∙ ap (λ (w : List ℕ). buffer_after r.now.orders w buffer next) r.stands.words
-      ∙ ap (λ (b : List ℕ). buffer_after r.now.orders r.now.words b next) r.fills
-      ∙ fills_on r.now.orders r.now.words start (side_of r.now who).trail next fits
-      ∙ sym (ap (λ (s : Side). filled start (bytes_loaded s.trail)) (side_of-event r.now who (machine_of page who) here)
-      ∙ ap (λ (t : List PastEvent). filled start (bytes_loaded t)) (settled-trail (made (side_of r.now who) next (value_taken r.now.orders r.now.words next)) (after (rest (machine_of page who)) (value_taken r.now.orders r.now.words next))))
+  then_fills = event_fills r.now who source start buffer buffer' page page' result r.stands long d r.fills
 
-  -- the event of the page, with the value that it took there, stands behind the events before
   pub then_trail : (side_of (event r.now who) who).trail ≡ events ++ past (op_of page who) (value_taken (orders_of page) (words_of page) (op_of page who)) ∷ []
   then_trail =
-      let next = next_op (rest (machine_of page who)) in
-      ap (λ (s : Side). s.trail) (side_of-event r.now who (machine_of page who) here)
-      ∙ settled-trail (made (side_of r.now who) next (value_taken r.now.orders r.now.words next)) (after (rest (machine_of page who)) (value_taken r.now.orders r.now.words next))
-      ∙ ap (λ (t : List PastEvent). t ++ past next (value_taken r.now.orders r.now.words next) ∷ []) r.trail
-      ∙ sym (ap (λ (o : Orders). events ++ past next (value_taken o (words_of page) next) ∷ []) r.stands.orders
-      ∙ ap (λ (w : List ℕ). events ++ past next (value_taken r.now.orders w next) ∷ []) r.stands.words)
+      event_trail r.now who source start buffer buffer' page page' result r.stands long d
+      ∙ ap (λ (t : List PastEvent). t ++ past (op_of page who) (value_taken (orders_of page) (words_of page) (op_of page who)) ∷ []) r.trail
 
   pub runs_on : result ≡ None → IsRunning core who call (take (payload_of call) source) start page' buffer' (events ++ past (op_of page who) (value_taken (orders_of page) (words_of page) (op_of page who)) ∷ [])
   runs_on none =
@@ -137,7 +153,7 @@ module _ (core : Core) (who : Role) (call : Call) (source start buffer buffer' :
       record {
         now = event r.now who;
         stands = then_stands;
-        pays = then_pays;
+        pays = event_payload r.now who source start buffer buffer' page page' result r.stands long d ∙ r.pays;
         on = ap (λ (k : Core). alone k who (rest (machine_of page' who))) there ∙ ap (λ (p : Plan). alone (carried_out r.now who next) who p) plan
             ∙ alone-after r.now who (rest (machine_of page who)) (GoesOn-machine (machine_of page who) d.busy) ∙ r.on;
         fills = then_fills;

@@ -1,5 +1,7 @@
-//! What comes of each event of a call, by the value that it took.
-ghost use Rattle.std.specs.Prelude.{◌≡◌, ◌<◌, ◌≤◌, ◌+◌, ◌==◌, min, nat_lt, bit_and, if◌then◌else◌};
+//! The events of a call, phase by phase: which event it is, what comes of the value that it took, and
+//! what it makes of the own counts and the state.
+ghost use Rattle.std.specs.Prelude.{◌≡◌, ◌≢◌, ◌<◌, ◌≤◌, ◌+◌, ◌==◌, min, nat_lt, bit_and, if◌then◌else◌};
+ghost use Rattle.vchan_protocol.specs.Table.Apply.{Fits};
 ghost use Rattle.vchan_protocol.specs.Table.Plan.{answers, next_op, after};
 ghost use Rattle.vchan_protocol.specs.Table.Ends.{read_size, standing_after, free_at, ready_at};
 ghost use Rattle.vchan_protocol.specs.Table.Calls.{ask, look_write, drain_second as drain_second_plan, drain_last as drain_last_plan, write_looked as write_looked_plan, read_looked as read_looked_plan, send_looked as send_looked_plan, recv_looked as recv_looked_plan, drain_found as drain_found_plan, connect_looked as connect_looked_plan};
@@ -11,11 +13,12 @@ ghost use Rattle.vchan_protocol.specs.Table.Calls.{look_read, drain_further as d
 use super::Machine;
 use crate::phase::{Next, Phase};
 use crate::words::{low8, low16, low32, mask};
-use vchan_protocol::{Answer, Bit};
+use ring_words::{Role, WordName};
+use vchan_protocol::{Answer, Bit, EndState, Op};
 
+#[tactic(auto, using(vchan_protocol::proofs::Table::PlanLaws::bytes_laws), unfolding(vchan_protocol::specs::Table::Ends::standing_after, crate::specs::OneMachine::Phases::rest_at, vchan_protocol::specs::Table::Calls::write, vchan_protocol::specs::Table::Calls::write_open, vchan_protocol::specs::Table::Calls::read, vchan_protocol::specs::Table::Calls::read_live, vchan_protocol::specs::Table::Calls::send, vchan_protocol::specs::Table::Calls::send_open, vchan_protocol::specs::Table::Calls::recv, vchan_protocol::specs::Table::Calls::recv_live, vchan_protocol::specs::Table::Calls::drain, vchan_protocol::specs::Table::Calls::drain_second, vchan_protocol::specs::Table::Calls::drain_live, vchan_protocol::specs::Table::Calls::drain_further, vchan_protocol::specs::Table::Calls::drain_gone, vchan_protocol::specs::Table::Calls::drain_last, vchan_protocol::specs::Table::Calls::connect, vchan_protocol::specs::Table::Calls::connect_right))]
 impl Machine {
     /// What comes of the next event where it takes this value.
-    #[tactic(auto, using(vchan_protocol::proofs::Table::PlanLaws::bytes_laws), unfolding(vchan_protocol::specs::Table::Ends::standing_after, crate::specs::OneMachine::Phases::rest_at, vchan_protocol::specs::Table::Calls::write, vchan_protocol::specs::Table::Calls::write_open, vchan_protocol::specs::Table::Calls::read, vchan_protocol::specs::Table::Calls::read_live, vchan_protocol::specs::Table::Calls::send, vchan_protocol::specs::Table::Calls::send_open, vchan_protocol::specs::Table::Calls::recv, vchan_protocol::specs::Table::Calls::recv_live, vchan_protocol::specs::Table::Calls::drain, vchan_protocol::specs::Table::Calls::drain_second, vchan_protocol::specs::Table::Calls::drain_live, vchan_protocol::specs::Table::Calls::drain_further, vchan_protocol::specs::Table::Calls::drain_gone, vchan_protocol::specs::Table::Calls::drain_last, vchan_protocol::specs::Table::Calls::connect, vchan_protocol::specs::Table::Calls::connect_right))]
     #[inline(always)]
     pub(crate) fn next_of(&self, phase: Phase, value: u64) -> Next
         ensures plan { let e = standing self.now in plan_at (standing_after e (next_op (rest_at e phase))) result ≡ after (rest_at e phase) value }
@@ -79,6 +82,90 @@ impl Machine {
         }
     }
 
+    /// The event of a phase.
+    #[inline(always)]
+    pub(crate) fn op_at(&self, phase: Phase) -> Op
+        ensures op { result ≡ next_op (rest_at (standing self.now) phase) }
+        ensures some { result ≢ Op.Nothing }
+        ensures fits { Fits self.now.orders (payload_at phase) (buffer_at (read_size (standing self.now)) phase) result }
+    {
+        match phase {
+            Phase::WriteLive { .. }
+            | Phase::SendLive { .. }
+            | Phase::ReadLive { .. }
+            | Phase::RecvLive { .. }
+            | Phase::DrainLive { .. } => self.load_live(),
+            Phase::WriteLook { .. }
+            | Phase::WriteLookAgain { .. }
+            | Phase::SendLook { .. }
+            | Phase::SendLookAgain { .. }
+            | Phase::SpaceLook => self.look_write(),
+            Phase::ReadLook { .. }
+            | Phase::ReadLookAgain { .. }
+            | Phase::RecvLook { .. }
+            | Phase::RecvLookAgain { .. }
+            | Phase::ReadyLook
+            | Phase::DrainLook { .. }
+            | Phase::DrainSecond { .. }
+            | Phase::DrainFurther { .. }
+            | Phase::DrainLast { .. } => self.look_read(),
+            Phase::WriteAsk { .. } | Phase::SendAsk { .. } | Phase::SpaceAsk => self.ask(
+                Bit::Consumed,
+            ),
+            Phase::ReadAsk { .. }
+            | Phase::RecvAsk { .. }
+            | Phase::DrainAsk { .. }
+            | Phase::ReadyAsk => self.ask(Bit::Written),
+            Phase::DrainGone { .. } | Phase::LoadGone => self.load_gone(),
+            Phase::ConnectLeft => Op::Load {
+                word: WordName::LeftOrder,
+            },
+            Phase::ConnectRight { .. } => Op::Load {
+                word: WordName::RightOrder,
+            },
+            Phase::ConnectStore => Op::Store {
+                word: WordName::CliLive,
+                value: 1,
+            },
+            Phase::CloseStore | Phase::RetireStore => self.store_live(),
+            Phase::RetireSignal => self.signal(),
+            Phase::GoneStore => self.store_gone(),
+            Phase::TakePending => self.take_pending(),
+            Phase::Put { at, count, .. } => self.put_event(at, count),
+            Phase::Take { at, count, .. } => self.take_event(at, count),
+            Phase::Notify { bit, .. } => self.notify(bit),
+            Phase::Signal { .. } => self.signal(),
+        }
+    }
+
+    /// Takes the event of a phase into its own counts and its state: an own index that it stores is
+    /// its count, and its own live byte makes its state.
+    #[inline(always)]
+    pub(crate) fn count(&mut self, phase: Phase)
+        ensures standing { standing self.new ≡ standing_after (standing self.old) (next_op (rest_at (standing self.old) phase)) }
+        ensures role { self.new.role ≡ self.old.role }
+        ensures orders { self.new.orders ≡ self.old.orders }
+        ensures phase { self.new.phase ≡ self.old.phase }
+    {
+        match phase {
+            Phase::Put { at, count, .. } if at >= count => {
+                self.prod = self.prod.wrapping_add(count);
+            }
+            Phase::Take { at, count, .. } if at >= count => {
+                self.cons = self.cons.wrapping_add(count);
+            }
+            Phase::ConnectStore => {
+                if matches!(self.role, Role::Client) {
+                    self.state = EndState::Open;
+                }
+            }
+            Phase::CloseStore | Phase::RetireStore => self.state = EndState::Shut,
+            _ => {}
+        }
+    }
+}
+
+impl Machine {
     /// A write that has looked once: where there is too little room it asks, and looks again.
     #[tactic(auto, unfolding(crate::specs::OneMachine::Phases::rest_at))]
     #[inline(always)]

@@ -3,13 +3,10 @@
 //! A whole call makes its events here. The frequent phases stand apart from the others, so that
 //! their code is small enough to be inlined. The phase is the caller's: the machine has its own
 //! counts and its state alone, and its own phase stays as it is.
-ghost use Rattle.std.specs.Prelude.{◌≡◌, ◌≤◌, ◌<◌, ◌+◌, ◌^◌, ℕ, List, length};
-ghost use Rattle.ring_words.specs.Rings.{diff};
-ghost use Rattle.vchan_protocol.specs.Table.Apply.{Fits, words_after, value_taken, buffer_after};
-ghost use Rattle.vchan_core.specs.Page.Counts.{capped};
-ghost use Rattle.vchan_protocol.specs.Table.Plan.{next_op, after};
-ghost use Rattle.vchan_protocol.specs.Table.Ends.{read_size, standing_after};
-ghost use Rattle.vchan_core.specs.OneMachine.Phases.{standing, rest_at, plan_at, payload_at, buffer_at, payload_next, buffer_next};
+ghost use Rattle.std.specs.Prelude.{◌≡◌, ◌≤◌, ℕ, List, length};
+ghost use Rattle.vchan_protocol.specs.Table.Ends.{read_size};
+ghost use Rattle.vchan_core.specs.OneMachine.Phases.{standing, payload_at, buffer_at};
+ghost use Rattle.vchan_core.specs.WholeCall.EventAt.{MakesEventAt, with_sent, with_got};
 
 use crate::carry::carry_out;
 use crate::machine::Machine;
@@ -38,17 +35,9 @@ impl Machine {
         requires payload { payload_at phase ≤ length payload.now }
         requires buf { buffer_at (read_size (standing self.old)) phase ≤ length buf.old }
         ensures orders { words.new.orders ≡ words.old.orders }
-        ensures footprint { Fits words.old.orders (length payload.now) (length buf.old) (next_op (rest_at (standing self.old) phase)) }
-        ensures words { words.new.list ≡ words_after words.old.orders words.old.list payload.now (next_op (rest_at (standing self.old) phase)) }
-        ensures buffer { buf.new ≡ buffer_after words.old.orders words.old.list buf.old (next_op (rest_at (standing self.old) phase)) }
-        ensures rest { plan_at (standing self.new) result ≡ after (rest_at (standing self.old) phase) (value_taken words.old.orders words.old.list (next_op (rest_at (standing self.old) phase))) }
-        ensures phase { self.new.phase ≡ self.old.phase }
-        ensures standing { standing self.new ≡ standing_after (standing self.old) (next_op (rest_at (standing self.old) phase)) }
-        ensures payload_left { payload_next result ≤ payload_at phase }
-        ensures buffer_left { buffer_next (read_size (standing self.new)) result ≤ buffer_at (read_size (standing self.old)) phase }
-        ensures sent { writes.new ≡ record writes.old { sent = capped (writes.old.sent + diff (standing self.new).prod (standing self.old).prod) } }
-        ensures got { reads.new ≡ record reads.old { got = capped (reads.old.got + diff (standing self.new).cons (standing self.old).cons) } }
-        ensures low { ((standing self.old).prod < 2 ^ 32) × ((standing self.old).cons < 2 ^ 32) }
+        ensures event { MakesEventAt words.old.orders self.old phase words.old.list payload.now buf.old self.new result words.new.list buf.new }
+        ensures sent { writes.new ≡ with_sent writes.old self.old self.new }
+        ensures got { reads.new ≡ with_got reads.old self.old self.new }
     {
         match phase {
             Phase::Put { at, count, answer } if at >= count => {
@@ -89,17 +78,9 @@ impl Machine {
         requires orders { words.old.orders ≡ self.old.orders }
         requires all { count ≤ at }
         ensures orders { words.new.orders ≡ words.old.orders }
-        ensures footprint { (payload into : ℕ) → Fits words.old.orders payload into (next_op (rest_at (standing self.old) (Phase.Put at count answer))) }
-        ensures words { (payload : List ℕ) → words.new.list ≡ words_after words.old.orders words.old.list payload (next_op (rest_at (standing self.old) (Phase.Put at count answer))) }
-        ensures buffer { (buffer : List ℕ) → buffer ≡ buffer_after words.old.orders words.old.list buffer (next_op (rest_at (standing self.old) (Phase.Put at count answer))) }
-        ensures rest { plan_at (standing self.new) result ≡ after (rest_at (standing self.old) (Phase.Put at count answer)) (value_taken words.old.orders words.old.list (next_op (rest_at (standing self.old) (Phase.Put at count answer)))) }
-        ensures phase { self.new.phase ≡ self.old.phase }
-        ensures standing { standing self.new ≡ standing_after (standing self.old) (next_op (rest_at (standing self.old) (Phase.Put at count answer))) }
-        ensures payload_left { payload_next result ≤ payload_at (Phase.Put at count answer) }
-        ensures buffer_left { buffer_next (read_size (standing self.new)) result ≤ buffer_at (read_size (standing self.old)) (Phase.Put at count answer) }
+        ensures event { (payload : List ℕ) → (buffer : List ℕ) → MakesEventAt words.old.orders self.old (Phase.Put at count answer) words.old.list payload buffer self.new result words.new.list buffer }
         ensures cons { (standing self.new).cons ≡ (standing self.old).cons }
-        ensures sent { writes.new ≡ record writes.old { sent = capped (writes.old.sent + diff (standing self.new).prod (standing self.old).prod) } }
-        ensures low { ((standing self.old).prod < 2 ^ 32) × ((standing self.old).cons < 2 ^ 32) }
+        ensures sent { writes.new ≡ with_sent writes.old self.old self.new }
     {
         let (prod, _) = self.counts();
         let shown = prod.wrapping_add(count);
@@ -125,17 +106,9 @@ impl Machine {
         requires orders { words.old.orders ≡ self.old.orders }
         requires all { count ≤ at }
         ensures orders { words.new.orders ≡ words.old.orders }
-        ensures footprint { (payload into : ℕ) → Fits words.old.orders payload into (next_op (rest_at (standing self.old) (Phase.Take at count answer))) }
-        ensures words { (payload : List ℕ) → words.new.list ≡ words_after words.old.orders words.old.list payload (next_op (rest_at (standing self.old) (Phase.Take at count answer))) }
-        ensures buffer { (buffer : List ℕ) → buffer ≡ buffer_after words.old.orders words.old.list buffer (next_op (rest_at (standing self.old) (Phase.Take at count answer))) }
-        ensures rest { plan_at (standing self.new) result ≡ after (rest_at (standing self.old) (Phase.Take at count answer)) (value_taken words.old.orders words.old.list (next_op (rest_at (standing self.old) (Phase.Take at count answer)))) }
-        ensures phase { self.new.phase ≡ self.old.phase }
-        ensures standing { standing self.new ≡ standing_after (standing self.old) (next_op (rest_at (standing self.old) (Phase.Take at count answer))) }
-        ensures payload_left { payload_next result ≤ payload_at (Phase.Take at count answer) }
-        ensures buffer_left { buffer_next (read_size (standing self.new)) result ≤ buffer_at (read_size (standing self.old)) (Phase.Take at count answer) }
+        ensures event { (payload : List ℕ) → (buffer : List ℕ) → MakesEventAt words.old.orders self.old (Phase.Take at count answer) words.old.list payload buffer self.new result words.new.list buffer }
         ensures prod { (standing self.new).prod ≡ (standing self.old).prod }
-        ensures got { reads.new ≡ record reads.old { got = capped (reads.old.got + diff (standing self.new).cons (standing self.old).cons) } }
-        ensures low { ((standing self.old).prod < 2 ^ 32) × ((standing self.old).cons < 2 ^ 32) }
+        ensures got { reads.new ≡ with_got reads.old self.old self.new }
     {
         let (_, cons) = self.counts();
         let released = cons.wrapping_add(count);
@@ -152,14 +125,7 @@ impl Machine {
         requires role { self.now.role ≡ role }
         requires orders { words.old.orders ≡ self.now.orders }
         ensures orders { words.new.orders ≡ words.old.orders }
-        ensures footprint { (payload into : ℕ) → Fits words.old.orders payload into (next_op (rest_at (standing self.now) (Phase.Notify bit answer))) }
-        ensures words { (payload : List ℕ) → words.new.list ≡ words_after words.old.orders words.old.list payload (next_op (rest_at (standing self.now) (Phase.Notify bit answer))) }
-        ensures buffer { (buffer : List ℕ) → buffer ≡ buffer_after words.old.orders words.old.list buffer (next_op (rest_at (standing self.now) (Phase.Notify bit answer))) }
-        ensures rest { plan_at (standing self.now) result ≡ after (rest_at (standing self.now) (Phase.Notify bit answer)) (value_taken words.old.orders words.old.list (next_op (rest_at (standing self.now) (Phase.Notify bit answer)))) }
-        ensures standing { standing self.now ≡ standing_after (standing self.now) (next_op (rest_at (standing self.now) (Phase.Notify bit answer))) }
-        ensures payload_left { payload_next result ≤ payload_at (Phase.Notify bit answer) }
-        ensures buffer_left { buffer_next (read_size (standing self.now)) result ≤ buffer_at (read_size (standing self.now)) (Phase.Notify bit answer) }
-        ensures low { ((standing self.now).prod < 2 ^ 32) × ((standing self.now).cons < 2 ^ 32) }
+        ensures event { (payload : List ℕ) → (buffer : List ℕ) → MakesEventAt words.old.orders self.now (Phase.Notify bit answer) words.old.list payload buffer self.now result words.new.list buffer }
     {
         let _counts = self.counts();
         let word = self.notify_as(role);
@@ -183,17 +149,9 @@ impl Machine {
         requires payload { payload_at phase ≤ length payload.now }
         requires buf { buffer_at (read_size (standing self.old)) phase ≤ length buf.old }
         ensures orders { words.new.orders ≡ words.old.orders }
-        ensures footprint { Fits words.old.orders (length payload.now) (length buf.old) (next_op (rest_at (standing self.old) phase)) }
-        ensures words { words.new.list ≡ words_after words.old.orders words.old.list payload.now (next_op (rest_at (standing self.old) phase)) }
-        ensures buffer { buf.new ≡ buffer_after words.old.orders words.old.list buf.old (next_op (rest_at (standing self.old) phase)) }
-        ensures rest { plan_at (standing self.new) result ≡ after (rest_at (standing self.old) phase) (value_taken words.old.orders words.old.list (next_op (rest_at (standing self.old) phase))) }
-        ensures phase { self.new.phase ≡ self.old.phase }
-        ensures standing { standing self.new ≡ standing_after (standing self.old) (next_op (rest_at (standing self.old) phase)) }
-        ensures payload_left { payload_next result ≤ payload_at phase }
-        ensures buffer_left { buffer_next (read_size (standing self.new)) result ≤ buffer_at (read_size (standing self.old)) phase }
-        ensures sent { writes.new ≡ record writes.old { sent = capped (writes.old.sent + diff (standing self.new).prod (standing self.old).prod) } }
-        ensures got { reads.new ≡ record reads.old { got = capped (reads.old.got + diff (standing self.new).cons (standing self.old).cons) } }
-        ensures low { ((standing self.old).prod < 2 ^ 32) × ((standing self.old).cons < 2 ^ 32) }
+        ensures event { MakesEventAt words.old.orders self.old phase words.old.list payload.now buf.old self.new result words.new.list buf.new }
+        ensures sent { writes.new ≡ with_sent writes.old self.old self.new }
+        ensures got { reads.new ≡ with_got reads.old self.old self.new }
     {
         let op = self.op_at(phase);
         let value = carry_out(words, op, payload, buf);

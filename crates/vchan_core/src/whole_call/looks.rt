@@ -25,6 +25,7 @@ impl Machine {
     pub(crate) fn look_ahead(&self, role: Role, phase: Phase, words: &Words) -> (u32, Phase)
         requires role { self.now.role ≡ role }
         requires orders { words.now.orders ≡ self.now.orders }
+        ensures most { result.0 ≤ 2 }
         ensures low { ((standing self.now).prod < 2 ^ 32) × ((standing self.now).cons < 2 ^ 32) }
         ensures events { (payload : List ℕ) → (buffer : List ℕ) → MakesEvents result.0 self.now.orders payload (at_phase self.now phase) words.now.list buffer (at_phase self.now result.1) words.now.list buffer }
     {

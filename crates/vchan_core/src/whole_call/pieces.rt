@@ -4,7 +4,7 @@
 //! thread sees, can't tell the difference.
 ghost use Rattle.std.specs.Prelude.{◌≡◌, ◌<◌, ◌≤◌, ◌+◌, ◌^◌, ℕ, List, length};
 ghost use Rattle.vchan_protocol.specs.Table.Ends.{read_size};
-ghost use Rattle.vchan_core.specs.OneMachine.Phases.{standing, at_phase, payload_at, buffer_at, payload_needed, buffer_needed, IsIdle};
+ghost use Rattle.vchan_core.specs.OneMachine.Phases.{standing, at_phase, payload_at, buffer_at};
 ghost use Rattle.vchan_protocol.specs.declared.call.Answer.{Answer};
 ghost use Rattle.vchan_core.specs.declared.phase.Phase.{Phase};
 ghost use Rattle.vchan_core.specs.WholeCall.EventsMade.{MakesEvents};
@@ -14,11 +14,89 @@ use crate::phase::Phase;
 use ring_words::{Role, Words, place};
 
 impl Machine {
-    /// Moves the bytes that come next in a put or a take, at most so many, up to the last one or to
-    /// the ring's end. It answers how many they were, and the phase then. Elsewhere in a call it
-    /// moves none.
+    /// Moves the bytes that come next in a put or a take, up to the last one or to the ring's end.
+    /// It answers how many they were, and the phase then. Elsewhere in a call it moves none.
     #[inline(always)]
     pub(crate) fn move_piece(
+        &self,
+        role: Role,
+        phase: Phase,
+        words: &mut Words,
+        payload: &[u8],
+        buf: &mut [u8],
+    ) -> (u32, Phase)
+        requires role { self.now.role ≡ role }
+        requires orders { words.old.orders ≡ self.now.orders }
+        requires payload { payload_at phase ≤ length payload.now }
+        requires buf { buffer_at (read_size (standing self.now)) phase ≤ length buf.old }
+        ensures orders { words.new.orders ≡ words.old.orders }
+        ensures events { MakesEvents result.0 self.now.orders payload.now (at_phase self.now phase) words.old.list buf.old (at_phase self.now result.1) words.new.list buf.new }
+        ensures low { ((standing self.now).prod < 2 ^ 32) × ((standing self.now).cons < 2 ^ 32) }
+    {
+        let _counts = self.counts();
+        match phase {
+            Phase::Put { at, count, answer } if at < count => {
+                let len = self.put_piece(role, at, count, words, payload);
+                let at = at + len;
+                (len, Phase::Put { at, count, answer })
+            }
+            Phase::Take { at, count, answer } if at < count => {
+                let len = self.take_piece(role, at, count, words, buf);
+                let at = at + len;
+                (len, Phase::Take { at, count, answer })
+            }
+            _ => (0, phase),
+        }
+    }
+
+    /// Stores the bytes of a put from number `at` on, up to number `end` or to the ring's end. It
+    /// answers how many they were.
+    #[inline(always)]
+    fn put_piece(&self, role: Role, at: u32, end: u32, words: &mut Words, payload: &[u8]) -> u32
+        requires more { at < end }
+        requires role { self.now.role ≡ role }
+        requires orders { words.old.orders ≡ self.now.orders }
+        requires payload { end ≤ length payload.now }
+        ensures orders { words.new.orders ≡ words.old.orders }
+        ensures some { 0 < result }
+        ensures within { at + result ≤ end }
+        ensures events { (count : ℕ) → end ≤ count → count ≤ length payload.now → (answer : Answer) → (buffer : List ℕ)
+            → MakesEvents result self.now.orders payload.now (at_phase self.now (Phase.Put at count answer)) words.old.list buffer (at_phase self.now (Phase.Put (at + result) count answer)) words.new.list buffer }
+    {
+        let ring = self.written_as(role);
+        let order = self.orders.order_of(ring);
+        let first = place(self.prod.wrapping_add(at), order);
+        let len = (end - at).min(order.size() - first);
+        let bytes = &payload[at as usize..(at + len) as usize];
+        words.store_bytes(ring, first, bytes);
+        len
+    }
+
+    /// Loads the bytes of a take from number `at` on, up to number `end` or to the ring's end. It
+    /// answers how many they were.
+    #[inline(always)]
+    fn take_piece(&self, role: Role, at: u32, end: u32, words: &Words, buf: &mut [u8]) -> u32
+        requires more { at < end }
+        requires role { self.now.role ≡ role }
+        requires orders { words.now.orders ≡ self.now.orders }
+        requires buf { end ≤ length buf.old }
+        ensures some { 0 < result }
+        ensures within { at + result ≤ end }
+        ensures events { (count : ℕ) → end ≤ count → count ≤ length buf.old → (answer : Answer) → (payload : List ℕ)
+            → MakesEvents result self.now.orders payload (at_phase self.now (Phase.Take at count answer)) words.now.list buf.old (at_phase self.now (Phase.Take (at + result) count answer)) words.now.list buf.new }
+    {
+        let ring = self.read_as(role);
+        let order = self.orders.order_of(ring);
+        let first = place(self.cons.wrapping_add(at), order);
+        let len = (end - at).min(order.size() - first);
+        let bytes = &mut buf[at as usize..(at + len) as usize];
+        words.load_bytes(ring, first, bytes);
+        len
+    }
+
+    /// [`Machine::move_piece`] of at most so many bytes.
+    #[inline(always)]
+    pub(crate) fn move_few(
         &self,
         role: Role,
         phase: Phase,
@@ -37,106 +115,23 @@ impl Machine {
         ensures low { ((standing self.now).prod < 2 ^ 32) × ((standing self.now).cons < 2 ^ 32) }
     {
         let _counts = self.counts();
+        if most == 0 {
+            return (0, phase);
+        }
         match phase {
             Phase::Put { at, count, answer } if at < count => {
-                let len = self.put_piece(role, at, count, most, words, payload);
+                let end = at + (count - at).min(most);
+                let len = self.put_piece(role, at, end, words, payload);
                 let at = at + len;
                 (len, Phase::Put { at, count, answer })
             }
             Phase::Take { at, count, answer } if at < count => {
-                let len = self.take_piece(role, at, count, most, words, buf);
+                let end = at + (count - at).min(most);
+                let len = self.take_piece(role, at, end, words, buf);
                 let at = at + len;
                 (len, Phase::Take { at, count, answer })
             }
             _ => (0, phase),
         }
-    }
-
-    #[inline(always)]
-    fn put_piece(
-        &self,
-        role: Role,
-        at: u32,
-        count: u32,
-        most: u32,
-        words: &mut Words,
-        payload: &[u8],
-    ) -> u32
-        requires more { at < count }
-        requires role { self.now.role ≡ role }
-        requires orders { words.old.orders ≡ self.now.orders }
-        requires payload { count ≤ length payload.now }
-        ensures orders { words.new.orders ≡ words.old.orders }
-        ensures within { at + result ≤ count }
-        ensures few { result ≤ most }
-        ensures events { (answer : Answer) → (buffer : List ℕ)
-            → MakesEvents result self.now.orders payload.now (at_phase self.now (Phase.Put at count answer)) words.old.list buffer (at_phase self.now (Phase.Put (at + result) count answer)) words.new.list buffer }
-    {
-        let ring = self.written_as(role);
-        let order = self.orders.order_of(ring);
-        let first = place(self.prod.wrapping_add(at), order);
-        let in_piece = (count - at).min(order.size() - first);
-        let len = in_piece.min(most);
-        let bytes = &payload[at as usize..(at + len) as usize];
-        words.store_bytes(ring, first, bytes);
-        len
-    }
-
-    #[inline(always)]
-    fn take_piece(
-        &self,
-        role: Role,
-        at: u32,
-        count: u32,
-        most: u32,
-        words: &Words,
-        buf: &mut [u8],
-    ) -> u32
-        requires more { at < count }
-        requires role { self.now.role ≡ role }
-        requires orders { words.now.orders ≡ self.now.orders }
-        requires buf { count ≤ length buf.old }
-        ensures within { at + result ≤ count }
-        ensures few { result ≤ most }
-        ensures events { (answer : Answer) → (payload : List ℕ)
-            → MakesEvents result self.now.orders payload (at_phase self.now (Phase.Take at count answer)) words.now.list buf.old (at_phase self.now (Phase.Take (at + result) count answer)) words.now.list buf.new }
-    {
-        let ring = self.read_as(role);
-        let order = self.orders.order_of(ring);
-        let first = place(self.cons.wrapping_add(at), order);
-        let in_piece = (count - at).min(order.size() - first);
-        let len = in_piece.min(most);
-        let bytes = &mut buf[at as usize..(at + len) as usize];
-        words.load_bytes(ring, first, bytes);
-        len
-    }
-
-    /// Moves the bytes that come next in its call, at most so many, and answers how many they were.
-    #[inline(always)]
-    pub(crate) fn step_piece(
-        &mut self,
-        role: Role,
-        most: u32,
-        words: &mut Words,
-        payload: &[u8],
-        buf: &mut [u8],
-    ) -> u32
-        requires busy { ¬ IsIdle self.old }
-        requires role { self.old.role ≡ role }
-        requires orders { words.old.orders ≡ self.old.orders }
-        requires payload { payload_needed self.old ≤ length payload.now }
-        requires buf { buffer_needed self.old ≤ length buf.old }
-        ensures within { result ≤ most }
-        ensures standing { standing self.new ≡ standing self.old }
-        ensures orders { words.new.orders ≡ words.old.orders }
-        ensures events { MakesEvents result self.old.orders payload.now self.old words.old.list buf.old self.new words.new.list buf.new }
-        ensures low { ((standing self.old).prod < 2 ^ 32) × ((standing self.old).cons < 2 ^ 32) }
-    {
-        let Some(phase) = self.phase else {
-            unreachable!()
-        };
-        let (moved, next) = self.move_piece(role, phase, most, words, payload, buf);
-        self.phase = Some(next);
-        moved
     }
 }

@@ -1,21 +1,23 @@
 use Rattle.std.proofs.Common.{◌≡◌, Ok, ap, sym, subst, ◌∙◌, arith}
 use Rattle.std.proofs.lemmas.Result.{err_from_is_err_and}
+use Rattle.script_words.specs.LinesLeft.{lines_left}
 use Rattle.step_script.specs.declared.script.ScriptLine.{ScriptLine}
 use Rattle.step_script.specs.Language.Script.{LineFits, StepLine}
 use Rattle.step_script.specs.Parts.ScriptLines.{line_seen, line_with, payload_len}
-use Rattle.step_script.proofs.Language.ScriptLaws.{next_line, next_end, read_on, refused_line, refused_next, all_read, sum-more, fit-more}
+use Rattle.script_words.proofs.LineLaws.{next_line, next_end}
+use Rattle.step_script.proofs.Language.ScriptLaws.{read_on, refused_at, refused_line, refused_next, all_read, sum-more, fit-more}
 use Rattle.step_script.proofs.read.read_lines.Goals as goal
 
 pub returns-in_err-number-clause-lines : goal.returns-in_err-number-clause-lines
 returns-in_err-number-clause-lines c =
     let p = err_from_is_err_and c.from_residual.result c.from_residual.ensures.1 in
-    rw (p.1, p.2) (refused_next _ _ _ _ _ _ _ c.loop-payload.invariant.read c.in_err-number.ensures)
+    rw p.1 (refused_next _ _ _ _ _ (lines_left c.next.new.self) _ _ c.loop-payload.invariant.read c.in_err-number.ensures p.2)
 
 pub returns-in_err-line-clause-lines : goal.returns-in_err-line-clause-lines
 returns-in_err-line-clause-lines c =
     let p = err_from_is_err_and c.from_residual-in_err-line.result c.from_residual-in_err-line.ensures.1 in
     let next = next_line _ _ _ _ _ c.in_ok-number.ensures c.in-Line.is in
-    rw (p.1, p.2) (refused_line _ _ _ _ _ _ _ _ _ c.loop-payload.invariant.read next c.in_err-line.ensures.line)
+    rw (p.1, p.2) (refused_line _ _ _ _ _ _ _ _ _ c.loop-payload.invariant.read next (refused_at _ _ c.in_err-line.ensures.line))
 
 pub loop-payload-preserved : goal.loop-payload-preserved
 loop-payload-preserved c =

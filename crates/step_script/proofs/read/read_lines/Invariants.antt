@@ -1,10 +1,11 @@
 use Rattle.std.proofs.Common.{◌≡◌, ◌+◌}
 use Rattle.std.specs.List.{sum_by, All}
 use Rattle.step_script.specs.Language.Grammar.{lines_from}
-use Rattle.step_script.specs.Parts.LinesLeft.{lines_left}
+use Rattle.script_words.specs.LinesLeft.{lines_left}
 use Rattle.step_script.specs.Language.Script.{LineFits}
 use Rattle.step_script.specs.Parts.ScriptLines.{lines_seen, payload_len}
-use Rattle.step_script.proofs.Language.ScriptLaws.{behind, count_left}
+use Rattle.script_words.proofs.LineLaws.{count_left}
+use Rattle.step_script.proofs.Language.ScriptLaws.{behind}
 use Rattle.step_script.proofs.read.read_lines.Given as goal
 
 abbrev pub invariant-loop-payload : goal.invariant-loop-payload

@@ -1,14 +1,15 @@
 use Rattle.std.proofs.Common.{◌≡◌, ℕ, List, ap, sym, subst, arith}
 use Rattle.std.proofs.lemmas.Result.{err_from_is_err_and}
 use Rattle.step_script.specs.Language.Grammar.{script_of_lines}
-use Rattle.step_script.specs.Parts.LinesLeft.{lines_left}
+use Rattle.script_words.specs.LinesLeft.{lines_left}
 use Rattle.vchan_core.specs.Page.StandsFor.{orders_of}
 use Rattle.step_script.specs.Meaning.Played.{line_done}
 use Rattle.step_script.specs.Parts.Players.{Plays}
 use Rattle.step_script.specs.Language.Script.{LineFits}
 use Rattle.step_script.specs.Parts.ScriptLines.{line_with, payload_len}
 use Rattle.step_script.proofs.Parts.RunningLaws.{running_first, running_fits, running_next, running_refused, running_last}
-use Rattle.step_script.proofs.Language.ScriptLaws.{next_line, next_end, refused_line, refused_next}
+use Rattle.script_words.proofs.LineLaws.{next_line, next_end}
+use Rattle.step_script.proofs.Language.ScriptLaws.{refused_at, refused_line, refused_next}
 use Rattle.step_script.proofs.running.script_text.Goals as goal
 
 pub loop-payload-init : goal.loop-payload-init
@@ -21,14 +22,14 @@ pub returns-in_err-number-clause-bad : goal.returns-in_err-number-clause-bad
 returns-in_err-number-clause-bad c =
     let p = err_from_is_err_and c.from_residual-in_err-number.result c.from_residual-in_err-number.ensures.1 in
     let summary = c.loop-payload.invariant.summary in
-    rw (p.1, p.2) (running_refused _ _ _ _ _ _ summary (refused_next _ summary.front _ _ _ _ summary.due summary.read c.in_err-number.ensures))
+    rw p.1 (running_refused _ _ _ _ _ _ summary (refused_next _ _ summary.front _ _ (lines_left c.next.new.self) _ summary.due summary.read c.in_err-number.ensures p.2))
 
 pub returns-in_err-line-clause-bad : goal.returns-in_err-line-clause-bad
 returns-in_err-line-clause-bad c =
     let p = err_from_is_err_and c.from_residual-in_err-line.result c.from_residual-in_err-line.ensures.1 in
     let summary = c.loop-payload.invariant.summary in
     let next = next_line _ _ _ _ _ c.in_ok-number.ensures c.in-Line.is in
-    rw (p.1, p.2) (running_refused _ _ _ _ _ _ summary (refused_line _ summary.front _ _ _ _ _ _ summary.due summary.read next c.in_err-line.ensures.line))
+    rw (p.1, p.2) (running_refused _ _ _ _ _ _ summary (refused_line _ summary.front _ _ _ _ _ _ summary.due summary.read next (refused_at _ _ c.in_err-line.ensures.line)))
 
 pub play_line-requires-clause-known : goal.play_line-requires-clause-known
 play_line-requires-clause-known c = (c.loop-payload.invariant.summary.core, c.loop-payload.invariant.summary.to)

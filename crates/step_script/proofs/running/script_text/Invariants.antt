@@ -1,6 +1,6 @@
-use Rattle.step_script.specs.Parts.LinesLeft.{lines_left}
+use Rattle.script_words.specs.LinesLeft.{lines_left}
 use Rattle.step_script.proofs.Parts.RunningLaws.{Running}
-use Rattle.step_script.proofs.Language.ScriptLaws.{count_left}
+use Rattle.script_words.proofs.LineLaws.{count_left}
 use Rattle.step_script.proofs.running.script_text.Given as goal
 
 abbrev pub invariant-loop-payload : goal.invariant-loop-payload

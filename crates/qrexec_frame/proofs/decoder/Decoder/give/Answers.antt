@@ -23,7 +23,7 @@ returns-in_ok-message-in-Ok-Some-clause-answer c = λ sound.
     = take_rest c.deref.result.now c.self.inside.given ∙ ap (drop c.self.inside.given) c.deref.ensures.value ∙ ap (λ d. d.left) c.self.view_is in
     let channel : c.self.inside.channel ≡ c.args.self.now.channel = ap (λ d. d.channel) c.self.view_is in
     let len : ℕ = 8 + length c.in-Ok-Some.body.bytes.now in
-    let moved : List ℕ → DecoderState = λ l. record { channel = c.self.inside.channel; left = l; at = (c.self.inside.at + (8 + length c.in-Ok-Some.body.bytes.now)) % 2 ^ 64; fault = c.self.inside.fault } in (
+    let moved : List ℕ → DecoderState = λ l. record { channel = c.self.inside.channel; passed = c.self.inside.given + (8 + length c.in-Ok-Some.body.bytes.now); left = l; at = (c.self.inside.at + (8 + length c.in-Ok-Some.body.bytes.now)) % 2 ^ 64; fault = c.self.inside.fault } in (
       8 + length c.in-Ok-Some.body.bytes.now,
       rw (← channel, ← left, c.in_ok-message-in-Ok-Some.ensures.made) body.whole,
       ap moved (sym (drop-drop (8 + length c.in-Ok-Some.body.bytes.now) c.self.inside.given c.self.inside.bytes.items)) ∙ ap (λ d. after_message d (8 + length c.in-Ok-Some.body.bytes.now)) c.self.view_is,

@@ -1,4 +1,4 @@
-use Rattle.qrexec_frame.proofs.PrintingLaws.{printed-reads, printed-shorter, printed-channel, printed-stays}
+use Rattle.qrexec_frame.proofs.PrintingLaws.{printed-reads, printed-shorter, printed-channel, printed-stays, printed-short}
 use Rattle.qrexec_frame.proofs.decoder.Decoder.next_line.Goals as goal
 
 pub returns-clause-channel : goal.returns-clause-channel
@@ -12,3 +12,6 @@ returns-clause-stream c = printed-reads c.args.self.now c.print.new.self c.args.
 
 pub returns-clause-stays : goal.returns-clause-stays
 returns-clause-stays c = printed-stays c.args.self.now c.print.new.self c.args.out.now.items c.print.new.out.items c.print.result c.print.ensures.answer c.print.ensures.faulted
+
+pub returns-clause-short : goal.returns-clause-short
+returns-clause-short c = printed-short c.args.self.now c.print.new.self c.args.out.now.items c.print.new.out.items c.print.result c.print.ensures.answer c.print.ensures.faulted

@@ -12,7 +12,7 @@ returns-in_err-put_body-in-Ok-Some-clause-answer c = λ sound.
     let left : take (length c.deref.result.now - c.self.inside.given) (drop c.self.inside.given c.deref.result.now) ≡ c.args.self.now.left
     = take_rest c.deref.result.now c.self.inside.given ∙ ap (drop c.self.inside.given) c.deref.ensures.value ∙ ap (λ d. d.left) c.self.view_is in
     let channel : c.self.inside.channel ≡ c.args.self.now.channel = ap (λ d. d.channel) c.self.view_is in
-    rw (p.1, p.2) (made c.in-Ok-Some.body.kind c.in-Ok-Some.body.bytes.now, 8 + length c.in-Ok-Some.body.bytes.now, rw (← channel, ← left) body.whole, refl)
+    rw (p.1, p.2) ((made c.in-Ok-Some.body.kind c.in-Ok-Some.body.bytes.now, 8 + length c.in-Ok-Some.body.bytes.now, rw (← channel, ← left) body.whole, refl), c.in_err-put_body-in-Ok-Some.ensures.no_memory)
 
 pub returns-in_ok-put_body-in-Ok-Some-clause-answer : goal.returns-in_ok-put_body-in-Ok-Some-clause-answer
 returns-in_ok-put_body-in-Ok-Some-clause-answer c = λ sound.
@@ -20,12 +20,12 @@ returns-in_ok-put_body-in-Ok-Some-clause-answer c = λ sound.
     let left : take (length c.deref.result.now - c.self.inside.given) (drop c.self.inside.given c.deref.result.now) ≡ c.args.self.now.left
     = take_rest c.deref.result.now c.self.inside.given ∙ ap (drop c.self.inside.given) c.deref.ensures.value ∙ ap (λ d. d.left) c.self.view_is in
     let channel : c.self.inside.channel ≡ c.args.self.now.channel = ap (λ d. d.channel) c.self.view_is in
-    let moved : List ℕ → DecoderState = λ l. record { channel = c.self.inside.channel; left = l; at = (c.self.inside.at + (8 + length c.in-Ok-Some.body.bytes.now)) % 2 ^ 64; fault = c.self.inside.fault } in (
+    let moved : List ℕ → DecoderState = λ l. record { channel = c.self.inside.channel; passed = c.self.inside.given + (8 + length c.in-Ok-Some.body.bytes.now); left = l; at = (c.self.inside.at + (8 + length c.in-Ok-Some.body.bytes.now)) % 2 ^ 64; fault = c.self.inside.fault } in (
       made c.in-Ok-Some.body.kind c.in-Ok-Some.body.bytes.now,
       (
         8 + length c.in-Ok-Some.body.bytes.now,
         rw (← channel, ← left) body.whole,
         ap moved (sym (drop-drop (8 + length c.in-Ok-Some.body.bytes.now) c.self.inside.given c.self.inside.bytes.items)) ∙ ap (λ d. after_message d (8 + length c.in-Ok-Some.body.bytes.now)) c.self.view_is,
       ),
-      c.in_ok-put_body-in-Ok-Some.ensures,
+      c.in_ok-put_body-in-Ok-Some.ensures.ok,
     )

@@ -19,13 +19,13 @@ returns-after-to_stderr-clause-ok c = elim c.if-to_stderr.branch [
   | then-to_stderr+in_ok-append_in_turn-in-Split w ↦
       let gave = w.in_ok-append_in_turn-in-Split.ensures in
       let turn = first_to_stderr c.in-Split.to_stderr c.args.piece.now w.if-to_stderr.true in
-      split_feeds c.args.self.now c.in-Split.to_stderr c.args.piece.now c.args.out.now.items _ c.args.err.now.items _ c.in-Split.is
+      split_feeds c.args.self.now.state c.in-Split.to_stderr c.args.piece.now c.args.out.now.items _ c.args.err.now.items _ c.in-Split.is
       (ap (λ v. v.items) w.out-is ∙ gave.second ∙ ap (λ l. c.args.out.now.items ++ l) turn.0)
       (ap (λ v. v.items) w.err-is ∙ gave.first ∙ ap (λ l. c.args.err.now.items ++ l) turn.1)
   | else-to_stderr+in_ok-append_in_turn-in-Split-2 w ↦
       let gave = w.in_ok-append_in_turn-in-Split-2.ensures in
       let turn = first_to_stdout c.in-Split.to_stderr c.args.piece.now w.if-to_stderr.false in
-      split_feeds c.args.self.now c.in-Split.to_stderr c.args.piece.now c.args.out.now.items _ c.args.err.now.items _ c.in-Split.is
+      split_feeds c.args.self.now.state c.in-Split.to_stderr c.args.piece.now c.args.out.now.items _ c.args.err.now.items _ c.in-Split.is
       (ap (λ v. v.items) w.out-is ∙ gave.first ∙ ap (λ l. c.args.out.now.items ++ l) turn.0)
       (ap (λ v. v.items) w.err-is ∙ gave.second ∙ ap (λ l. c.args.err.now.items ++ l) turn.1)
 ]

@@ -1,10 +1,10 @@
 use Rattle.vchan_core.proofs.machine.Machine.event.Goals as goal
 
-pub returns-in-Put-clause-footprint : goal.returns-in-Put-clause-footprint
-returns-in-Put-clause-footprint c = rw c.in-Put.is (c.show_bytes.ensures.footprint _ _)
+pub returns-in-Put-clause-event : goal.returns-in-Put-clause-event
+returns-in-Put-clause-event c = rw c.in-Put.is (c.show_bytes.ensures.event _ _)
 
-pub returns-in-Take-clause-footprint : goal.returns-in-Take-clause-footprint
-returns-in-Take-clause-footprint c = rw c.in-Take.is (c.release_places.ensures.footprint _ _)
+pub returns-in-Take-clause-event : goal.returns-in-Take-clause-event
+returns-in-Take-clause-event c = rw c.in-Take.is (c.release_places.ensures.event _ _)
 
-pub returns-in-Notify-clause-footprint : goal.returns-in-Notify-clause-footprint
-returns-in-Notify-clause-footprint c = rw c.in-Notify.is (c.notify_peer.ensures.footprint _ _)
+pub returns-in-Notify-clause-event : goal.returns-in-Notify-clause-event
+returns-in-Notify-clause-event c = rw c.in-Notify.is (c.notify_peer.ensures.event _ _)

@@ -15,7 +15,7 @@ use Rattle.vchan_core.proofs.WholeCall.PieceLaws.{put_piece, at_put, put_place}
 use Rattle.vchan_core.proofs.machine.Machine.put_piece.Goals as goal
 
 pub returns-clause-events : goal.returns-clause-events
-returns-clause-events c = λ answer buffer.
+returns-clause-events c = λ count within enough answer buffer.
     let m = c.args.self.now in
     let at = c.args.at in
     let len = c.min-len.result in
@@ -34,5 +34,5 @@ returns-clause-events c = λ answer buffer.
     ∙ ap (λ (o : Orders). laid c.args.words.now.list (index_of o (RingByte c.written_as-ring.result first)) (take (at + len - at) (drop at c.args.payload.now))) c.requires.orders
     ∙ ap (λ (r : Ring). laid c.args.words.now.list (index_of m.orders (RingByte r first)) (take (at + len - at) (drop at c.args.payload.now))) c.written_as-ring.ensures
     ∙ ap (λ (x : ℕ). laid c.args.words.now.list (index_of m.orders (RingByte (written_ring m.role) first)) (take x (drop at c.args.payload.now))) back in
-    let moved = put_piece m c.args.words.now.list c.args.payload.now buffer at c.args.count len first answer (omega arith) c.requires.payload places in
-    subst (λ (l : List ℕ). MakesEvents len m.orders c.args.payload.now (at_put m at c.args.count answer) c.args.words.now.list buffer (at_put m (at + len) c.args.count answer) l buffer) (sym list) moved
+    let moved = put_piece m c.args.words.now.list c.args.payload.now buffer at count len first answer (omega arith) enough places in
+    subst (λ (l : List ℕ). MakesEvents len m.orders c.args.payload.now (at_put m at count answer) c.args.words.now.list buffer (at_put m (at + len) count answer) l buffer) (sym list) moved

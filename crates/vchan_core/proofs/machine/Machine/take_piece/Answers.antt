@@ -16,7 +16,7 @@ use Rattle.vchan_core.proofs.WholeCall.PieceLaws.{take_piece, at_take, take_plac
 use Rattle.vchan_core.proofs.machine.Machine.take_piece.Goals as goal
 
 pub returns-clause-events : goal.returns-clause-events
-returns-clause-events c = λ answer payload.
+returns-clause-events c = λ count within enough answer payload.
     let m = c.args.self.now in
     let at = c.args.at in
     let len = c.min-len.result in
@@ -44,5 +44,5 @@ returns-clause-events c = λ answer payload.
     ap (λ (l : List ℕ). take at buffer ++ (l ++ drop (at + len - at) (drop at buffer))) loaded
     ∙ ap (λ (n : ℕ). take at buffer ++ (low_bytes list index len ++ drop n (drop at buffer))) (back ∙ sym as_many)
     ∙ sym (laid_is buffer at (low_bytes list index len) (omega (arith, as_many, c.requires.buf))) in
-    let moved = take_piece m list payload buffer at c.args.count len first answer (omega arith) c.requires.buf places in
-    subst (λ (b : List ℕ). MakesEvents len m.orders payload (at_take m at c.args.count answer) list buffer (at_take m (at + len) c.args.count answer) list b) (sym laid_so) moved
+    let moved = take_piece m list payload buffer at count len first answer (omega arith) enough places in
+    subst (λ (b : List ℕ). MakesEvents len m.orders payload (at_take m at count answer) list buffer (at_take m (at + len) count answer) list b) (sym laid_so) moved

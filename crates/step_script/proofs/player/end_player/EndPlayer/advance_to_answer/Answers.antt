@@ -8,7 +8,7 @@ use Rattle.vchan_core.specs.Page.StandsFor.{machine_of}
 use Rattle.vchan_core.specs.OneMachine.Phases.{IsIdle}
 use Rattle.vchan_core.proofs.WholeCall.RunLaws.{machine_stands}
 use Rattle.step_script.specs.declared.player.end_player.EndPlayer.{EndPlayer}
-use Rattle.step_script.specs.Meaning.Played.{stepped}
+use Rattle.vchan_core.specs.WholeCall.Stepped.{stepped}
 use Rattle.step_script.specs.Parts.Players.{IsAt, IsTaken}
 use Rattle.step_script.proofs.Meaning.FinishLaws.{stepped_out}
 use Rattle.step_script.proofs.player.end_player.EndPlayer.advance_to_answer.Goals as goal

@@ -1,0 +1,79 @@
+-- A caller over its end, through a turn.
+use Rattle.std.proofs.Common.{◌≡◌, ℕ, List, ◌++◌, take, Option, Some, None, Bool, true, refl, sym, ap, ◌∙◌, subst, rules}
+use Rattle.vchan_protocol.specs.declared.call.EndState.TheVariants.{Shut}
+use Rattle.vchan_rule.specs.Seated.{SeatedEnd, view, IsOpen}
+use Rattle.vchan_lifecycle.specs.Lifecycle.{drained_to}
+use Rattle.vchan_lifecycle.specs.declared.DrainAnswer.TheVariants.{More}
+use Rattle.end_view.specs.EndView.{EndView}
+use Rattle.qrexec_data.specs.declared.outcome.Outcome.{Outcome}
+use Rattle.qrexec_data.specs.declared.outcome.Outcome.TheVariants.{Done, Fault, Closed, Gone}
+use Rattle.qrexec_data.specs.Reading.{IsByBytes}
+use Rattle.qrexec_data.specs.CallerSide.{CallerState, CallerStandsFor}
+use Rattle.qrexec_data.specs.Replies.{AgreesWith}
+use Rattle.qrexec_data.specs.Seeing.{caller_sees, CallerSeen}
+use Rattle.qrexec_data.specs.Sending.{CallerMaySend}
+use Rattle.qrexec_data.specs.Fitting.{FitsCaller}
+use Rattle.qrexec_data.proofs.MaySendLaws.{caller_may_send}
+use Rattle.task_duties.specs.Agent.Sessions.{chunk, CallerEnded, CallerDone, CallerOwes}
+use Rattle.channel_session.specs.Calling.{EndsBy, IsCalling, IsRetired}
+
+-- bytes decide nothing of the channel's end
+pub ends-by-bytes : (outcome : Option Outcome) (end : EndView) → IsByBytes outcome → end.ended ≡ None → EndsBy outcome end
+ends-by-bytes None end b h = h
+ends-by-bytes (Some (Done code)) end b h = tt
+ends-by-bytes (Some (Fault f)) end b h = tt
+ends-by-bytes (Some Closed) end b h = absurd b
+ends-by-bytes (Some Gone) end b h = absurd b
+
+pub by-bytes : (outcome : Option Outcome) → outcome ≡ None → IsByBytes outcome
+by-bytes outcome h = subst IsByBytes (sym h) tt
+
+-- bytes that were drained were taken
+pub took : (caller new : CallerState) (end end' : SeatedEnd) (count : ℕ) (buf : List ℕ) (saw : Bool) → IsCalling caller end → caller.replies.outcome ≡ None
+    → view end' ≡ drained_to (view end) (More count) buf saw → IsOpen end' → new.inbox.got ≡ caller.inbox.got ++ take count buf → new.requests ≡ caller.requests
+    → ((sent : List ℕ) → CallerStandsFor caller sent → CallerStandsFor new sent) → IsByBytes new.replies.outcome → IsCalling new end'
+took caller new end end' count buf saw h undecided view_is is_open got requests stands bytes =
+    let V : EndView → Type 0 = λ v. v.ended ≡ None in
+    let none : (view end).ended ≡ None = subst (λ o. EndsBy o (view end)) undecided h.ends in
+    record {
+      chunk_is = ap (λ r. r.chunk) requests ∙ h.chunk_is;
+      got = got ∙ (ap (λ g. g ++ take count buf) h.got ∙ sym (ap (λ v. v.got) view_is));
+      stands = subst (λ s. CallerStandsFor new s) (sym (ap (λ v. v.sent) view_is)) (stands _ h.stands);
+      is_open = is_open;
+      ends = ends-by-bytes new.replies.outcome (view end') bytes (ap (λ v. v.ended) view_is ∙ none);
+    }
+
+-- an outcome that agrees with what is seen fits it
+pub fits : (outcome : Outcome) (seen : CallerSeen) → AgreesWith (Some outcome) seen.verdict → FitsCaller outcome seen
+fits (Done code) seen h = h
+fits (Fault f) seen h = h
+fits Closed seen h = h
+fits Gone seen h = h
+
+-- and what it says of its end stays said where that is retired
+pub ended-stays : (outcome : Outcome) (end end' : EndView) → IsRetired end end' → CallerEnded outcome end → CallerEnded outcome end'
+ended-stays outcome end end' is h = subst (λ e. CallerEnded outcome e) (sym is) (retired-too outcome end h)
+  where
+    retired-too : (outcome : Outcome) (end : EndView) → CallerEnded outcome end → CallerEnded outcome (record end { state = Shut; retired = true })
+    retired-too (Done code) end h = tt
+    retired-too (Fault f) end h = tt
+    retired-too Closed end h = record { saw = h.saw; ended = h.ended; drained = h.drained }
+    retired-too Gone end h = record { saw = h.saw; ended = h.ended }
+
+-- a call that has come out owes what it reports
+pub owes : (caller : CallerState) (end : SeatedEnd) (last : EndView) (outcome : Outcome) (done : CallerDone) → IsCalling caller end → caller.replies.outcome ≡ Some outcome → IsRetired (view end) last
+    → done ≡ record { outcome = outcome; stdout = caller.replies.stdout; stderr = caller.replies.stderr; got = caller.inbox.got } → CallerOwes caller.replies.own caller.requests.input done last
+owes caller end last outcome done h decided is done_is =
+    let got : last.got ≡ caller.inbox.got = ap (λ e. e.got) is ∙ sym h.got in
+    let sent : last.sent ≡ (view end).sent = ap (λ e. e.sent) is in
+    let knows = h.stands.read.knows in
+    let may = subst (λ k. CallerMaySend caller.replies.own k caller.requests.input caller.inbox.got (view end).sent) h.chunk_is (caller_may_send caller (view end).sent h.stands) in
+    let seen : AgreesWith (Some outcome) (caller_sees caller.inbox.got).verdict = subst (λ o. AgreesWith o (caller_sees caller.inbox.got).verdict) decided knows.outcome in
+    subst (λ d. CallerOwes caller.replies.own caller.requests.input d last) (sym done_is) (record {
+      got = sym got;
+      sent = rw sent (rw got may);
+      stdout = rw got knows.stdout;
+      stderr = rw got knows.stderr;
+      fits = rw got (fits outcome (caller_sees caller.inbox.got) seen);
+      ended = ended-stays outcome (view end) last is (subst (λ o. EndsBy o (view end)) decided h.ends);
+    })

@@ -1,0 +1,2 @@
+mod CallingLaws
+mod AnsweringLaws

@@ -1,0 +1,48 @@
+-- A side that serves a call with the end of its data channel.
+use Rattle.std.specs.Prelude.{◌≡◌, ◌⊎◌, ℕ, true, List, [], Option, Some, None}
+use Rattle.ring_words.specs.declared.page.Role.TheVariants.{Client}
+use Rattle.vchan_protocol.specs.declared.call.EndState.TheVariants.{Fresh, Open}
+use Rattle.service_gate.specs.Triple.{Triple}
+use Rattle.service_gate.specs.Owing.{builtin_owes}
+use Rattle.service_gate.specs.declared.builtin.Builtin.{Builtin}
+use Rattle.qrexec_data.specs.declared.outcome.Outcome.{Outcome}
+use Rattle.qrexec_data.specs.declared.outcome.Outcome.TheVariants.{Done, Fault, Closed, Gone}
+use Rattle.qrexec_data.specs.ServingSide.{ServingState, ServingStandsFor}
+use Rattle.vchan_rule.specs.Seated.{SeatedEnd, view}
+use Rattle.end_view.specs.EndView.{EndView}
+use Rattle.task_duties.specs.Agent.Sessions.{chunk, IsClosed, IsGone}
+
+pub record ServingAt : Type 0 where
+  pub serving : ServingState Builtin
+  pub end : SeatedEnd
+
+-- nothing was read or sent yet, and the end isn't connected
+pub record IsFreshCall (serving : ServingState Builtin) (end : SeatedEnd) : Type 0 where
+  pub chunk_is : serving.answering.chunk ≡ chunk
+  pub undecided : serving.answering.outcome ≡ None
+  pub nothing : serving.inbox.got ≡ []
+  pub role : (view end).role ≡ Client
+  pub idle : (view end).idle ≡ true
+  pub fresh : (view end).state ≡ Fresh
+  pub sent : (view end).sent ≡ []
+  pub got : (view end).got ≡ []
+  pub ended : (view end).ended ≡ None
+
+-- how the end stands by the outcome so far: it is open, and its stream goes on, while there is none
+abbrev pub EndsBy : Option Outcome → EndView → Type 0
+EndsBy None end = (end.state ≡ Open) × (end.ended ≡ None)
+EndsBy (Some (Done code)) end = Unit {0}
+EndsBy (Some (Fault fault)) end = Unit {0}
+EndsBy (Some Closed) end = IsClosed end ⊎ (end.misled ≡ true)
+EndsBy (Some Gone) end = IsGone end
+
+-- the side got what its end got, and stands for what its end sent, with a service that owed this at first
+pub record IsAnswering (owed : List ℕ → Triple) (serving : ServingState Builtin) (end : SeatedEnd) : Type 0 where
+  pub got : serving.inbox.got ≡ (view end).got
+  pub stands : ServingStandsFor builtin_owes owed serving (view end).sent
+
+-- and its end is as its outcome says
+pub record IsAtWork (serving : ServingState Builtin) (end : SeatedEnd) : Type 0 where
+  pub chunk_is : serving.answering.chunk ≡ chunk
+  pub idle : (view end).idle ≡ true
+  pub ends : EndsBy serving.answering.outcome (view end)

@@ -1,0 +1,154 @@
+//! A caller with the end of its channel.
+ghost use Rattle.std.specs.Prelude.{◌≡◌, ◌<◌, None, Some, OnOk, length};
+ghost use Rattle.vchan_rule.specs.Seated.{view, last_view, IsOpen};
+ghost use Rattle.vchan_rule.specs.Ends.{IsSameEnd};
+ghost use Rattle.task_duties.specs.Agent.Sessions.{CallerOwes};
+ghost use Rattle.channel_session.specs.Calling.{IsCalling, IsSameCall, IsRetired};
+ghost use Rattle.channel_session.specs.Ended.{done_of};
+
+use qrexec_data::{Caller, CallerParts, Outcome};
+use qrexec_frame::Bytes;
+use std::marker::Model;
+use vchan_io::Memory;
+use vchan_lifecycle::{DrainAnswer, drain, retire};
+use vchan_rule::{End, Retired};
+use vchan_stream::{WriteAnswer, write};
+
+/// The side of a call that made it, over the end of its data channel.
+#[derive(Drop)]
+pub struct CallerSession<'p> {
+    caller: Caller,
+    end: End<'p>,
+    // Whether the peer was found shut, so that nothing more is written.
+    peer_shut: bool,
+}
+
+impl<'p> Model for CallerSession<'p> {
+    ghost use Rattle.channel_session.specs.Calling.{CallerAt};
+
+    ghost Value = { CallerAt };
+
+    ghost view = { λ s. record { caller = s.caller; end = s.end } };
+}
+
+impl<'p> CallerSession<'p> {
+    /// A session of a caller that has read and sent nothing, over an open end that has moved nothing.
+    pub fn new(caller: Caller, end: End<'p>) -> CallerSession<'p>
+        requires { IsCalling caller end }
+        ensures { (result.caller ≡ caller) × (result.end ≡ end.entry) }
+    {
+        CallerSession {
+            caller,
+            end,
+            peer_shut: false,
+        }
+    }
+
+    /// One turn: takes what has come, and writes what goes out next. After want of memory the session
+    /// is spent, and its end can still be retired.
+    pub fn turn(&mut self, buf: &mut [u8]) -> Result<(), Memory>
+        requires calling { IsCalling self.old.caller self.old.end }
+        requires undecided { self.old.caller.replies.outcome ≡ None }
+        requires some { 0 < length buf.old }
+        ensures end { IsSameEnd self.old.end self.new.end }
+        ensures same { OnOk result (IsSameCall self.old self.new) }
+        ensures open { IsOpen self.new.end }
+        ensures long { length buf.new ≡ length buf.old }
+        ensures calling { OnOk result (IsCalling self.new.caller self.new.end) }
+    {
+        self.read_on(buf)?;
+        if self.peer_shut || self.caller.outcome().is_some() {
+            return Ok(());
+        }
+        self.write_on()
+    }
+
+    // Takes what has come, or hears that no more comes.
+    fn read_on(&mut self, buf: &mut [u8]) -> Result<(), Memory>
+        requires calling { IsCalling self.old.caller self.old.end }
+        requires undecided { self.old.caller.replies.outcome ≡ None }
+        requires some { 0 < length buf.old }
+        ensures end { IsSameEnd self.old.end self.new.end }
+        ensures same { OnOk result (IsSameCall self.old self.new) }
+        ensures open { IsOpen self.new.end }
+        ensures long { length buf.new ≡ length buf.old }
+        ensures calling { OnOk result (IsCalling self.new.caller self.new.end) }
+    {
+        match drain(&mut self.end, buf) {
+            DrainAnswer::More { count } => self.caller.take(&buf[..count as usize])?,
+            DrainAnswer::NotYet { .. } => {}
+            DrainAnswer::AllRead => self.caller.closed(),
+            DrainAnswer::PeerGone { .. } => self.caller.gone(),
+        }
+        Ok(())
+    }
+
+    // Writes what goes out next, as much as has room.
+    fn write_on(&mut self) -> Result<(), Memory>
+        requires calling { IsCalling self.old.caller self.old.end }
+        requires undecided { self.old.caller.replies.outcome ≡ None }
+        ensures end { IsSameEnd self.old.end self.new.end }
+        ensures same { OnOk result (IsSameCall self.old self.new) }
+        ensures open { IsOpen self.new.end }
+        ensures calling { OnOk result (IsCalling self.new.caller self.new.end) }
+    {
+        let piece = self.caller.front()?;
+        if piece.is_empty() {
+            return Ok(());
+        }
+        match write(&mut self.end, piece) {
+            WriteAnswer::Wrote { count } => self.caller.advance(count as usize),
+            WriteAnswer::Full { .. } => {}
+            WriteAnswer::PeerClosed => self.peer_shut = true,
+        }
+        Ok(())
+    }
+
+    /// How the call came out, `None` where nothing has decided yet.
+    pub fn outcome(&self) -> Option<Outcome>
+        ensures { result ≡ self.now.caller.replies.outcome }
+    {
+        self.caller.outcome()
+    }
+
+    /// Retires the end of a call that came out so, and says what the caller has.
+    pub fn finish(self, outcome: Outcome) -> CallerEnd
+        requires calling { IsCalling self.caller self.end }
+        requires outcome { self.caller.replies.outcome ≡ Some outcome }
+        ensures owed { CallerOwes self.entry.caller.replies.own self.entry.caller.requests.input (done_of result) (last_view result.retired) }
+        ensures end { IsRetired (view self.entry.end) (last_view result.retired) }
+    {
+        let CallerSession { caller, end, .. } = self;
+        let CallerParts {
+            stdout,
+            stderr,
+            got,
+        } = caller.into_parts();
+        CallerEnd {
+            outcome,
+            stdout: Bytes::of(stdout),
+            stderr: Bytes::of(stderr),
+            got: Bytes::of(got),
+            retired: retire(end),
+        }
+    }
+
+    /// Retires the end of a call that is given up.
+    pub fn give_up(self) -> Retired
+        requires open { IsOpen self.end }
+        ensures end { IsRetired (view self.entry.end) (last_view result) }
+    {
+        let CallerSession { end, .. } = self;
+        retire(end)
+    }
+}
+
+/// A call that is over at its caller's: how it came out, its outputs, all bytes got, and its end.
+#[derive(Drop)]
+pub struct CallerEnd {
+    pub outcome: Outcome,
+    pub stdout: Bytes,
+    pub stderr: Bytes,
+    pub got: Bytes,
+    pub retired: Retired,
+}

@@ -1,0 +1,12 @@
+//! The two sides of a qrexec call over the end of its data channel: what a session reads comes from
+//! the end, and what it has to send goes there.
+//!
+//! It serves the tasks of a run. A turn drains the end once and writes what is at the front of the
+//! session, and waits for nothing. Which side is the vchan server is this project's own choice.
+#![tactic(auto)]
+
+mod caller;
+mod serving;
+
+pub use caller::{CallerEnd, CallerSession};
+pub use serving::{ServingEnd, ServingSession};

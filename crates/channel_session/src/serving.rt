@@ -1,0 +1,161 @@
+//! A side that serves a call, with the end of its channel.
+ghost use Rattle.std.specs.Prelude.{◌≡◌, ◌<◌, ℕ, List, [], None, Some, OnOk, true, length};
+ghost use Rattle.service_gate.specs.Triple.{Triple};
+ghost use Rattle.service_gate.specs.Owing.{builtin_owes};
+ghost use Rattle.qrexec_data.specs.ServingSide.{ServingStandsFor};
+ghost use Rattle.vchan_rule.specs.Seated.{view, last_view};
+ghost use Rattle.vchan_rule.specs.Ends.{IsSameEnd};
+ghost use Rattle.channel_session.specs.Calling.{IsRetired};
+ghost use Rattle.channel_session.specs.Answering.{IsFreshCall, IsAnswering, IsAtWork};
+ghost use Rattle.task_duties.specs.Agent.Sessions.{IsService, ServingOwes};
+
+use qrexec_data::{Outcome, Serving};
+use qrexec_frame::Bytes;
+use service_gate::Builtin;
+use std::marker::Model;
+use vchan_io::Memory;
+use vchan_lifecycle::{DrainAnswer, connect, drain, retire};
+use vchan_rule::{End, Retired};
+use vchan_stream::{WriteAnswer, write};
+
+/// The side of a call that serves it, over the end of its data channel.
+#[derive(Drop)]
+pub struct ServingSession<'p> {
+    serving: Serving<Builtin>,
+    end: End<'p>,
+    // Whether the peer was found shut, so that nothing more is written.
+    peer_shut: bool,
+}
+
+impl<'p> Model for ServingSession<'p> {
+    ghost use Rattle.channel_session.specs.Answering.{ServingAt};
+
+    ghost Value = { ServingAt };
+
+    ghost view = { λ s. record { serving = s.serving; end = s.end } };
+}
+
+impl<'p> ServingSession<'p> {
+    /// Connects the end of a side that has read and sent nothing. Where the connect is refused, since
+    /// the page's order words don't say the page's orders, the call is closed at once.
+    pub fn start(mut serving: Serving<Builtin>, mut end: End<'p>) -> ServingSession<'p>
+        requires fresh { IsFreshCall serving end }
+        ensures end { IsSameEnd end.entry result.end }
+        ensures own { result.serving.answering.own ≡ serving.answering.own }
+        ensures work { IsAtWork result.serving result.end }
+        ensures answering { (owed : List ℕ → Triple) → ServingStandsFor builtin_owes owed serving [] → IsAnswering owed result.serving result.end }
+    {
+        if connect(&mut end).is_err() {
+            serving.closed();
+        }
+        ServingSession {
+            serving,
+            end,
+            peer_shut: false,
+        }
+    }
+
+    /// One turn: takes what has come, and writes what goes out next. After want of memory the session
+    /// is spent, and its end can still be retired.
+    pub fn turn(&mut self, buf: &mut [u8]) -> Result<(), Memory>
+        requires work { IsAtWork self.old.serving self.old.end }
+        requires undecided { self.old.serving.answering.outcome ≡ None }
+        requires some { 0 < length buf.old }
+        ensures end { IsSameEnd self.old.end self.new.end }
+        ensures idle { (view self.new.end).idle ≡ true }
+        ensures long { length buf.new ≡ length buf.old }
+        ensures own { OnOk result (self.new.serving.answering.own ≡ self.old.serving.answering.own) }
+        ensures work { OnOk result (IsAtWork self.new.serving self.new.end) }
+        ensures answering { (owed : List ℕ → Triple) → IsAnswering owed self.old.serving self.old.end → OnOk result (IsAnswering owed self.new.serving self.new.end) }
+    {
+        self.read_on(buf)?;
+        if self.peer_shut || self.serving.outcome().is_some() {
+            return Ok(());
+        }
+        self.write_on()
+    }
+
+    // Takes what has come, or hears that no more comes.
+    fn read_on(&mut self, buf: &mut [u8]) -> Result<(), Memory>
+        requires work { IsAtWork self.old.serving self.old.end }
+        requires undecided { self.old.serving.answering.outcome ≡ None }
+        requires some { 0 < length buf.old }
+        ensures end { IsSameEnd self.old.end self.new.end }
+        ensures idle { (view self.new.end).idle ≡ true }
+        ensures long { length buf.new ≡ length buf.old }
+        ensures own { OnOk result (self.new.serving.answering.own ≡ self.old.serving.answering.own) }
+        ensures work { OnOk result (IsAtWork self.new.serving self.new.end) }
+        ensures answering { (owed : List ℕ → Triple) → IsAnswering owed self.old.serving self.old.end → OnOk result (IsAnswering owed self.new.serving self.new.end) }
+    {
+        match drain(&mut self.end, buf) {
+            DrainAnswer::More { count } => self.serving.take(&buf[..count as usize])?,
+            DrainAnswer::NotYet { .. } => {}
+            DrainAnswer::AllRead => self.serving.closed(),
+            DrainAnswer::PeerGone { .. } => self.serving.gone(),
+        }
+        Ok(())
+    }
+
+    // Writes what goes out next, as much as has room.
+    fn write_on(&mut self) -> Result<(), Memory>
+        requires work { IsAtWork self.old.serving self.old.end }
+        requires undecided { self.old.serving.answering.outcome ≡ None }
+        ensures end { IsSameEnd self.old.end self.new.end }
+        ensures idle { (view self.new.end).idle ≡ true }
+        ensures own { OnOk result (self.new.serving.answering.own ≡ self.old.serving.answering.own) }
+        ensures work { OnOk result (IsAtWork self.new.serving self.new.end) }
+        ensures answering { (owed : List ℕ → Triple) → IsAnswering owed self.old.serving self.old.end → OnOk result (IsAnswering owed self.new.serving self.new.end) }
+    {
+        let piece = self.serving.front()?;
+        if piece.is_empty() {
+            return Ok(());
+        }
+        match write(&mut self.end, piece) {
+            WriteAnswer::Wrote { count } => self.serving.advance(count as usize),
+            WriteAnswer::Full { .. } => {}
+            WriteAnswer::PeerClosed => self.peer_shut = true,
+        }
+        Ok(())
+    }
+
+    /// How the call came out, `None` where nothing has decided yet.
+    pub fn outcome(&self) -> Option<Outcome>
+        ensures { result ≡ self.now.serving.answering.outcome }
+    {
+        self.serving.outcome()
+    }
+
+    /// Retires the end of a call that came out so, and hands out all bytes that were got.
+    pub fn finish(self, outcome: Outcome) -> ServingEnd
+        requires work { IsAtWork self.serving self.end }
+        requires outcome { self.serving.answering.outcome ≡ Some outcome }
+        ensures outcome { result.outcome ≡ outcome }
+        ensures owed { (name : List ℕ) (owed : List ℕ → Triple) → IsService name owed → IsAnswering owed self.entry.serving self.entry.end →
+            ServingOwes self.entry.serving.answering.own name outcome result.got (last_view result.retired) }
+        ensures end { IsRetired (view self.entry.end) (last_view result.retired) }
+    {
+        let ServingSession { serving, end, .. } = self;
+        ServingEnd {
+            outcome,
+            got: Bytes::of(serving.into_got()),
+            retired: retire(end),
+        }
+    }
+
+    /// Retires the end of a call that is given up.
+    pub fn give_up(self) -> Retired
+        requires idle { (view self.end).idle ≡ true }
+        ensures end { IsRetired (view self.entry.end) (last_view result) }
+    {
+        let ServingSession { end, .. } = self;
+        retire(end)
+    }
+}
+
+/// A call that is over where it was served: how it came out, all bytes got, and its end.
+#[derive(Drop)]
+pub struct ServingEnd {
+    pub outcome: Outcome,
+    pub got: Bytes,
+    pub retired: Retired,
+}
