@@ -6,3 +6,4 @@ pub mod HostileServed
 pub mod ExecOrder
 pub mod WholeReport
 pub mod LawfulReport
+pub mod SessionLines

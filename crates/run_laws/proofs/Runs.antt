@@ -5,3 +5,4 @@ pub mod RefusedRun
 pub mod ServedBytes
 pub mod ServedRun
 pub mod EachRun
+pub mod ResultLaws

@@ -1,6 +1,8 @@
 //! The laws of a run. A law is a function with no body, whose contract states it.
 ghost use Rattle.ring_words.specs.declared.order.Orders.{Orders};
 ghost use Rattle.run_laws.specs.Laws.{ControlBytes, ControlEnds, PortsApart, LimitsKept, AnswersAll, ServedAll, OutcomeDone, ResultEqual, RunsAreThere};
+ghost use Rattle.run_laws.specs.HostileSessions.{SortedSessionsAreLawful};
+ghost use Rattle.run_laws.specs.Results.{ResultsAreRuns, ResultsAreLawful};
 ghost use Rattle.run_laws.specs.ReadOff.{ReportsAreLawful, SortedReportsAreLawful};
 
 /// On the control page of an honest domain neither side hears anything wrong.
@@ -56,8 +58,26 @@ pub fn sorted_reports_are_lawful()
     ensures { SortedReportsAreLawful }
 {}
 
+/// The report of a run is lawful with the lines of all sessions that honest domains report with
+/// hostile callers, once they are sorted.
+pub fn sorted_sessions_are_lawful()
+    ensures { SortedSessionsAreLawful }
+{}
+
 /// There are runs, whatever the orders of their pages: of a domain without calls, of a call that is
 /// refused, and of a call that one honest domain serves for another.
 pub fn runs_are_there()
     ensures { (orders : Orders) → RunsAreThere orders }
+{}
+
+/// What the tasks of a scenario answered, each as it owed, and its settled pages make up a run with
+/// these pages.
+pub fn results_are_runs()
+    ensures { ResultsAreRuns }
+{}
+
+/// The report of such answers and pages is lawful with the lines of all sessions that honest
+/// domains report with hostile callers, once they are sorted.
+pub fn results_are_lawful()
+    ensures { ResultsAreLawful }
 {}

@@ -1,10 +1,10 @@
 -- The worked rows, computed.
-use Rattle.std.proofs.Common.{◌≡◌, ◌∷◌, [], ◌++◌, refl, arith}
+use Rattle.std.proofs.Common.{◌∷◌, [], ◌++◌, refl, arith}
 use Rattle.std.specs.Prelude.{codes}
 use Rattle.service_gate.specs.ServiceResult.{service}
 use Rattle.qrexec_frame.specs.declared.message.Message.TheVariants.{Terminated}
 use Rattle.qrexec_frame.specs.Fronts.{front}
-use Rattle.task_duties.specs.Agent.Answers.{Waits, IsRefused, At}
+use Rattle.task_duties.specs.Agent.Answers.{Waits, At}
 use Rattle.task_duties.specs.Agent.Saying.{KeepsTo}
 use Rattle.task_duties.specs.Worked.{RowsAreAsWorked, trigger, triggers, always}
 

@@ -31,9 +31,9 @@ pub data TaskGiven : Type 0 where
   Broker : (hub : Domains) (awaited : List ℕ) (ends : List EndAt) → TaskGiven
   Hostile : (plan : HostilePlan) (ends : List EndAt) → TaskGiven
 
--- where some ends lie
-abbrev pub places_of : List EndAt → List PagePlace
-places_of ends = map (λ e. e.place) ends
+-- where some ends lie, in order
+abbrev pub places_in : List EndAt → List PagePlace
+places_in ends = map (λ e. e.place) ends
 
 -- the ends of a domain: that of its control page, then its data ends
 abbrev pub all_ends : ℕ → EndView → List EndAt → List EndAt
@@ -42,7 +42,7 @@ all_ends domain control payload = record { place = Control domain; view = contro
 -- the agent of a domain, with its version, its calls, its control end and its data ends
 abbrev pub agent_given : ℕ → ℕ → List CallPlan → EndView → List EndAt → TaskGiven
 agent_given domain version calls control payload =
-    Agent (record { domain = domain; version = version; calls = calls; places = places_of payload }) (all_ends domain control payload)
+    Agent (record { domain = domain; version = version; calls = calls; places = places_in payload }) (all_ends domain control payload)
 
 -- the ends of the broker: those of the control pages of the domains from this number on
 abbrev pub broker_ends : ℕ → List EndView → List EndAt

@@ -15,7 +15,7 @@ use Rattle.call_broker.specs.Domains.{Domains}
 use Rattle.scenario_file.specs.declared.acts.Act.TheVariants.{Signal, Rest, Scribble, Poke}
 use Rattle.scenario_file.specs.declared.acts.ActPage.TheVariants as page
 use Rattle.task_duties.specs.declared.place.PagePlace.TheVariants.{Control, Payload}
-use Rattle.task_duties.specs.Hearing.{Heard, hears, to_agent, to_broker}
+use Rattle.task_duties.specs.Hearing.{hears, to_agent, to_broker}
 use Rattle.task_duties.specs.Words.{exec_line, service_of_line}
 use Rattle.task_duties.specs.Agent.Answers.{Answer, Waits, IsRefused, At, Answers, takes_all}
 use Rattle.task_duties.specs.Agent.Saying.{KeepsTo}

@@ -11,7 +11,7 @@ use Rattle.run_laws.proofs.Scenarios.Calls.{OrderedBy}
 abbrev pub IsApart : ExecAt → ExecAt → Type 0
 IsApart a b = a.from ≡ b.from → a.to ≡ b.to → a.port ≡ b.port → ⊥
 
-abbrev IsBefore : ExecAt → ExecAt → Type 0
+abbrev pub IsBefore : ExecAt → ExecAt → Type 0
 IsBefore a b = (a.from < b.from) ⊎ ((a.from ≡ b.from) × ((a.to < b.to) ⊎ ((a.to ≡ b.to) × (a.port < b.port))))
 
 or-true : (a b : Bool) → (a || b) ≡ true → (a ≡ true) ⊎ (b ≡ true)
@@ -46,7 +46,7 @@ view a b h = by_from (or-true (nat_lt a.from b.from) (a.from == b.from && (nat_l
         let x = parts.0 in
         by_to (let k : a.from ≡ b.from = grind (arith, nat_tests, x) in k) (or-true (nat_lt a.to b.to) (a.to == b.to && nat_lt a.port b.port) parts.1)
 
-back : (a b : ExecAt) → IsBefore a b → comes_before a b ≡ true
+pub back : (a b : ExecAt) → IsBefore a b → comes_before a b ≡ true
 back a b (inl l) = let k : nat_lt a.from b.from ≡ true = grind (arith, nat_tests, l) in rw k refl
 back a b (inr h) = by_rest h.0 h.1
   where
@@ -85,7 +85,7 @@ order (suc m) (suc n) = up (order m n)
     up (inr (inl h)) = inr (inl (ap suc h))
     up (inr (inr h)) = inr (inr (omega (arith, h)))
 
-total : (a b : ExecAt) → IsApart a b → IsBefore a b ⊎ IsBefore b a
+pub total : (a b : ExecAt) → IsApart a b → IsBefore a b ⊎ IsBefore b a
 total a b apart = by_from (order a.from b.from)
   where
     by_port : a.from ≡ b.from → a.to ≡ b.to → ((a.port < b.port) ⊎ ((a.port ≡ b.port) ⊎ (b.port < a.port))) → IsBefore a b ⊎ IsBefore b a

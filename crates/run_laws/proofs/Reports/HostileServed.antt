@@ -24,6 +24,8 @@ use Rattle.task_duties.specs.Agent.Owes.{ReportsServed}
 use Rattle.task_duties.proofs.Elements.{Has, has-from, has-flat_map, has-filter_map, has-map, pair-of}
 use Rattle.task_duties.proofs.LineLaw.{line-served}
 use Rattle.task_duties.proofs.ServedLaw.{serves-each}
+use Rattle.task_duties.specs.declared.done.ServedDone.{ServedDone}
+use Rattle.run_laws.specs.HostileSessions.{session_of, session_line}
 use Rattle.run_laws.specs.Laid.{laid, agent_plan}
 use Rattle.run_laws.specs.declared.report.ServedLine.{ServedLine}
 use Rattle.run_laws.specs.Report.{SettledPage, Report}
@@ -68,9 +70,14 @@ ended-of s x owed outcome.Closed end (inl c) = inl c.ended
 ended-of s x owed outcome.Closed end (inr c) = inr c
 ended-of s x owed outcome.Gone end f = f.ended
 
-exec-served : (s : Scenario) (run : Run) (h : IsRun s run) (d : ℕ) → IsHonest s d → (from port : ℕ) (line : List ℕ) → Has (agent_heard s run d) (m.Exec from port line)
-    → Serves s run (record { from = from; to = d; port = port; line = line })
-exec-served s run h d honest from port line heard =
+-- an Exec that was heard names a service and a page
+pub record ExecRead (s : Scenario) (d from port : ℕ) (line : List ℕ) : Type 0 where
+  pub service : List ℕ
+  pub read : service_of_line line ≡ Some service
+  pub place : IsPlace s (Payload from d port)
+
+pub exec-read : (s : Scenario) (run : Run) (h : IsRun s run) (d : ℕ) → IsHonest s d → (from port : ℕ) (line : List ℕ) → Has (agent_heard s run d) (m.Exec from port line) → ExecRead s d from port line
+exec-read s run h d honest from port line heard =
     let c = heard-entry s run h d honest (m.Exec from port line) heard in
     let put = c.is in
     let called = is-called s run h c.one c.there from put.target put.service put.ident d port put.event put.accepted in
@@ -80,36 +87,49 @@ exec-served s run h d honest from port line heard =
     let spaces = no-spaces service_byte refl (cleaned_service put.service) (cleaned-bytes put.service) in
     let known : is_some (service (cleaned_service put.service) []) ≡ true = called.accepted.serves in
     let line_is : line ≡ exec_line (cleaned_service put.service) (name_at s from) = put.line_is ∙ ap (exec_line (cleaned_service put.service)) name in
-    let read : service_of_line line ≡ Some (cleaned_service put.service) = ap service_of_line line_is ∙ line-served (cleaned_service put.service) (name_at s from) spaces word known in
-    let x : Served = record { from = from; port = port; service = cleaned_service put.service } in
-    let there = serves-each d from port line (cleaned_service put.service) read (nothing_heard (agent_plan s d)) (agent_heard s run d) (heard-apart s run h d honest) (heard-unused s run h d honest) heard in
-    let agent = h.agent d honest in
-    let reports = rw (own-end run d) at agent.serves in
-    let p = pair-of (ReportsServed (agent_plan s d) (end_of run d)) (takes_all d (nothing_heard (agent_plan s d)) (agent_heard s run d)).served (run.served d) x reports
-    (has-from (takes_all d (nothing_heard (agent_plan s d)) (agent_heard s run d)).served x there) in
-    let apart = place.0 in
+    record {
+      service = cleaned_service put.service;
+      read = ap service_of_line line_is ∙ line-served (cleaned_service put.service) (name_at s from) spaces word known;
+      place = place;
+    }
+
+-- what the agent reports of it stands
+pub exec-stands : (s : Scenario) (run : Run) (d from port : ℕ) (line : List ℕ) (x : ExecRead s d from port line) (done : ServedDone)
+    → ReportsServed (agent_plan s d) (end_of run d) (record { from = from; port = port; service = x.service }) done
+    → (served : List ServedLine) → IsServed s (report_of s run served) (record { from = from; to = d; port = port; line = line }) (session_line s (session_of d done))
+exec-stands s run d from port line x done r served =
+    let apart = x.place.0 in
     let other : (from == d) ≡ false = grind (arith, nat_tests) in
     let end : end_of run d (Payload from d port) ≡ (run.page (Payload from d port)).client = rw other refl in
-    let owes : ServingOwes (version_at s d) (cleaned_service put.service) p.one.outcome p.one.got (run.page (Payload from d port)).client =
-    subst (λ e. ServingOwes (version_at s d) (cleaned_service put.service) p.one.outcome p.one.got e) end p.is.2 in
+    let owes : ServingOwes (version_at s d) x.service done.outcome done.got (run.page (Payload from d port)).client =
+    subst (λ e. ServingOwes (version_at s d) x.service done.outcome done.got e) end r.2 in
     record {
-      line = record { from = name_at s from; to = name_at s d; port = port; outcome = mixed_outcome p.one.outcome; got = p.one.got };
-      is = λ served. record {
-        from = refl;
-        to = refl;
-        port = refl;
-        page = run.page (Payload from d port);
-        lies = lies-at s run served (Payload from d port) (is-laid s from d port place);
-        name = cleaned_service put.service;
-        named = read;
-        owed = owes.owed;
-        is_service = owes.is_service;
-        got = owes.got_is;
-        fits = subst (λ g. report.FitsServing (mixed_outcome p.one.outcome) g) (sym owes.got_is) (fits-of p.one.outcome (run.page (Payload from d port)).client.got owes.fits);
-        sent = owes.sent;
-        ended = ended-of s (record { from = from; to = d; port = port; line = line }) owes.owed p.one.outcome (run.page (Payload from d port)).client owes.ended;
-      };
+      from = ap (name_at s) r.0;
+      to = refl;
+      port = r.1;
+      page = run.page (Payload from d port);
+      lies = lies-at s run served (Payload from d port) (is-laid s from d port x.place);
+      name = x.service;
+      named = x.read;
+      owed = owes.owed;
+      is_service = owes.is_service;
+      got = owes.got_is;
+      fits = subst (λ g. report.FitsServing (mixed_outcome done.outcome) g) (sym owes.got_is) (fits-of done.outcome (run.page (Payload from d port)).client.got owes.fits);
+      sent = owes.sent;
+      ended = ended-of s (record { from = from; to = d; port = port; line = line }) owes.owed done.outcome (run.page (Payload from d port)).client owes.ended;
     }
+
+exec-served : (s : Scenario) (run : Run) (h : IsRun s run) (d : ℕ) → IsHonest s d → (from port : ℕ) (line : List ℕ) → Has (agent_heard s run d) (m.Exec from port line)
+    → Serves s run (record { from = from; to = d; port = port; line = line })
+exec-served s run h d honest from port line heard =
+    let x = exec-read s run h d honest from port line heard in
+    let one : Served = record { from = from; port = port; service = x.service } in
+    let there = serves-each d from port line x.service x.read (nothing_heard (agent_plan s d)) (agent_heard s run d) (heard-apart s run h d honest) (heard-unused s run h d honest) heard in
+    let agent = h.agent d honest in
+    let reports = rw (own-end run d) at agent.serves in
+    let p = pair-of (ReportsServed (agent_plan s d) (end_of run d)) (takes_all d (nothing_heard (agent_plan s d)) (agent_heard s run d)).served (run.served d) one reports
+    (has-from (takes_all d (nothing_heard (agent_plan s d)) (agent_heard s run d)).served one there) in
+    record { line = session_line s (session_of d p.one); is = exec-stands s run d from port line x p.one p.is }
 
 -- ---- an Exec of the report was heard
 

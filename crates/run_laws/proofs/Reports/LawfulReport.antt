@@ -83,10 +83,10 @@ all-ordered s d all heard (Spoken v a) apart = subst (λ l. OrderedBy IsApart (f
 
 -- ---- Execs of all pages
 
-abbrev execs_at : Scenario → Run → PagePlace → List ExecAt
+abbrev pub execs_at : Scenario → Run → PagePlace → List ExecAt
 execs_at s run place = execs_on s place (run.page place)
 
-execs-same : (s : Scenario) (run : Run) (places : List PagePlace) → flat_map (execs_at s run) places ≡ flat_map (λ p. execs_on s p.place p.settled) (map (page_read run) places)
+pub execs-same : (s : Scenario) (run : Run) (places : List PagePlace) → flat_map (execs_at s run) places ≡ flat_map (λ p. execs_on s p.place p.settled) (map (page_read run) places)
 execs-same s run [] = refl
 execs-same s run (p ∷ places) = ap (λ r. execs_at s run p ++ r) (execs-same s run places)
 
@@ -125,10 +125,10 @@ controls-across : (s : Scenario) (run : Run) (from count : ℕ) → OrderedBy (A
 controls-across s run from zero = tt
 controls-across s run from (suc count) = (above s run from (from + 1) count (omega arith), controls-across s run (from + 1) count)
 
-abbrev data_laid : Scenario → List PagePlace
+abbrev pub data_laid : Scenario → List PagePlace
 data_laid s = flat_map (λ from. flat_map (laid_between s from) (all_domains s)) (all_domains s)
 
-data-none : (s : Scenario) (run : Run) (place : PagePlace) → Has (data_laid s) place → execs_at s run place ≡ []
+pub data-none : (s : Scenario) (run : Run) (place : PagePlace) → Has (data_laid s) place → execs_at s run place ≡ []
 data-none s run place there =
     let a = has-flat_map (λ from. flat_map (laid_between s from) (all_domains s)) (all_domains s) place there in
     let b = has-flat_map (laid_between s a.one) (all_domains s) place a.is in
@@ -144,7 +144,7 @@ laid-across s run =
     (ordered-each (AcrossPages s run) (data_laid s) (each-of (λ p. (q : PagePlace) → AcrossPages s run p q) (data_laid s) (λ p there q x y hx hy. absurd (none-there s run p x (data-none s run p there) hx))))
     (λ p q hp hq x y hx hy. absurd (none-there s run q y (data-none s run q hq) hy))
 
-execs-apart : (s : Scenario) (run : Run) → IsRun s run → OrderedBy IsApart (hostile_execs s (report_of s run []))
+pub execs-apart : (s : Scenario) (run : Run) → IsRun s run → OrderedBy IsApart (hostile_execs s (report_of s run []))
 execs-apart s run h =
     subst (λ l. OrderedBy IsApart l) (execs-same s run (laid s))
     (ordered-flat IsApart (execs_at s run) (laid s) (each-of (λ p. OrderedBy IsApart (execs_at s run p)) (laid s) (λ p there. page-ordered s run h p (laid-place s p there))) (laid-across s run))

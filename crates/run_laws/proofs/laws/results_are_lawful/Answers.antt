@@ -1,0 +1,5 @@
+use Rattle.run_laws.proofs.laws.results_are_lawful.Goals as goal
+use Rattle.run_laws.proofs.Runs.ResultLaws.{results_are_lawful}
+
+pub returns : goal.returns
+returns c = results_are_lawful
