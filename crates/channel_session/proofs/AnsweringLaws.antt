@@ -1,10 +1,10 @@
 -- A side that serves over its end, through a turn and to its end.
-use Rattle.std.proofs.Common.{◌≡◌, ℕ, List, ◌++◌, drop, Option, Some, None, true, refl, inl, inr, sym, ap, ◌∙◌, subst}
-use Rattle.std.specs.Prelude.{Bool, false, ℤ, is_none, option_map, if◌then◌else◌}
+use Rattle.std.proofs.Common.{◌≡◌, ℕ, List, drop, Option, Some, None, true, refl, inl, inr, sym, ap, ◌∙◌, subst}
+use Rattle.std.specs.Prelude.{Bool, false, ℤ, is_none, if◌then◌else◌}
 use Rattle.vchan_protocol.specs.declared.call.EndState.TheVariants.{Shut}
 use Rattle.service_gate.specs.Triple.{Triple}
 use Rattle.service_gate.specs.Owing.{builtin_owes}
-use Rattle.service_gate.specs.ServiceResult.{service, IsSmallCode}
+use Rattle.service_gate.specs.ServiceResult.{IsSmallCode}
 use Rattle.service_gate.specs.declared.builtin.Builtin.{Builtin}
 use Rattle.service_gate.proofs.EveryService.{small_codes}
 use Rattle.qrexec_data.specs.declared.outcome.Outcome.{Outcome}

@@ -1,5 +1,5 @@
 -- A caller over its end, through a turn.
-use Rattle.std.proofs.Common.{◌≡◌, ℕ, List, ◌++◌, take, Option, Some, None, Bool, true, refl, sym, ap, ◌∙◌, subst, rules}
+use Rattle.std.proofs.Common.{◌≡◌, ℕ, List, ◌++◌, take, Option, Some, None, Bool, true, sym, ap, ◌∙◌, subst}
 use Rattle.vchan_protocol.specs.declared.call.EndState.TheVariants.{Shut}
 use Rattle.vchan_rule.specs.Seated.{SeatedEnd, view, IsOpen}
 use Rattle.vchan_lifecycle.specs.Lifecycle.{drained_to}
@@ -14,7 +14,7 @@ use Rattle.qrexec_data.specs.Seeing.{caller_sees, CallerSeen}
 use Rattle.qrexec_data.specs.Sending.{CallerMaySend}
 use Rattle.qrexec_data.specs.Fitting.{FitsCaller}
 use Rattle.qrexec_data.proofs.MaySendLaws.{caller_may_send}
-use Rattle.task_duties.specs.Agent.Sessions.{chunk, CallerEnded, CallerDone, CallerOwes}
+use Rattle.task_duties.specs.Agent.Sessions.{CallerEnded, CallerDone, CallerOwes}
 use Rattle.channel_session.specs.Calling.{EndsBy, IsCalling, IsRetired}
 
 -- bytes decide nothing of the channel's end

@@ -1,5 +1,5 @@
 -- A caller's side of a call with the end of its data channel.
-use Rattle.std.specs.Prelude.{◌≡◌, ℕ, true, Option, Some, None}
+use Rattle.std.specs.Prelude.{◌≡◌, true, Option, Some, None}
 use Rattle.vchan_protocol.specs.declared.call.EndState.TheVariants.{Shut}
 use Rattle.vchan_rule.specs.Seated.{SeatedEnd, view, IsOpen}
 use Rattle.end_view.specs.EndView.{EndView}

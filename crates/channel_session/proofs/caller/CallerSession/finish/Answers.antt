@@ -1,4 +1,4 @@
-use Rattle.std.proofs.Common.{◌∙◌, ap, rules}
+use Rattle.std.proofs.Common.{rules}
 use Rattle.channel_session.proofs.CallingLaws.{owes}
 use Rattle.channel_session.proofs.caller.CallerSession.finish.Goals as goal
 

@@ -1,5 +1,5 @@
-use Rattle.std.proofs.Common.{◌∙◌, ap, rules}
-use Rattle.channel_session.proofs.CallingLaws.{took, by-bytes}
+use Rattle.std.proofs.Common.{ap, rules}
+use Rattle.channel_session.proofs.CallingLaws.{took}
 use Rattle.channel_session.proofs.caller.CallerSession.read_on.Goals as goal
 
 pub returns-in_ok-take-in-More-clause-calling : goal.returns-in_ok-take-in-More-clause-calling

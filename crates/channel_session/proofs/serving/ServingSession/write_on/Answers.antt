@@ -1,4 +1,4 @@
-use Rattle.std.proofs.Common.{◌∙◌, ap, rules}
+use Rattle.std.proofs.Common.{rules}
 use Rattle.channel_session.proofs.AnsweringLaws.{works-on}
 use Rattle.channel_session.proofs.serving.ServingSession.write_on.Goals as goal
 

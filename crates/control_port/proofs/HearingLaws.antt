@@ -1,0 +1,83 @@
+-- What was heard so far of a stream, and what more of it changes.
+use Rattle.std.proofs.Common.{◌≡◌, ℕ, List, [], ◌∷◌, ◌++◌, map, Option, Some, None, true, false, refl, sym, ap, ◌∙◌}
+use Rattle.std.specs.Prelude.{Bool, Ok, Err}
+use Rattle.std.proofs.lemmas.List.{append-nil}
+use Rattle.qrexec_frame.specs.declared.message.Message.{Message}
+use Rattle.qrexec_frame.specs.Grammar.{Fault}
+use Rattle.qrexec_frame.specs.Streams.{Placed, Ending, IsPrefixOf}
+use Rattle.qrexec_hello.specs.Greeting.{greeting}
+use Rattle.qrexec_hello.specs.declared.hello.HelloFault.{HelloFault}
+use Rattle.qrexec_data.specs.declared.fault.SessionFault.TheVariants as fault
+use Rattle.qrexec_data.specs.Seeing.{offset, number}
+use Rattle.task_duties.specs.Hearing.{hears_on, allowed, first_fault, fault_of_end}
+use Rattle.control_port.specs.Port.{EachMay, HearsSoFar, Nothing, Greeted}
+
+the_messages : List (Placed Message) → List Message
+the_messages placed = map (λ p. p.message) placed
+
+-- messages that may be said are heard as they are, and then what follows
+pub allowed-on : (may : Message → Bool) (placed more : List (Placed Message)) → EachMay may placed → allowed may (placed ++ more) ≡ map (λ p. p.message) placed ++ allowed may more
+allowed-on may [] more each = refl
+allowed-on may (p ∷ placed) more each = rw each.0 (ap (λ r. p.message ∷ r) (allowed-on may placed more each.1))
+
+pub fault-on : (may : Message → Bool) (placed more : List (Placed Message)) (e : Ending Fault) → EachMay may placed → first_fault may (placed ++ more) e ≡ first_fault may more e
+fault-on may [] more e each = refl
+fault-on may (p ∷ placed) more e each = rw each.0 (fault-on may placed more e each.1)
+
+-- a stream whose greeting is accepted
+pub accepted : (own v : ℕ) (may : Message → Bool) (p : Placed Message) (placed : List (Placed Message)) (e : Ending Fault) → greeting own p.message ≡ Ok v
+    → hears_on own may (p ∷ placed) e ≡ record { version = Some v; messages = allowed may placed; fault = first_fault may placed e }
+accepted own v may p placed e is = rw is refl
+
+-- and one whose greeting isn't
+pub refused : (own : ℕ) (may : Message → Bool) (p : Placed Message) (placed : List (Placed Message)) (e : Ending Fault) (f : HelloFault) → greeting own p.message ≡ Err f
+    → hears_on own may (p ∷ placed) e ≡ record { version = None; messages = []; fault = Some (fault.Hello f) }
+refused own may p placed e f is = rw is refl
+
+-- what follows a greeting and messages that were heard
+pub heard-on : (own : ℕ) (may : Message → Bool) (given more : List (Placed Message)) (v : ℕ) (heard : List Message) (e : Ending Fault) → HearsSoFar own may given (Some v) heard
+    → hears_on own may (given ++ more) e ≡ record { version = Some v; messages = heard ++ allowed may more; fault = first_fault may more e }
+heard-on own may given more v heard e (Nothing a b c) = cc
+heard-on own may given more v heard e (Greeted p placed u is greets version each heard_is) =
+    let same : v ≡ u = cc in
+    rw (is, heard_is, same) (accepted own u may p (placed ++ more) e greets ∙ rw (allowed-on may placed more each, fault-on may placed more e each) refl)
+
+-- at the end of what was heard
+pub heard-all : (own : ℕ) (may : Message → Bool) (given : List (Placed Message)) (version : Option ℕ) (heard : List Message) (e : Ending Fault) → HearsSoFar own may given version heard
+    → hears_on own may given e ≡ record { version = version; messages = heard; fault = fault_of_end e }
+heard-all own may given version heard e (Nothing a b c) = rw (a, b, c) refl
+heard-all own may given version heard e (Greeted p placed v is greets version_is each heard_is) =
+    let on = heard-on own may given [] v heard e (Greeted p placed v is greets refl each heard_is) in
+    ap (λ g. hears_on own may g e) (sym (append-nil given)) ∙ on ∙ rw (version_is, append-nil heard) refl
+
+-- one more that may be said
+pub one-more : (own : ℕ) (may : Message → Bool) (given : List (Placed Message)) (v : ℕ) (heard : List Message) (p : Placed Message) → HearsSoFar own may given (Some v) heard → may p.message ≡ true
+    → HearsSoFar own may (given ++ p ∷ []) (Some v) (heard ++ p.message ∷ [])
+one-more own may given v heard p (Nothing a b c) is = cc
+one-more own may given v heard p (Greeted q placed u given_is greets version each heard_is) is =
+    Greeted q (placed ++ p ∷ []) u (ap (λ g. g ++ p ∷ []) given_is) greets version (each-on placed each) (ap (λ h. h ++ p.message ∷ []) heard_is ∙ messages-on placed)
+  where
+    each-on : (placed : List (Placed Message)) → EachMay may placed → EachMay may (placed ++ p ∷ [])
+    each-on [] h = (is, tt)
+    each-on (x ∷ placed) h = (h.0, each-on placed h.1)
+
+    messages-on : (placed : List (Placed Message)) → map (λ p. p.message) placed ++ p.message ∷ [] ≡ map (λ p. p.message) (placed ++ p ∷ [])
+    messages-on [] = refl
+    messages-on (x ∷ placed) = ap (λ r. x.message ∷ r) (messages-on placed)
+
+-- one more that may not: nothing behind it counts
+pub one-wrong : (own : ℕ) (may : Message → Bool) (given all : List (Placed Message)) (v : ℕ) (heard : List Message) (p : Placed Message) (e : Ending Fault) → HearsSoFar own may given (Some v) heard
+    → may p.message ≡ false → IsPrefixOf (given ++ p ∷ []) all
+    → hears_on own may all e ≡ record { version = Some v; messages = heard; fault = Some (fault.WrongSide (offset p.at) (number p.message)) }
+one-wrong own may given all v heard p e so_far is prefix =
+    let all_is : all ≡ given ++ p ∷ prefix.0 = sym prefix.1 ∙ behind given prefix.0 in
+    ap (λ a. hears_on own may a e) all_is ∙ heard-on own may given (p ∷ prefix.0) v heard e so_far ∙ rw is (ap (λ h. record { version = Some v; messages = h; fault = Some (fault.WrongSide (offset p.at) (number p.message)) }) (append-nil heard))
+  where
+    behind : (given rest : List (Placed Message)) → (given ++ p ∷ []) ++ rest ≡ given ++ p ∷ rest
+    behind [] rest = refl
+    behind (x ∷ given) rest = ap (λ r. x ∷ r) (behind given rest)
+
+-- before the greeting nothing was heard
+pub silent : (own : ℕ) (may : Message → Bool) (given : List (Placed Message)) (heard : List Message) → HearsSoFar own may given None heard → (given ≡ []) × (heard ≡ [])
+silent own may given heard (Nothing a b c) = (a, c)
+silent own may given heard (Greeted p placed v is greets version each heard_is) = cc

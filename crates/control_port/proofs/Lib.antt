@@ -1,0 +1,2 @@
+mod HearingLaws
+mod PortLaws

@@ -1,0 +1,26 @@
+use Rattle.std.proofs.Common.{ap, sym}
+use Rattle.control_port.proofs.PortLaws.{fed, said-end, heard-end}
+use Rattle.control_port.proofs.port.ControlPort.drain.Goals as goal
+
+pub returns-in_ok-feed-in-More-clause-heard : goal.returns-in_ok-feed-in-More-clause-heard
+returns-in_ok-feed-in-More-clause-heard c = λ heard h.
+    fed c.args.self.now _ c.feed.new.self c.drain.new.end heard c.in-More.count c.drain.new.buf c.drain.new.end.side.saw (sym c.self.view_is) h c.in-More.ensures.view c.in_ok-feed-in-More.ensures.ok
+    (λ got given s. c.in_ok-feed-in-More.ensures.stream got given s)
+
+pub returns-in-NotYet-clause-said : goal.returns-in-NotYet-clause-said
+returns-in-NotYet-clause-said c = λ said h. said-end c.args.self.now _ c.drain.new.end said (sym c.self.view_is) (ap (λ e. e.sent) c.in-NotYet.ensures.view) h
+
+pub returns-in-NotYet-clause-heard : goal.returns-in-NotYet-clause-heard
+returns-in-NotYet-clause-heard c = λ heard h. heard-end c.args.self.now _ c.drain.new.end heard (sym c.self.view_is) (ap (λ e. e.got) c.in-NotYet.ensures.view) h
+
+pub returns-in-AllRead-clause-said : goal.returns-in-AllRead-clause-said
+returns-in-AllRead-clause-said c = λ said h. said-end c.args.self.now _ c.drain.new.end said (sym c.self.view_is) (ap (λ e. e.sent) c.in-AllRead.ensures.view) h
+
+pub returns-in-AllRead-clause-heard : goal.returns-in-AllRead-clause-heard
+returns-in-AllRead-clause-heard c = λ heard h. heard-end c.args.self.now _ c.drain.new.end heard (sym c.self.view_is) (ap (λ e. e.got) c.in-AllRead.ensures.view) h
+
+pub returns-in-PeerGone-clause-said : goal.returns-in-PeerGone-clause-said
+returns-in-PeerGone-clause-said c = λ said h. said-end c.args.self.now _ c.drain.new.end said (sym c.self.view_is) (ap (λ e. e.sent) c.in-PeerGone.ensures.view) h
+
+pub returns-in-PeerGone-clause-heard : goal.returns-in-PeerGone-clause-heard
+returns-in-PeerGone-clause-heard c = λ heard h. heard-end c.args.self.now _ c.drain.new.end heard (sym c.self.view_is) (ap (λ e. e.got) c.in-PeerGone.ensures.view) h

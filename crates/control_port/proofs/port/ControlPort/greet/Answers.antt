@@ -1,0 +1,12 @@
+use Rattle.std.proofs.Common.{sym, subst, true}
+use Rattle.control_port.specs.Port.{PortState, HasHeard}
+use Rattle.control_port.proofs.PortLaws.{heard-still, heard-greeted}
+use Rattle.control_port.proofs.port.ControlPort.greet.Goals as goal
+
+pub returns-then-eq-clause-heard : goal.returns-then-eq-clause-heard
+returns-then-eq-clause-heard c = λ heard h.
+    let P : PortState → Type 0 = λ p. HasHeard p heard in
+    heard-greeted _ heard true (subst P (sym c.self.view_is) (heard-still c.args.self.now c.put-2.new.self heard c.put-2.ensures.same c.put-2.ensures.got h))
+
+pub returns-else-eq-clause-heard : goal.returns-else-eq-clause-heard
+returns-else-eq-clause-heard c = λ heard h. heard-still c.args.self.now c.put-2.new.self heard c.put-2.ensures.same c.put-2.ensures.got h

@@ -1,0 +1,252 @@
+//! A control port.
+ghost use Rattle.std.specs.Prelude.{◌≡◌, ◌≤◌, ◌<◌, ◌++◌, ◌∷◌, [], ℕ, List, true, false, None, Some, Ok, OnOk, OnErr, IfOk, IsSome, length};
+ghost use Rattle.qrexec_frame.specs.Messages.{written, IsSpellable as Fits};
+ghost use Rattle.qrexec_frame.specs.declared.message.Message.{Message as Said};
+ghost use Rattle.vchan_lifecycle.specs.Lifecycle.{drained_to, drain_told, retired_view};
+ghost use Rattle.vchan_packet.specs.Packet.{sent_to};
+ghost use Rattle.vchan_packet.specs.declared.SendAnswer.TheVariants as answer;
+ghost use Rattle.end_view.specs.AfterCall.{DrainSees};
+ghost use Rattle.vchan_rule.specs.Seated.{view, last_view, IsOpen};
+ghost use Rattle.vchan_rule.specs.Ends.{IsSameEnd};
+ghost use Rattle.control_port.specs.Talking.{may_say};
+ghost use Rattle.control_port.specs.Port.{HasSaid, HasSaidMore, HasHeard, Hands, Greets, Takes, OnlyHears, OnlySends};
+
+use crate::talk::Talker;
+use qrexec_data::SessionFault;
+use qrexec_frame::{Channel, Decoder, Message, NextError, encode};
+use qrexec_hello::Hello;
+use std::alloc::Global;
+use std::marker::Model;
+use vchan_io::Memory;
+use vchan_lifecycle::{DrainAnswer, drain, retire};
+use vchan_packet::{SendAnswer, send};
+use vchan_rule::{End, Retired};
+
+/// One side's end of a control channel, with what it has read and not handed out.
+#[derive(Drop)]
+pub struct ControlPort<'p> {
+    end: End<'p>,
+    talker: Talker,
+    own: u32,
+    greeted: bool,
+    decoder: Decoder,
+    version: Option<u32>,
+    fault: Option<SessionFault>,
+    // The spelling of the message that is sent, kept for its room.
+    spelling: Vec<u8>,
+}
+
+impl<'p> Model for ControlPort<'p> {
+    ghost use Rattle.std.specs.Prelude.{◌≤◌};
+    ghost use Rattle.control_port.specs.Port.{PortState};
+
+    ghost Value = { PortState };
+
+    ghost view = { λ p. record { end = p.end; talker = p.talker; own = p.own; greeted = p.greeted; decoder = p.decoder; version = p.version; fault = p.fault } };
+
+    ghost invariant = { λ p. (2 ≤ p.own) × (p.own ≤ 3) };
+}
+
+impl<'p> ControlPort<'p> {
+    /// The port of a side of this version, 2 or 3, over an end that has moved nothing.
+    pub fn new(alloc: Global, end: End<'p>, talker: Talker, own: u32) -> ControlPort<'p>
+        requires own { (2 ≤ own) × (own ≤ 3) }
+        requires unused { ((view end).sent ≡ []) × ((view end).got ≡ []) }
+        ensures same { (result.end ≡ end.entry) × (result.talker ≡ talker) × (result.own ≡ own) }
+        ensures new { (result.greeted ≡ false) × (result.version ≡ None) × (result.fault ≡ None) }
+        ensures said { HasSaid result [] }
+        ensures heard { HasHeard result [] }
+    {
+        ControlPort {
+            end,
+            talker,
+            own,
+            greeted: false,
+            decoder: Decoder::new(alloc, Channel::Control),
+            version: None,
+            fault: None,
+            spelling: Vec::new(alloc),
+        }
+    }
+
+    /// The version that both sides go on with, once the other's greeting was read.
+    pub fn version(&self) -> Option<u32>
+        ensures { result ≡ self.now.version }
+    {
+        self.version
+    }
+
+    /// What is wrong with the bytes that came, where something is.
+    pub fn fault(&self) -> Option<SessionFault>
+        ensures { result ≡ self.now.fault }
+    {
+        self.fault
+    }
+
+    /// Whether the own greeting has gone.
+    pub fn greeted(&self) -> bool
+        ensures { result ≡ self.now.greeted }
+    {
+        self.greeted
+    }
+
+    /// Sends the own greeting, which is the first message. It has gone where the answer is `Sent`.
+    pub fn greet(&mut self) -> Result<SendAnswer, Memory>
+        requires open { IsOpen self.old.end }
+        requires first { self.old.greeted ≡ false }
+        ensures end { IsSameEnd self.old.end self.new.end }
+        ensures open { IsOpen self.new.end }
+        ensures greeted { IfOk result (λ sent. (sent ≡ answer.Sent → self.new.greeted ≡ true) × ((sent ≡ answer.Sent → ⊥) → self.new.greeted ≡ false)) }
+        ensures said { (said : List Said) → HasSaid self.old said → OnOk result (HasSaid self.new said) }
+        ensures heard { (heard : List Said) → HasHeard self.old heard → HasHeard self.new heard }
+        ensures same { (self.new.talker ≡ self.old.talker) × (self.new.own ≡ self.old.own) × (self.new.version ≡ self.old.version) × (self.new.fault ≡ self.old.fault) }
+    {
+        let answer = self.put(&Hello::announce(self.own))?;
+        if answer == SendAnswer::Sent {
+            self.greeted = true;
+        }
+        Ok(answer)
+    }
+
+    /// Sends a message that this side may say, as one packet. It has gone where the answer is `Sent`.
+    pub fn say(&mut self, message: &Message) -> Result<SendAnswer, Memory>
+        requires open { IsOpen self.old.end }
+        requires greeted { self.old.greeted ≡ true }
+        requires fits { Fits message.now }
+        requires may { may_say self.old.talker message.now ≡ true }
+        ensures end { IsSameEnd self.old.end self.new.end }
+        ensures open { IsOpen self.new.end }
+        ensures said { (said : List Said) → HasSaid self.old said → IfOk result (λ sent. HasSaidMore self.new said message.now sent) }
+        ensures kept { (said : List Said) → HasSaid self.old said → OnErr result (HasSaid self.new said) }
+        ensures heard { (heard : List Said) → HasHeard self.old heard → HasHeard self.new heard }
+        ensures same { OnlySends self.old self.new }
+    {
+        self.put(message)
+    }
+
+    // Sends one message as one packet.
+    fn put(&mut self, message: &Message) -> Result<SendAnswer, Memory>
+        requires open { IsOpen self.old.end }
+        requires fits { Fits message.now }
+        ensures end { IsSameEnd self.old.end self.new.end }
+        ensures open { IsOpen self.new.end }
+        ensures view { IfOk result (λ sent. view self.new.end ≡ sent_to (view self.old.end) sent (written message.now)) }
+        ensures kept { OnErr result (self.new ≡ self.old) }
+        ensures got { (view self.new.end).got ≡ (view self.old.end).got }
+        ensures same { OnlySends self.old self.new }
+    {
+        self.spelling.clear();
+        encode(message, &mut self.spelling)?;
+        Ok(send(&mut self.end, &self.spelling))
+    }
+
+    /// Takes what has come, or hears that no more comes. What was taken is handed out by `next`.
+    pub fn drain(&mut self, buf: &mut [u8]) -> Result<DrainAnswer, Memory>
+        requires open { IsOpen self.old.end }
+        requires some { 0 < length buf.old }
+        ensures end { IsSameEnd self.old.end self.new.end }
+        ensures open { IsOpen self.new.end }
+        ensures view { IfOk result (λ drained. view self.new.end ≡ drained_to (view self.old.end) drained buf.new self.new.end.side.saw) }
+        ensures saw { IfOk result (λ drained. DrainSees (drain_told drained) self.old.end.side.saw self.new.end.side.saw) }
+        ensures long { length buf.new ≡ length buf.old }
+        ensures said { (said : List Said) → HasSaid self.old said → HasSaid self.new said }
+        ensures heard { (heard : List Said) → HasHeard self.old heard → OnOk result (HasHeard self.new heard) }
+        ensures same { (self.new.talker ≡ self.old.talker) × (self.new.own ≡ self.old.own) × (self.new.greeted ≡ self.old.greeted) × (self.new.version ≡ self.old.version) × (self.new.fault ≡ self.old.fault) }
+    {
+        match drain(&mut self.end, buf) {
+            DrainAnswer::More { count } => {
+                self.decoder.feed(&buf[..count as usize])?;
+                Ok(DrainAnswer::More { count })
+            }
+            DrainAnswer::NotYet { prod, cons } => Ok(DrainAnswer::NotYet { prod, cons }),
+            DrainAnswer::AllRead => Ok(DrainAnswer::AllRead),
+            DrainAnswer::PeerGone { prod, cons } => Ok(DrainAnswer::PeerGone { prod, cons }),
+        }
+    }
+
+    /// Hands out the next message behind the other side's greeting. `None` comes where no whole message is
+    /// left of what was taken, and where something is wrong with it, which `fault` tells.
+    pub fn next(&mut self) -> Result<Option<Message>, Memory>
+        requires fine { self.old.fault ≡ None }
+        ensures hands { (heard : List Said) → HasHeard self.old heard → IfOk result (λ message. Hands self.new heard message) }
+        ensures only { OnlyHears self.old self.new }
+    {
+        if self.version.is_some() {
+            return self.next_message();
+        }
+        if !self.take_greeting()? {
+            return Ok(None);
+        }
+        self.next_message()
+    }
+
+    // Hands out the next message, once the greeting was taken.
+    fn next_message(&mut self) -> Result<Option<Message>, Memory>
+        requires fine { self.old.fault ≡ None }
+        requires greeted { IsSome self.old.version }
+        ensures hands { (heard : List Said) → HasHeard self.old heard → IfOk result (λ message. Hands self.new heard message) }
+        ensures only { OnlyHears self.old self.new }
+    {
+        let at = self.decoder.at();
+        let message = match self.take()? {
+            Some(message) => message,
+            None => return Ok(None),
+        };
+        if self.talker.hears(&message) {
+            return Ok(Some(message));
+        }
+        let kind = message.kind();
+        self.fault = Some(SessionFault::WrongSide { at, kind });
+        Ok(None)
+    }
+
+    // Takes the other side's greeting, which is its first message. It answers whether that was one.
+    fn take_greeting(&mut self) -> Result<bool, Memory>
+        requires fine { self.old.fault ≡ None }
+        requires first { self.old.version ≡ None }
+        ensures greets { (heard : List Said) → HasHeard self.old heard → IfOk result (λ more. Greets self.new heard more) }
+        ensures greeted { result ≡ Ok true → IsSome self.new.version × (self.new.fault ≡ None) }
+        ensures only { OnlyHears self.old self.new }
+    {
+        let message = match self.take()? {
+            Some(message) => message,
+            None => return Ok(false),
+        };
+        match Hello::start(self.own).took(&message) {
+            Ok(version) => {
+                self.version = Some(version);
+                Ok(true)
+            }
+            Err(fault) => {
+                self.fault = Some(SessionFault::Hello(fault));
+                Ok(false)
+            }
+        }
+    }
+
+    // Takes the next message of any type.
+    fn take(&mut self) -> Result<Option<Message>, Memory>
+        requires fine { self.old.fault ≡ None }
+        ensures takes { (heard : List Said) → HasHeard self.old heard → IfOk result (λ message. Takes self.old self.new heard message) }
+        ensures fine { (m : Said) → result ≡ Ok (Some m) → self.new.fault ≡ None }
+        ensures only { OnlyHears self.old self.new × (self.new.version ≡ self.old.version) }
+    {
+        match self.decoder.next() {
+            Ok(message) => Ok(message),
+            Err(NextError::Fault(fault)) => {
+                self.fault = Some(SessionFault::Frame(fault));
+                Ok(None)
+            }
+            Err(NextError::Memory) => Err(Memory),
+        }
+    }
+
+    /// Retires the end.
+    pub fn retire(self) -> Retired
+        requires idle { (view self.end).idle ≡ true }
+        ensures end { last_view result ≡ retired_view (view self.entry.end) }
+    {
+        let ControlPort { end, .. } = self;
+        retire(end)
+    }
+}
