@@ -1,9 +1,9 @@
 -- The generated scenario is a scenario.
-use Rattle.std.proofs.Common.{◌≡◌, ℕ, ◌+◌, ◌-◌, ◌*◌, ◌%◌, ◌<◌, ◌≤◌, suc, zero, List, [], ◌∷◌, ◌++◌, length, drop, map, refl, ap, sym, ◌∙◌, append_assoc, append-nil, arith, Option, Some, None, inr, true, false, Bool}
-use Rattle.std.specs.Prelude.{bytes_eq, sum_by, count_by, nat_lt}
-use Rattle.std.specs.List.{All, range_with_len}
+use Rattle.std.proofs.Common.{◌≡◌, ℕ, ◌+◌, ◌-◌, ◌*◌, ◌%◌, ◌<◌, ◌≤◌, suc, zero, List, [], ◌∷◌, ◌++◌, length, drop, map, refl, ap, sym, ◌∙◌, append_assoc, append-nil, arith, inr, true, false}
+use Rattle.std.specs.Prelude.{bytes_eq}
+use Rattle.std.specs.List.{All}
 use Rattle.std.proofs.lemmas.Bool.Decides.{nat_tests}
-use Rattle.std.proofs.lemmas.List.Elements.{All-nil, All-cons, All-map, All-from_recursion}
+use Rattle.std.proofs.lemmas.List.Elements.{All-nil, All-cons, All-from_recursion}
 use Rattle.std.proofs.lemmas.List.FromFn.{length-map-range_with_len}
 use Rattle.std.proofs.lemmas.List.Sums.{sum_by-cons, count_by-le-length}
 use Rattle.ring_words.specs.declared.order.Orders.{Orders}
@@ -12,8 +12,8 @@ use Rattle.ring_words.specs.Rings.{number_of, size}
 use Rattle.scenario_file.specs.declared.scenario.Domain.{Domain}
 use Rattle.scenario_file.specs.declared.scenario.CallPlan.{CallPlan}
 use Rattle.scenario_file.specs.Names.{is_name, is_service}
-use Rattle.scenario_file.specs.Scenario.{Plan, hostile_pages, lays_page, data_pages, word_total, stdin_total, AreApart, CallFits, DomainFits, IsHonest, IsScenario, Rises}
-use Rattle.scenario_file.specs.Generator.{next_number, fill, generated_names, generated_services, text_at, generated_domain, other_place, generated_call, call_from, after_call, generated_calls}
+use Rattle.scenario_file.specs.Scenario.{lays_page, stdin_total, AreApart, CallFits, DomainFits, IsHonest, IsScenario, Rises}
+use Rattle.scenario_file.specs.Generator.{fill, generated_names, generated_services, text_at, generated_domain, other_place, generated_call, call_from, after_call, generated_calls}
 
 -- the generated domains
 abbrev pub made_domains : List Domain

@@ -1,17 +1,17 @@
 -- A scenario without its hostile domains is a scenario.
-use Rattle.std.proofs.Common.{◌≡◌, ℕ, ◌+◌, ◌-◌, ◌*◌, ◌<◌, ◌≤◌, suc, zero, List, [], ◌∷◌, length, take, map, refl, ap, sym, ◌∙◌, arith, Option, Some, None, cond}
-use Rattle.std.specs.Prelude.{true, false, Bool, not, bytes_eq, is_some, filter, option_map, ◌==◌, sum_by, count_by}
+use Rattle.std.proofs.Common.{◌≡◌, ℕ, ◌≤◌, suc, zero, List, [], ◌∷◌, length, refl, ◌∙◌, arith, Option, Some, None, cond}
+use Rattle.std.specs.Prelude.{true, false, Bool, not, bytes_eq, filter, option_map, ◌==◌, sum_by, count_by}
 use Rattle.std.specs.Option.{option_map_or}
-use Rattle.std.specs.List.{All, AllByRecursion}
-use Rattle.std.proofs.lemmas.List.Elements.{All-filter, All-map, All-weaker, All-from_recursion, recursion_from_All}
+use Rattle.std.specs.List.{AllByRecursion}
+use Rattle.std.proofs.lemmas.List.Elements.{All-filter, All-map, All-weaker, recursion_from_All}
 use Rattle.std.proofs.Math.Nat.{mul-le-mul_right}
 use Rattle.std.proofs.lemmas.List.Sums.{sum_by-cons, length-filter, count_by-le-length}
 use Rattle.ring_words.specs.Page.{word_count}
 use Rattle.scenario_file.specs.declared.scenario.Domain.{Domain}
 use Rattle.scenario_file.specs.declared.scenario.CallPlan.{CallPlan}
 use Rattle.scenario_file.specs.Scenario.{Plan, place_named, is_hostile, hostile_among, hostile_pages, lays_page, data_pages, word_total, stdin_total, targets_hostile, AreApart, CallFits, DomainFits, IsHonest, IsScenario, Rises}
-use Rattle.scenario_file.specs.Lines.{honest, number_left, call_left, calls_left, without_hostile, lines}
-use Rattle.scenario_file.proofs.WithoutLaws.{left, same-test, honest-left, plain-named, none-named, lines-without}
+use Rattle.scenario_file.specs.Lines.{honest, call_left, calls_left, without_hostile, lines}
+use Rattle.scenario_file.proofs.WithoutLaws.{same-test, honest-left, plain-named, none-named, lines-without}
 
 apart-filter : (p : Domain → Bool) (domains : List Domain) → AreApart domains → AreApart (filter p domains)
 apart-filter p [] h = tt

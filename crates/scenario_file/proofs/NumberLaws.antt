@@ -1,5 +1,5 @@
 -- Calls that are numbered one after another.
-use Rattle.std.proofs.Common.{◌≡◌, ◌<◌, ℕ, ◌+◌, suc, List, [], ◌∷◌, ◌++◌, length, arith}
+use Rattle.std.proofs.Common.{◌≡◌, ◌<◌, ℕ, ◌+◌, List, [], ◌∷◌, ◌++◌, length, arith}
 use Rattle.scenario_file.specs.declared.scenario.CallPlan.{CallPlan}
 use Rattle.scenario_file.specs.Scenario.{Rises}
 

@@ -1,5 +1,5 @@
 -- Places of domains.
-use Rattle.std.proofs.Common.{◌≡◌, ℕ, ◌+◌, ◌<◌, ◌≤◌, suc, zero, List, [], ◌∷◌, length, Bool, true, false, cond, ltb, refl, ap, sym, arith, Option, Some, None, option_map}
+use Rattle.std.proofs.Common.{◌≡◌, ℕ, ◌+◌, ◌<◌, suc, zero, List, [], ◌∷◌, length, Bool, true, false, cond, refl, ap, sym, arith, Option, Some, None, option_map}
 use Rattle.std.specs.Prelude.{position, bytes_eq, nat_lt, IfSome, if◌then◌else◌}
 use Rattle.std.specs.List.{position_or_len}
 use Rattle.std.proofs.lemmas.Bool.Decides.{nat_tests}

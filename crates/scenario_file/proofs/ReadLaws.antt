@@ -1,15 +1,13 @@
 -- Lists of a file, item by item.
-use Rattle.std.proofs.Common.{◌≡◌, ◌≢◌, ◌≤◌, ◌<◌, ℕ, ◌+◌, List, [], ◌∷◌, ◌++◌, length, drop, get_or, map, String, Global, string_bytes, refl, ap, sym, ◌∙◌, arith, Option, Some, None, Result, Ok, Err, Bool, true, false}
-use Rattle.std.specs.Prelude.{bytes_eq, nat_lt}
-use Rattle.std.specs.List.{All, list_any}
+use Rattle.std.proofs.Common.{◌≡◌, ◌≢◌, ◌≤◌, ◌<◌, ℕ, ◌+◌, List, [], ◌∷◌, ◌++◌, length, drop, get_or, map, string_bytes, refl, ap, sym, ◌∙◌, arith, Option, Some, None, Result, Ok, Err, Bool, true, false}
+use Rattle.std.specs.Prelude.{bytes_eq}
+use Rattle.std.specs.List.{All}
 use Rattle.std.specs.Map.{keys_of as map_keys}
-use Rattle.std.proofs.lemmas.List.Elements.{All-nil, All-cons, All-append, All-push}
-use Rattle.toml.specs.Data.{Data, Items, no_items, item}
+use Rattle.std.proofs.lemmas.List.Elements.{All-nil, All-push}
+use Rattle.toml.specs.Data.{Data}
 use Rattle.toml.specs.View.{view, items_view, members_view}
 use Rattle.toml.specs.declared.value.Value.{Value}
 use Rattle.toml.proofs.Views.{Entry, items_view-drop}
-use Rattle.scenario_file.specs.declared.acts.Act.{Act}
-use Rattle.scenario_file.specs.declared.place.Section.{Section}
 use Rattle.scenario_file.specs.declared.scenario.Domain.{Domain}
 use Rattle.scenario_file.specs.declared.scenario.CallPlan.{CallPlan}
 use Rattle.scenario_file.specs.Scenario.{AreApart, place_named}

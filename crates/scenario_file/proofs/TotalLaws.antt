@@ -1,5 +1,5 @@
 -- The numbers of domains, pages and words.
-use Rattle.std.proofs.Common.{◌≡◌, ◌≤◌, ◌*◌, ◌+◌, ◌^◌, ℕ, List, Option, Some, None, Bool, true, false, ◌⊎◌, inl, inr, refl, sym, ap, ◌∙◌, arith}
+use Rattle.std.proofs.Common.{◌≡◌, ◌≤◌, ◌*◌, ℕ, List, Option, Bool, true, false, ◌⊎◌, refl, arith}
 use Rattle.std.specs.Prelude.{is_some}
 use Rattle.std.proofs.Math.Nat.{mul-le-mul}
 use Rattle.ring_words.specs.declared.order.Orders.{Orders}

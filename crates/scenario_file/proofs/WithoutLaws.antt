@@ -1,13 +1,12 @@
 -- The lines of a scenario are those of the scenario without its hostile domains.
-use Rattle.std.proofs.Common.{◌≡◌, ◌≢◌, ℕ, ◌+◌, ◌-◌, ◌<◌, ◌≤◌, suc, zero, List, [], ◌∷◌, ◌++◌, length, take, map, refl, ap, sym, ◌∙◌, arith, ◌⊎◌, inl, inr, Option, Some, None}
+use Rattle.std.proofs.Common.{◌≡◌, ℕ, ◌+◌, ◌-◌, ◌<◌, ◌≤◌, suc, zero, List, [], ◌∷◌, length, take, map, refl, ap, sym, ◌∙◌, arith, ◌⊎◌, inl, inr, Option, Some, None}
 use Rattle.std.specs.Prelude.{true, false, Bool, not, bytes_eq, slice_get, is_some, filter, option_map, ◌==◌, if◌then◌else◌}
 use Rattle.std.specs.Option.{option_map_or}
 use Rattle.std.specs.List.{AllByRecursion}
 use Rattle.std.proofs.lemmas.Bool.Decides.{nat_tests}
 use Rattle.scenario_file.specs.declared.scenario.Domain.{Domain}
 use Rattle.scenario_file.specs.declared.scenario.CallPlan.{CallPlan}
-use Rattle.scenario_file.specs.declared.line.LineResult.{LineResult}
-use Rattle.scenario_file.specs.Scenario.{Plan, domain_at, place_named, is_hostile, hostile_among, number_named, name_among, targets_hostile, IsHonest}
+use Rattle.scenario_file.specs.Scenario.{Plan, place_named, is_hostile, hostile_among, number_named, name_among, targets_hostile, IsHonest}
 use Rattle.scenario_file.specs.Lines.{honest, number_left, call_left, calls_left, without_hostile, lines, line_among, by_domain}
 
 -- the place, from 0 on, that is left for a place: as many as are honest before it

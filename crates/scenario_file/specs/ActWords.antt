@@ -1,7 +1,7 @@
 -- Which texts are acts of a hostile domain.
 -- Source: this project's own; the fields of a page are those of struct vchan_interface in
 -- public/io/libxenvchan.h.
-use Rattle.std.specs.Prelude.{ℕ, ◌+◌, ◌-◌, ◌==◌, ◌&&◌, nat_le, List, [], ◌∷◌, length, take, drop, position, if◌then◌else◌, Option, None, Some, option_map, codes, bytes_eq}
+use Rattle.std.specs.Prelude.{ℕ, ◌+◌, ◌-◌, ◌==◌, nat_le, List, [], ◌∷◌, length, take, drop, position, if◌then◌else◌, Option, None, Some, option_map, codes, bytes_eq}
 use Rattle.std.specs.Map.{lookup}
 use Rattle.std.specs.Option.{option_and_then}
 use Rattle.ring_words.specs.declared.page.Ring.{Ring}

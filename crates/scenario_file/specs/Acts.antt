@@ -1,12 +1,12 @@
 -- Which acts a hostile domain may have.
 -- Source: this project's own.
-use Rattle.std.specs.Prelude.{◌≡◌, ℕ, ◌≤◌, true, List, length}
+use Rattle.std.specs.Prelude.{◌≡◌, ◌≤◌, true, List, length}
 use Rattle.std.specs.List.{All}
 use Rattle.scenario_file.specs.Names.{is_name, is_service}
 use Rattle.scenario_file.specs.declared.acts.ActPage.{ActPage}
 use Rattle.scenario_file.specs.declared.acts.ActPage.TheVariants as page
 use Rattle.scenario_file.specs.declared.acts.Act.{Act}
-use Rattle.scenario_file.specs.declared.acts.Act.TheVariants.{Hello, Say, Trigger, Terminate, Poke, Scribble, Signal, Rest}
+use Rattle.scenario_file.specs.declared.acts.Act.TheVariants.{Trigger, Poke, Scribble, Rest}
 
 -- a page names its peer as a call names its target
 abbrev pub PageFits : ActPage → Type 0

@@ -1,6 +1,6 @@
 -- The checks of a scenario file: one after another, the first that fails being the answer.
 -- Source: this project's own; the values of a file are those of TOML.
-use Rattle.std.specs.Prelude.{ℕ, ℤ, pos, ◌==◌, ◌||◌, ◌&&◌, nat_le, nat_lt, Bool, List, [], ◌∷◌, ◌++◌, if◌then◌else◌, ok_or, Option, None, Some, Result, Ok, Err, codes, decimal, bytes_eq}
+use Rattle.std.specs.Prelude.{ℕ, ℤ, pos, ◌&&◌, nat_le, Bool, List, [], ◌∷◌, ◌++◌, if◌then◌else◌, ok_or, Option, None, Some, Result, Ok, Err, codes, decimal, bytes_eq}
 use Rattle.std.specs.List.{list_any}
 use Rattle.toml.specs.Data.{Data, Items, no_items, item, Members, no_members, member, as_str, as_integer, as_array, as_table, get_member}
 use Rattle.scenario_file.specs.declared.error.ScenarioKind.{ScenarioKind}

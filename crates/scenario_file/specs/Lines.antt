@@ -1,6 +1,6 @@
 -- The lines of a scenario by its services and its names alone, and the scenario without its hostile domains.
 -- Source: this project's own.
-use Rattle.std.specs.Prelude.{◌≡◌, ℕ, zero, suc, ◌==◌, not, List, length, take, map, filter, Option, Some, None, if◌then◌else◌}
+use Rattle.std.specs.Prelude.{ℕ, zero, suc, ◌==◌, not, List, length, take, map, filter, Option, Some, None, if◌then◌else◌}
 use Rattle.service_gate.specs.Triple.{Triple}
 use Rattle.service_gate.specs.ServiceResult.{service}
 use Rattle.scenario_file.specs.declared.scenario.Domain.{Domain}

@@ -1,4 +1,3 @@
-use Rattle.std.proofs.Common.{arith}
 use Rattle.std.proofs.lemmas.Result.{err_from_is_err_and}
 use Rattle.scenario_file.proofs.ReadLaws.{all_read, item_read, item_refused, pushed_all, pushed_length}
 use Rattle.scenario_file.specs.Acts.{ActFits}
