@@ -1,7 +1,10 @@
-/* Counts what a program asks of malloc, and writes the number to standard error at its end. To be
-   preloaded: the allocator itself is glibc's, called by its other names. */
+/* Counts how often a program asks malloc, calloc or realloc, and writes the number to standard error
+   when the program calls _exit. To be preloaded: the allocator itself is glibc's, called by its other
+   names. */
 #include <stddef.h>
 #include <stdio.h>
+#include <sys/syscall.h>
+#include <unistd.h>
 
 extern void *__libc_malloc(size_t);
 extern void *__libc_calloc(size_t, size_t);
@@ -24,6 +27,11 @@ void *realloc(void *old, size_t size) {
     return __libc_realloc(old, size);
 }
 
-__attribute__((destructor)) static void tell(void) {
-    fprintf(stderr, "allocations %lu\n", asked);
+void _exit(int status) {
+    char line[64];
+    int length = snprintf(line, sizeof line, "allocations %lu\n", asked);
+    if (write(2, line, length) != length)
+        status = 1;
+    for (;;)
+        syscall(SYS_exit_group, status);
 }
