@@ -20,6 +20,7 @@ use Rattle.end_view.proofs.ViewLaws.{view_after}
 use Rattle.vchan_rule.specs.Seated.{SeatedEnd, view}
 use Rattle.vchan_rule.specs.Ends.{seen, seen_by, Pays, IsSameEnd}
 use Rattle.vchan_rule.specs.Along.{GoesAlong}
+use Rattle.vchan_rule.specs.Going.{InCalls}
 
 -- ---- one event of a call
 
@@ -30,16 +31,6 @@ way_on was call payload start s buffer taken long w more result now buffer' answ
     subst (λ (z : Option Answer × (Side × List ℕ)). IsThen was call payload start z.1.0 z.1.1 z.0) (λ i. (sym answers_it i, (sym stands i, sym lands i))) ((way_goes_on was call payload start s buffer long w more).next taken)
 
 -- ---- the loop over the events of a call
-
-pub record InCalls (was : SeatedEnd) (call : Call) (payload start : List ℕ) (e : SeatedEnd) (buffer : List ℕ) : Type 0 where
-  pub same : IsSameEnd was e
-  pub busy : ¬ IsIdle e.machine
-  pub out : payload_needed e.machine ≤ length payload
-  pub into : buffer_needed e.machine ≤ length buffer
-  pub long : length buffer ≡ length start
-  pub enough : loaded_most (standing_of was.side) call ≤ length start
-  pub pays : Pays e.begun e.side payload
-  pub way : OnWay was.side call (take (payload_of call) payload) start (seen e payload) buffer
 
 abbrev pub MakesOne : SeatedEnd → List ℕ → List ℕ → SeatedEnd → List ℕ → Option Answer → Type 0
 MakesOne e payload buffer e' buffer' result =

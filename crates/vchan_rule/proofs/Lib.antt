@@ -1,4 +1,5 @@
 pub mod CallLaws
+pub mod GoingLaws
 pub mod EndLaws
 pub mod Keeps
 pub mod ByteLaws

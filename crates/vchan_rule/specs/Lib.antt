@@ -2,4 +2,5 @@ pub mod Rule
 pub mod Seated
 pub mod Ends
 pub mod Along
+pub mod Going
 pub mod Done

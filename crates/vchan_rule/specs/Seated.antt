@@ -44,3 +44,14 @@ last_view e = view_of e.page true e.side
 -- it is open, and between two calls
 abbrev pub IsOpen : SeatedEnd → Type 0
 IsOpen e = ((view e).idle ≡ true) × ((view e).state ≡ Open)
+
+-- the seat of an honest end, which has no machine: its page, where its indices began, what it shows, and the call that it has begun and made no event of yet
+pub record SeatedCall : Type 0 where
+  pub page : TableId
+  pub start : ℕ
+  pub side : Side
+  pub begun : Option Call
+
+-- an end of this seat, driven by this machine
+abbrev pub driven : SeatedCall → Machine → SeatedEnd
+driven s m = record { page = s.page; start = s.start; side = s.side; machine = m; begun = s.begun }

@@ -16,68 +16,34 @@ ghost use Rattle.end_view.specs.AfterCall.{MayCall, answered_view, SeesAsTold};
 ghost use Rattle.vchan_rule.specs.declared.rule.View.TheVariants.{One};
 ghost use Rattle.vchan_rule.specs.Seated.{view};
 ghost use Rattle.vchan_rule.specs.Along.{GoesAlong};
+ghost use Rattle.vchan_rule.specs.Going.{Starts};
 ghost use Rattle.vchan_rule.specs.Ends.{Pays, IsSameEnd, seen};
 
+use crate::end_seat::EndSeat;
 use crate::rule::{PageWords, Place};
-use crate::steps::{give_up, perform, put_bytes, take_bytes};
 use crate::turned::{Retired, TurnedEnd};
-use ring_words::{Layout, Orders, Role, WordName};
+use ring_words::{Orders, Role};
 use std::marker::{Brand, Model};
-use std::snapshot::Snapshot;
 use std::sync::ledger::{Blank, Ledger};
-use vchan_core::{Ahead, Answer, Call, EndState, Machine, Op, Steps};
+use vchan_core::{Answer, Call, EndState, Machine, Steps};
 
 /// An honest end of a page. Between two calls it is idle; a call is begun, and then made event by
 /// event, each of which is one atomic step on one word of the page.
 #[derive(Drop)]
 pub struct End<'p> {
-    words: &'p PageWords,
-    seat: Place,
+    seat: EndSeat<'p>,
     machine: Machine,
-    layout: Layout,
-    role: Role,
-    retired: bool,
-    begun: Snapshot<Option<Call>>,
 }
 
 impl<'p> Model for End<'p> {
-    ghost use Rattle.std.specs.Prelude.{◌≡◌, [], ◌∷◌};
-    ghost use Rattle.ring_words.specs.Page.{word_count};
-    ghost use Rattle.vchan_rule.specs.Seated.{SeatedEnd};
-    ghost use Rattle.vchan_rule.specs.Ends.{end_in, Agrees};
-    ghost use Rattle.vchan_rule.specs.declared.rule.View.TheVariants.{One};
+    ghost use Rattle.vchan_rule.specs.Seated.{SeatedEnd, driven};
+    ghost use Rattle.vchan_rule.specs.Ends.{Agrees};
 
     ghost Value = { SeatedEnd };
 
-    ghost view = { λ e. record { page = e.seat.table_id; start = e.words.now.key.start; side = end_in e.seat.me.0; machine = e.machine; begun = e.begun.value } };
+    ghost view = { λ e. driven e.seat e.machine };
 
-    ghost invariant = { λ e. (e.seat.table_id ≡ e.words.now.table_id) × (e.words.now.table_id.words ≡ word_count e.layout.orders) × (e.words.now.key.orders ≡ e.layout.orders) × (e.seat.me ≡ (One (end_in e.seat.me.0), [])) × ((end_in e.seat.me.0).orders ≡ e.layout.orders) × ((end_in e.seat.me.0).role ≡ e.role) × Agrees e.words.now.key.start e.begun.value e.machine (end_in e.seat.me.0) × ((end_in e.seat.me.0).retired ≡ e.retired) };
-}
-
-/// A ring byte that was loaded goes to its place in the buffer.
-#[inline(always)]
-fn land(op: Op, value: u64, buf: &mut [u8])
-    requires { (orders : _) × (out : ℕ) × Fits orders out (length buf.old) op }
-    ensures { buf.new ≡ landed op value buf.old }
-{
-    if let Op::LoadByte { word: _, at } = op {
-        buf[at as usize] = (value % 256) as u8;
-    }
-}
-
-/// Whether an end is retired after an event: it is from its store to its own gone word on.
-#[inline(always)]
-fn retired_after(op: Op, role: Role, retired: bool) -> bool
-    ensures { result ≡ (sets_gone op role || retired) }
-{
-    match op {
-        Op::Store { word, value: _ } => match (word, role) {
-            (WordName::SrvGone, Role::Server) => true,
-            (WordName::CliGone, Role::Client) => true,
-            _ => retired,
-        },
-        _ => retired,
-    }
+    ghost invariant = { λ e. Agrees e.seat.start e.seat.begun e.machine e.seat.side };
 }
 
 impl<'p> End<'p> {
@@ -96,30 +62,22 @@ impl<'p> End<'p> {
         ensures { (result.page ≡ seat.table_id) × (result.side ≡ new_side role orders start state) × (result.start ≡ start) × (result.begun ≡ None) × IsIdle result.machine }
     {
         let machine = Machine::new(role, orders, state, start);
-        let begun = Snapshot::of(&None);
-        End {
-            words,
-            seat,
-            machine,
-            layout: Layout::new(orders),
-            role,
-            retired: false,
-            begun,
-        }
+        let seat = EndSeat::new(words, seat, role, orders);
+        End { seat, machine }
     }
 
     /// Which end it is.
     pub fn role(&self) -> Role
         ensures { result ≡ self.now.side.role }
     {
-        self.role
+        self.seat.role()
     }
 
     /// The orders of the page.
     pub fn orders(&self) -> Orders
         ensures { result ≡ self.now.side.orders }
     {
-        self.layout.orders
+        self.seat.orders()
     }
 
     /// Where the end stands in its life.
@@ -140,7 +98,7 @@ impl<'p> End<'p> {
     pub fn retired(&self) -> bool
         ensures { result ≡ self.now.side.retired }
     {
-        self.retired
+        self.seat.retired()
     }
 
     /// Whether this call may be begun now: between two calls, a connect on a fresh client, a close
@@ -172,7 +130,7 @@ impl<'p> End<'p> {
         ensures into { buffer_needed self.new.machine ≤ loaded_most (standing_of self.old.side) call }
     {
         self.machine.begin(call);
-        self.begun = Snapshot::of(&Some(call));
+        self.seat.begin(call);
     }
 
     /// The next event of the call under way, as one step of the table. The answer comes with the
@@ -195,19 +153,7 @@ impl<'p> End<'p> {
         ensures out { payload_needed self.new.machine ≤ payload_needed self.old.machine }
         ensures into { buffer_needed self.new.machine ≤ buffer_needed self.old.machine }
     {
-        let op = self.machine.next();
-        let value = perform::<Brand>(
-            self.words,
-            &mut self.seat,
-            &self.begun,
-            &self.layout,
-            payload,
-            op,
-        );
-        self.begun = Snapshot::of(&None);
-        self.retired = retired_after(op, self.role, self.retired);
-        land(op, value, buf);
-        self.machine.took(value)
+        self.seat.event(&mut self.machine, payload, buf)
     }
 
     /// The events that come next as long as they are on bytes of a ring. It answers how many they
@@ -227,34 +173,34 @@ impl<'p> End<'p> {
         ensures out { payload_needed self.new.machine ≤ payload_needed self.old.machine }
         ensures into { buffer_needed self.new.machine ≤ buffer_needed self.old.machine }
     {
-        match self.machine.ahead() {
-            Ahead::Puts(span) => {
-                put_bytes(
-                    self.words,
-                    &mut self.seat,
-                    &self.layout,
-                    &self.machine,
-                    span,
-                    payload,
-                );
-                self.machine.put_all(span);
-                span.count - span.at
-            }
-            Ahead::Takes(span) => {
-                take_bytes(
-                    self.words,
-                    &mut self.seat,
-                    &self.layout,
-                    &self.machine,
-                    span,
-                    payload,
-                    buf,
-                );
-                self.machine.take_all(span);
-                span.count - span.at
-            }
-            Ahead::Elsewhere => 0,
+        self.seat.move_bytes(&mut self.machine, payload, buf)
+    }
+
+    /// Begins a call and makes its first events, on a machine of its own, as long as the compiler can
+    /// see their order. `steps` counts them.
+    #[inline(always)]
+    fn start<L: Ledger>(
+        &mut self,
+        call: Call,
+        payload: &[u8],
+        buf: &mut [u8],
+        steps: &mut Steps<L>,
+    ) -> Option<Answer>
+        requires allowed { MayCall (view self.old) call }
+        requires payload { payload_of call ≤ length payload.now }
+        requires buf { loaded_most (standing_of self.old.side) call ≤ length buf.old }
+        ensures starts { Starts self.old call payload.now buf.old result self.new buf.new }
+        ensures honest { self.old.side.turned ≡ false }
+        ensures steps { steps.new ≡ steps.old + length (seen self.new payload.now).trail }
+    {
+        let mut machine = self.machine.inside(call);
+        self.seat.begin(call);
+        if let Some(answer) = self.seat.quickly(call, &mut machine, payload, buf, steps) {
+            self.machine.take_over(&machine);
+            return Some(answer);
         }
+        self.machine = machine;
+        None
     }
 
     /// A whole call; `steps` counts its events.
@@ -279,7 +225,9 @@ impl<'p> End<'p> {
         ensures steps { steps.new ≡ steps.old + length self.new.side.trail }
         ensures bound { steps.new ≤ steps.old + most_events (standing_of self.old.side) call }
     {
-        self.begin(call);
+        if let Some(answer) = self.start(call, payload, buf, steps) {
+            return answer;
+        }
         'events: loop {
             steps.tick();
             if let Some(answer) = self.step(payload, buf) {
@@ -342,26 +290,8 @@ impl<'p> End<'p> {
         ensures page { result.page ≡ self.entry.page }
         ensures side { (consumed : ℕ) × (result.side ≡ turns self.entry.side consumed) }
     {
-        let Self {
-            words,
-            mut seat,
-            machine: _,
-            layout,
-            role,
-            retired: _,
-            begun: _,
-        } = self;
-        let word = match role {
-            Role::Server => WordName::RightCons,
-            Role::Client => WordName::LeftCons,
-        };
-        give_up::<Brand>(words, &mut seat, &layout, word);
-        TurnedEnd {
-            words,
-            seat,
-            layout,
-            role,
-        }
+        let Self { seat, machine: _ } = self;
+        seat.turn()
     }
 
     /// The end makes no event any more. It has retired, and so it is shut.
@@ -371,19 +301,7 @@ impl<'p> End<'p> {
         ensures same { (result.page ≡ self.entry.page) × (result.side ≡ self.entry.side) }
         ensures honest { result.side.turned ≡ false }
     {
-        let Self {
-            words: _,
-            seat,
-            machine: _,
-            layout: _,
-            role,
-            retired: _,
-            begun: _,
-        } = self;
-        Retired {
-            seat,
-            role,
-            turned: false,
-        }
+        let Self { seat, machine: _ } = self;
+        seat.rest()
     }
 }

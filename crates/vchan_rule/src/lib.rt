@@ -8,6 +8,7 @@
 #![tactic(auto)]
 
 mod end;
+mod end_seat;
 mod page;
 mod rule;
 mod steps;

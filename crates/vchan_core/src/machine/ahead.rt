@@ -1,11 +1,13 @@
 //! The bytes that come next in a put or a take, for a caller that moves them all by itself.
-ghost use Rattle.std.specs.Prelude.{◌≡◌};
+ghost use Rattle.std.specs.Prelude.{◌≡◌, ◌≤◌};
+ghost use Rattle.vchan_protocol.specs.Table.Calls.{plan_of, payload_of, loaded_most};
+ghost use Rattle.vchan_core.specs.OneMachine.Phases.{standing, rest, IsIdle, Allows, payload_needed, buffer_needed};
 ghost use Rattle.vchan_core.specs.OneMachine.Ahead.{IsAhead, put_at, take_at};
 
 use super::Machine;
 use crate::phase::Phase;
 use ring_words::{Order, Ring};
-use vchan_protocol::Answer;
+use vchan_protocol::{Answer, Call};
 
 /// Bytes of a put or a take that are still to be moved: those from `at` on, up to `count`. Byte
 /// number `k` lies where the ring has the byte of the index `index + k`.
@@ -91,5 +93,39 @@ impl Machine {
             count: span.count,
             answer: span.answer,
         });
+    }
+
+    /// A copy that is inside this call, which begins now.
+    #[inline(always)]
+    pub fn inside(&self, call: Call) -> Machine
+        requires { Allows self.now call }
+        ensures standing { standing result ≡ standing self.now }
+        ensures rest { rest result ≡ plan_of (standing self.now) call }
+        ensures busy { ¬ IsIdle result }
+        ensures payload_left { payload_needed result ≤ payload_of call }
+        ensures buffer_left { buffer_needed result ≤ loaded_most (standing self.now) call }
+    {
+        Machine {
+            role: self.role,
+            orders: self.orders,
+            state: self.state,
+            prod: self.prod,
+            cons: self.cons,
+            phase: Some(self.first(call)),
+        }
+    }
+
+    /// Takes over what a call made of such a copy: its own counts and its state.
+    #[inline(always)]
+    pub fn take_over(&mut self, after: &Machine)
+        requires role { after.now.role ≡ self.old.role }
+        requires orders { after.now.orders ≡ self.old.orders }
+        requires idle { IsIdle after.now }
+        ensures { self.new ≡ after.now }
+    {
+        self.state = after.state;
+        self.prod = after.prod;
+        self.cons = after.cons;
+        self.phase = None;
     }
 }
