@@ -1,5 +1,4 @@
 -- The two ends of a page that is done with.
-use Rattle.std.specs.Prelude.{◌≡◌}
 use Rattle.vchan_protocol.specs.declared.side.Side.{Side}
 use Rattle.vchan_protocol.specs.Always.Invariant.{PageSettled}
 use Rattle.vchan_rule.specs.declared.rule.View.{View}

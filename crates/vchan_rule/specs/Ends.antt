@@ -1,6 +1,5 @@
 -- When the parts of an end agree, and the words of its contracts.
 use Rattle.std.specs.Prelude.{◌≡◌, ℕ, ◌≤◌, Option, Some, None, List, take, length}
-use Rattle.atomic_table.specs.declared.shared.Seat.{Seat}
 use Rattle.vchan_protocol.specs.declared.call.Call.{Call}
 use Rattle.vchan_protocol.specs.declared.side.Side.{Side}
 use Rattle.vchan_protocol.specs.Table.Calls.{plan_of, payload_of, IsAllowed}

@@ -1,8 +1,7 @@
-use Rattle.std.proofs.Common.{rules, ◌≡◌, Option, Some, None, List, refl, sym, ap, subst}
-use Rattle.vchan_protocol.specs.declared.call.Answer.{Answer}
+use Rattle.std.proofs.Common.{rules, Some, None, sym, subst}
 use Rattle.vchan_core.specs.declared.machine.Machine.{Machine}
 use Rattle.vchan_rule.specs.Seated.{SeatedEnd, driven}
-use Rattle.vchan_rule.specs.Going.{Goes, Starts}
+use Rattle.vchan_rule.specs.Going.{Starts}
 use Rattle.vchan_rule.proofs.GoingLaws.{starts_in, starts_from}
 use Rattle.vchan_rule.proofs.end.End.start.Goals as goal
 

@@ -1,7 +1,6 @@
-use Rattle.std.proofs.Common.{◌≡◌, ◌+◌, length, sym, ap, arith}
+use Rattle.std.proofs.Common.{length, ap, arith}
 use Rattle.vchan_protocol.specs.declared.side.Side.{Side}
 use Rattle.vchan_rule.specs.Seated.{driven}
-use Rattle.vchan_rule.specs.Ends.{seen}
 use Rattle.vchan_rule.proofs.CallLaws.{seen_now}
 use Rattle.vchan_rule.proofs.GoingLaws.{goes_along}
 use Rattle.vchan_rule.proofs.end_seat.EndSeat.counted_bytes.Goals as goal
