@@ -251,7 +251,7 @@ impl<'p> EndSeat<'p> {
     /// A look at the peer's index, the bytes, the index that shows or releases them, and the look
     /// whether the peer asked for a signal: the events of most calls that move bytes.
     #[inline(always)]
-    fn look_and_move<L: Ledger>(
+    fn look_and_move<L: Ledger, const WRITES: bool>(
         &mut self,
         machine: &mut Machine,
         payload: &[u8],
@@ -266,11 +266,11 @@ impl<'p> EndSeat<'p> {
             return Some(answer);
         }
         self.counted_bytes(machine, payload, buf, steps);
-        self.two_events(machine, payload, buf, steps)
+        self.two_events::<L, WRITES>(machine, payload, buf, steps)
     }
 
     #[inline(always)]
-    fn two_events<L: Ledger>(
+    fn two_events<L: Ledger, const WRITES: bool>(
         &mut self,
         machine: &mut Machine,
         payload: &[u8],
@@ -303,7 +303,7 @@ impl<'p> EndSeat<'p> {
         if let Some(answer) = self.counted_event(machine, payload, buf, steps) {
             return Some(answer);
         }
-        self.look_and_move(machine, payload, buf, steps)
+        self.look_and_move::<L, true>(machine, payload, buf, steps)
     }
 
     /// The first events of a call that was just begun, in an order that the compiler can see; most
@@ -323,7 +323,9 @@ impl<'p> EndSeat<'p> {
     {
         match call {
             Call::Write { len: _ } => self.live_and_move(machine, payload, buf, steps),
-            Call::Read { most: _ } => self.look_and_move(machine, payload, buf, steps),
+            Call::Read { most: _ } => {
+                self.look_and_move::<L, false>(machine, payload, buf, steps)
+            }
             _ => None,
         }
     }
