@@ -90,7 +90,8 @@ impl<'p> ControlPort<'p> {
         self.greeted
     }
 
-    /// Sends the own greeting, which is the first message. It has gone where the answer is `Sent`.
+    /// Sends the own greeting, which is the first message. It has gone where the answer is `Sent`. After
+    /// want of memory the end can still be retired, and no more is said of what went out.
     pub fn greet(&mut self) -> Result<SendAnswer, Memory>
         requires open { IsOpen self.old.end }
         requires first { self.old.greeted ≡ false }
@@ -108,7 +109,8 @@ impl<'p> ControlPort<'p> {
         Ok(answer)
     }
 
-    /// Sends a message that this side may say, as one packet. It has gone where the answer is `Sent`.
+    /// Sends a message that this side may say, as one packet. It has gone where the answer is `Sent`. Want
+    /// of memory sends nothing.
     pub fn say(&mut self, message: &Message) -> Result<SendAnswer, Memory>
         requires open { IsOpen self.old.end }
         requires greeted { self.old.greeted ≡ true }
@@ -140,7 +142,8 @@ impl<'p> ControlPort<'p> {
         Ok(send(&mut self.end, &self.spelling))
     }
 
-    /// Takes what has come, or hears that no more comes. What was taken is handed out by `next`.
+    /// Takes what has come, or hears that no more comes. What was taken is handed out by `next`. After want
+    /// of memory the end can still be retired, and no more is said of what was heard.
     pub fn drain(&mut self, buf: &mut [u8]) -> Result<DrainAnswer, Memory>
         requires open { IsOpen self.old.end }
         requires some { 0 < length buf.old }
@@ -165,7 +168,8 @@ impl<'p> ControlPort<'p> {
     }
 
     /// Hands out the next message behind the other side's greeting. `None` comes where no whole message is
-    /// left of what was taken, and where something is wrong with it, which `fault` tells.
+    /// left of what was taken, and where something is wrong with it, which `fault` tells. After want of
+    /// memory the end can still be retired, and no more is said of what was heard.
     pub fn next(&mut self) -> Result<Option<Message>, Memory>
         requires fine { self.old.fault ≡ None }
         ensures hands { (heard : List Said) → HasHeard self.old heard → IfOk result (λ message. Hands self.new heard message) }
