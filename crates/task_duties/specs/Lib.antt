@@ -6,4 +6,5 @@ pub mod Agent
 pub mod Broker
 pub mod Hostile
 pub mod TaskOwes
+pub mod GivenEnds
 pub mod Worked

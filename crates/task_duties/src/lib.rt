@@ -8,8 +8,10 @@
 #![tactic(auto)]
 
 mod done;
+mod ends;
 pub mod laws;
 mod place;
 
+pub use ends::{DataEnd, RetiredEnd};
 pub use done::{CallDone, CallEnd, ControlEnd, ServedDone};
 pub use place::PagePlace;

@@ -1,0 +1,25 @@
+//! The ends that a task is given, and those that it gives back.
+use crate::place::PagePlace;
+use vchan_rule::{End, Retired};
+
+/// An end of a data page, with the place of the page.
+#[derive(Drop)]
+pub struct DataEnd<'p> {
+    /// The domain that calls.
+    pub from: u32,
+    /// The domain that serves.
+    pub to: u32,
+    /// The port, which is the page's own among those from the one domain to the other.
+    pub port: u32,
+    /// The end: a server's at the domain that calls, else a client's.
+    pub end: End<'p>,
+}
+
+/// An end that makes no event any more, with the place of its page.
+#[derive(Drop)]
+pub struct RetiredEnd {
+    /// The place.
+    pub place: PagePlace,
+    /// The end.
+    pub retired: Retired,
+}
