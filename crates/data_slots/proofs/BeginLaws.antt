@@ -1,6 +1,6 @@
 -- An unused end that was found, and what contracts see once it is put to use.
-use Rattle.std.proofs.Common.{◌≡◌, ℕ, ◌<◌, List, ◌++◌, ◌∷◌, [], length, get_or, refl, ap, sym, ◌∙◌, subst, Option, Some}
-use Rattle.std.specs.Prelude.{false, slice_get, Bool}
+use Rattle.std.proofs.Common.{◌≡◌, ℕ, List, get_or, refl, ap, sym, ◌∙◌, Option, Some}
+use Rattle.std.specs.Prelude.{slice_get, Bool}
 use Rattle.std.proofs.lemmas.Option.{get_or_from_slice_get}
 use Rattle.ring_words.specs.declared.page.Role.{Role}
 use Rattle.ring_words.specs.declared.page.Role.TheVariants.{Server, Client}
@@ -12,7 +12,7 @@ use Rattle.data_slots.specs.declared.slot.Slot.{Slot}
 use Rattle.data_slots.specs.declared.slot.Stage.{Stage}
 use Rattle.data_slots.specs.declared.slot.Stage.TheVariants.{Unused, Calls, Serves, CallIsOver, ServingIsOver, Taken}
 use Rattle.data_slots.specs.Slots.{Held, Called, Serves as ServedHere, SlotsState, IsEndOf}
-use Rattle.data_slots.specs.Stages.{Use, ForNothing, ForCall, ForServing, Frame, place_of, frame_of, use_of, end_of, IsStage, IsUnusedBy}
+use Rattle.data_slots.specs.Stages.{ForNothing, ForCall, ForServing, Frame, place_of, frame_of, use_of, end_of, IsStage, IsUnusedBy}
 use Rattle.data_slots.specs.Whole.{frames, held_in, IsUsedAt}
 use Rattle.data_slots.proofs.ListLaws.{get-map, get-map-back, each-get}
 

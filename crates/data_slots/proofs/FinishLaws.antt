@@ -1,15 +1,15 @@
 -- All ends while they are retired one after another, and what they report.
-use Rattle.std.proofs.Common.{◌≡◌, ◌≢◌, ℕ, ◌+◌, ◌<◌, ◌≤◌, zero, suc, List, [], ◌∷◌, ◌++◌, length, map, set, take, refl, ap, sym, ◌∙◌, arith, append_assoc, subst, Option, Some, None}
-use Rattle.std.specs.Prelude.{true, false, slice_get, option_map, option_and_then, IsSome}
+use Rattle.std.proofs.Common.{◌≡◌, ◌≢◌, ℕ, ◌+◌, ◌≤◌, zero, suc, List, [], ◌∷◌, ◌++◌, map, refl, ap, sym, ◌∙◌, arith, append_assoc, subst, Option, Some, None}
+use Rattle.std.specs.Prelude.{false, slice_get, option_map, option_and_then, IsSome}
 use Rattle.std.proofs.lemmas.List.{map-append}
 use Rattle.qrexec_frame.specs.Streams.{Each}
 use Rattle.end_view.specs.EndView.{EndView}
 use Rattle.service_gate.specs.declared.builtin.Builtin.{Builtin}
 use Rattle.task_duties.specs.declared.place.PagePlace.{PagePlace}
-use Rattle.task_duties.specs.declared.place.PagePlace.TheVariants.{Control, Payload}
+use Rattle.task_duties.specs.declared.place.PagePlace.TheVariants.{Payload}
 use Rattle.task_duties.specs.declared.done.ServedDone.{ServedDone}
 use Rattle.task_duties.specs.declared.ends.RetiredEnd.{RetiredEnd}
-use Rattle.task_duties.specs.Pairwise.{SomeOf, EachPair}
+use Rattle.task_duties.specs.Pairwise.{EachPair}
 use Rattle.task_duties.specs.TaskOwes.{EndAt}
 use Rattle.task_duties.specs.GivenEnds.{all_retired, retired_at}
 use Rattle.data_slots.specs.declared.slot.Slot.{Slot}
@@ -21,10 +21,10 @@ use Rattle.data_slots.specs.declared.report.Report.TheVariants.{Nothing, Call, S
 use Rattle.data_slots.specs.Slots.{Held, held_at}
 use Rattle.data_slots.specs.Done.{ReportsCalled, ReportsServes}
 use Rattle.data_slots.specs.Reports.{call_in, served_in}
-use Rattle.data_slots.specs.Stages.{Use, ForNothing, ForCall, ForServing, Frame, place_of, frame_of, use_of, is_session, IsStage, CanRetire, IsReportOf}
+use Rattle.data_slots.specs.Stages.{Use, ForCall, ForServing, Frame, place_of, frame_of, use_of, CanRetire, IsReportOf}
 use Rattle.data_slots.specs.Whole.{frames, held_in, called_of, serves_of, IsUsedAt, HaveEnds}
 use Rattle.data_slots.specs.Finished.{AreReported, AreCalls, AreServings, KeepsServings, HasCall, IsElsewhere, KeepsOthers, call_at, served_at}
-use Rattle.data_slots.proofs.ListLaws.{get-set-other, each-push, some-get}
+use Rattle.data_slots.proofs.ListLaws.{each-push, some-get}
 
 pub append-nil : {A : Type 0} (xs : List A) → xs ++ [] ≡ xs
 append-nil [] = refl
@@ -43,8 +43,8 @@ pub one-more : (slots rest : List Slot) (slot : Slot) (retired : List RetiredEnd
 one-more slots rest slot retired x held honest h = record {
   can = h.can.1;
   held = ap (λ hs. hs ++ held_in rest) (ap (map held_at) (map-append retired_at retired (x ∷ [])) ∙ map-append held_at (all_retired retired) (retired_at x ∷ []))
-    ∙ (append_assoc (map held_at (all_retired retired)) (held_at (retired_at x) ∷ []) (held_in rest)
-    ∙ (ap (λ k. map held_at (all_retired retired) ++ k ∷ held_in rest) held ∙ h.held));
+      ∙ (append_assoc (map held_at (all_retired retired)) (held_at (retired_at x) ∷ []) (held_in rest)
+      ∙ (ap (λ k. map held_at (all_retired retired) ++ k ∷ held_in rest) held ∙ h.held));
   honest = subst (λ es. Each (λ e. e.view.turned ≡ false) es) (sym (map-append retired_at retired (x ∷ []))) (each-push (λ (e : EndAt). e.view.turned ≡ false) (all_retired retired) (retired_at x) h.honest honest);
 }
 

@@ -1,6 +1,6 @@
 -- Ends that were just given are whole.
-use Rattle.std.proofs.Common.{◌≡◌, ℕ, zero, suc, List, [], ◌∷◌, map, replicate, refl, ap, sym, ◌∙◌, Option, Some, None, subst}
-use Rattle.std.specs.Prelude.{true, false, Bool, ◌≤◌, slice_get, unwrap_or, option_map, if◌then◌else◌}
+use Rattle.std.proofs.Common.{◌≡◌, ℕ, zero, suc, List, [], ◌∷◌, map, replicate, refl, ap, sym, Option, Some, None}
+use Rattle.std.specs.Prelude.{false, Bool, ◌≤◌, slice_get, unwrap_or, option_map, if◌then◌else◌}
 use Rattle.qrexec_frame.specs.Streams.{Each}
 use Rattle.task_duties.specs.declared.ends.DataEnd.{DataEnd}
 use Rattle.task_duties.specs.TaskOwes.{places_in}
@@ -8,10 +8,10 @@ use Rattle.task_duties.specs.GivenEnds.{given_at, all_given}
 use Rattle.data_slots.specs.declared.note.CallNote.{CallNote}
 use Rattle.data_slots.specs.declared.note.ServedNote.{ServedNote}
 use Rattle.data_slots.specs.Slots.{Called, held_at, IsEndOf, IsGiven}
-use Rattle.data_slots.specs.Stages.{Frame, frame_of, is_session, IsStage, CanRetire}
+use Rattle.data_slots.specs.Stages.{IsStage, CanRetire}
 use Rattle.data_slots.specs.Index.{PlaceIndex, IsIndexOf}
-use Rattle.data_slots.specs.Given.{unused_slot, unused_slots}
-use Rattle.data_slots.specs.Whole.{frames, held_in, places, sessions, unused_in, called_of, IsUsedAt, HaveEnds, IsNoted, AreWhole}
+use Rattle.data_slots.specs.Given.{unused_slots}
+use Rattle.data_slots.specs.Whole.{frames, held_in, places, sessions, unused_in, called_of, IsNoted, AreWhole}
 
 pub given-places : (ends : List DataEnd) → places (unused_slots ends) ≡ places_in (all_given ends)
 given-places [] = refl

@@ -1,5 +1,5 @@
 -- The index of ends while it is filled.
-use Rattle.std.proofs.Common.{◌≡◌, ◌≢◌, ℕ, ◌+◌, ◌<◌, ◌≤◌, zero, suc, List, refl, ap, sym, ◌∙◌, arith, Option, Some, None, length, get_or}
+use Rattle.std.proofs.Common.{◌≡◌, ◌≢◌, ℕ, ◌+◌, ◌<◌, List, refl, ap, sym, ◌∙◌, arith, Some, length}
 use Rattle.std.specs.Prelude.{true, false, Bool, ◌==◌, ◌&&◌, cond, slice_get}
 use Rattle.std.specs.HashMap.{get}
 use Rattle.std.proofs.lemmas.Bool.Decides.{nat_tests}

@@ -1,18 +1,17 @@
 -- Ends by their places, and which are unused.
-use Rattle.std.proofs.Common.{◌≡◌, ◌≢◌, ℕ, ◌<◌, zero, suc, List, [], ◌∷◌, length, get_or, map, set, refl, ap, sym, ◌∙◌, Option, Some, None, subst}
-use Rattle.std.specs.Prelude.{true, false, Bool, not, ◌||◌, filter, slice_get, if◌then◌else◌}
+use Rattle.std.proofs.Common.{◌≡◌, ℕ, ◌<◌, zero, suc, List, [], ◌∷◌, length, get_or, refl, ap, sym, ◌∙◌, Some, None, subst}
+use Rattle.std.specs.Prelude.{true, false, Bool, ◌||◌, slice_get}
 use Rattle.std.proofs.lemmas.Option.{slice_get_within, slice_get_read}
 use Rattle.std.proofs.lemmas.List.{length-map}
 use Rattle.task_duties.specs.declared.place.PagePlace.{PagePlace}
 use Rattle.task_duties.specs.declared.place.PagePlace.TheVariants.{Payload}
-use Rattle.task_duties.specs.Places.{is_place, has_place, without}
+use Rattle.task_duties.specs.Places.{is_place, has_place}
 use Rattle.task_duties.proofs.OutboxLaw.{same-self}
 use Rattle.task_duties.proofs.ServedLaw.{same-place}
 use Rattle.data_slots.specs.declared.slot.Slot.{Slot}
-use Rattle.data_slots.specs.Slots.{Held}
 use Rattle.data_slots.specs.Stages.{Use, ForNothing, ForCall, ForServing, Frame, place_of, frame_of, use_of, is_nothing}
 use Rattle.data_slots.specs.Index.{PlaceIndex, end_at, IsIndexOf}
-use Rattle.data_slots.specs.Whole.{frames, places, unused_at, unused_in, IsUsedAt}
+use Rattle.data_slots.specs.Whole.{frames, places, unused_in, IsUsedAt}
 use Rattle.data_slots.proofs.ListLaws.{get-map, get-map-back}
 
 -- an unused end at a place

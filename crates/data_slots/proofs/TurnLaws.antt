@@ -1,6 +1,6 @@
 -- All ends through a turn of one session.
-use Rattle.std.proofs.Common.{◌≡◌, ℕ, ◌+◌, ◌<◌, List, [], ◌∷◌, ◌++◌, length, map, set, get_or, refl, ap, sym, ◌∙◌, arith, append_assoc, subst, Option, Some, None}
-use Rattle.std.specs.Prelude.{true, false, Bool, slice_get, option_map}
+use Rattle.std.proofs.Common.{◌≡◌, ℕ, ◌<◌, List, [], ◌∷◌, ◌++◌, length, map, set, get_or, refl, ap, sym, ◌∙◌, arith, append_assoc, subst, Option, Some, None}
+use Rattle.std.specs.Prelude.{true, false, slice_get, option_map}
 use Rattle.std.specs.List.{swap_remove}
 use Rattle.std.proofs.lemmas.List.{map-set, length-map}
 use Rattle.std.proofs.lemmas.Option.{slice_get_within, get_or_from_slice_get}
@@ -19,8 +19,8 @@ use Rattle.data_slots.specs.Slots.{SlotsState, IsEndOf}
 use Rattle.data_slots.specs.Done.{IsToldOver, IsBegun, TellsMore}
 use Rattle.data_slots.specs.Stages.{Use, ForNothing, ForCall, ForServing, Frame, place_of, frame_of, use_of, is_session, IsStage, CanTurn, CanRetire, Tells}
 use Rattle.data_slots.specs.Index.{PlaceIndex, IsIndexOf}
-use Rattle.data_slots.specs.Whole.{frames, held_in, places, sessions, unused_in, called_of, serves_of, AreOpen, HaveEnds, IsNoted, AreWhole, IsWhole, state_of, IsTurned, HasSameEnds}
-use Rattle.data_slots.proofs.ListLaws.{get-set-same, get-map, get-map-back, each-get, each-set, each-push, map-set-same, set-same, some-get}
+use Rattle.data_slots.specs.Whole.{frames, sessions, called_of, serves_of, AreOpen, HaveEnds, IsNoted, AreWhole, IsWhole, state_of, IsTurned, HasSameEnds}
+use Rattle.data_slots.proofs.ListLaws.{get-map, get-map-back, each-get, each-set, map-set-same, set-same, some-get}
 use Rattle.data_slots.proofs.OpenLaws.{open-at, open-less}
 use Rattle.data_slots.proofs.WholeLaws.{held-set, places-set}
 

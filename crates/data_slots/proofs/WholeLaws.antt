@@ -1,6 +1,6 @@
 -- What stays of all ends where one of them is put to use.
-use Rattle.std.proofs.Common.{◌≡◌, ◌≢◌, ℕ, zero, suc, List, [], ◌∷◌, ◌++◌, length, map, set, refl, ap, sym, ◌∙◌, ◌⊎◌, inl, inr, Option, Some, None, subst}
-use Rattle.std.specs.Prelude.{true, false, Bool, ◌==◌, ◌≤◌, slice_get}
+use Rattle.std.proofs.Common.{◌≡◌, ◌≢◌, ℕ, zero, suc, List, [], ◌∷◌, ◌++◌, length, set, refl, ap, sym, ◌∙◌, ◌⊎◌, inl, inr, Option, Some, None, subst}
+use Rattle.std.specs.Prelude.{true, false, Bool, ◌==◌, slice_get}
 use Rattle.std.proofs.lemmas.List.{map-set}
 use Rattle.qrexec_frame.specs.Streams.{Each}
 use Rattle.task_duties.specs.declared.place.PagePlace.{PagePlace}
@@ -18,7 +18,7 @@ use Rattle.data_slots.specs.Slots.{IsEndOf}
 use Rattle.data_slots.specs.Stages.{Use, ForNothing, ForCall, ForServing, Frame, place_of, frame_of, use_of, is_session, IsStage}
 use Rattle.data_slots.specs.Index.{PlaceIndex, IsIndexOf}
 use Rattle.data_slots.specs.Whole.{frames, held_in, places, sessions, unused_in, AreOpen, IsUsedAt, HaveEnds, IsNoted, AreWhole}
-use Rattle.data_slots.proofs.ListLaws.{get-set-same, get-set-other, get-map, get-map-back, each-get, each-set, map-set-same, get-push, get-push-before, get-push-last}
+use Rattle.data_slots.proofs.ListLaws.{get-set-same, get-set-other, get-map, get-map-back, each-set, map-set-same, get-push, get-push-before, get-push-last}
 use Rattle.data_slots.proofs.OpenLaws.{open-more, same-number, other-number}
 
 each-more : {A : Type 0} (P Q : A → Type 0) (xs : List A) → ((x : A) → P x → Q x) → Each P xs → Each Q xs

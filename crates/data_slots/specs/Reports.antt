@@ -1,9 +1,9 @@
 -- What an end reports once it is retired.
-use Rattle.std.specs.Prelude.{ℕ, Option, Some, None}
+use Rattle.std.specs.Prelude.{Option, Some, None}
 use Rattle.task_duties.specs.declared.done.ServedDone.{ServedDone}
 use Rattle.data_slots.specs.declared.done.CallOver.{CallOver}
 use Rattle.data_slots.specs.declared.report.Report.{Report}
-use Rattle.data_slots.specs.declared.report.Report.TheVariants.{Nothing, Call, Serving}
+use Rattle.data_slots.specs.declared.report.Report.TheVariants.{Call, Serving}
 
 -- what it reports of a call of the agent's own, and of what it served
 abbrev pub call_in : Report → Option CallOver

@@ -23,7 +23,7 @@ use Rattle.data_slots.specs.declared.done.SessionOver.{SessionOver}
 use Rattle.data_slots.specs.declared.report.Report.{Report}
 use Rattle.data_slots.specs.declared.report.Report.TheVariants.{Call, Serving}
 use Rattle.data_slots.specs.Done.{caller_done}
-use Rattle.data_slots.specs.Slots.{Held, held_of, IsEndOf}
+use Rattle.data_slots.specs.Slots.{Held, held_of}
 
 -- what an end is used for: nothing, a call of the agent's own by its number, or what it serves by its number
 pub data Use : Type 0 where

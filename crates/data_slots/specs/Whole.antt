@@ -2,7 +2,6 @@
 use Rattle.std.specs.Prelude.{◌≡◌, ℕ, ◌+◌, ◌≤◌, ◌==◌, Bool, false, List, map, filter_map, length, slice_get, option_map, unwrap_or, Option, Some, None, if◌then◌else◌}
 use Rattle.std.specs.List.{sum_by}
 use Rattle.qrexec_frame.specs.Streams.{Each}
-use Rattle.service_gate.specs.declared.builtin.Builtin.{Builtin}
 use Rattle.task_duties.specs.declared.place.PagePlace.{PagePlace}
 use Rattle.task_duties.specs.declared.place.PagePlace.TheVariants.{Payload}
 use Rattle.data_slots.specs.declared.slot.Slot.{Slot}

@@ -59,9 +59,15 @@ impl<'p> Ends<'p> {
         requires apart { AreApart (places_in (all_given ends.items)) }
         ensures whole { IfOk result (λ e. IsWhole e) }
         ensures state { IfOk result (λ e. state_of e false ≡ record {
-          domain = domain; version = version;
-          held = map held_at (all_given ends.entry.items); unused = places_in (all_given ends.entry.items);
-          called = replicate calls None; served = []; open_count = 0; spent = false }) }
+          domain = domain;
+          version = version;
+          held = map held_at (all_given ends.entry.items);
+          unused = places_in (all_given ends.entry.items);
+          called = replicate calls None;
+          served = [];
+          open_count = 0;
+          spent = false;
+        }) }
         ensures retire { IfOk result (λ e. Each (λ s. CanRetire s.stage) e.slots.items) }
     {
         let slots = unused_slots(alloc, ends)?;
@@ -104,7 +110,8 @@ impl<'p> Ends<'p> {
         ensures ok { OnOk result (state_of self.new false ≡ record (state_of self.old false) {
           unused = without (Payload self.old.domain to port) (unused_in (frames self.old.slots.items));
           called = slice_set (state_of self.old false).called number (Some (record { to = to; port = port; input = input.items }));
-          open_count = length self.old.busy.items + 1 }) }
+          open_count = length self.old.busy.items + 1;
+        }) }
         ensures err { OnErr result (state_of self.new false ≡ state_of self.old false) }
     {
         let Some(at) = find_unused(&self.index, &self.slots, self.domain, to, port) else {
@@ -134,7 +141,8 @@ impl<'p> Ends<'p> {
         ensures ok { OnOk result (state_of self.new false ≡ record (state_of self.old false) {
           unused = without (Payload from self.old.domain port) (unused_in (frames self.old.slots.items));
           served = (state_of self.old false).served ++ record { from = from; port = port; service = service } ∷ [];
-          open_count = length self.old.busy.items + 1 }) }
+          open_count = length self.old.busy.items + 1;
+        }) }
         ensures err { OnErr result (state_of self.new false ≡ state_of self.old false) }
     {
         let Some(at) = find_unused(&self.index, &self.slots, from, self.domain, port) else {
@@ -263,8 +271,7 @@ fn unused_slots<'p>(alloc: Global, ends: Vec<DataEnd<'p>>) -> Result<Vec<Slot<'p
         to,
         port,
         end,
-    } in ends
-    {
+    } in ends {
         slots.push(Slot {
             from,
             to,
@@ -294,5 +301,9 @@ fn find_unused(index: &Index, slots: &[Slot], from: u32, to: u32, port: u32) -> 
     ensures there { is_some result ≡ has_place (Payload from to port) (unused_in (frames slots.now)) }
 {
     let at = end_at(index, from, to, port)?;
-    if slots[at].is_unused() { Some(at) } else { None }
+    if slots[at].is_unused() {
+        Some(at)
+    } else {
+        None
+    }
 }

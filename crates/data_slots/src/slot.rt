@@ -40,7 +40,9 @@ pub(crate) struct Slot<'p> {
 #[derive(Drop)]
 pub(crate) enum Stage<'p> {
     /// Nothing yet.
-    Unused { end: End<'p> },
+    Unused {
+        end: End<'p>,
+    },
     /// A call of the agent's own.
     Calls {
         number: usize,
@@ -198,7 +200,10 @@ impl<'p> Slot<'p> {
             }
             Stage::ServingIsOver { number, ended, .. } => {
                 let (retired, done) = served_done(from, port, ended);
-                (RetiredEnd { place, retired }, Report::Serving { number, done })
+                (
+                    RetiredEnd { place, retired },
+                    Report::Serving { number, done },
+                )
             }
             _ => unreachable!(),
         }
@@ -227,7 +232,12 @@ impl<'p> Stage<'p> {
     }
 
     // The end of what is served under this number, by a side that has this service.
-    fn serve(self, number: usize, service: Snapshot<Builtin>, serving: Serving<Builtin>) -> Stage<'p>
+    fn serve(
+        self,
+        number: usize,
+        service: Snapshot<Builtin>,
+        serving: Serving<Builtin>,
+    ) -> Stage<'p>
         requires unused { IsUnusedBy Client self }
         requires serving { IsNewServing serving }
         requires service { ServingStandsFor builtin_owes (builtin_owes service.value) serving [] }

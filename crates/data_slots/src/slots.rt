@@ -41,8 +41,8 @@ impl<'p> Model for DataSlots<'p> {
     ghost view = { λ s. state_of s.ends s.spent.value };
 
     ghost invariant = { λ s. Each (λ x. CanRetire x.stage) s.ends.slots.items
-      × (s.retired.items ≡ []) × (length s.ends.slots.items ≤ vec_capacity s.retired)
-      × (s.spent.value ≡ false → IsWhole s.ends) };
+        × (s.retired.items ≡ []) × (length s.ends.slots.items ≤ vec_capacity s.retired)
+        × (s.spent.value ≡ false → IsWhole s.ends) };
 }
 
 impl<'p> DataSlots<'p> {
@@ -64,9 +64,15 @@ impl<'p> DataSlots<'p> {
         requires given { Each (IsGiven domain) (all_given ends.items) }
         requires apart { AreApart (places_in (all_given ends.items)) }
         ensures { IfOk result (λ s. s ≡ record {
-          domain = domain; version = version;
-          held = map held_at (all_given ends.entry.items); unused = places_in (all_given ends.entry.items);
-          called = replicate calls None; served = []; open_count = 0; spent = false }) }
+          domain = domain;
+          version = version;
+          held = map held_at (all_given ends.entry.items);
+          unused = places_in (all_given ends.entry.items);
+          called = replicate calls None;
+          served = [];
+          open_count = 0;
+          spent = false;
+        }) }
     {
         let room = ends.len();
         let ends = Ends::new(alloc, domain, version, ends, calls)?;
@@ -98,20 +104,15 @@ impl<'p> DataSlots<'p> {
     /// Opens the unused end for the agent's own call of this number, with this input.
     ///
     /// Want of memory drops the input and changes nothing else.
-    pub fn call(
-        &mut self,
-        number: usize,
-        to: u32,
-        port: u32,
-        input: Vec<u8>,
-    ) -> Result<(), Memory>
+    pub fn call(&mut self, number: usize, to: u32, port: u32, input: Vec<u8>) -> Result<(), Memory>
         requires whole { self.old.spent ≡ false }
         requires number { slice_get self.old.called number ≡ Some None }
         requires unused { has_place (Payload self.old.domain to port) self.old.unused ≡ true }
         ensures ok { OnOk result (self.new ≡ record self.old {
           unused = without (Payload self.old.domain to port) self.old.unused;
           called = slice_set self.old.called number (Some (record { to = to; port = port; input = input.items }));
-          open_count = self.old.open_count + 1 }) }
+          open_count = self.old.open_count + 1;
+        }) }
         ensures err { OnErr result (self.new ≡ self.old) }
     {
         self.ends.call(number, to, port, input)
@@ -126,7 +127,8 @@ impl<'p> DataSlots<'p> {
         ensures ok { OnOk result (self.new ≡ record self.old {
           unused = without (Payload from self.old.domain port) self.old.unused;
           served = self.old.served ++ record { from = from; port = port; service = service } ∷ [];
-          open_count = self.old.open_count + 1 }) }
+          open_count = self.old.open_count + 1;
+        }) }
         ensures err { OnErr result (self.new ≡ self.old) }
     {
         self.ends.serve(from, port, service)
@@ -135,11 +137,7 @@ impl<'p> DataSlots<'p> {
     /// One turn of each open session. Those that are over now are put behind `over`.
     ///
     /// After want of memory the ends can only be given up.
-    pub fn turn(
-        &mut self,
-        scratch: &mut [u8],
-        over: &mut Vec<SessionOver>,
-    ) -> Result<(), Memory>
+    pub fn turn(&mut self, scratch: &mut [u8], over: &mut Vec<SessionOver>) -> Result<(), Memory>
         requires whole { self.old.spent ≡ false }
         requires some { 0 < length scratch.old }
         ensures ok { OnOk result (self.new ≡ record self.old { open_count = self.new.open_count }) }

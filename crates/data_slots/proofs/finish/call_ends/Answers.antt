@@ -1,5 +1,4 @@
-use Rattle.std.proofs.Common.{◌≡◌, ◌<◌, ◌+◌, ap, sym, ◌∙◌, ◌∷◌, ◌++◌, [], length, get_or, map, take, arith, refl}
-use Rattle.std.specs.Prelude.{slice_get, Some}
+use Rattle.std.proofs.Common.{◌<◌, ap, sym, ◌∙◌, ◌∷◌, ◌++◌, [], length, map, take, arith, refl}
 use Rattle.std.proofs.lemmas.List.{map_more}
 use Rattle.std.proofs.lemmas.Option.{slice_get_read}
 use Rattle.data_slots.specs.Finished.{call_at}
@@ -30,8 +29,8 @@ loop-note-preserved c =
     let here = slice_get_read calls (length calls) k note refl less c.note-item.is in
     record {
       done = c.in_ok-push.ensures.items ∙ (ap (λ ds. ds ++ c.call_end.result ∷ []) known.done
-      ∙ (ap (λ o. map (call_at c.args.reports.now) (take k calls) ++ o ∷ []) (c.call_end.ensures.end ∙ (same-call c.args.reports.now c.loop-note.reports calls k note here known.later ∙ ap (call_at c.args.reports.now) c.note-item.is))
-      ∙ sym (map_more (call_at c.args.reports.now) calls k note less)));
+          ∙ (ap (λ o. map (call_at c.args.reports.now) (take k calls) ++ o ∷ []) (c.call_end.ensures.end ∙ (same-call c.args.reports.now c.loop-note.reports calls k note here known.later ∙ ap (call_at c.args.reports.now) c.note-item.is))
+          ∙ sym (map_more (call_at c.args.reports.now) calls k note less)));
       later = later-calls c.args.reports.now c.loop-note.reports c.call_end.new.reports calls k note c.requires here known.later c.call_end.ensures.others;
       others = other-servings c.args.reports.now c.loop-note.reports c.call_end.new.reports calls k note c.requires here known.others c.call_end.ensures.others;
     }

@@ -1,4 +1,4 @@
-use Rattle.std.proofs.Common.{◌≡◌, ◌<◌, ◌+◌, ap, sym, ◌∙◌, ◌∷◌, ◌++◌, [], length, map, take, arith, refl}
+use Rattle.std.proofs.Common.{◌<◌, ap, sym, ◌∙◌, ◌∷◌, ◌++◌, [], length, map, take, arith, refl}
 use Rattle.std.specs.Prelude.{Some}
 use Rattle.std.proofs.lemmas.List.{map-append, map_more}
 use Rattle.std.proofs.lemmas.Option.{slice_get_read}
@@ -23,7 +23,7 @@ loop-note-preserved c =
     let here = slice_get_read served (length served) k note refl less c.note-item.is in
     record {
       done = ap (map Some) c.in_ok-push.ensures.items ∙ (map-append Some c.loop-note.done.items (c.served_end.result ∷ []) ∙ (ap (λ ds. ds ++ Some c.served_end.result ∷ []) known.done
-      ∙ (ap (λ o. map (served_at c.args.reports.now) (take k served) ++ o ∷ []) (sym c.served_end.ensures.end ∙ (same-serving c.args.reports.now c.loop-note.reports served k note here known.later ∙ ap (served_at c.args.reports.now) c.note-item.is))
-      ∙ sym (map_more (served_at c.args.reports.now) served k note less))));
+          ∙ (ap (λ o. map (served_at c.args.reports.now) (take k served) ++ o ∷ []) (sym c.served_end.ensures.end ∙ (same-serving c.args.reports.now c.loop-note.reports served k note here known.later ∙ ap (served_at c.args.reports.now) c.note-item.is))
+          ∙ sym (map_more (served_at c.args.reports.now) served k note less))));
       later = later-servings c.args.reports.now c.loop-note.reports c.served_end.new.reports served k note c.requires here known.later c.served_end.ensures.others;
     }

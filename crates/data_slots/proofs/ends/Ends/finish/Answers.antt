@@ -1,4 +1,4 @@
-use Rattle.std.proofs.Common.{◌≡◌, ap, sym, ◌∙◌, subst, List, map}
+use Rattle.std.proofs.Common.{ap, sym, ◌∙◌, subst, List, map}
 use Rattle.std.specs.Prelude.{Option, option_map}
 use Rattle.task_duties.specs.Pairwise.{EachPair}
 use Rattle.task_duties.specs.GivenEnds.{all_retired}

@@ -1,14 +1,11 @@
-use Rattle.std.proofs.Common.{◌≡◌, ap, sym, ◌∙◌, subst, List, [], replicate, length, map}
+use Rattle.std.proofs.Common.{◌≡◌, ap, sym, ◌∙◌, subst, replicate, length, map}
 use Rattle.std.specs.Prelude.{None, false, option_map}
 use Rattle.qrexec_frame.specs.Streams.{Each}
-use Rattle.task_duties.specs.declared.place.PagePlace.{PagePlace}
-use Rattle.data_slots.specs.declared.slot.Slot.{Slot}
-use Rattle.data_slots.specs.declared.note.CallNote.{CallNote}
 use Rattle.data_slots.specs.Slots.{AreApart}
 use Rattle.data_slots.specs.Stages.{place_of, CanRetire}
 use Rattle.data_slots.specs.Given.{unused_slots}
 use Rattle.data_slots.specs.Index.{IsIndexOf}
-use Rattle.data_slots.specs.Whole.{frames, held_in, places, unused_in, called_of, serves_of, AreWhole}
+use Rattle.data_slots.specs.Whole.{frames, held_in, unused_in, called_of, serves_of}
 use Rattle.data_slots.proofs.GivenLaws.{given-places, given-held, given-unused, given-retire, given-whole, called-none}
 use Rattle.data_slots.proofs.BeginLaws.{same-state}
 use Rattle.data_slots.proofs.ends.Ends.new.Goals as goal

@@ -1,8 +1,5 @@
-use Rattle.std.proofs.Common.{ℕ, ◌-◌}
-use Rattle.std.specs.Prelude.{vec_len, length}
-use Rattle.qrexec_frame.specs.Streams.{Each}
-use Rattle.data_slots.specs.Stages.{CanRetire}
-use Rattle.data_slots.specs.Whole.{IsTurned, HasSameEnds}
+use Rattle.std.proofs.Common.{◌-◌}
+use Rattle.std.specs.Prelude.{length}
 use Rattle.data_slots.proofs.TurnLaws.{IsTurning}
 use Rattle.data_slots.proofs.ends.Ends.turn.Given as goal
 

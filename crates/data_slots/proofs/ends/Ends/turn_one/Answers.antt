@@ -1,7 +1,6 @@
-use Rattle.std.proofs.Common.{◌≡◌, ◌<◌, ◌+◌, ap, sym, ◌∙◌, subst, ◌∷◌, ◌++◌, [], length, refl, arith, set, length-append}
-use Rattle.std.specs.Prelude.{Some, false, is_none, IfSome}
+use Rattle.std.proofs.Common.{ap, sym, ◌∙◌, subst, ◌∷◌, [], length, refl, arith, set, length-append}
+use Rattle.std.specs.Prelude.{false, is_none, IfSome}
 use Rattle.std.specs.List.{swap_remove}
-use Rattle.qrexec_frame.specs.Streams.{Each}
 use Rattle.data_slots.specs.Stages.{IsStage, Tells, place_of, use_of, frame_of}
 use Rattle.data_slots.specs.Whole.{AreWhole, unused_in, state_of}
 use Rattle.data_slots.proofs.ListLaws.{each-get, map-set-same, same-read}
@@ -37,10 +36,10 @@ returns-in_default-clause-turned c =
     let was = each-get (λ s. IsStage e.version s.stage) e.slots.items c.index-at.result.now slot c.requires.whole.stages is.here in
     record {
       whole = turns-on e.domain e.version e.slots.items e.index e.busy.items e.calls.items e.served.items c.index-at.result.now slot c.turn.new.self c.requires.whole is c.turn.ensures.frame
-      (c.in_ok-told.ensures.stage e.version was) (c.in_ok-told.ensures.session ∙ ap is_none c.in_default.is);
+          (c.in_ok-told.ensures.stage e.version was) (c.in_ok-told.ensures.session ∙ ap is_none c.in_default.is);
       state = same-state e.domain e.version _ _ _ _ _ _ _ _ _ _ false
-      (held-set e.slots.items c.index-at.result.now slot c.turn.new.self is.here (ap (λ f. f.held) c.turn.ensures.frame))
-      (ap unused_in (map-set-same frame_of e.slots.items c.index-at.result.now slot c.turn.new.self is.here c.turn.ensures.frame)) refl refl refl;
+          (held-set e.slots.items c.index-at.result.now slot c.turn.new.self is.here (ap (λ f. f.held) c.turn.ensures.frame))
+          (ap unused_in (map-set-same frame_of e.slots.items c.index-at.result.now slot c.turn.new.self is.here c.turn.ensures.frame)) refl refl refl;
       count = refl;
       told = tells-none (state_of e false) c.args.over.now.items;
     }
@@ -66,13 +65,13 @@ returns-clause-turned c =
     let was = each-get (λ s. IsStage e.version s.stage) e.slots.items at slot c.requires.whole.stages is.here in
     let removed = c.swap_remove.ensures.items ∙ ap (swap_remove e.busy.items c.args.next) (same-read e.busy.items c.args.next c.swap_remove.result at c.requires.next c.swap_remove.ensures.value c.index-at.ensures) in
     let whole = turns-over e.domain e.version e.slots.items e.index e.busy.items c.args.next e.calls.items e.served.items at slot c.turn.new.self c.requires.whole is c.requires.next c.index-at.ensures c.turn.ensures.frame
-      (c.in_ok-told.ensures.stage e.version was) (c.in_ok-told.ensures.session ∙ ap is_none c.in-Some.is) in
+    (c.in_ok-told.ensures.stage e.version was) (c.in_ok-told.ensures.session ∙ ap is_none c.in-Some.is) in
     let tells = subst (λ o. IfSome o (λ t. Tells (place_of slot) (use_of slot.stage) t)) c.in-Some.is c.in_ok-told.ensures.told in
     record {
       whole = subst (λ b. AreWhole e.domain e.version (set e.slots.items at c.turn.new.self) e.index b e.calls.items e.served.items) (sym removed) whole;
       state = same-state e.domain e.version _ _ _ _ _ _ _ _ _ _ false
-      (held-set e.slots.items at slot c.turn.new.self is.here (ap (λ f. f.held) c.turn.ensures.frame))
-      (ap unused_in (map-set-same frame_of e.slots.items at slot c.turn.new.self is.here c.turn.ensures.frame)) refl refl refl;
+          (held-set e.slots.items at slot c.turn.new.self is.here (ap (λ f. f.held) c.turn.ensures.frame))
+          (ap unused_in (map-set-same frame_of e.slots.items at slot c.turn.new.self is.here c.turn.ensures.frame)) refl refl refl;
       count = omega (arith, c.swap_remove.ensures.len, e.busy.ok.0, c.swap_remove.new.self.ok.0, ap length c.in_ok-push.ensures.items, length-append c.args.over.now.items (c.in-Some.told ∷ []));
       told = (c.in-Some.told ∷ [], c.in_ok-push.ensures.items, (tells-begun e at slot c.in-Some.told c.requires.whole is.here tells, tt));
     }

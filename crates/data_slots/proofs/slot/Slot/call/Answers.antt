@@ -1,6 +1,6 @@
 use Rattle.std.proofs.Common.{ap, ◌∙◌}
 use Rattle.task_duties.specs.declared.place.PagePlace.TheVariants.{Payload}
-use Rattle.data_slots.specs.Stages.{Frame, ForCall, framed}
+use Rattle.data_slots.specs.Stages.{ForCall, framed}
 use Rattle.data_slots.proofs.slot.Slot.call.Goals as goal
 
 pub returns-clause-frame : goal.returns-clause-frame

@@ -1,6 +1,6 @@
 use Rattle.std.proofs.Common.{ap, ◌∙◌}
 use Rattle.task_duties.specs.declared.place.PagePlace.TheVariants.{Payload}
-use Rattle.data_slots.specs.Stages.{Frame, ForServing, framed}
+use Rattle.data_slots.specs.Stages.{ForServing, framed}
 use Rattle.data_slots.proofs.slot.Slot.serve.Goals as goal
 
 pub returns-clause-frame : goal.returns-clause-frame
