@@ -24,8 +24,8 @@ pub enum ByteError {
     Memory,
 }
 
-/// Why the bytes of a word weren't appended. It has no parts, so a result with it is one byte, which
-/// stays in a register.
+/// Why the bytes of a word weren't appended.
+// It has no parts, so that a result with it is handed back without memory, a line of a stream at a time.
 #[derive(Clone, Copy, Debug, PartialEq, Eq, Error)]
 pub enum PushError {
     /// The word is no byte string.
