@@ -46,8 +46,8 @@ pub enum Phase {
 }
 
 impl Phase {
-    /// Whether events that come next at this phase may be made at once: looks, or events on bytes. It
-    /// saves the other phases the search for them.
+    /// Whether the next events of this phase may be some that are made at once: looks, or events on
+    /// bytes. It saves the other phases the search for them; no promise rests on it.
     #[inline(always)]
     pub(crate) fn may_go_ahead(self) -> bool {
         matches!(

@@ -71,7 +71,7 @@ impl Machine {
             Phase::ReadLookAgain { most } => {
                 writes.stays();
                 reads.stays();
-                self.look_for_the_last_time(role, most, words)
+                self.look_again_for_bytes(role, most, words)
             }
             // Copies of their own, so that the phase and what comes of it lie in memory here alone.
             _ => {
@@ -168,8 +168,7 @@ impl Machine {
         Next::Done(answer)
     }
 
-    /// The first look of a read at how many bytes wait. It comes here where it gives an answer or is asked
-    /// for alone.
+    /// The first look of a read at how many bytes wait, where it is made alone.
     #[tactic(auto, unfolding(vchan_protocol::specs::Table::Ends::standing_after, crate::specs::OneMachine::Phases::rest_at, vchan_protocol::specs::Table::Calls::read))]
     #[inline(always)]
     fn look_for_bytes(&self, role: Role, most: u32, words: &Words) -> Next
@@ -198,10 +197,10 @@ impl Machine {
         Next::To(Phase::ReadLookAgain { most })
     }
 
-    /// The look of a read behind its question.
+    /// The last look of a read, behind its question.
     #[tactic(auto, unfolding(vchan_protocol::specs::Table::Ends::standing_after, crate::specs::OneMachine::Phases::rest_at))]
     #[inline(always)]
-    fn look_for_the_last_time(&self, role: Role, most: u32, words: &Words) -> Next
+    fn look_again_for_bytes(&self, role: Role, most: u32, words: &Words) -> Next
         requires role { self.now.role ≡ role }
         requires orders { words.now.orders ≡ self.now.orders }
         ensures event { (payload : List ℕ) → (buffer : List ℕ) → MakesEventAt words.now.orders self.now (Phase.ReadLookAgain most) words.now.list payload buffer self.now result words.now.list buffer }

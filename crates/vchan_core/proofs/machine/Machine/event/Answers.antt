@@ -19,4 +19,4 @@ pub returns-in-ReadAsk-clause-event : goal.returns-in-ReadAsk-clause-event
 returns-in-ReadAsk-clause-event c = rw c.in-ReadAsk.is (c.ask_for_bytes.ensures.event _ _)
 
 pub returns-in-ReadLookAgain-clause-event : goal.returns-in-ReadLookAgain-clause-event
-returns-in-ReadLookAgain-clause-event c = rw c.in-ReadLookAgain.is (c.look_for_the_last_time.ensures.event _ _)
+returns-in-ReadLookAgain-clause-event c = rw c.in-ReadLookAgain.is (c.look_again_for_bytes.ensures.event _ _)
