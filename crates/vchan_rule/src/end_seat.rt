@@ -76,9 +76,8 @@ fn retired_after(op: Op, role: Role, retired: bool) -> bool
     ensures { result ≡ (sets_gone op role || retired) }
 {
     match op {
-        Op::Store { word, value: _ } => match (word, role) {
-            (WordName::SrvGone, Role::Server) => true,
-            (WordName::CliGone, Role::Client) => true,
+        Op::Store { word, value: _ } => match (role, word) {
+            (Role::Server, WordName::SrvGone) | (Role::Client, WordName::CliGone) => true,
             _ => retired,
         },
         _ => retired,

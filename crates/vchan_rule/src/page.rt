@@ -1,11 +1,11 @@
 //! A page with its two seats, and what is known once both ends are done.
 ghost use Rattle.std.specs.Prelude.{◌≡◌, None, IfOk};
 ghost use Rattle.ring_words.specs.declared.page.Role.TheVariants.{Server, Client};
+ghost use Rattle.end_view.specs.EndView.{state_at_first};
 ghost use Rattle.end_view.specs.Settled.{IsSettled};
 ghost use Rattle.vchan_protocol.specs.History.Core.{new_side};
 ghost use Rattle.vchan_core.specs.OneMachine.Phases.{IsIdle};
 ghost use Rattle.vchan_rule.specs.Seated.{settled_page};
-ghost use Rattle.vchan_rule.specs.Rule.{first_state};
 
 use crate::end::End;
 use crate::rule::{Halves, Opening, PageTable, Place};
@@ -50,14 +50,14 @@ impl Model for IdleSeat {
     ghost use Rattle.std.specs.Prelude.{◌≡◌, [], ◌∷◌};
     ghost use Rattle.vchan_protocol.specs.History.Core.{new_side};
     ghost use Rattle.vchan_rule.specs.Seated.{SeatView};
-    ghost use Rattle.vchan_rule.specs.Rule.{first_state};
+    ghost use Rattle.end_view.specs.EndView.{state_at_first};
     ghost use Rattle.vchan_rule.specs.declared.rule.View.TheVariants.{One};
 
     ghost Value = { SeatView };
 
     ghost view = { λ s. record { page = record { table = s.seat.table_id; orders = s.orders; start = s.start }; role = s.role } };
 
-    ghost invariant = { λ s. s.seat.me ≡ (One (new_side s.role s.orders s.start (first_state s.role)), []) };
+    ghost invariant = { λ s. s.seat.me ≡ (One (new_side s.role s.orders s.start (state_at_first s.role)), []) };
 }
 
 impl Page {
@@ -100,7 +100,7 @@ impl Page {
     pub fn attach(&self, seat: IdleSeat) -> End<'_>
         requires { seat.page ≡ self.now }
         ensures page { (result.page ≡ self.now.table) × (result.start ≡ self.now.start) }
-        ensures side { result.side ≡ new_side seat.role self.now.orders self.now.start (first_state seat.role) }
+        ensures side { result.side ≡ new_side seat.role self.now.orders self.now.start (state_at_first seat.role) }
         ensures idle { IsIdle result.machine × (result.begun ≡ None) }
     {
         let IdleSeat {
