@@ -33,7 +33,9 @@ use vchan_core::{Ahead, Answer, Call, Machine, Op, Steps};
 /// The ways of a whole call: a write and a read make most of their events in an order that the
 /// compiler can see.
 pub(crate) const WRITES: u8 = 0;
+
 pub(crate) const READS: u8 = 1;
+
 pub(crate) const OTHERWISE: u8 = 2;
 
 /// An end's seat at the table of its page, and all of the end but the words and its machine.
@@ -76,8 +78,9 @@ fn retired_after(op: Op, role: Role, retired: bool) -> bool
     ensures { result ≡ (sets_gone op role || retired) }
 {
     match op {
-        Op::Store { word, value: _ } => match (role, word) {
-            (Role::Server, WordName::SrvGone) | (Role::Client, WordName::CliGone) => true,
+        Op::Store { word, value: _ } => match (word, role) {
+            (WordName::SrvGone, Role::Server) => true,
+            (WordName::CliGone, Role::Client) => true,
             _ => retired,
         },
         _ => retired,
@@ -191,14 +194,7 @@ impl EndSeat {
     {
         match machine.ahead() {
             Ahead::Puts(span) => {
-                put_bytes(
-                    words,
-                    &mut self.seat,
-                    &self.layout,
-                    machine,
-                    span,
-                    payload,
-                );
+                put_bytes(words, &mut self.seat, &self.layout, machine, span, payload);
                 machine.put_all(span);
                 span.count - span.at
             }

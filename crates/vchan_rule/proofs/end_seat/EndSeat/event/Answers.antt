@@ -66,7 +66,7 @@ invariant_of-self c =
       ap (λ (z : Side). z.orders) here ∙ s.orders_are ∙ h.orders_are ∙ v.1,
       ap (λ (z : Side). z.role) here ∙ s.role_is ∙ h.role_is ∙ v.2,
       ap (λ (z : Side). z.retired) here ∙ s.retired_is
-          ∙ (λ i. sets_gone ((op_next_is i)) ((h.role_is ∙ v.2) i) || (h.retired_is ∙ v.3) i) ∙ sym c.retired_after-self-inside.ensures,
+          ∙ (λ i. sets_gone (op_next_is i) ((h.role_is ∙ v.2) i) || (h.retired_is ∙ v.3) i) ∙ sym c.retired_after-self-inside.ensures,
     )
 
 pub returns-clause-words : goal.returns-clause-words
