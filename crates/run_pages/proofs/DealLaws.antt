@@ -9,7 +9,6 @@ use Rattle.std.specs.Prelude.{is_none, IsNone}
 use Rattle.end_view.specs.EndView.{EndView, view_of, state_at_first}
 use Rattle.vchan_protocol.specs.History.Core.{new_side}
 use Rattle.vchan_core.specs.OneMachine.Phases.{IsIdle}
-use Rattle.vchan_rule.specs.Rule.{first_state}
 use Rattle.vchan_rule.specs.Seated.{SeatedEnd, SeatView, view}
 use Rattle.ring_words.specs.declared.page.Role.{Role}
 use Rattle.task_duties.specs.TaskOwes.{EndAt, all_ends, broker_ends}
@@ -59,16 +58,11 @@ none-true (Some x) n = cc
 
 -- an end that was attached to a seat
 pub attached-view : (e : SeatedEnd) (seat : SeatView) (p : PageAt) (role : Role) → seat ≡ record { page = p.page; role = role } → e.page ≡ p.page.table
-    → e.side ≡ new_side seat.role p.page.orders p.page.start (first_state seat.role) → IsIdle e.machine → view e ≡ (new_end p role).view
+    → e.side ≡ new_side seat.role p.page.orders p.page.start (state_at_first seat.role) → IsIdle e.machine → view e ≡ (new_end p role).view
 attached-view e seat p role is page side idle =
     ap (λ t. view_of t (is_none e.machine.phase) e.side) page
     ∙ ap (λ b. view_of p.page.table b e.side) (none-true e.machine.phase idle)
-    ∙ ap (λ s. view_of p.page.table true s) (side ∙ ap (λ x. new_side x.role p.page.orders p.page.start (first_state x.role)) is)
-    ∙ ap (λ state. view_of p.page.table true (new_side role p.page.orders p.page.start state)) (first-state role)
-  where
-    first-state : (role : Role) → first_state role ≡ state_at_first role
-    first-state Server = refl
-    first-state Client = refl
+    ∙ ap (λ s. view_of p.page.table true s) (side ∙ ap (λ x. new_side x.role p.page.orders p.page.start (state_at_first x.role)) is)
 
 -- ---- the ends of one page more
 

@@ -1,4 +1,3 @@
 pub mod Routes
 pub mod Pages
 pub mod Dealt
-pub mod Settling
