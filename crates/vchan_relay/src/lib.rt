@@ -10,3 +10,6 @@ mod turn;
 
 pub use relay::{Relay, RelayRefused};
 pub use turn::RelayTurn;
+
+#[cfg(test)]
+mod tests;
