@@ -12,6 +12,8 @@ mod progress;
 mod say;
 mod spell;
 mod task;
+#[cfg(test)]
+mod tests;
 
 pub use domain::HostileDomain;
 pub use task::{HostileDone, HostileTask, HostileTurn};

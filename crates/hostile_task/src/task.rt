@@ -3,7 +3,6 @@ ghost use Rattle.std.specs.Prelude.{◌≡◌, ◌∷◌, IfOk};
 
 use crate::carry_out::carry_out;
 use crate::domain::HostileDomain;
-use crate::page::TurnedPage;
 use crate::pages::Pages;
 use crate::progress::Progress;
 use ring_words::WordName;
