@@ -5,7 +5,7 @@
 //! for sure, and the retire, which lets go of the page, are this project's own.
 #![tactic(auto)]
 
-ghost use Rattle.std.specs.Prelude.{◌≡◌, ◌≢◌, ◌↔◌, ◌<◌, ◌≤◌, min, true, length, ℕ, Result, is_ok};
+ghost use Rattle.std.specs.Prelude.{◌≡◌, ◌≢◌, ◌↔◌, ◌<◌, ◌≤◌, min, true, false, length, ℕ, Result, is_ok};
 ghost use Rattle.ring_words.specs.declared.page.Role.TheVariants.{Client};
 ghost use Rattle.vchan_protocol.specs.declared.call.Answer.TheVariants.{Done};
 ghost use Rattle.vchan_lifecycle.specs.declared.BadOrders.{BadOrders as Refused};
@@ -108,6 +108,7 @@ pub fn close(end: &mut End<'_>)
 pub fn retire(mut end: End<'_>) -> Retired
     requires idle { (view end).idle ≡ true }
     ensures view { last_view result ≡ retired_view (view end.entry) }
+    ensures honest { (last_view result).turned ≡ false }
     ensures trail { Trace (standing_of end.entry.side) Retire result.side.trail Done }
     ensures events { ops result.side.trail ≡ retire_ops end.entry.side.role end.entry.side.state }
 {
