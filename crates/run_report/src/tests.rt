@@ -43,13 +43,13 @@ fn bytes_of(alloc: Global, text: &[u8]) -> Result<Bytes, Fail> {
 }
 
 // The line of a call from `work` to `vault`.
-fn call_line(alloc: Global, number: u32, result: CallResult) -> Result<CallLine, Fail> {
+fn call_line(alloc: Global, number: u32, outcome: CallResult) -> Result<CallLine, Fail> {
     Ok(CallLine {
         number,
         from: Text::of(alloc, b"work")?,
         to: Text::of(alloc, b"vault")?,
         service: Text::of(alloc, b"upper")?,
-        result,
+        result: outcome,
     })
 }
 
