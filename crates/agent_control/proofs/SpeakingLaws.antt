@@ -1,9 +1,10 @@
 -- What an agent has said, through each message more.
 use Rattle.std.proofs.Common.{◌≡◌, ℕ, ◌<◌, List, [], ◌∷◌, ◌++◌, length, refl, ap, sym, ◌∙◌, inl, inr, Option, Some, None, subst, append_assoc, zero, suc, arith, drop, Bor}
-use Rattle.std.specs.Prelude.{Bool, true, false, nat_lt, slice_get, slice_set, if◌then◌else◌}
+use Rattle.std.specs.Prelude.{Bool, true, false, map, filter_map, nat_lt, slice_get, slice_set, if◌then◌else◌}
 use Rattle.std.specs.Slice.{IsItemAt}
 use Rattle.std.specs.Option.{option_copied}
-use Rattle.std.proofs.lemmas.List.{append-nil, length-map}
+use Rattle.std.proofs.lemmas.List.{append-nil, length-map, map-append}
+use Rattle.std.proofs.lemmas.List.Elements.{filter_map-append}
 use Rattle.qrexec_frame.specs.declared.message.Message.{Message}
 use Rattle.qrexec_frame.specs.declared.message.Message.TheVariants as m
 use Rattle.qrexec_frame.specs.Streams.{Each}
@@ -19,7 +20,7 @@ use Rattle.call_queue.proofs.Places.{map-got, map-set-same, get-within}
 use Rattle.call_queue.proofs.AskingLaws.{asks-stranger}
 use Rattle.agent_control.specs.declared.control.AgentControl.{AgentControl}
 use Rattle.agent_control.specs.declared.control.SessionEnd.{SessionEnd}
-use Rattle.agent_control.specs.Speaking.{MayTell, IsTellable, HasCall, Speaks, CanSpeak, SaysMore, Tells, Says}
+use Rattle.agent_control.specs.Speaking.{MayTell, IsTellable, HasCall, Speaks, CanSpeak, SaysMore, Tells, Says, end_of, end_told}
 
 each-more : {A : Type 0} (P : A → Type 0) (xs : List A) (x : A) → Each P xs → P x → Each P (xs ++ x ∷ [])
 each-more P [] x each last = (last, tt)
@@ -48,21 +49,23 @@ says-nothing old new w end s = record {
   can = s.can;
   asked = ap asked_by s.queue;
   heard = s.heard;
-  speaks = λ heard said h. ([], subst (λ l. Speaks new heard l) (sym (append-nil said)) (still old new w heard said s h));
+  told = [];
+  unsaid = sym (ap (λ u. u.items) s.unsaid);
+  speaks = λ heard said h. ([], subst (λ l. Speaks new heard l) (sym (append-nil said)) (still old new w heard said s h), refl);
 }
 
-pub tells-nothing : (old new : AgentControl) (e : SessionEnd) (w : Message) → IsSameEnd old.port.end new.port.end → Says old new w false → Tells old new e
+pub tells-nothing : (old new : AgentControl) (e : SessionEnd) (w : Message) → IsSameEnd old.port.end new.port.end → Says old new w false → Tells old new e false
 tells-nothing old new e w end s = record {
   end = end;
   can = s.can;
   asked = ap asked_by s.queue;
   heard = s.heard;
   unsaid = s.unsaid;
-  speaks = λ heard said h may. ([], subst (λ l. Speaks new heard l) (sym (append-nil said)) (still old new w heard said s h));
+  speaks = λ heard said h may. ([], subst (λ l. Speaks new heard l) (sym (append-nil said)) (still old new w heard said s h), refl);
 }
 
 pub says-same : (c : AgentControl) → CanSpeak c → SaysMore c c
-says-same c can = record { end = (refl, refl, refl, refl); can = can; asked = refl; heard = λ heard h. h; speaks = λ heard said h. ([], subst (λ l. Speaks c heard l) (sym (append-nil said)) h) }
+says-same c can = record { end = (refl, refl, refl, refl); can = can; asked = refl; heard = λ heard h. h; told = []; unsaid = refl; speaks = λ heard said h. ([], subst (λ l. Speaks c heard l) (sym (append-nil said)) h, refl) }
 
 pub says-then : (a b c : AgentControl) → SaysMore a b → SaysMore b c → SaysMore a c
 says-then a b c p q = record {
@@ -70,10 +73,15 @@ says-then a b c p q = record {
   can = q.can;
   asked = q.asked ∙ p.asked;
   heard = λ heard h. q.heard heard (p.heard heard h);
+  told = p.told ++ q.told;
+  unsaid = p.unsaid ∙ ap (λ l. p.told ++ l) q.unsaid ∙ sym (append_assoc p.told q.told c.unsaid.items);
   speaks = λ heard said h.
       let x = p.speaks heard said h in
-      let y = q.speaks heard (said ++ x.0) x.1 in
-      (x.0 ++ y.0, subst (λ l. Speaks c heard l) (append_assoc said x.0 y.0) y.1);
+      let y = q.speaks heard (said ++ x.0) x.1 in (
+        x.0 ++ y.0,
+        subst (λ l. Speaks c heard l) (append_assoc said x.0 y.0) y.1,
+        filter_map-append end_told x.0 y.0 ∙ ap (λ l. l ++ filter_map end_told y.0) x.2 ∙ ap (λ l. map end_of p.told ++ l) y.2 ∙ sym (map-append end_of p.told q.told),
+      );
 }
 
 -- ---- one message more
@@ -104,7 +112,7 @@ goes old mid queue w heard said s asked asks version told h =
 
 -- ---- the end of a session
 
-pub tells-other : (old mid : AgentControl) (e : SessionEnd) → e.call ≡ None → IsSameEnd old.port.end mid.port.end → Says old mid (m.Terminated e.domain e.port) true → Tells old mid e
+pub tells-other : (old mid : AgentControl) (e : SessionEnd) → e.call ≡ None → IsSameEnd old.port.end mid.port.end → Says old mid (m.Terminated e.domain e.port) true → Tells old mid e true
 tells-other old mid e none end s = record {
   end = end;
   can = s.can;
@@ -113,12 +121,12 @@ tells-other old mid e none end s = record {
   unsaid = s.unsaid;
   speaks = λ heard said h may.
       let there : SomeOf (AsksToServe e.domain e.port) heard = subst (λ o. MayTell (asked_by old.queue) heard o e.domain e.port) none may in
-      (m.Terminated e.domain e.port ∷ [], goes old mid mid.queue (m.Terminated e.domain e.port) heard said s refl (asks-stranger mid.queue e.domain e.port said (subst (λ q. Asks q said) (sym s.queue) h.asks)) tt (inr there) h);
+      (m.Terminated e.domain e.port ∷ [], goes old mid mid.queue (m.Terminated e.domain e.port) heard said s refl (asks-stranger mid.queue e.domain e.port said (subst (λ q. Asks q said) (sym s.queue) h.asks)) tt (inr there) h, refl);
 }
 
 pub tells-own : (old mid : AgentControl) (queue : QueueState) (e : SessionEnd) (place : ℕ) → e.call ≡ Some place → place < length mid.queue.calls → IsSameEnd old.port.end mid.port.end → Says old mid (m.Terminated e.domain e.port) true
     → ((c : Queued) → slice_get mid.queue.calls place ≡ Some c → queue ≡ record mid.queue { calls = slice_set mid.queue.calls place (record c { is_open = false }) })
-    → ((said : List Message) (d port : ℕ) → IsConnectedAt mid.queue place d port → Asks mid.queue said → Asks queue (said ++ m.Terminated d port ∷ [])) → Tells old (record mid { queue = queue }) e
+    → ((said : List Message) (d port : ℕ) → IsConnectedAt mid.queue place d port → Asks mid.queue said → Asks queue (said ++ m.Terminated d port ∷ [])) → Tells old (record mid { queue = queue }) e true
 tells-own old mid queue e place own within end s is asks =
     let at = get-within mid.queue.calls place within in
     let same : asked_by queue ≡ asked_by mid.queue = ap asked_by (is at.0 at.1) ∙ map-set-same asked_as mid.queue.calls place at.0 (record at.0 { is_open = false }) at.1 refl in
@@ -128,7 +136,7 @@ tells-own old mid queue e place own within end s is asks =
       asked = same ∙ ap asked_by s.queue;
       heard = s.heard;
       unsaid = s.unsaid;
-      speaks = λ heard said h may. (m.Terminated e.domain e.port ∷ [], told heard said h same (subst (λ o. MayTell (asked_by old.queue) heard o e.domain e.port) own may));
+      speaks = λ heard said h may. (m.Terminated e.domain e.port ∷ [], told heard said h same (subst (λ o. MayTell (asked_by old.queue) heard o e.domain e.port) own may), refl);
     }
   where
     told : (heard said : List Message) → Speaks old heard said → asked_by queue ≡ asked_by mid.queue → MayTell (asked_by old.queue) heard (Some place) e.domain e.port
@@ -157,6 +165,14 @@ is-told asked heard version call = by_version (nat_lt version 3)
     by_version true = tt
     by_version false = tt
 
+-- a trigger tells no end of a session
+tells-no-end : (version : ℕ) (call : CallPlan) (w : Message) → w ≡ trigger_of version call → filter_map end_told (w ∷ []) ≡ []
+tells-no-end version call w is = ap (λ x. filter_map end_told (x ∷ [])) is ∙ by_version (nat_lt version 3)
+  where
+    by_version : (b : Bool) → filter_map end_told ((if b then m.Trigger call.to (ident_of call.number) call.service else m.Trigger3 call.to (ident_of call.number) call.service) ∷ []) ≡ []
+    by_version true = refl
+    by_version false = refl
+
 pub says-trigger : (old mid : AgentControl) (queue : QueueState) (version : ℕ) (w : Message) → old.port.version ≡ Some version → IsSameEnd old.port.end mid.port.end → Says old mid w true → HasToSay old.queue version (Some w)
     → ((c : Queued) → IsDue mid.queue c → queue ≡ after_trigger mid.queue c)
     → ((said : List Message) (v : ℕ) (x : Message) → HasToSay mid.queue v (Some x) → Asks mid.queue said → Asks queue (said ++ x ∷ [])) → SaysMore old (record mid { queue = queue })
@@ -169,7 +185,9 @@ says-trigger old mid queue version w v end s says is asks =
       can = with-queue mid queue same s.can;
       asked = same ∙ ap asked_by s.queue;
       heard = s.heard;
-      speaks = λ heard said h. (w ∷ [], goes old mid queue w heard said s same (asks said version w now (subst (λ q. Asks q said) (sym s.queue) h.asks)) of_version (subst (λ x. IsTold (asked_by queue) heard x) (sym now.2) (is-told (asked_by queue) heard version now.0.call)) h);
+      told = [];
+      unsaid = sym (ap (λ u. u.items) s.unsaid);
+      speaks = λ heard said h. (w ∷ [], goes old mid queue w heard said s same (asks said version w now (subst (λ q. Asks q said) (sym s.queue) h.asks)) of_version (subst (λ x. IsTold (asked_by queue) heard x) (sym now.2) (is-told (asked_by queue) heard version now.0.call)) h, tells-no-end version now.0.call w now.2);
     }
 
 -- the call that is to be told of is one of the queue
@@ -180,7 +198,7 @@ within-queue old mid e place w has own s =
     subst (λ n. place < n) (length-map mid.queue.calls asked_as) there
 
 -- the first end that was unsaid was told, and is taken out
-pub tells-first : (old mid new : AgentControl) (e : SessionEnd) (rest : List SessionEnd) → Tells old mid e → mid.unsaid.items ≡ e ∷ rest → new.unsaid.items ≡ rest → new ≡ record mid { unsaid = new.unsaid } → SaysMore old new
+pub tells-first : (old mid new : AgentControl) (e : SessionEnd) (rest : List SessionEnd) → Tells old mid e true → mid.unsaid.items ≡ e ∷ rest → new.unsaid.items ≡ rest → new ≡ record mid { unsaid = new.unsaid } → SaysMore old new
 tells-first old mid new e rest t first rest_is new_is =
     let was : old.unsaid.items ≡ e ∷ rest = ap (λ u. u.items) (sym t.unsaid) ∙ first in
     subst (λ x. SaysMore old x) (sym new_is) (record {
@@ -195,6 +213,8 @@ tells-first old mid new e rest t first rest_is new_is =
       };
       asked = t.asked;
       heard = t.heard;
+      told = e ∷ [];
+      unsaid = was ∙ ap (λ l. e ∷ l) (sym rest_is);
       speaks = λ heard said h.
           let may = subst (λ l. Each (IsTellable (asked_by old.queue) heard) l) was h.unsaid in
           let more = t.speaks heard said h may.0 in (
@@ -206,16 +226,19 @@ tells-first old mid new e rest t first rest_is new_is =
               told = more.1.told;
               unsaid = subst (λ l. Each (IsTellable (asked_by mid.queue) heard) l) (sym rest_is) (subst (λ l. Each (IsTellable (asked_by mid.queue) heard) l) first more.1.unsaid).1;
             },
+            more.2,
           );
     })
 
 -- and where it had no room it is unsaid still
-pub tells-not : (old mid : AgentControl) (e : SessionEnd) (rest : List SessionEnd) → Tells old mid e → old.unsaid.items ≡ e ∷ rest → SaysMore old mid
+pub tells-not : (old mid : AgentControl) (e : SessionEnd) (rest : List SessionEnd) → Tells old mid e false → old.unsaid.items ≡ e ∷ rest → SaysMore old mid
 tells-not old mid e rest t first = record {
   end = t.end;
   can = t.can;
   asked = t.asked;
   heard = t.heard;
+  told = [];
+  unsaid = sym (ap (λ u. u.items) t.unsaid);
   speaks = λ heard said h. t.speaks heard said h (subst (λ l. Each (IsTellable (asked_by old.queue) heard) l) first h.unsaid).0;
 }
 

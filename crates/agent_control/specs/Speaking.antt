@@ -1,7 +1,8 @@
 -- What an agent says on its control channel: its port and the queue of its calls, tied to the messages that were said and heard.
 -- Source: the messages are those of the qrexec protocol; the order and the limit are this project's own.
-use Rattle.std.specs.Prelude.{◌≡◌, ℕ, ◌<◌, Bool, true, false, List, [], ◌∷◌, ◌++◌, length, slice_get, Option, Some, None}
+use Rattle.std.specs.Prelude.{◌≡◌, ℕ, ◌<◌, Bool, true, false, List, [], ◌∷◌, ◌++◌, length, map, filter_map, slice_get, Option, Some, None, if◌then◌else◌}
 use Rattle.qrexec_frame.specs.declared.message.Message.{Message}
+use Rattle.qrexec_frame.specs.declared.message.Message.TheVariants.{Terminated}
 use Rattle.qrexec_frame.specs.Streams.{Each}
 use Rattle.vchan_rule.specs.Seated.{IsOpen}
 use Rattle.vchan_rule.specs.Ends.{IsSameEnd}
@@ -45,22 +46,34 @@ pub record CanSpeak (c : AgentControl) : Type 0 where
   pub version_is : c.port.version ≡ Some version
   pub calls : Each (λ e. HasCall (asked_by c.queue) e.call) c.unsaid.items
 
--- the agent said more, and nothing else changed
+-- the domain and the port of the session that a message tells to have ended, where it tells one
+abbrev pub end_told : Message → Option (ℕ × ℕ)
+end_told (Terminated domain port) = Some (domain, port)
+end_told message = None
+
+-- those of an end of a session
+abbrev pub end_of : SessionEnd → ℕ × ℕ
+end_of e = (e.domain, e.port)
+
+-- the agent said more, and nothing else changed: the first ends of sessions were told, just these and in their order, and the others are unsaid still
 pub record SaysMore (old new : AgentControl) : Type 0 where
   pub end : IsSameEnd old.port.end new.port.end
   pub can : CanSpeak new
   pub asked : asked_by new.queue ≡ asked_by old.queue
   pub heard : (heard : List Message) → HasHeard old.port heard → HasHeard new.port heard
-  pub speaks : (heard said : List Message) → Speaks old heard said → (more : List Message) × Speaks new heard (said ++ more)
+  pub told : List SessionEnd
+  pub unsaid : old.unsaid.items ≡ told ++ new.unsaid.items
+  pub speaks : (heard said : List Message) → Speaks old heard said → (more : List Message) × Speaks new heard (said ++ more) × (filter_map end_told more ≡ map end_of told)
 
--- the same, where an end of a session was told that isn't among those unsaid
-pub record Tells (old new : AgentControl) (e : SessionEnd) : Type 0 where
+-- an end of a session was told, or had no room; it isn't taken out of those unsaid
+pub record Tells (old new : AgentControl) (e : SessionEnd) (gone : Bool) : Type 0 where
   pub end : IsSameEnd old.port.end new.port.end
   pub can : CanSpeak new
   pub asked : asked_by new.queue ≡ asked_by old.queue
   pub heard : (heard : List Message) → HasHeard old.port heard → HasHeard new.port heard
   pub unsaid : new.unsaid ≡ old.unsaid
-  pub speaks : (heard said : List Message) → Speaks old heard said → IsTellable (asked_by old.queue) heard e → (more : List Message) × Speaks new heard (said ++ more)
+  pub speaks : (heard said : List Message) → Speaks old heard said → IsTellable (asked_by old.queue) heard e
+      → (more : List Message) × Speaks new heard (said ++ more) × (filter_map end_told more ≡ (if gone then end_of e ∷ [] else []))
 
 -- a message more has gone, or none
 abbrev pub HasSaidOne : PortState → List Message → Message → Bool → Type 0

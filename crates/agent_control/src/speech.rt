@@ -67,7 +67,7 @@ impl<'p> AgentControl<'p> {
         requires call { HasCall (asked_by self.old.queue) end.call }
         ensures end { IsSameEnd self.old.port.end self.new.port.end }
         ensures open { IsOpen self.new.port.end }
-        ensures tells { OnOk result (Tells self.old self.new end) }
+        ensures tells { IfOk result (λ gone. Tells self.old self.new end gone) }
     {
         let message = Message::Terminated {
             domain: end.domain,
@@ -131,7 +131,8 @@ impl<'p> AgentControl<'p> {
     {
         match self.port.say(message)? {
             SendAnswer::Sent => Ok(true),
-            _ => Ok(false),
+            // No room, or a peer that shut, which a later drain tells.
+            SendAnswer::NoRoom { .. } | SendAnswer::PeerClosed => Ok(false),
         }
     }
 }

@@ -8,6 +8,12 @@ ghost use Rattle.vchan_lifecycle.specs.Lifecycle.{connected_to, drained_to, drai
 ghost use Rattle.vchan_notify.specs.Notify.{asked_gone};
 ghost use Rattle.vchan_packet.specs.Packet.{sent_to};
 ghost use Rattle.vchan_packet.specs.declared.SendAnswer.TheVariants as answer;
+ghost use Rattle.vchan_protocol.specs.declared.call.Answer.TheVariants.{Gone};
+ghost use Rattle.vchan_protocol.specs.declared.call.Call.TheVariants.{PeerGone};
+ghost use Rattle.vchan_protocol.specs.Table.Calls.{Trace};
+ghost use Rattle.vchan_protocol.specs.Answering.Causes.{Cause};
+ghost use Rattle.vchan_protocol.specs.History.Core.{standing_of};
+ghost use Rattle.vchan_protocol.specs.Answering.Loads.{loads_of};
 ghost use Rattle.end_view.specs.AfterCall.{DrainSees};
 ghost use Rattle.vchan_rule.specs.Seated.{view, last_view, IsOpen};
 ghost use Rattle.vchan_rule.specs.Ends.{IsSameEnd};
@@ -116,6 +122,8 @@ impl<'p> ControlPort<'p> {
         ensures end { IsSameEnd self.old.end self.new.end }
         ensures open { IsOpen self.new.end }
         ensures view { view self.new.end ≡ asked_gone (view self.old.end) result }
+        ensures trail { Trace (standing_of self.old.end.side) PeerGone self.new.end.side.trail (Gone result) }
+        ensures cause { Cause (standing_of self.old.end.side) PeerGone (loads_of (standing_of self.old.end.side) self.new.end.side.trail) (Gone result) }
         ensures said { (said : List Said) → HasSaid self.old said → HasSaid self.new said }
         ensures heard { (heard : List Said) → HasHeard self.old heard → HasHeard self.new heard }
         ensures same { OnlySends self.old self.new }
@@ -312,6 +320,7 @@ impl<'p> ControlPort<'p> {
         requires idle { (view self.end).idle ≡ true }
         requires retired { (view self.end).retired ≡ true }
         ensures end { last_view result ≡ view self.entry.end }
+        ensures honest { (last_view result).turned ≡ false }
     {
         let ControlPort { end, .. } = self;
         end.rest()

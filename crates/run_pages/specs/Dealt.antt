@@ -1,4 +1,4 @@
--- What is dealt to the tasks of a run, and what they give back.
+-- What is dealt to the tasks of a run, and in which order.
 -- Source: this project's own.
 use Rattle.std.specs.Prelude.{◌≡◌, ◌≢◌, ◌⊎◌, ℕ, suc, ◌+◌, ◌<◌, ◌≤◌, ◌==◌, List, [], ◌∷◌, ◌++◌, length, map, slice_get, Some, if◌then◌else◌}
 use Rattle.vchan_rule.specs.Seated.{SeatedEnd, view}

@@ -31,7 +31,7 @@ pub struct Dealt<'p> {
 
 impl RunPages {
     /// The ends of all pages, dealt to the broker and the domains of the scenario for which they were
-    /// laid, from the seats that came with them. Its error is want of memory.
+    /// laid, from the seats that came with them. Its error is want of memory, and drops the seats.
     pub fn deal(
         &self,
         alloc: Global,

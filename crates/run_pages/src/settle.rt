@@ -18,7 +18,7 @@ use vchan_io::Memory;
 impl RunPages {
     /// Settles all pages, in the order in which they were laid, by the ends that the tasks give back:
     /// those of the broker first, then those of each domain, each in the order in which they were
-    /// dealt. Its error is want of memory.
+    /// dealt. Its error is want of memory, and drops the pages and all ends.
     pub fn settle(
         self,
         alloc: Global,

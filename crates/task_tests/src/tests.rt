@@ -16,7 +16,9 @@ use vchan_rule::{End, Page};
 
 /// The two domains and the port of their page.
 const CALLER: u32 = 1;
+
 const TARGET: u32 = 2;
+
 const PORT: u32 = 513;
 
 /// More turns than any of these calls takes.

@@ -73,4 +73,5 @@ Leaves (Took count) r = (1 ≤ count) × (length r.held ≡ count)
 Leaves Ended r = (r.held ≡ []) × ((view r.near).drained ≡ true) × ((view r.near).saw ≡ true) × IsSome (view r.near).ended
 Leaves (NearGone prod cons) r = (r.held ≡ []) × (prod ≢ cons) × ((view r.near).saw ≡ true) × IsSome (view r.near).ended
 Leaves (FarClosed held) r = (length r.held ≡ held) × ((view r.far).saw ≡ true)
+Leaves (Passed count) r = 1 ≤ count
 Leaves _ r = Unit {0}

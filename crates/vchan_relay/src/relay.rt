@@ -39,7 +39,9 @@ impl<'p> Model for Relay<'p> {
 /// There was no memory for a relay's room. Both ends are as they were.
 #[derive(Drop)]
 pub struct RelayRefused<'p> {
+    /// The end that the relay would have read.
     pub near: End<'p>,
+    /// The end that it would have written.
     pub far: End<'p>,
 }
 
@@ -194,6 +196,7 @@ impl<'p> Relay<'p> {
     pub fn retire(self) -> (Retired, Retired)
         ensures near { last_view result.0 ≡ retired_view (view self.entry.near) }
         ensures far { last_view result.1 ≡ retired_view (view self.entry.far) }
+        ensures honest { ((last_view result.0).turned ≡ false) × ((last_view result.1).turned ≡ false) }
     {
         let Self { near, far, .. } = self;
         let near = retire(near);

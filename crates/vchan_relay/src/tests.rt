@@ -1,3 +1,4 @@
+//! Worked rows of one relay.
 ghost use Rattle.std.specs.Prelude.{◌≡◌, [], IfSome};
 ghost use Rattle.ring_words.specs.declared.page.Role.TheVariants.{Server, Client};
 ghost use Rattle.vchan_rule.specs.Seated.{view, IsOpen};

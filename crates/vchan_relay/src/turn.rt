@@ -1,9 +1,11 @@
+//! What a turn of a relay answers.
+
 /// What one turn of a relay answers.
 #[derive(Clone, Copy, Debug, PartialEq, Eq)]
 pub enum RelayTurn {
     /// So many bytes were got from the near channel, at least one, and are held now.
     Took { count: u32 },
-    /// So many of the held bytes were sent on the far channel.
+    /// So many of the held bytes were sent on the far channel, at least one.
     Passed { count: u32 },
     /// None was held and none was got: at these two indices the near ring is empty, and more may
     /// come.
