@@ -21,8 +21,8 @@ pub fn page_table(alloc: Global, scenario: &Scenario) -> Result<Vec<u32>, Memory
 {
     let routes = routes(alloc, scenario)?;
     let mut table = Vec::new(alloc);
-    for place in 0..scenario.domains.len() as u32 {
-        push_row(&mut table, scenario, &routes, place + 1)?;
+    for index in 0..scenario.domains.len() as u32 {
+        push_row(&mut table, scenario, &routes, index + 1)?;
     }
     Ok(table)
 }
@@ -38,8 +38,8 @@ fn push_row(
     requires there { (1 ≤ from) × (from ≤ length scenario.now.domains) }
     ensures { OnOk result (table.new.items ≡ table.old.items ++ map (pages_between scenario.now from) (all_domains scenario.now)) }
 {
-    for place in 0..scenario.domains.len() as u32 {
-        table.push(pages_between(scenario, routes, from, place + 1))?;
+    for index in 0..scenario.domains.len() as u32 {
+        table.push(pages_between(scenario, routes, from, index + 1))?;
     }
     Ok(())
 }
@@ -52,8 +52,8 @@ pub(crate) fn places(alloc: Global, scenario: &Scenario) -> Result<Vec<PagePlace
     let routes = routes(alloc, scenario)?;
     let mut places = Vec::new(alloc);
     push_controls(&mut places, scenario.domains.len() as u32)?;
-    for place in 0..scenario.domains.len() as u32 {
-        push_from(&mut places, scenario, &routes, place + 1)?;
+    for index in 0..scenario.domains.len() as u32 {
+        push_from(&mut places, scenario, &routes, index + 1)?;
     }
     Ok(places)
 }
@@ -62,8 +62,8 @@ fn push_controls(places: &mut Vec<PagePlace>, count: u32) -> Result<(), AllocErr
     requires { count ≤ 32 }
     ensures { OnOk result (places.new.items ≡ places.old.items ++ map Control (numbers 1 1 count)) }
 {
-    for place in 0..count {
-        places.push(PagePlace::Control { domain: place + 1 })?;
+    for index in 0..count {
+        places.push(PagePlace::Control { domain: index + 1 })?;
     }
     Ok(())
 }
@@ -79,9 +79,9 @@ fn push_from(
     requires there { (1 ≤ from) × (from ≤ length scenario.now.domains) }
     ensures { OnOk result (places.new.items ≡ places.old.items ++ flat_map (laid_between scenario.now from) (all_domains scenario.now)) }
 {
-    for place in 0..scenario.domains.len() as u32 {
-        let count = pages_between(scenario, routes, from, place + 1);
-        push_between(places, from, place + 1, count)?;
+    for index in 0..scenario.domains.len() as u32 {
+        let count = pages_between(scenario, routes, from, index + 1);
+        push_between(places, from, index + 1, count)?;
     }
     Ok(())
 }

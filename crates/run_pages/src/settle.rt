@@ -23,16 +23,15 @@ impl RunPages {
         self,
         alloc: Global,
         scenario: &Scenario,
-        hands: Vec<Vec<RetiredEnd>>,
+        mut given_back: Vec<Vec<RetiredEnd>>,
     ) -> Result<Vec<SettledPage>, Memory>
         requires laid { AreLaid scenario.now self }
-        requires all { length hands.items ≡ length scenario.now.domains + 1 }
-        requires back { HandsBack self (map (λ h. all_retired h.items) hands.items) }
-        ensures { IfOk result (λ settled. AreSettledBy scenario.now self (map (λ h. all_retired h.items) hands.items) settled.items) }
+        requires all { length given_back.items ≡ length scenario.now.domains + 1 }
+        requires back { HandsBack self (map (λ h. all_retired h.items) given_back.items) }
+        ensures { IfOk result (λ settled. AreSettledBy scenario.now self (map (λ h. all_retired h.items) given_back.items) settled.items) }
     {
         let RunPages { mut pages } = self;
-        let mut hands = hands;
-        let left = hands.as_mut_slice();
+        let left = given_back.as_mut_slice();
         let mut settled = Vec::with_capacity(alloc, pages.len())?;
         while let Some(page) = pages.pop() {
             let (server, client) = take_ends(left, page.place);

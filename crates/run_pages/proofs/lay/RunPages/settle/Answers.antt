@@ -10,8 +10,8 @@ use Rattle.run_pages.proofs.lay.RunPages.settle.Goals as goal
 
 pub loop-page-init : goal.loop-page-init
 loop-page-init c =
-    let hands = map (λ h. all_retired h.items) c.args.hands.items in
-    let first = settles-first c.args.scenario.now c.args.self hands c.requires.laid (map-length (λ h. all_retired h.items) c.args.hands.items ∙ c.requires.all) c.requires.back in
+    let hands = map (λ h. all_retired h.items) c.args.given_back.items in
+    let first = settles-first c.args.scenario.now c.args.self hands c.requires.laid (map-length (λ h. all_retired h.items) c.args.given_back.items ∙ c.requires.all) c.requires.back in
     subst (λ left. IsSettling c.args.scenario.now (map page_at c.self.inside.pages.items) c.args.self (map (λ h. all_retired h.items) left) hands c.in_ok-settled.settled.items) (sym c.as_mut_slice-left.ensures.value)
     (subst (λ pages. IsSettling c.args.scenario.now pages c.args.self hands hands c.in_ok-settled.settled.items) (sym c.self.view_is)
     (subst (λ settled. IsSettling c.args.scenario.now c.args.self c.args.self hands hands settled) (sym c.in_ok-settled.ensures.items) first))
@@ -20,7 +20,7 @@ loop-page-init c =
 last : (c : goal.After-take_ends-arg-1) → IsLastPage (map page_at c.pop.new.self.items) (page_at c.in-Some.page) (map (λ h. all_retired h.items) c.loop-page.left)
 last c =
     last-page c.args.scenario.now (map page_at c.loop-page.pages.items) c.args.self (map page_at c.pop.new.self.items) (page_at c.in-Some.page) (map (λ h. all_retired h.items) c.loop-page.left)
-    (map (λ h. all_retired h.items) c.args.hands.items) c.loop-page.settled.items
+    (map (λ h. all_retired h.items) c.args.given_back.items) c.loop-page.settled.items
     (ap (map page_at) c.in-Some.ensures.items ∙ map-append page_at c.pop.new.self.items (c.in-Some.page ∷ [])) c.loop-page.invariant
 
 pub take_ends-server-requires-clause-apart : goal.take_ends-server-requires-clause-apart
@@ -38,7 +38,7 @@ gave : (c : goal.After-settled-in-Some-1) → GaveBoth (page_at c.in-Some.page) 
 gave c =
     let before = map page_at c.pop.new.self.items in
     let hands = map (λ h. all_retired h.items) c.loop-page.left in
-    let last = last-page c.args.scenario.now (map page_at c.loop-page.pages.items) c.args.self before (page_at c.in-Some.page) hands (map (λ h. all_retired h.items) c.args.hands.items) c.loop-page.settled.items
+    let last = last-page c.args.scenario.now (map page_at c.loop-page.pages.items) c.args.self before (page_at c.in-Some.page) hands (map (λ h. all_retired h.items) c.args.given_back.items) c.loop-page.settled.items
     (ap (map page_at) c.in-Some.ensures.items ∙ map-append page_at c.pop.new.self.items (c.in-Some.page ∷ [])) c.loop-page.invariant in
     gave-both before (page_at c.in-Some.page) (retired_at c.take_ends-server.result.0) (retired_at c.take_ends-server.result.1) hands (map (λ h. all_retired h.items) c.take_ends-server.new.hands) last c.take_ends-server.ensures
 
@@ -51,7 +51,7 @@ settle_page-requires-clause-client c = (gave c).client_gave.same
 pub loop-page-preserved : goal.loop-page-preserved
 loop-page-preserved c =
     let hands' = map (λ h. all_retired h.items) c.take_ends-server.new.hands in
-    let first = map (λ h. all_retired h.items) c.args.hands.items in
+    let first = map (λ h. all_retired h.items) c.args.given_back.items in
     let e = c.settle_page.ensures in
     subst (λ settled. IsSettling c.args.scenario.now (map page_at c.pop.new.self.items) c.args.self hands' first settled) (sym c.in_ok-push.ensures.items)
     (settles-on c.args.scenario.now (map page_at c.loop-page.pages.items) c.args.self (map page_at c.pop.new.self.items) (page_at c.in-Some.page)
@@ -62,7 +62,7 @@ loop-page-preserved c =
 pub returns : goal.returns
 returns c =
     let left : c.loop-page.pages.items ≡ [] = grind (arith, common_steps, c.pop.ensures.cases, c.pop.ensures.variant, c.in_default.not-Some) in
-    let first = map (λ h. all_retired h.items) c.args.hands.items in
+    let first = map (λ h. all_retired h.items) c.args.given_back.items in
     let inv = subst (λ pages. IsSettling c.args.scenario.now (map page_at pages) c.args.self (map (λ h. all_retired h.items) c.loop-page.left) first c.loop-page.settled.items) left c.loop-page.invariant in
     subst (AreSettledBy c.args.scenario.now c.args.self first) (sym c.reverse.ensures.items)
     (settles-all c.args.scenario.now c.args.self (map (λ h. all_retired h.items) c.loop-page.left) first c.loop-page.settled.items inv)
