@@ -6,3 +6,4 @@ pub mod LayLaws
 pub mod SettleLaws
 pub mod FollowLaws
 pub mod DealingLaws
+pub mod PlaceLaws

@@ -43,6 +43,7 @@ impl RunPages {
         ensures controls { IfOk result (λ d. ControlsDealt self.now d.controls.items) }
         ensures hands { IfOk result (λ d. HandsDealt self.now d.hands.items) }
         ensures all { IfOk result (λ d. length d.hands.items ≡ length scenario.now.domains) }
+        ensures as_many { IfOk result (λ d. length d.controls.items ≡ length scenario.now.domains) }
     {
         let mut dealt = Dealt {
             controls: Vec::with_capacity(alloc, scenario.domains.len())?,

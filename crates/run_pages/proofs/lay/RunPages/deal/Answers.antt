@@ -69,3 +69,6 @@ returns-clause-hands c = (over c).0.hands_are
 
 pub returns-clause-all : goal.returns-clause-all
 returns-clause-all c = (over c).1
+
+pub returns-clause-as_many : goal.returns-clause-as_many
+returns-clause-as_many c = (over c).0.as_many ∙ (over c).1
