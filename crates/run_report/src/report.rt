@@ -9,7 +9,7 @@ use vchan_rule::Settled;
 pub struct SettledPage {
     /// Where it lay.
     pub place: PagePlace,
-    /// Its orders, and its two ends as they were when they were done.
+    /// What stands of it.
     pub settled: Settled,
 }
 
