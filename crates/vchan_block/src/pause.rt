@@ -1,7 +1,6 @@
 //! What a thread does between two tries.
-use std::hint;
-use std::thread;
 use std::time::{Clock, Duration};
+use std::{hint, thread};
 
 /// How many tries are made with the processor kept.
 const SPINS: u32 = 64;
@@ -11,6 +10,7 @@ const YIELDS: u32 = 128;
 
 /// The shortest and the longest sleep, in microseconds.
 const SHORTEST: u64 = 16;
+
 const LONGEST: u64 = 1_000;
 
 /// The pauses of one wait, which grow: first none, then the thread gives way, then it sleeps, each time

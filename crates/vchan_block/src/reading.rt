@@ -35,7 +35,7 @@ pub fn read<R: Wait + Clock>(rt: &R, end: &mut End<'_>, buf: &mut [u8]) -> Block
     'rounds: for _ in rt.forever() {
         match stream::read(end, buf) {
             ReadAnswer::Got { count } => return BlockRead::Got { count },
-            ReadAnswer::Empty { .. } => {}
+            ReadAnswer::Empty { prod: _, cons: _ } => {}
             ReadAnswer::PeerClosed => return BlockRead::PeerClosed,
         }
         wait(rt, end);

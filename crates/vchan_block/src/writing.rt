@@ -42,7 +42,7 @@ pub fn write<R: Wait + Clock>(rt: &R, end: &mut End<'_>, bytes: &[u8]) -> BlockW
                     };
                 }
             }
-            WriteAnswer::Full { .. } => {}
+            WriteAnswer::Full { prod: _, cons: _ } => {}
             WriteAnswer::PeerClosed => return BlockWrite::PeerClosed { before: moved },
         }
         wait(rt, end);

@@ -1,8 +1,34 @@
-use Rattle.vchan_block.specs.Rounds.{Ends, FindsNone}
+-- Each round is one more, and the last one answers.
+use Rattle.std.proofs.Common.{◌≡◌, ℕ, List, length, min, subst, sym, ap, ◌∙◌, arith}
+use Rattle.std.proofs.lemmas.Grind.{common_steps}
+use Rattle.vchan_stream.specs.Stream.{most_asked}
+use Rattle.vchan_stream.specs.declared.ReadAnswer.{ReadAnswer}
+use Rattle.vchan_stream.specs.declared.ReadAnswer.TheVariants as read
+use Rattle.vchan_block.specs.declared.reading.BlockRead.TheVariants as got
+use Rattle.vchan_block.specs.Rounds.{IsReadRound, Ends, FindsNone}
 use Rattle.vchan_block.proofs.reading.read.Goals as goal
 
 pub returns-in-Got-clause-rounds : goal.returns-in-Got-clause-rounds
-returns-in-Got-clause-rounds g c = ?
+returns-in-Got-clause-rounds g c =
+    c.rounds.invariant.goes_on c.read.new.buf c.read.new.end (got.Got c.in-Got.count)
+    (Ends (subst (λ (n : ℕ). IsReadRound (min n 4294967295) (read.Got c.in-Got.count) c.read.new.buf c.rounds.end c.read.new.end) c.rounds.invariant.long
+    (record { view_is = c.in-Got.ensures.view; trail = c.in-Got.ensures.trail })))
+
+pub returns-in-PeerClosed-clause-rounds : goal.returns-in-PeerClosed-clause-rounds
+returns-in-PeerClosed-clause-rounds g c =
+    c.rounds.invariant.goes_on c.read.new.buf c.read.new.end got.PeerClosed
+    (Ends (subst (λ (n : ℕ). IsReadRound (min n 4294967295) read.PeerClosed c.read.new.buf c.rounds.end c.read.new.end) c.rounds.invariant.long
+    (record { view_is = c.in-PeerClosed.ensures.view; trail = c.in-PeerClosed.ensures.trail })))
 
 pub rounds-preserved : goal.rounds-preserved
-rounds-preserved g c = ?
+rounds-preserved g c = record {
+  same = grind (arith, common_steps);
+  open_is = c.wait.ensures.open;
+  view_is = c.wait.ensures.view ∙ c.in-Empty.ensures.view ∙ c.rounds.invariant.view_is;
+  long = c.read.ensures.long ∙ c.rounds.invariant.long;
+  goes_on = λ buffer new answer rest. c.rounds.invariant.goes_on buffer new answer
+      (FindsNone c.in-Empty.prod c.in-Empty.cons c.read.new.buf c.read.new.end c.wait.new.end
+      (subst (λ (n : ℕ). IsReadRound (min n 4294967295) (read.Empty c.in-Empty.prod c.in-Empty.cons) c.read.new.buf c.rounds.end c.read.new.end) c.rounds.invariant.long
+      (record { view_is = c.in-Empty.ensures.view; trail = c.in-Empty.ensures.trail }))
+      c.wait.ensures.waits rest);
+}
