@@ -17,7 +17,7 @@ use Rattle.qrexec_hello.specs.declared.hello.HelloFault.{HelloFault}
 use Rattle.qrexec_data.specs.declared.fault.SessionFault.TheVariants as fault
 use Rattle.qrexec_data.specs.Seeing.{number}
 use Rattle.vchan_rule.specs.Seated.{SeatedEnd, view}
-use Rattle.vchan_lifecycle.specs.Lifecycle.{drained_to}
+use Rattle.vchan_lifecycle.specs.Lifecycle.{connected_to, drained_to}
 use Rattle.vchan_lifecycle.specs.declared.DrainAnswer.TheVariants.{More}
 use Rattle.vchan_packet.specs.Packet.{sent_to}
 use Rattle.vchan_packet.specs.declared.SendAnswer.{SendAnswer}
@@ -80,6 +80,16 @@ heard-still old new heard only got h =
 -- whether the greeting has gone says nothing of what was heard
 pub heard-greeted : (p : PortState) (heard : List Message) (b : Bool) → HasHeard p heard → HasHeard (record p { greeted = b }) heard
 heard-greeted p heard b h = record { given = h.given; channel = h.channel; stands = h.stands; fine = h.fine; so_far = h.so_far }
+
+-- ---- whether a connect succeeds says nothing of what was sent and got
+
+pub connected-sent : (e : EndView) (b : Bool) → (connected_to e b).sent ≡ e.sent
+connected-sent e true = refl
+connected-sent e false = refl
+
+pub connected-got : (e : EndView) (b : Bool) → (connected_to e b).got ≡ e.got
+connected-got e true = refl
+connected-got e false = refl
 
 -- ---- what came
 

@@ -1,5 +1,5 @@
 -- What a control port stands for: the messages that went out by its end, and those that were handed out.
-use Rattle.std.specs.Prelude.{◌≡◌, ◌%◌, ◌^◌, ℕ, Bool, false, List, [], ◌∷◌, ◌++◌, Option, Some, None, IsSome, true, map, Ok}
+use Rattle.std.specs.Prelude.{◌≡◌, ◌%◌, ◌^◌, ◌<◌, ℕ, length, Bool, false, List, [], ◌∷◌, ◌++◌, Option, Some, None, IsSome, true, map, Ok}
 use Rattle.qrexec_frame.specs.declared.channel.Channel.TheVariants.{Control}
 use Rattle.qrexec_frame.specs.declared.message.Message.{Message}
 use Rattle.qrexec_frame.specs.Decoding.{DecoderState, StandsFor}
@@ -92,6 +92,10 @@ Greets new heard false = HasHeardAll new heard × (new.fault ≡ None → HasHea
 abbrev pub Hands : PortState → List Message → Option Message → Type 0
 Hands new heard (Some m) = HasHeard new (heard ++ m ∷ []) × (may_hear new.talker m ≡ true) × IsSome new.version × (new.fault ≡ None)
 Hands new heard None = HasHeardAll new heard × (new.fault ≡ None → HasHeard new heard)
+
+-- fewer of the bytes got are left that were not handed out
+abbrev pub HasFewerLeft : PortState → PortState → Type 0
+HasFewerLeft old new = length new.decoder.left < length old.decoder.left
 
 -- only its end moved
 abbrev pub OnlySends : PortState → PortState → Type 0

@@ -1,15 +1,18 @@
 //! A control port.
-ghost use Rattle.std.specs.Prelude.{◌≡◌, ◌≤◌, ◌<◌, ◌++◌, ◌∷◌, [], ℕ, List, true, false, None, Some, Ok, OnOk, OnErr, IfOk, IsSome, length};
+ghost use Rattle.std.specs.Prelude.{◌≡◌, ◌≤◌, ◌<◌, ◌++◌, ◌∷◌, [], ℕ, List, true, false, None, Some, Ok, OnOk, OnErr, IfOk, IfSome, IsSome, is_ok, length};
 ghost use Rattle.qrexec_frame.specs.Messages.{written, IsSpellable as Fits};
 ghost use Rattle.qrexec_frame.specs.declared.message.Message.{Message as Said};
-ghost use Rattle.vchan_lifecycle.specs.Lifecycle.{drained_to, drain_told, retired_view};
+ghost use Rattle.ring_words.specs.declared.page.Role.TheVariants.{Client};
+ghost use Rattle.vchan_protocol.specs.declared.call.EndState.TheVariants.{Fresh};
+ghost use Rattle.vchan_lifecycle.specs.Lifecycle.{connected_to, drained_to, drain_told, retired_view};
+ghost use Rattle.vchan_notify.specs.Notify.{asked_gone};
 ghost use Rattle.vchan_packet.specs.Packet.{sent_to};
 ghost use Rattle.vchan_packet.specs.declared.SendAnswer.TheVariants as answer;
 ghost use Rattle.end_view.specs.AfterCall.{DrainSees};
 ghost use Rattle.vchan_rule.specs.Seated.{view, last_view, IsOpen};
 ghost use Rattle.vchan_rule.specs.Ends.{IsSameEnd};
-ghost use Rattle.control_port.specs.Talking.{may_say};
-ghost use Rattle.control_port.specs.Port.{HasSaid, HasSaidMore, HasHeard, Hands, Greets, Takes, OnlyHears, OnlySends};
+ghost use Rattle.control_port.specs.Talking.{may_say, may_hear};
+ghost use Rattle.control_port.specs.Port.{HasSaid, HasSaidMore, HasHeard, Hands, Greets, Takes, HasFewerLeft, OnlyHears, OnlySends};
 
 use crate::talk::Talker;
 use qrexec_data::SessionFault;
@@ -17,8 +20,10 @@ use qrexec_frame::{Channel, Decoder, Message, NextError, encode};
 use qrexec_hello::Hello;
 use std::alloc::Global;
 use std::marker::Model;
+use vchan_core::{Call, EndState};
 use vchan_io::Memory;
-use vchan_lifecycle::{DrainAnswer, drain, retire};
+use vchan_lifecycle::{BadOrders, DrainAnswer, connect, drain, retire};
+use vchan_notify::peer_gone;
 use vchan_packet::{SendAnswer, send};
 use vchan_rule::{End, Retired};
 
@@ -90,6 +95,34 @@ impl<'p> ControlPort<'p> {
         self.greeted
     }
 
+    /// Connects the end of a client, which is open then. The error comes where the page's order words don't
+    /// say the page's orders; the client stays fresh.
+    pub fn connect(&mut self) -> Result<(), BadOrders>
+        requires idle { (view self.old.end).idle ≡ true }
+        requires fresh { (view self.old.end).state ≡ Fresh }
+        requires client { (view self.old.end).role ≡ Client }
+        ensures end { IsSameEnd self.old.end self.new.end }
+        ensures view { view self.new.end ≡ connected_to (view self.old.end) (is_ok result) }
+        ensures said { (said : List Said) → HasSaid self.old said → HasSaid self.new said }
+        ensures heard { (heard : List Said) → HasHeard self.old heard → HasHeard self.new heard }
+        ensures same { OnlySends self.old self.new }
+    {
+        connect(&mut self.end)
+    }
+
+    /// Whether the other side is gone. Nothing is taken of what has come.
+    pub fn peer_gone(&mut self) -> bool
+        requires open { IsOpen self.old.end }
+        ensures end { IsSameEnd self.old.end self.new.end }
+        ensures open { IsOpen self.new.end }
+        ensures view { view self.new.end ≡ asked_gone (view self.old.end) result }
+        ensures said { (said : List Said) → HasSaid self.old said → HasSaid self.new said }
+        ensures heard { (heard : List Said) → HasHeard self.old heard → HasHeard self.new heard }
+        ensures same { OnlySends self.old self.new }
+    {
+        peer_gone(&mut self.end)
+    }
+
     /// Sends the own greeting, which is the first message. It has gone where the answer is `Sent`. After
     /// want of memory the end can still be retired, and no more is said of what went out.
     pub fn greet(&mut self) -> Result<SendAnswer, Memory>
@@ -98,6 +131,7 @@ impl<'p> ControlPort<'p> {
         ensures end { IsSameEnd self.old.end self.new.end }
         ensures open { IsOpen self.new.end }
         ensures greeted { IfOk result (λ sent. (sent ≡ answer.Sent → self.new.greeted ≡ true) × ((sent ≡ answer.Sent → ⊥) → self.new.greeted ≡ false)) }
+        ensures view { IfOk result (λ sent. view self.new.end ≡ sent_to (view self.old.end) sent (written (Said.Hello self.old.own))) }
         ensures said { (said : List Said) → HasSaid self.old said → OnOk result (HasSaid self.new said) }
         ensures heard { (heard : List Said) → HasHeard self.old heard → HasHeard self.new heard }
         ensures same { (self.new.talker ≡ self.old.talker) × (self.new.own ≡ self.old.own) × (self.new.version ≡ self.old.version) × (self.new.fault ≡ self.old.fault) }
@@ -119,6 +153,7 @@ impl<'p> ControlPort<'p> {
         ensures end { IsSameEnd self.old.end self.new.end }
         ensures open { IsOpen self.new.end }
         ensures said { (said : List Said) → HasSaid self.old said → IfOk result (λ sent. HasSaidMore self.new said message.now sent) }
+        ensures view { IfOk result (λ sent. view self.new.end ≡ sent_to (view self.old.end) sent (written message.now)) }
         ensures kept { (said : List Said) → HasSaid self.old said → OnErr result (HasSaid self.new said) }
         ensures heard { (heard : List Said) → HasHeard self.old heard → HasHeard self.new heard }
         ensures same { OnlySends self.old self.new }
@@ -173,6 +208,9 @@ impl<'p> ControlPort<'p> {
     pub fn next(&mut self) -> Result<Option<Message>, Memory>
         requires fine { self.old.fault ≡ None }
         ensures hands { (heard : List Said) → HasHeard self.old heard → IfOk result (λ message. Hands self.new heard message) }
+        ensures may { IfOk result (λ message. IfSome message (λ m. may_hear self.old.talker m ≡ true)) }
+        ensures fits { IfOk result (λ message. IfSome message (λ m. Fits m)) }
+        ensures fewer { IfOk result (λ message. IfSome message (λ m. HasFewerLeft self.old self.new)) }
         ensures only { OnlyHears self.old self.new }
     {
         if self.version.is_some() {
@@ -189,6 +227,9 @@ impl<'p> ControlPort<'p> {
         requires fine { self.old.fault ≡ None }
         requires greeted { IsSome self.old.version }
         ensures hands { (heard : List Said) → HasHeard self.old heard → IfOk result (λ message. Hands self.new heard message) }
+        ensures may { IfOk result (λ message. IfSome message (λ m. may_hear self.old.talker m ≡ true)) }
+        ensures fits { IfOk result (λ message. IfSome message (λ m. Fits m)) }
+        ensures fewer { IfOk result (λ message. IfSome message (λ m. HasFewerLeft self.old self.new)) }
         ensures only { OnlyHears self.old self.new }
     {
         let at = self.decoder.at();
@@ -210,6 +251,7 @@ impl<'p> ControlPort<'p> {
         requires first { self.old.version ≡ None }
         ensures greets { (heard : List Said) → HasHeard self.old heard → IfOk result (λ more. Greets self.new heard more) }
         ensures greeted { result ≡ Ok true → IsSome self.new.version × (self.new.fault ≡ None) }
+        ensures fewer { result ≡ Ok true → HasFewerLeft self.old self.new }
         ensures only { OnlyHears self.old self.new }
     {
         let message = match self.take()? {
@@ -233,6 +275,8 @@ impl<'p> ControlPort<'p> {
         requires fine { self.old.fault ≡ None }
         ensures takes { (heard : List Said) → HasHeard self.old heard → IfOk result (λ message. Takes self.old self.new heard message) }
         ensures fine { (m : Said) → result ≡ Ok (Some m) → self.new.fault ≡ None }
+        ensures fits { IfOk result (λ message. IfSome message (λ m. Fits m)) }
+        ensures fewer { IfOk result (λ message. IfSome message (λ m. HasFewerLeft self.old self.new)) }
         ensures only { OnlyHears self.old self.new × (self.new.version ≡ self.old.version) }
     {
         match self.decoder.next() {
@@ -245,10 +289,39 @@ impl<'p> ControlPort<'p> {
         }
     }
 
+    /// Where the end stands in its life.
+    pub fn state(&self) -> EndState
+        ensures { result ≡ (view self.now.end).state }
+    {
+        self.end.state()
+    }
+
+    /// Retires the end in its place, so that its peer learns of it now. `rest` gives it back.
+    pub fn hang_up(&mut self)
+        requires idle { (view self.old.end).idle ≡ true }
+        ensures end { IsSameEnd self.old.end self.new.end }
+        ensures view { view self.new.end ≡ retired_view (view self.old.end) }
+        ensures said { (said : List Said) → HasSaid self.old said → HasSaid self.new said }
+        ensures same { OnlySends self.old self.new }
+    {
+        let _ = self.end.do_call(Call::Retire, &[], &mut []);
+    }
+
+    /// Gives the end back that was retired in its place.
+    pub fn rest(self) -> Retired
+        requires idle { (view self.end).idle ≡ true }
+        requires retired { (view self.end).retired ≡ true }
+        ensures end { last_view result ≡ view self.entry.end }
+    {
+        let ControlPort { end, .. } = self;
+        end.rest()
+    }
+
     /// Retires the end.
     pub fn retire(self) -> Retired
         requires idle { (view self.end).idle ≡ true }
         ensures end { last_view result ≡ retired_view (view self.entry.end) }
+        ensures honest { (last_view result).turned ≡ false }
     {
         let ControlPort { end, .. } = self;
         retire(end)

@@ -1,4 +1,8 @@
-use Rattle.std.proofs.Common.{sym, subst, true}
+use Rattle.std.proofs.Common.{◌∙◌, ap, sym, subst, true}
+use Rattle.qrexec_frame.specs.declared.message.Message.TheVariants.{Hello}
+use Rattle.qrexec_frame.specs.Messages.{written}
+use Rattle.vchan_rule.specs.Seated.{view}
+use Rattle.vchan_packet.specs.Packet.{sent_to}
 use Rattle.control_port.specs.Port.{PortState, HasHeard}
 use Rattle.control_port.proofs.PortLaws.{heard-still, heard-greeted}
 use Rattle.control_port.proofs.port.ControlPort.greet.Goals as goal
@@ -10,3 +14,9 @@ returns-then-eq-clause-heard c = λ heard h.
 
 pub returns-else-eq-clause-heard : goal.returns-else-eq-clause-heard
 returns-else-eq-clause-heard c = λ heard h. heard-still c.args.self.now c.put-2.new.self heard c.put-2.ensures.same c.put-2.ensures.got h
+
+pub returns-then-eq-clause-view : goal.returns-then-eq-clause-view
+returns-then-eq-clause-view c =
+    ap (λ (p : PortState). view p.end) c.self.view_is ∙ c.in_ok-answer.ensures.view
+    ∙ ap (λ m. sent_to (view c.args.self.now.end) c.in_ok-answer.answer (written m)) c.announce.ensures
+    ∙ ap (λ (p : PortState). sent_to (view c.args.self.now.end) c.in_ok-answer.answer (written (Hello p.own))) c.put.view_is
