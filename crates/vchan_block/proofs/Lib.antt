@@ -1,1 +1,2 @@
 mod RoundLaws
+pub mod WaitLaws

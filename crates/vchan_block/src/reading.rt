@@ -1,6 +1,7 @@
 //! A read that waits.
 ghost use Rattle.std.specs.Prelude.{◌≡◌, ◌<◌, length};
-ghost use Rattle.vchan_stream.specs.Stream.{most_asked, read_from};
+ghost use Rattle.vchan_protocol.specs.declared.call.Call.TheVariants.{Read};
+ghost use Rattle.vchan_stream.specs.Stream.{most_asked, read_from, read_told};
 ghost use Rattle.vchan_rule.specs.Seated.{view, IsOpen};
 ghost use Rattle.vchan_rule.specs.Ends.{IsSameEnd};
 
@@ -19,7 +20,7 @@ pub enum BlockRead {
     PeerClosed,
 }
 
-ghost use Rattle.vchan_block.specs.Rounds.{Reads, last_read};
+ghost use Rattle.vchan_block.specs.Rounds.{EndsIn, Reads, last_read};
 
 /// Gets as many bytes as wait, up to the length of the buffer, and waits for some where there are none.
 /// It may wait for ever, if the peer never writes.
@@ -31,6 +32,7 @@ pub fn read<R: Wait + Clock>(rt: &R, end: &mut End<'_>, buf: &mut [u8]) -> Block
     ensures view { view end.new ≡ read_from (view end.old) (last_read result) buf.new }
     ensures long { length buf.new ≡ length buf.old }
     ensures rounds { Reads (most_asked buf.old) buf.new end.old end.new result }
+    ensures trail { EndsIn end.new (Read (most_asked buf.old)) (read_told (last_read result)) }
 {
     'rounds: for _ in rt.forever() {
         match stream::read(end, buf) {

@@ -1,5 +1,5 @@
 //! A write that waits.
-ghost use Rattle.std.specs.Prelude.{◌≡◌, length};
+ghost use Rattle.std.specs.Prelude.{◌≡◌, ◌+◌, ℕ, length};
 ghost use Rattle.vchan_rule.specs.Seated.{view, IsOpen};
 ghost use Rattle.vchan_rule.specs.Ends.{IsSameEnd};
 
@@ -18,7 +18,7 @@ pub enum BlockWrite {
     PeerClosed { before: usize },
 }
 
-ghost use Rattle.vchan_block.specs.Rounds.{Writes, wrote_to};
+ghost use Rattle.vchan_block.specs.Rounds.{EndsInWrite, Writes, wrote_to};
 
 /// Sends all bytes, and waits for room where there is none. `PeerClosed` comes only where a round found
 /// the peer shut. It may wait for ever, if the peer never reads.
@@ -27,7 +27,9 @@ pub fn write<R: Wait + Clock>(rt: &R, end: &mut End<'_>, bytes: &[u8]) -> BlockW
     ensures same { IsSameEnd end.old end.new }
     ensures open { IsOpen end.new }
     ensures view { view end.new ≡ wrote_to (view end.old) result bytes.now }
+    ensures whole { (before last : ℕ) → result ≡ BlockWrite.Wrote before last → before + last ≡ length bytes.now }
     ensures rounds { Writes bytes.now 0 end.old end.new result }
+    ensures trail { EndsInWrite end.new result bytes.now }
 {
     let mut moved = 0;
     'rounds: for _ in rt.forever() {

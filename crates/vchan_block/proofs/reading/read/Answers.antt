@@ -1,7 +1,10 @@
 -- Each round is one more, and the last one answers.
 use Rattle.std.proofs.Common.{◌≡◌, ℕ, List, length, min, subst, sym, ap, ◌∙◌, arith}
 use Rattle.std.proofs.lemmas.Grind.{common_steps}
-use Rattle.vchan_stream.specs.Stream.{most_asked}
+use Rattle.vchan_protocol.specs.declared.call.Call.TheVariants.{Read}
+use Rattle.vchan_protocol.specs.Table.Calls.{Trace}
+use Rattle.vchan_protocol.specs.History.Core.{standing_of}
+use Rattle.vchan_stream.specs.Stream.{most_asked, read_told}
 use Rattle.vchan_stream.specs.declared.ReadAnswer.{ReadAnswer}
 use Rattle.vchan_stream.specs.declared.ReadAnswer.TheVariants as read
 use Rattle.vchan_block.specs.declared.reading.BlockRead.TheVariants as got
@@ -19,6 +22,18 @@ returns-in-PeerClosed-clause-rounds g c =
     c.rounds.invariant.goes_on c.read.new.buf c.read.new.end got.PeerClosed
     (Ends (subst (λ (n : ℕ). IsReadRound (min n 4294967295) read.PeerClosed c.read.new.buf c.rounds.end c.read.new.end) c.rounds.invariant.long
     (record { view_is = c.in-PeerClosed.ensures.view; trail = c.in-PeerClosed.ensures.trail })))
+
+pub returns-in-Got-clause-trail : goal.returns-in-Got-clause-trail
+returns-in-Got-clause-trail g c = (
+  standing_of c.rounds.end.side,
+  subst (λ (n : ℕ). Trace (standing_of c.rounds.end.side) (Read (min n 4294967295)) c.read.new.end.side.trail (read_told (read.Got c.in-Got.count))) c.rounds.invariant.long c.in-Got.ensures.trail,
+)
+
+pub returns-in-PeerClosed-clause-trail : goal.returns-in-PeerClosed-clause-trail
+returns-in-PeerClosed-clause-trail g c = (
+  standing_of c.rounds.end.side,
+  subst (λ (n : ℕ). Trace (standing_of c.rounds.end.side) (Read (min n 4294967295)) c.read.new.end.side.trail (read_told read.PeerClosed)) c.rounds.invariant.long c.in-PeerClosed.ensures.trail,
+)
 
 pub rounds-preserved : goal.rounds-preserved
 rounds-preserved g c = record {

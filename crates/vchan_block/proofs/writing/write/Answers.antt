@@ -3,11 +3,12 @@ use Rattle.std.proofs.Common.{◌≡◌, ◌+◌, ◌<◌, ◌++◌, ℕ, List, 
 use Rattle.std.proofs.lemmas.Grind.{common_steps}
 use Rattle.std.proofs.lemmas.List.{take_rest, length-drop}
 use Rattle.end_view.specs.EndView.{EndView}
+use Rattle.vchan_protocol.specs.History.Core.{standing_of}
 use Rattle.vchan_rule.specs.Seated.{view}
 use Rattle.vchan_stream.specs.declared.WriteAnswer.TheVariants as write
 use Rattle.vchan_block.specs.declared.writing.BlockWrite.TheVariants as wrote
 use Rattle.vchan_block.specs.Rounds.{Writes, MovesLast, FindsClosed, MovesSome, FindsFull}
-use Rattle.vchan_block.proofs.RoundLaws.{round_on, sent_on}
+use Rattle.vchan_block.proofs.RoundLaws.{round_on, sent_on, wrote_whole}
 use Rattle.vchan_block.proofs.writing.write.Goals as goal
 use Rattle.vchan_block.proofs.writing.write.Goals.{in-Wrote+else-moved-bytes, in-Full}
 
@@ -23,6 +24,24 @@ returns-in-PeerClosed-clause-rounds g c =
     c.rounds.invariant.goes_on c.write.new.end (wrote.PeerClosed c.rounds.moved)
     (FindsClosed
     (round_on c.args.bytes.now _ c.rounds.moved write.PeerClosed c.rounds.end c.write.new.end (take_rest c.args.bytes.now c.rounds.moved) c.in-PeerClosed.ensures.view c.in-PeerClosed.ensures.trail))
+
+pub returns-then-moved-bytes-clause-trail : goal.returns-then-moved-bytes-clause-trail
+returns-then-moved-bytes-clause-trail g c = (
+  standing_of c.rounds.end.side,
+  (round_on c.args.bytes.now _ c.rounds.moved (write.Wrote c.in-Wrote.count) c.rounds.end c.write.new.end (take_rest c.args.bytes.now c.rounds.moved) c.in-Wrote.ensures.view c.in-Wrote.ensures.trail).trail,
+)
+
+pub returns-in-PeerClosed-clause-trail : goal.returns-in-PeerClosed-clause-trail
+returns-in-PeerClosed-clause-trail g c = (
+  standing_of c.rounds.end.side,
+  (round_on c.args.bytes.now _ c.rounds.moved write.PeerClosed c.rounds.end c.write.new.end (take_rest c.args.bytes.now c.rounds.moved) c.in-PeerClosed.ensures.view c.in-PeerClosed.ensures.trail).trail,
+)
+
+pub returns-then-moved-bytes-clause-whole : goal.returns-then-moved-bytes-clause-whole
+returns-then-moved-bytes-clause-whole g c = wrote_whole c.args.bytes.now c.rounds.moved c.in-Wrote.count c.if-moved-bytes.true
+
+pub returns-in-PeerClosed-clause-whole : goal.returns-in-PeerClosed-clause-whole
+returns-in-PeerClosed-clause-whole g c = λ before last is. cc
 
 pub rounds-preserved : goal.rounds-preserved
 rounds-preserved g c =
