@@ -1,5 +1,5 @@
 -- What an end has noted after a round that was left unfinished, and what it may rely on by that.
-use Rattle.std.proofs.Common.{◌≡◌, ◌≢◌, ℕ, suc, zero, ◌+◌, ◌<◌, ◌≤◌, ◌==◌, min, nat_lt, Bool, true, false, cond, Option, Some, None, List, [], ◌∷◌, refl, sym, subst, ap, ◌∙◌, arith}
+use Rattle.std.proofs.Common.{◌≡◌, ◌≢◌, ℕ, suc, zero, ◌+◌, ◌<◌, ◌==◌, min, nat_lt, Bool, true, false, cond, Some, None, List, [], ◌∷◌, refl, sym, subst, ap, arith}
 use Rattle.std.proofs.lemmas.Bool.{eqb-true, eqb-false, ltb-true, ltb-false}
 use Rattle.ring_words.specs.declared.page.Role.{Role}
 use Rattle.ring_words.specs.declared.page.Role.TheVariants.{Server, Client}
@@ -15,12 +15,12 @@ use Rattle.vchan_protocol.specs.declared.call.Call.TheVariants.{Write, Send, Rea
 use Rattle.vchan_protocol.specs.declared.side.Side.{Side}
 use Rattle.vchan_protocol.specs.declared.side.Notes.{Notes}
 use Rattle.vchan_protocol.specs.Table.Plan.{Plan, does, answers, Leads}
-use Rattle.vchan_protocol.specs.Table.Ends.{Standing, written_ring, read_ring, prod_word, cons_word, ask_word, own_pending, peer_live, mask, free_at, ready_at, low8, low32}
-use Rattle.vchan_protocol.specs.Table.Calls.{Trace, put_bytes, take_bytes, put, take, notify, signal, ask, look_read, look_write, write, write_open, write_looked, read, read_live, read_looked, send, send_open, send_looked, recv, recv_live, recv_looked, plan_of}
+use Rattle.vchan_protocol.specs.Table.Ends.{Standing, written_ring, read_ring, prod_word, cons_word, own_pending, peer_live, free_at, ready_at, low8, low32}
+use Rattle.vchan_protocol.specs.Table.Calls.{Trace, put_bytes, take_bytes, put, take, notify, ask, look_read, look_write, write, write_open, write_looked, read, read_live, read_looked, send, send_open, send_looked, recv, recv_live, recv_looked}
 use Rattle.vchan_protocol.specs.History.Core.{Core, side_of, standing_of, noted, noted_load, index_seen, asks, begins, made}
 use Rattle.vchan_protocol.specs.History.Peer.{peer, held}
 use Rattle.vchan_protocol.specs.OneEnd.OneCall.{side_along, side_called}
-use Rattle.vchan_protocol.specs.Signals.SignalLaw.{NoLostSignal, IsWaiting, MissesNothing, asked_of}
+use Rattle.vchan_protocol.specs.Signals.SignalLaw.{NoLostSignal, asked_of}
 use Rattle.vchan_protocol.proofs.Signals.SignalLaws as signals
 use Rattle.vchan_block.specs.Waiting.{bit_of, IsUnfinished, IsAnsweredBy, StillWaits}
 

@@ -1,6 +1,6 @@
 -- Calls that wait, as lists of rounds: each is a whole call that doesn't wait, and between two of them the end takes events.
 -- Source: libxenvchan's io.c for the blocking mode of libxenvchan_write, read, send and recv; that a call is a list of rounds, and that only a whole round moves bytes, is this project's own.
-use Rattle.std.specs.Prelude.{◌≡◌, ℕ, ◌+◌, ◌<◌, ◌≤◌, Bool, true, false, List, ◌++◌, length, take, drop}
+use Rattle.std.specs.Prelude.{◌≡◌, ℕ, ◌+◌, ◌<◌, Bool, true, false, List, ◌++◌, length, take, drop}
 use Rattle.vchan_protocol.specs.declared.call.Answer.{Answer}
 use Rattle.vchan_protocol.specs.declared.call.Answer.TheVariants.{Event}
 use Rattle.vchan_protocol.specs.declared.call.Call.{Call}

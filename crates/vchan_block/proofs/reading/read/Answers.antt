@@ -1,11 +1,10 @@
 -- Each round is one more, and the last one answers.
-use Rattle.std.proofs.Common.{◌≡◌, ℕ, List, length, min, subst, sym, ap, ◌∙◌, arith}
+use Rattle.std.proofs.Common.{ℕ, min, subst, ◌∙◌, arith}
 use Rattle.std.proofs.lemmas.Grind.{common_steps}
 use Rattle.vchan_protocol.specs.declared.call.Call.TheVariants.{Read}
 use Rattle.vchan_protocol.specs.Table.Calls.{Trace}
 use Rattle.vchan_protocol.specs.History.Core.{standing_of}
-use Rattle.vchan_stream.specs.Stream.{most_asked, read_told}
-use Rattle.vchan_stream.specs.declared.ReadAnswer.{ReadAnswer}
+use Rattle.vchan_stream.specs.Stream.{read_told}
 use Rattle.vchan_stream.specs.declared.ReadAnswer.TheVariants as read
 use Rattle.vchan_block.specs.declared.reading.BlockRead.TheVariants as got
 use Rattle.vchan_block.specs.Rounds.{IsReadRound, Ends, FindsNone}

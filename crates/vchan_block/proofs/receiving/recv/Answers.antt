@@ -1,5 +1,5 @@
 -- Each round is one more, and the last one answers.
-use Rattle.std.proofs.Common.{◌≡◌, ℕ, min, subst, sym, ◌∙◌, arith}
+use Rattle.std.proofs.Common.{ℕ, min, subst, sym, ◌∙◌, arith}
 use Rattle.std.proofs.lemmas.Grind.{common_steps}
 use Rattle.vchan_protocol.specs.declared.call.Call.TheVariants.{Recv}
 use Rattle.vchan_protocol.specs.Table.Calls.{Trace}

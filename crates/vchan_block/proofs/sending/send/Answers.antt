@@ -1,5 +1,5 @@
 -- Each round is one more, and the last one answers.
-use Rattle.std.proofs.Common.{◌≡◌, ◌∙◌, arith}
+use Rattle.std.proofs.Common.{◌∙◌, arith}
 use Rattle.std.proofs.lemmas.Grind.{common_steps}
 use Rattle.vchan_protocol.specs.History.Core.{standing_of}
 use Rattle.vchan_packet.specs.declared.SendAnswer.TheVariants as send

@@ -1,7 +1,7 @@
 -- Each try is one more.
-use Rattle.std.proofs.Common.{◌≡◌, Bool, true, false, subst, sym, ap, ◌∙◌, arith}
+use Rattle.std.proofs.Common.{Bool, subst, ◌∙◌, arith}
 use Rattle.std.proofs.lemmas.Grind.{common_steps}
-use Rattle.vchan_block.specs.Rounds.{IsTry, Waits, Takes, TriesAgain}
+use Rattle.vchan_block.specs.Rounds.{IsTry, Takes, TriesAgain}
 use Rattle.vchan_block.proofs.wait.wait.Goals as goal
 
 pub returns-then-take_event-clause-waits : goal.returns-then-take_event-clause-waits

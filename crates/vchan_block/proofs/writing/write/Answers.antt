@@ -1,8 +1,7 @@
 -- Each round is one more, and the last one answers.
-use Rattle.std.proofs.Common.{◌≡◌, ◌+◌, ◌<◌, ◌++◌, ℕ, List, length, take, drop, refl, subst, sym, ap, ◌∙◌, arith}
+use Rattle.std.proofs.Common.{◌≡◌, ◌+◌, ◌<◌, ◌++◌, ℕ, length, take, refl, subst, sym, ap, ◌∙◌, arith}
 use Rattle.std.proofs.lemmas.Grind.{common_steps}
 use Rattle.std.proofs.lemmas.List.{take_rest, length-drop}
-use Rattle.end_view.specs.EndView.{EndView}
 use Rattle.vchan_protocol.specs.History.Core.{standing_of}
 use Rattle.vchan_rule.specs.Seated.{view}
 use Rattle.vchan_stream.specs.declared.WriteAnswer.TheVariants as write
