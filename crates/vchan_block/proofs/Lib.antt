@@ -1,0 +1,2 @@
+mod RoundLaws
+pub mod WaitLaws

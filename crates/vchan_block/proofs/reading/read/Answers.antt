@@ -1,0 +1,48 @@
+-- Each round is one more, and the last one answers.
+use Rattle.std.proofs.Common.{ℕ, min, subst, ◌∙◌, arith}
+use Rattle.std.proofs.lemmas.Grind.{common_steps}
+use Rattle.vchan_protocol.specs.declared.call.Call.TheVariants.{Read}
+use Rattle.vchan_protocol.specs.Table.Calls.{Trace}
+use Rattle.vchan_protocol.specs.History.Core.{standing_of}
+use Rattle.vchan_stream.specs.Stream.{read_told}
+use Rattle.vchan_stream.specs.declared.ReadAnswer.TheVariants as read
+use Rattle.vchan_block.specs.declared.reading.BlockRead.TheVariants as got
+use Rattle.vchan_block.specs.Rounds.{IsReadRound, Ends, FindsNone}
+use Rattle.vchan_block.proofs.reading.read.Goals as goal
+
+pub returns-in-Got-clause-rounds : goal.returns-in-Got-clause-rounds
+returns-in-Got-clause-rounds g c =
+    c.rounds.invariant.goes_on c.read.new.buf c.read.new.end (got.Got c.in-Got.count)
+    (Ends (subst (λ (n : ℕ). IsReadRound (min n 4294967295) (read.Got c.in-Got.count) c.read.new.buf c.rounds.end c.read.new.end) c.rounds.invariant.long
+    (record { view_is = c.in-Got.ensures.view; trail = c.in-Got.ensures.trail })))
+
+pub returns-in-PeerClosed-clause-rounds : goal.returns-in-PeerClosed-clause-rounds
+returns-in-PeerClosed-clause-rounds g c =
+    c.rounds.invariant.goes_on c.read.new.buf c.read.new.end got.PeerClosed
+    (Ends (subst (λ (n : ℕ). IsReadRound (min n 4294967295) read.PeerClosed c.read.new.buf c.rounds.end c.read.new.end) c.rounds.invariant.long
+    (record { view_is = c.in-PeerClosed.ensures.view; trail = c.in-PeerClosed.ensures.trail })))
+
+pub returns-in-Got-clause-trail : goal.returns-in-Got-clause-trail
+returns-in-Got-clause-trail g c = (
+  standing_of c.rounds.end.side,
+  subst (λ (n : ℕ). Trace (standing_of c.rounds.end.side) (Read (min n 4294967295)) c.read.new.end.side.trail (read_told (read.Got c.in-Got.count))) c.rounds.invariant.long c.in-Got.ensures.trail,
+)
+
+pub returns-in-PeerClosed-clause-trail : goal.returns-in-PeerClosed-clause-trail
+returns-in-PeerClosed-clause-trail g c = (
+  standing_of c.rounds.end.side,
+  subst (λ (n : ℕ). Trace (standing_of c.rounds.end.side) (Read (min n 4294967295)) c.read.new.end.side.trail (read_told read.PeerClosed)) c.rounds.invariant.long c.in-PeerClosed.ensures.trail,
+)
+
+pub rounds-preserved : goal.rounds-preserved
+rounds-preserved g c = record {
+  same = grind (arith, common_steps);
+  open_is = c.wait.ensures.open;
+  view_is = c.wait.ensures.view ∙ c.in-Empty.ensures.view ∙ c.rounds.invariant.view_is;
+  long = c.read.ensures.long ∙ c.rounds.invariant.long;
+  goes_on = λ buffer new answer rest. c.rounds.invariant.goes_on buffer new answer
+      (FindsNone c.in-Empty.prod c.in-Empty.cons c.read.new.buf c.read.new.end c.wait.new.end
+      (subst (λ (n : ℕ). IsReadRound (min n 4294967295) (read.Empty c.in-Empty.prod c.in-Empty.cons) c.read.new.buf c.rounds.end c.read.new.end) c.rounds.invariant.long
+      (record { view_is = c.in-Empty.ensures.view; trail = c.in-Empty.ensures.trail }))
+      c.wait.ensures.waits rest);
+}

@@ -1,0 +1,23 @@
+//! Calls of a channel that wait: a write, a read, a send and a recv that go on until they are done, on
+//! one end of a shared page.
+//!
+//! It serves whoever has a thread of its own for a channel. The calls are those of libxenvchan's io.c
+//! in blocking mode: `libxenvchan_write`, `libxenvchan_read`, `libxenvchan_send` and
+//! `libxenvchan_recv`, and between their rounds `libxenvchan_wait`. Each is a list of rounds of the
+//! calls that don't wait; nothing else moves bytes.
+#![tactic(auto)]
+
+pub mod laws;
+mod pause;
+mod reading;
+mod receiving;
+mod ring;
+mod sending;
+mod wait;
+mod writing;
+
+pub use reading::{BlockRead, read};
+pub use receiving::{BlockRecv, recv};
+pub use ring::fits_ring;
+pub use sending::{BlockSend, send};
+pub use writing::{BlockWrite, write};

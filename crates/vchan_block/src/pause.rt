@@ -1,0 +1,44 @@
+//! What a thread does between two tries.
+use std::time::{Clock, Duration};
+use std::{hint, thread};
+
+/// How many tries are made with the processor kept.
+const SPINS: u32 = 64;
+
+/// Up to how many tries the processor is only given away.
+const YIELDS: u32 = 128;
+
+/// The shortest and the longest sleep, in microseconds.
+const SHORTEST: u64 = 16;
+
+const LONGEST: u64 = 1_000;
+
+/// The pauses of one wait, which grow: first none, then the thread gives way, then it sleeps, each time
+/// for twice as long.
+#[derive(Clone, Copy)]
+pub struct Pauses {
+    tries: u32,
+    sleep: u64,
+}
+
+impl Pauses {
+    pub fn new() -> Pauses {
+        Pauses {
+            tries: 0,
+            sleep: SHORTEST,
+        }
+    }
+
+    /// Pauses once.
+    pub fn pause(&mut self, clock: &impl Clock) {
+        if self.tries < SPINS {
+            hint::spin_loop();
+        } else if self.tries < YIELDS {
+            thread::yield_now();
+        } else {
+            thread::sleep(clock, Duration::from_micros(self.sleep));
+            self.sleep = self.sleep.saturating_mul(2).min(LONGEST);
+        }
+        self.tries = self.tries.saturating_add(1);
+    }
+}
