@@ -1,34 +1,45 @@
 //! The texts of worked reports.
 use crate::{CallLine, CallResult, MixedOutcome, Report, ServedLine, report_text, summary_text};
 use qrexec_frame::{Bytes, Text};
-use scenario_file::{LineCause, LineResult, Scenario, generate, honest_lines};
+use scenario_file::{Line, LineCause, LineResult, Scenario, generate, honest_lines};
 use std::alloc::Global;
 use std::test::Fail;
 use vchan_io::Memory;
+
+// What came of a call, on no page.
+fn result_of(told: LineResult) -> CallResult {
+    match told {
+        LineResult::Refused { cause } => CallResult::Refused { cause },
+        LineResult::Done {
+            code,
+            stdout,
+            stderr,
+        } => CallResult::Done {
+            code,
+            stdout,
+            stderr,
+            page: 0,
+        },
+    }
+}
 
 // The report of a scenario without hostile domains, told by its services alone: it has no pages.
 fn report_of(alloc: Global, scenario: &Scenario) -> Result<Report, Memory> {
     let mut calls = Vec::new(alloc);
     for line in honest_lines(alloc, scenario)? {
-        let result = match line.result {
-            LineResult::Refused { cause } => CallResult::Refused { cause },
-            LineResult::Done {
-                code,
-                stdout,
-                stderr,
-            } => CallResult::Done {
-                code,
-                stdout,
-                stderr,
-                page: 0,
-            },
-        };
-        calls.push(CallLine {
-            number: line.number,
-            from: line.from,
-            to: line.to,
-            service: line.service,
+        let Line {
+            number,
+            from,
+            to,
+            service,
             result,
+        } = line;
+        calls.push(CallLine {
+            number,
+            from,
+            to,
+            service,
+            result: result_of(result),
         })?;
     }
     Ok(Report {
