@@ -6,5 +6,6 @@
 //! theirs and what is this project's own.
 #![tactic(auto)]
 
+mod daemon;
 mod letter;
 mod outbox;

@@ -11,7 +11,7 @@ ghost use Rattle.vchan_packet.specs.declared.SendAnswer.TheVariants as answer;
 ghost use Rattle.end_view.specs.AfterCall.{DrainSees};
 ghost use Rattle.vchan_rule.specs.Seated.{view, last_view, IsOpen};
 ghost use Rattle.vchan_rule.specs.Ends.{IsSameEnd};
-ghost use Rattle.control_port.specs.Talking.{may_say};
+ghost use Rattle.control_port.specs.Talking.{may_say, may_hear};
 ghost use Rattle.control_port.specs.Port.{HasSaid, HasSaidMore, HasHeard, Hands, Greets, Takes, HasFewerLeft, OnlyHears, OnlySends};
 
 use crate::talk::Talker;
@@ -208,6 +208,7 @@ impl<'p> ControlPort<'p> {
     pub fn next(&mut self) -> Result<Option<Message>, Memory>
         requires fine { self.old.fault ≡ None }
         ensures hands { (heard : List Said) → HasHeard self.old heard → IfOk result (λ message. Hands self.new heard message) }
+        ensures may { IfOk result (λ message. IfSome message (λ m. may_hear self.old.talker m ≡ true)) }
         ensures fits { IfOk result (λ message. IfSome message (λ m. Fits m)) }
         ensures fewer { IfOk result (λ message. IfSome message (λ m. HasFewerLeft self.old self.new)) }
         ensures only { OnlyHears self.old self.new }
@@ -226,6 +227,7 @@ impl<'p> ControlPort<'p> {
         requires fine { self.old.fault ≡ None }
         requires greeted { IsSome self.old.version }
         ensures hands { (heard : List Said) → HasHeard self.old heard → IfOk result (λ message. Hands self.new heard message) }
+        ensures may { IfOk result (λ message. IfSome message (λ m. may_hear self.old.talker m ≡ true)) }
         ensures fits { IfOk result (λ message. IfSome message (λ m. Fits m)) }
         ensures fewer { IfOk result (λ message. IfSome message (λ m. HasFewerLeft self.old self.new)) }
         ensures only { OnlyHears self.old self.new }
