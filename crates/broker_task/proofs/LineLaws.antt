@@ -9,16 +9,20 @@ use Rattle.qrexec_frame.specs.Messages.{IsSpellable}
 use Rattle.qrexec_frame.specs.Texts.{FitsText}
 use Rattle.qrexec_frame.specs.Streams.{Each}
 use Rattle.vchan_rule.specs.Seated.{SeatedEnd, view}
+use Rattle.end_view.specs.EndView.{EndView}
+use Rattle.vchan_packet.specs.Packet.{sent_to}
+use Rattle.vchan_packet.specs.declared.SendAnswer.{SendAnswer}
+use Rattle.vchan_packet.specs.declared.SendAnswer.TheVariants.{Sent, NoRoom, PeerClosed}
 use Rattle.call_broker.specs.declared.event.Event.{Event}
 use Rattle.control_port.specs.declared.talk.Talker.{Talker}
 use Rattle.control_port.specs.declared.talk.Talker.TheVariants.{Broker}
 use Rattle.control_port.specs.Talking.{may_say, may_hear}
-use Rattle.control_port.specs.Port.{PortState, SentWhole, HasSaid, HasHeard, HasHeardAll, Hands, OnlyHears}
+use Rattle.control_port.specs.Port.{PortState, SentWhole, HasSaid, HasHeard, HasHeardAll, Hands, OnlyHears, OnlySends}
 use Rattle.task_duties.specs.Hearing.{to_broker, hears}
 use Rattle.task_duties.specs.Broker.Outbox.{event_of, is_from}
 use Rattle.task_duties.specs.Broker.Owes.{broker_version}
 use Rattle.broker_task.specs.declared.daemon.Daemon.{Daemon}
-use Rattle.broker_task.specs.Lines.{IsLine, ReadsOn, HasReadAll, HandsOut, HasRoom, events_got}
+use Rattle.broker_task.specs.Lines.{end_of, is_shut, is_gone, ReadsOn, HasRead, HasReadAll, HandsOut, HasRoom}
 
 -- ---- what a port has said stands while it hears
 
@@ -109,3 +113,34 @@ hands-none old new events same talker own reads hands =
           ∙ ap (λ r. filter_map (event_of new.domain) r.messages) h.0 ∙ sym are;
       on = λ none. record { heard = reads.heard; hears_them = h.1 none; are = are; fine = none };
     }
+
+-- ---- what was read stands while a port sends
+
+pub read-still : (old new : Daemon) (events : List Event) → new.domain ≡ old.domain → (end_of new).got ≡ (end_of old).got → is_gone new ≡ is_gone old → new.port.fault ≡ old.port.fault
+    → ((heard : List Message) → HasHeard old.port heard → HasHeard new.port heard) → HasRead old events → HasRead new events
+read-still old new events domain got gone fault hears_on h = record {
+  all = ap (λ (d : ℕ). filter_map (event_of d) (hears broker_version to_broker (end_of new).got).messages) domain ∙ ap (λ (g : List ℕ). filter_map (event_of old.domain) (hears broker_version to_broker g).messages) got ∙ h.all;
+  on = λ up. let o = h.on (sym gone ∙ up) in record {
+    heard = o.heard;
+    hears_them = hears_on o.heard o.hears_them;
+    are = o.are ∙ ap (λ d. filter_map (event_of d) o.heard) (sym domain);
+    fine = fault ∙ o.fine;
+  };
+}
+
+pub sent-got : (e : EndView) (answer : SendAnswer) (payload : List ℕ) → (sent_to e answer payload).got ≡ e.got
+sent-got e Sent payload = refl
+sent-got e (NoRoom prod cons) payload = refl
+sent-got e PeerClosed payload = refl
+
+pub sent-state : (e : EndView) (answer : SendAnswer) (payload : List ℕ) → (sent_to e answer payload).state ≡ e.state
+sent-state e Sent payload = refl
+sent-state e (NoRoom prod cons) payload = refl
+sent-state e PeerClosed payload = refl
+
+-- a port that has sent, or has found no room
+pub read-sending : (old new : Daemon) (events : List Event) (answer : SendAnswer) (payload : List ℕ) → new.domain ≡ old.domain → OnlySends old.port new.port → end_of new ≡ sent_to (end_of old) answer payload
+    → ((heard : List Message) → HasHeard old.port heard → HasHeard new.port heard) → HasRead old events → HasRead new events
+read-sending old new events answer payload domain only is hears_on h =
+    read-still old new events domain (ap (λ (e : EndView). e.got) is ∙ sent-got (end_of old) answer payload) (ap (λ (e : EndView). is_shut e.state) is ∙ ap is_shut (sent-state (end_of old) answer payload))
+        (ap (λ (p : PortState). p.fault) only) hears_on h

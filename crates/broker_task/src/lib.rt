@@ -9,3 +9,4 @@
 mod daemon;
 mod letter;
 mod outbox;
+mod reply;
