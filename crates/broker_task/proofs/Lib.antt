@@ -1,3 +1,4 @@
 pub mod Lists
 pub mod LetterLaws
 pub mod LineLaws
+pub mod PostLaws

@@ -1,6 +1,6 @@
 -- What the task says on what the broker decided.
 -- Source: the messages are those of the qrexec protocol.
-use Rattle.std.specs.Prelude.{◌≡◌, ℕ, List}
+use Rattle.std.specs.Prelude.{◌≡◌, ℕ, ◌≤◌, List}
 use Rattle.qrexec_frame.specs.Names.{cleaned_service}
 use Rattle.qrexec_frame.specs.declared.message.Message.TheVariants as message
 use Rattle.call_broker.specs.declared.event.Event.{Event}
@@ -22,3 +22,8 @@ IsReplyTo hub (Trigger from target service ident) decision.PassedOver Nothing = 
 IsReplyTo hub (Terminated from other port) decided Nothing = Unit {0}
 IsReplyTo hub (Dropped domain) decided Nothing = Unit {0}
 IsReplyTo hub event decided reply = ⊥
+
+-- the domain that is to serve is one of so many
+abbrev pub IsWithin : ℕ → Reply → Type 0
+IsWithin count (Accepted to exec connect) = (1 ≤ to) × (to ≤ count)
+IsWithin count reply = Unit {0}

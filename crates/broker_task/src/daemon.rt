@@ -1,5 +1,5 @@
 //! One domain at the broker.
-ghost use Rattle.std.specs.Prelude.{◌≡◌, ℕ, ◌<◌, List, [], false, true, None, Some, Ok, OnOk, IfOk, IfSome, length};
+ghost use Rattle.std.specs.Prelude.{◌≡◌, ℕ, ◌+◌, ◌<◌, ◌++◌, ◌∷◌, List, [], false, true, None, Some, Ok, OnOk, IfOk, IfSome, length};
 ghost use Rattle.ring_words.specs.declared.page.Role.TheVariants.{Client};
 ghost use Rattle.vchan_rule.specs.Seated.{view, IsOpen};
 ghost use Rattle.end_view.specs.EndView.{IsUnused};
@@ -161,6 +161,19 @@ impl<'p> Daemon<'p> {
             return Ok(false);
         }
         Ok(self.port.greet()? == SendAnswer::Sent)
+    }
+
+    /// Puts the answer to one of its triggers behind its other messages.
+    pub(crate) fn answer(&mut self, answer: Message, held: bool) -> Result<(), Memory>
+        requires { self.old.answered < usize.MAX }
+        ensures port { self.new.port ≡ self.old.port }
+        ensures same { (self.new.domain ≡ self.old.domain) × (self.new.awaited ≡ self.old.awaited) }
+        ensures put { OnOk result (self.new.outbox.letters.items ≡ self.old.outbox.letters.items ++ record { message = answer; held = held } ∷ []) }
+        ensures counted { OnOk result (self.new.answered ≡ self.old.answered + 1) }
+    {
+        self.outbox.put(answer, held)?;
+        self.answered += 1;
+        Ok(())
     }
 
     /// Retires the end of a domain that is dropped, and gives up what waits for it.

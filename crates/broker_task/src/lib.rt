@@ -10,3 +10,4 @@ mod daemon;
 mod letter;
 mod outbox;
 mod reply;
+mod switchboard;

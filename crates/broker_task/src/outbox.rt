@@ -43,25 +43,11 @@ impl Outbox {
         self.letters.len()
     }
 
-    /// Puts a message that may go behind the others.
-    pub(crate) fn put(&mut self, message: Message) -> Result<(), Memory>
-        ensures { OnOk result (self.new.letters.items ≡ self.old.letters.items ++ record { message = message; held = false } ∷ []) }
+    /// Puts a message behind the others, which may go now or is held.
+    pub(crate) fn put(&mut self, message: Message, held: bool) -> Result<(), Memory>
+        ensures { OnOk result (self.new.letters.items ≡ self.old.letters.items ++ record { message = message; held = held } ∷ []) }
     {
-        self.letters.push_back(Letter {
-            message,
-            held: false,
-        })?;
-        Ok(())
-    }
-
-    /// Puts a message that is held behind the others.
-    pub(crate) fn hold(&mut self, message: Message) -> Result<(), Memory>
-        ensures { OnOk result (self.new.letters.items ≡ self.old.letters.items ++ record { message = message; held = true } ∷ []) }
-    {
-        self.letters.push_back(Letter {
-            message,
-            held: true,
-        })?;
+        self.letters.push_back(Letter { message, held })?;
         Ok(())
     }
 
