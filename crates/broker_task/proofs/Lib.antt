@@ -2,3 +2,4 @@ pub mod Lists
 pub mod LetterLaws
 pub mod LineLaws
 pub mod PostLaws
+pub mod ReplyLaws

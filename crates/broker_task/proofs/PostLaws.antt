@@ -18,7 +18,7 @@ use Rattle.broker_task.specs.declared.daemon.Daemon.{Daemon}
 use Rattle.broker_task.specs.declared.reply.Reply.{Reply}
 use Rattle.broker_task.specs.declared.reply.Reply.TheVariants.{Nothing, Refused, Accepted}
 use Rattle.broker_task.specs.Letters.{IsAt, messages_in}
-use Rattle.broker_task.specs.Replies.{IsReplyTo}
+use Rattle.broker_task.specs.Replies.{IsReplyTo, IsFit}
 use Rattle.broker_task.specs.Posting.{EachAt, EachMoves, SamePort, Posts, IsFree, one_if}
 
 -- ---- lists of domains
@@ -105,47 +105,47 @@ moves-letter ds k l n x y some there adds =
 -- ---- the replies
 
 posts-from : (hub : Domains) (e : Event) (decided : Decision) (d : ℕ) (more : List Letter) (n : ℕ) (x y : Daemon) → Adds more n x y → messages_in more ≡ puts hub d e decided
-    → Each (λ l. l.held ≡ false → IsFree l.message) more → n ≡ one_if (is_answer d e decided) → Posts hub (record { event = e; decision = decided }) d x y
-posts-from hub e decided d more n x y a are free counted = record {
-  domain = a.domain; port = a.port; awaited = a.awaited; more = more; letters = a.letters; are = are; free = free; counted = a.counted ∙ ap (λ k. x.answered + k) counted;
+    → Each (λ l. IsFit hub l.message) more → Each (λ l. l.held ≡ false → IsFree l.message) more → n ≡ one_if (is_answer d e decided) → Posts hub (record { event = e; decision = decided }) d x y
+posts-from hub e decided d more n x y a are fit free counted = record {
+  domain = a.domain; port = a.port; awaited = a.awaited; more = more; letters = a.letters; are = are; replies = fit; free = free; counted = a.counted ∙ ap (λ k. x.answered + k) counted;
 }
 
 pub posts-nothing : (hub : Domains) (e : Event) (decided : Decision) (d : ℕ) (x : Daemon) → IsReplyTo hub e decided Nothing → Posts hub (record { event = e; decision = decided }) d x x
 posts-nothing hub (Trigger f t s i) (decision.Accepted to port) d x is = absurd is
 posts-nothing hub (Trigger f t s i) (decision.Refused cause) d x is = absurd is
-posts-nothing hub (Trigger f t s i) (decision.Ended a b port) d x is = posts-from hub (Trigger f t s i) (decision.Ended a b port) d [] 0 x x (adds-none x) refl tt refl
-posts-nothing hub (Trigger f t s i) decision.PassedOver d x is = posts-from hub (Trigger f t s i) decision.PassedOver d [] 0 x x (adds-none x) refl tt refl
-posts-nothing hub (Terminated f o p) decided d x is = posts-from hub (Terminated f o p) decided d [] 0 x x (adds-none x) refl tt refl
-posts-nothing hub (Dropped o) decided d x is = posts-from hub (Dropped o) decided d [] 0 x x (adds-none x) refl tt refl
+posts-nothing hub (Trigger f t s i) (decision.Ended a b port) d x is = posts-from hub (Trigger f t s i) (decision.Ended a b port) d [] 0 x x (adds-none x) refl tt tt refl
+posts-nothing hub (Trigger f t s i) decision.PassedOver d x is = posts-from hub (Trigger f t s i) decision.PassedOver d [] 0 x x (adds-none x) refl tt tt refl
+posts-nothing hub (Terminated f o p) decided d x is = posts-from hub (Terminated f o p) decided d [] 0 x x (adds-none x) refl tt tt refl
+posts-nothing hub (Dropped o) decided d x is = posts-from hub (Dropped o) decided d [] 0 x x (adds-none x) refl tt tt refl
 
-pub posts-refused : (hub : Domains) (e : Event) (decided : Decision) (from d : ℕ) (m : Message) (x y : Daemon) → is_from from e ≡ true → IsReplyTo hub e decided (Refused m)
+pub posts-refused : (hub : Domains) (e : Event) (decided : Decision) (from d : ℕ) (m : Message) (x y : Daemon) → is_from from e ≡ true → IsReplyTo hub e decided (Refused m) → IsFit hub m
     → Adds (letter_if (d == from) (record { message = m; held = false })) (count_if (d == from) 1) x y → Posts hub (record { event = e; decision = decided }) d x y
-posts-refused hub (Trigger f t s i) (decision.Refused cause) from d m x y own is a =
+posts-refused hub (Trigger f t s i) (decision.Refused cause) from d m x y own is fit a =
     let same : f ≡ from = same-number f from own in
     by_test (d == from) (ap (λ k. d == k) same) a
   where
     by_test : (b : Bool) → (d == f) ≡ b → Adds (letter_if b (record { message = m; held = false })) (count_if b 1) x y → Posts hub (record { event = Trigger f t s i; decision = decision.Refused cause }) d x y
     by_test true here a' =
-        posts-from hub (Trigger f t s i) (decision.Refused cause) d (record { message = m; held = false } ∷ []) 1 x y a' (rw here (ap (λ k. k ∷ []) is)) ((λ free. subst IsFree (sym is) tt), tt)
+        posts-from hub (Trigger f t s i) (decision.Refused cause) d (record { message = m; held = false } ∷ []) 1 x y a' (rw here (ap (λ k. k ∷ []) is)) (fit, tt) ((λ free. subst IsFree (sym is) tt), tt)
             (rw (swap here) refl)
       where
         swap : (d == f) ≡ true → (f == d) ≡ true
         swap h = grind (arith, nat_tests, h)
     by_test false away a' =
-        posts-from hub (Trigger f t s i) (decision.Refused cause) d [] 0 x y a' (rw away refl) tt (rw (swap away) refl)
+        posts-from hub (Trigger f t s i) (decision.Refused cause) d [] 0 x y a' (rw away refl) tt tt (rw (swap away) refl)
       where
         swap : (d == f) ≡ false → (f == d) ≡ false
         swap h = grind (arith, nat_tests, h)
-posts-refused hub (Trigger f t s i) (decision.Accepted to port) from d m x y own is a = absurd is
-posts-refused hub (Trigger f t s i) (decision.Ended q r port) from d m x y own is a = absurd is
-posts-refused hub (Trigger f t s i) decision.PassedOver from d m x y own is a = absurd is
-posts-refused hub (Terminated f o p) decided from d m x y own is a = absurd is
-posts-refused hub (Dropped o) decided from d m x y own is a = absurd is
+posts-refused hub (Trigger f t s i) (decision.Accepted to port) from d m x y own is fit a = absurd is
+posts-refused hub (Trigger f t s i) (decision.Ended q r port) from d m x y own is fit a = absurd is
+posts-refused hub (Trigger f t s i) decision.PassedOver from d m x y own is fit a = absurd is
+posts-refused hub (Terminated f o p) decided from d m x y own is fit a = absurd is
+posts-refused hub (Dropped o) decided from d m x y own is fit a = absurd is
 
-pub posts-accepted : (hub : Domains) (e : Event) (decided : Decision) (from to d : ℕ) (exec connect : Message) (x y : Daemon) → is_from from e ≡ true → IsReplyTo hub e decided (Accepted to exec connect)
+pub posts-accepted : (hub : Domains) (e : Event) (decided : Decision) (from to d : ℕ) (exec connect : Message) (x y : Daemon) → is_from from e ≡ true → IsReplyTo hub e decided (Accepted to exec connect) → IsFit hub exec × IsFit hub connect
     → Adds (letter_if (d == from) (record { message = connect; held = true }) ++ letter_if (d == to) (record { message = exec; held = false })) (count_if (d == from) 1 + count_if (d == to) 0) x y
     → Posts hub (record { event = e; decision = decided }) d x y
-posts-accepted hub (Trigger f t s i) (decision.Accepted q port) from to d exec connect x y own is a =
+posts-accepted hub (Trigger f t s i) (decision.Accepted q port) from to d exec connect x y own is fit a =
     let same : f ≡ from = same-number f from own in
     by_tests (d == from) (d == to) (ap (λ k. d == k) same) (ap (λ k. d == k) (sym is.0)) a
   where
@@ -158,18 +158,18 @@ posts-accepted hub (Trigger f t s i) (decision.Accepted q port) from to d exec c
         → Posts hub (record { event = Trigger f t s i; decision = decision.Accepted q port }) d x y
     by_tests true true here there a' =
         posts-from hub (Trigger f t s i) (decision.Accepted q port) d (record { message = connect; held = true } ∷ record { message = exec; held = false } ∷ []) 1 x y a'
-            (rw (here, there) (ap (λ k. k ∷ exec ∷ []) is.2 ∙ ap (λ k. message.Connect q port i ∷ k ∷ []) is.1)) ((λ free. cc), ((λ free. subst IsFree (sym is.1) tt), tt)) (rw (swap true here) refl)
+            (rw (here, there) (ap (λ k. k ∷ exec ∷ []) is.2 ∙ ap (λ k. message.Connect q port i ∷ k ∷ []) is.1)) (fit.1, (fit.0, tt)) ((λ free. cc), ((λ free. subst IsFree (sym is.1) tt), tt)) (rw (swap true here) refl)
     by_tests true false here there a' =
-        posts-from hub (Trigger f t s i) (decision.Accepted q port) d (record { message = connect; held = true } ∷ []) 1 x y a' (rw (here, there) (ap (λ k. k ∷ []) is.2)) ((λ free. cc), tt) (rw (swap true here) refl)
+        posts-from hub (Trigger f t s i) (decision.Accepted q port) d (record { message = connect; held = true } ∷ []) 1 x y a' (rw (here, there) (ap (λ k. k ∷ []) is.2)) (fit.1, tt) ((λ free. cc), tt) (rw (swap true here) refl)
     by_tests false true here there a' =
-        posts-from hub (Trigger f t s i) (decision.Accepted q port) d (record { message = exec; held = false } ∷ []) 0 x y a' (rw (here, there) (ap (λ k. k ∷ []) is.1)) ((λ free. subst IsFree (sym is.1) tt), tt) (rw (swap false here) refl)
+        posts-from hub (Trigger f t s i) (decision.Accepted q port) d (record { message = exec; held = false } ∷ []) 0 x y a' (rw (here, there) (ap (λ k. k ∷ []) is.1)) (fit.0, tt) ((λ free. subst IsFree (sym is.1) tt), tt) (rw (swap false here) refl)
     by_tests false false here there a' =
-        posts-from hub (Trigger f t s i) (decision.Accepted q port) d [] 0 x y a' (rw (here, there) refl) tt (rw (swap false here) refl)
-posts-accepted hub (Trigger f t s i) (decision.Refused cause) from to d exec connect x y own is a = absurd is
-posts-accepted hub (Trigger f t s i) (decision.Ended q r port) from to d exec connect x y own is a = absurd is
-posts-accepted hub (Trigger f t s i) decision.PassedOver from to d exec connect x y own is a = absurd is
-posts-accepted hub (Terminated f o p) decided from to d exec connect x y own is a = absurd is
-posts-accepted hub (Dropped o) decided from to d exec connect x y own is a = absurd is
+        posts-from hub (Trigger f t s i) (decision.Accepted q port) d [] 0 x y a' (rw (here, there) refl) tt tt (rw (swap false here) refl)
+posts-accepted hub (Trigger f t s i) (decision.Refused cause) from to d exec connect x y own is fit a = absurd is
+posts-accepted hub (Trigger f t s i) (decision.Ended q r port) from to d exec connect x y own is fit a = absurd is
+posts-accepted hub (Trigger f t s i) decision.PassedOver from to d exec connect x y own is fit a = absurd is
+posts-accepted hub (Terminated f o p) decided from to d exec connect x y own is fit a = absurd is
+posts-accepted hub (Dropped o) decided from to d exec connect x y own is fit a = absurd is
 
 -- ---- where a call may want memory
 

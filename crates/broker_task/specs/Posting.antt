@@ -12,7 +12,8 @@ use Rattle.task_duties.specs.Broker.Outbox.{outbox, puts, answered, is_answer}
 use Rattle.broker_task.specs.declared.letter.Letter.{Letter}
 use Rattle.broker_task.specs.declared.daemon.Daemon.{Daemon}
 use Rattle.broker_task.specs.Letters.{IsAt, messages_in}
-use Rattle.broker_task.specs.Lines.{is_gone, IsLine, IsReply}
+use Rattle.broker_task.specs.Lines.{is_gone, IsLine}
+use Rattle.broker_task.specs.Replies.{IsFit}
 
 -- ---- all domains in turn
 
@@ -36,15 +37,9 @@ abbrev pub MayGo : List Entry → (ℕ → List Message) → ℕ → Message →
 MayGo journal said f (Connect t port ident) = (is_dropped journal t ≡ true) ⊎ ((line : List ℕ) × Contains (said t) (Exec f port line))
 MayGo journal said f m = Unit {0}
 
--- an Exec names a domain
-abbrev pub NamesDomain : Domains → Message → Type 0
-NamesDomain hub (Exec d port line) = is_domain hub d ≡ true
-NamesDomain hub m = Unit {0}
-
 -- a letter for a domain is a reply, and may go where it isn't held
 pub record IsLetter (hub : Domains) (journal : List Entry) (said : ℕ → List Message) (d : ℕ) (l : Letter) : Type 0 where
-  pub reply : IsReply l.message
-  pub names : NamesDomain hub l.message
+  pub fits : IsFit hub l.message
   pub may : l.held ≡ false → MayGo journal said d l.message
 
 -- ---- the outbox of a domain
@@ -89,5 +84,6 @@ pub record Posts (hub : Domains) (e : Entry) (d : ℕ) (x y : Daemon) : Type 0 w
   pub more : List Letter
   pub letters : y.outbox.letters.items ≡ x.outbox.letters.items ++ more
   pub are : messages_in more ≡ puts hub d e.event e.decision
+  pub replies : Each (λ l. IsFit hub l.message) more
   pub free : Each (λ l. l.held ≡ false → IsFree l.message) more
   pub counted : y.answered ≡ x.answered + one_if (is_answer d e.event e.decision)

@@ -1,13 +1,14 @@
 //! What the task says on what the broker decided.
 ghost use Rattle.std.specs.Prelude.{◌≡◌, ◌++◌, ◌∷◌, [], List, true, IfOk, IfSome, codes};
 ghost use Rattle.qrexec_frame.specs.Names.{cleaned_service};
-ghost use Rattle.call_broker.specs.declared.decision.Entry.{Entry as Kept};
 ghost use Rattle.call_broker.specs.Domains.{is_domain, name_of};
 ghost use Rattle.call_broker.specs.Journal.{IsNumbered};
 ghost use Rattle.task_duties.specs.Words.{exec_line, user};
-ghost use Rattle.broker_task.specs.Replies.{IsReplyTo};
+ghost use Rattle.qrexec_frame.specs.Texts.{HasNoNul};
+ghost use Rattle.broker_task.specs.Lines.{HasRoom};
+ghost use Rattle.broker_task.specs.Replies.{IsReplyTo, AreFit, HasShortNames};
 
-use call_broker::{Broker, Decision, Entry, Event};
+use call_broker::{Broker, Decision, Event};
 use qrexec_frame::{Message, Text, TextError, clean_service};
 use std::alloc::Global;
 use vchan_io::Memory;
@@ -26,20 +27,28 @@ pub(crate) enum Reply {
 }
 
 /// The reply to an event, once it was decided.
-pub(crate) fn reply_to(alloc: Global, broker: &Broker, entry: &Entry) -> Result<Reply, Memory>
-    requires { IsNumbered broker.now.hub entry.now.event }
-    ensures { IfOk result (λ reply. IsReplyTo broker.now.hub entry.now.event entry.now.decision reply) }
+pub(crate) fn reply_to(
+    alloc: Global,
+    broker: &Broker,
+    event: &Event,
+    decision: Decision,
+) -> Result<Reply, Memory>
+    requires numbered { IsNumbered broker.now.hub event.now }
+    requires room { HasRoom event.now }
+    requires names { HasShortNames broker.now.hub }
+    ensures fits { IfOk result (λ reply. AreFit broker.now.hub reply) }
+    ensures reply { IfOk result (λ reply. IsReplyTo broker.now.hub event.now decision reply) }
 {
     let Event::Trigger {
         from,
         service,
         ident,
         ..
-    } = &entry.event
+    } = event
     else {
         return Ok(Reply::Nothing);
     };
-    match entry.decision {
+    match decision {
         Decision::Accepted { to, port } => {
             let service = clean_service(alloc, service)?;
             let line = line_of(alloc, &service, broker.name(*from))?;
@@ -70,7 +79,8 @@ pub(crate) fn reply_to(alloc: Global, broker: &Broker, entry: &Entry) -> Result<
 
 // The line by which a domain of this name asks for this service, whose name is clean.
 fn line_of(alloc: Global, service: &Text, from: &Text) -> Result<Text, Memory>
-    ensures { IfOk result (λ line. line ≡ exec_line service.now from.now) }
+    ensures line { IfOk result (λ line. line ≡ exec_line service.now from.now) }
+    ensures no_nul { IfOk result (λ line. HasNoNul line) }
 {
     let mut line = Vec::new(alloc);
     line.extend_from_slice(USER)?;

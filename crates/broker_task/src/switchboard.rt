@@ -7,7 +7,7 @@ ghost use Rattle.call_broker.specs.Domains.{Domains, is_domain};
 ghost use Rattle.task_duties.specs.Broker.Outbox.{is_from};
 ghost use Rattle.broker_task.specs.declared.daemon.Daemon.{Daemon as Attended};
 ghost use Rattle.broker_task.specs.Letters.{IsAt};
-ghost use Rattle.broker_task.specs.Replies.{IsReplyTo, IsWithin};
+ghost use Rattle.broker_task.specs.Replies.{IsReplyTo, IsWithin, AreFit};
 ghost use Rattle.broker_task.specs.Posting.{EachMoves, Posts, SamePort};
 
 use crate::daemon::Daemon;
@@ -21,7 +21,7 @@ fn post(daemons: &mut [Daemon<'_>], from: u32, reply: Reply) -> Result<(), Memor
     requires target { IsWithin (length daemons.old) reply }
     requires few { (i : ℕ) (x : Attended) → IsAt daemons.old i x → x.answered < usize.MAX }
     ensures ports { EachMoves SamePort daemons.old daemons.new }
-    ensures posts { (hub : Domains) (event : Told) (decided : Decided) → is_from from event ≡ true → IsReplyTo hub event decided reply →
+    ensures posts { (hub : Domains) (event : Told) (decided : Decided) → is_from from event ≡ true → IsReplyTo hub event decided reply → AreFit hub reply →
         OnOk result (EachMoves (Posts hub (record { event = event; decision = decided })) daemons.old daemons.new) }
 {
     match reply {
