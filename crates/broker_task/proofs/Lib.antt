@@ -3,3 +3,4 @@ pub mod LetterLaws
 pub mod LineLaws
 pub mod PostLaws
 pub mod ReplyLaws
+pub mod PostingLaws

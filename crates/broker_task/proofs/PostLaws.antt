@@ -23,7 +23,7 @@ use Rattle.broker_task.specs.Posting.{EachAt, EachMoves, SamePort, Posts, IsFree
 
 -- ---- lists of domains
 
-same-number : (a b : ℕ) → (a == b) ≡ true → a ≡ b
+pub same-number : (a b : ℕ) → (a == b) ≡ true → a ≡ b
 same-number a b is = grind (arith, nat_tests, is)
 
 -- one domain is changed, and the others are as they were

@@ -7,13 +7,48 @@ ghost use Rattle.call_broker.specs.Domains.{Domains, is_domain};
 ghost use Rattle.task_duties.specs.Broker.Outbox.{is_from};
 ghost use Rattle.broker_task.specs.declared.daemon.Daemon.{Daemon as Attended};
 ghost use Rattle.broker_task.specs.Letters.{IsAt};
-ghost use Rattle.broker_task.specs.Replies.{IsReplyTo, IsWithin, AreFit};
-ghost use Rattle.broker_task.specs.Posting.{EachMoves, Posts, SamePort};
+ghost use Rattle.broker_task.specs.Replies.{IsReplyTo, IsWithin, AreFit, HasShortNames};
+ghost use Rattle.broker_task.specs.Posting.{EachMoves, Posts, SamePort, IsPosting};
+ghost use Rattle.broker_task.specs.Lines.{HasRoom};
+ghost use Rattle.call_broker.specs.Pair.{decision};
+ghost use Rattle.call_broker.specs.Journal.{events};
 
 use crate::daemon::Daemon;
-use crate::reply::Reply;
-use call_broker::{Broker, Entry, Event};
+use crate::reply::{Reply, reply_to};
+use call_broker::{Broker, Event};
 use vchan_io::Memory;
+
+/// The broker with what it has for each domain, in the order of their numbers.
+#[derive(Drop)]
+pub(crate) struct Switchboard<'p> {
+    broker: Broker,
+    daemons: Vec<Daemon<'p>>,
+    // What is read of a control channel at once.
+    buf: Vec<u8>,
+}
+
+impl<'p> Switchboard<'p> {
+    // Decides an event of a domain, and puts what follows into the outboxes.
+    fn decide(&mut self, from: u32, event: Event) -> Result<(), Memory>
+        requires posting { IsPosting self.old.broker.hub self.old.broker.journal self.old.daemons.items }
+        requires names { HasShortNames self.old.broker.hub }
+        requires sender { is_domain self.old.broker.hub from ≡ true }
+        requires own { is_from from event ≡ true }
+        requires room { HasRoom event }
+        ensures ports { EachMoves SamePort self.old.daemons.items self.new.daemons.items }
+        ensures hub { self.new.broker.hub ≡ self.old.broker.hub }
+        ensures buf { self.new.buf ≡ self.old.buf }
+        ensures entry { OnOk result (self.new.broker.journal ≡ self.old.broker.journal ++ record { event = event; decision = decision self.old.broker.hub (events self.old.broker.journal) event } ∷ []) }
+        ensures posting { OnOk result (IsPosting self.new.broker.hub self.new.broker.journal self.new.daemons.items) }
+    {
+        let alloc = *self.buf.allocator();
+        let decision = self.broker.event(event)?;
+        let journal = self.broker.journal();
+        let event = &journal[journal.len() - 1].event;
+        let reply = reply_to(alloc, &self.broker, event, decision)?;
+        post(self.daemons.as_mut_slice(), from, reply)
+    }
+}
 
 // Puts what follows from a decision on an event of a domain into the outboxes.
 fn post(daemons: &mut [Daemon<'_>], from: u32, reply: Reply) -> Result<(), Memory>
