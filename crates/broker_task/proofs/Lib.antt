@@ -4,3 +4,4 @@ pub mod LineLaws
 pub mod PostLaws
 pub mod ReplyLaws
 pub mod PostingLaws
+pub mod HearingSteps

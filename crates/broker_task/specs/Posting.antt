@@ -8,11 +8,11 @@ use Rattle.control_port.specs.Port.{HasSaid}
 use Rattle.call_broker.specs.declared.decision.Entry.{Entry}
 use Rattle.call_broker.specs.Domains.{Domains, is_domain, count_of}
 use Rattle.call_broker.specs.Journal.{IsJournal, AreNumbered, is_dropped}
-use Rattle.task_duties.specs.Broker.Outbox.{outbox, puts, answered, is_answer}
+use Rattle.task_duties.specs.Broker.Outbox.{outbox, puts, answered, is_answer, read_from}
 use Rattle.broker_task.specs.declared.letter.Letter.{Letter}
 use Rattle.broker_task.specs.declared.daemon.Daemon.{Daemon}
 use Rattle.broker_task.specs.Letters.{IsAt, messages_in}
-use Rattle.broker_task.specs.Lines.{is_gone, IsLine}
+use Rattle.broker_task.specs.Lines.{is_gone, IsLine, ReadsOn, HasRead, HasReadAll}
 use Rattle.broker_task.specs.Replies.{IsFit}
 
 -- ---- all domains in turn
@@ -87,3 +87,26 @@ pub record Posts (hub : Domains) (e : Entry) (d : ℕ) (x y : Daemon) : Type 0 w
   pub replies : Each (λ l. IsFit hub l.message) more
   pub free : Each (λ l. l.held ≡ false → IsFree l.message) more
   pub counted : y.answered ≡ x.answered + one_if (is_answer d e.event e.decision)
+
+-- ---- a port that moves
+
+-- only its port has moved, and it stands for what was said as it did
+pub record MovesPort (d : ℕ) (x y : Daemon) : Type 0 where
+  pub domain : y.domain ≡ x.domain
+  pub awaited : y.awaited ≡ x.awaited
+  pub outbox : y.outbox.letters.items ≡ x.outbox.letters.items
+  pub counted : y.answered ≡ x.answered
+  pub gone : is_gone y ≡ is_gone x
+  pub line : IsLine d x → IsLine d y
+  pub said : (said : List Message) → HasSaid x.port said → HasSaid y.port said
+
+-- ---- what was read, while one domain is heard
+
+pub record IsHearing (domain : ℕ) (journal : List Entry) (ds : List Daemon) : Type 0 where
+  pub others : EachAt (λ d x. d ≢ domain → HasRead x (read_from journal d)) ds
+  pub own : EachAt (λ d x. d ≡ domain → ReadsOn x (read_from journal d)) ds
+
+-- and once all that it has said was heard
+pub record HasHeardOut (domain : ℕ) (journal : List Entry) (ds : List Daemon) : Type 0 where
+  pub others : EachAt (λ d x. d ≢ domain → HasRead x (read_from journal d)) ds
+  pub own : EachAt (λ d x. d ≡ domain → HasReadAll x (read_from journal d)) ds

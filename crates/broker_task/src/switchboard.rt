@@ -8,7 +8,7 @@ ghost use Rattle.task_duties.specs.Broker.Outbox.{is_from};
 ghost use Rattle.broker_task.specs.declared.daemon.Daemon.{Daemon as Attended};
 ghost use Rattle.broker_task.specs.Letters.{IsAt};
 ghost use Rattle.broker_task.specs.Replies.{IsReplyTo, IsWithin, AreFit, HasShortNames};
-ghost use Rattle.broker_task.specs.Posting.{EachMoves, Posts, SamePort, IsPosting};
+ghost use Rattle.broker_task.specs.Posting.{EachMoves, Posts, SamePort, IsPosting, IsHearing, HasHeardOut};
 ghost use Rattle.broker_task.specs.Lines.{HasRoom};
 ghost use Rattle.call_broker.specs.Pair.{decision};
 ghost use Rattle.call_broker.specs.Journal.{events};
@@ -28,6 +28,22 @@ pub(crate) struct Switchboard<'p> {
 }
 
 impl<'p> Switchboard<'p> {
+    // Decides all that a domain has said, as far as it was taken.
+    fn hear(&mut self, domain: u32) -> Result<(), Memory>
+        requires posting { IsPosting self.old.broker.hub self.old.broker.journal self.old.daemons.items }
+        requires names { HasShortNames self.old.broker.hub }
+        requires number { is_domain self.old.broker.hub domain ≡ true }
+        requires hearing { IsHearing domain self.old.broker.journal self.old.daemons.items }
+        ensures hub { self.new.broker.hub ≡ self.old.broker.hub }
+        ensures posting { OnOk result (IsPosting self.new.broker.hub self.new.broker.journal self.new.daemons.items) }
+        ensures heard { OnOk result (HasHeardOut domain self.new.broker.journal self.new.daemons.items) }
+    {
+        while let Some(event) = self.daemons[domain as usize - 1].next()? {
+            self.decide(domain, event)?;
+        }
+        Ok(())
+    }
+
     // Decides an event of a domain, and puts what follows into the outboxes.
     fn decide(&mut self, from: u32, event: Event) -> Result<(), Memory>
         requires posting { IsPosting self.old.broker.hub self.old.broker.journal self.old.daemons.items }
