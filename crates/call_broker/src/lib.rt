@@ -23,3 +23,4 @@ pub use broker::Broker;
 pub use decision::{Cause, Decision, Entry};
 pub use domain::DomainEntry;
 pub use event::Event;
+pub use ports::port_after;

@@ -10,8 +10,9 @@ const FIRST_UP: u32 = 513;
 /// The first port of a pair whose caller has the higher number.
 const FIRST_DOWN: u32 = 514;
 
-/// The port that a pair gives out after so many calls.
-pub(crate) fn port_after(from: u32, to: u32, calls: u32) -> u32
+/// The port that an ordered pair of domains gives out after so many calls, of which there are at most
+/// 65,536.
+pub fn port_after(from: u32, to: u32, calls: u32) -> u32
     requires { calls ≤ 65536 }
     ensures { result ≡ port_after from to calls }
 {

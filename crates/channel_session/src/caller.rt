@@ -1,5 +1,5 @@
 //! A caller with the end of its channel.
-ghost use Rattle.std.specs.Prelude.{◌≡◌, ◌<◌, None, Some, OnOk, length};
+ghost use Rattle.std.specs.Prelude.{◌≡◌, ◌<◌, None, Some, OnOk, false, length};
 ghost use Rattle.vchan_rule.specs.Seated.{view, last_view, IsOpen};
 ghost use Rattle.vchan_rule.specs.Ends.{IsSameEnd};
 ghost use Rattle.task_duties.specs.Agent.Sessions.{CallerOwes};
@@ -117,6 +117,7 @@ impl<'p> CallerSession<'p> {
         requires outcome { self.caller.replies.outcome ≡ Some outcome }
         ensures owed { CallerOwes self.entry.caller.replies.own self.entry.caller.requests.input (done_of result) (last_view result.retired) }
         ensures end { IsRetired (view self.entry.end) (last_view result.retired) }
+        ensures honest { (last_view result.retired).turned ≡ false }
     {
         let CallerSession { caller, end, .. } = self;
         let CallerParts {
@@ -137,6 +138,7 @@ impl<'p> CallerSession<'p> {
     pub fn give_up(self) -> Retired
         requires open { IsOpen self.end }
         ensures end { IsRetired (view self.entry.end) (last_view result) }
+        ensures honest { (last_view result).turned ≡ false }
     {
         let CallerSession { end, .. } = self;
         retire(end)

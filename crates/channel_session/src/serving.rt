@@ -1,5 +1,5 @@
 //! A side that serves a call, with the end of its channel.
-ghost use Rattle.std.specs.Prelude.{◌≡◌, ◌<◌, ℕ, List, [], None, Some, OnOk, true, length};
+ghost use Rattle.std.specs.Prelude.{◌≡◌, ◌<◌, ℕ, List, [], None, Some, OnOk, true, false, length};
 ghost use Rattle.service_gate.specs.Triple.{Triple};
 ghost use Rattle.service_gate.specs.Owing.{builtin_owes};
 ghost use Rattle.qrexec_data.specs.ServingSide.{ServingStandsFor};
@@ -133,6 +133,7 @@ impl<'p> ServingSession<'p> {
         ensures owed { (name : List ℕ) (owed : List ℕ → Triple) → IsService name owed → IsAnswering owed self.entry.serving self.entry.end →
             ServingOwes self.entry.serving.answering.own name outcome result.got (last_view result.retired) }
         ensures end { IsRetired (view self.entry.end) (last_view result.retired) }
+        ensures honest { (last_view result.retired).turned ≡ false }
     {
         let ServingSession { serving, end, .. } = self;
         ServingEnd {
@@ -146,6 +147,7 @@ impl<'p> ServingSession<'p> {
     pub fn give_up(self) -> Retired
         requires idle { (view self.end).idle ≡ true }
         ensures end { IsRetired (view self.entry.end) (last_view result) }
+        ensures honest { (last_view result).turned ≡ false }
     {
         let ServingSession { end, .. } = self;
         retire(end)

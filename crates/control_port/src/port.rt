@@ -321,6 +321,7 @@ impl<'p> ControlPort<'p> {
     pub fn retire(self) -> Retired
         requires idle { (view self.end).idle ≡ true }
         ensures end { last_view result ≡ retired_view (view self.entry.end) }
+        ensures honest { (last_view result).turned ≡ false }
     {
         let ControlPort { end, .. } = self;
         retire(end)

@@ -8,14 +8,15 @@
 ghost use Rattle.std.specs.Prelude.{◌≡◌, ◌++◌, ◌∷◌, [], ◌+◌, ◌%◌, ◌^◌, ◌≤◌, ◌↔◌, IsTrue, ℕ, min, length, take};
 ghost use Rattle.ring_words.specs.Rings.{room as room_of};
 ghost use Rattle.ring_words.specs.Page.{order_of};
-ghost use Rattle.vchan_protocol.specs.Table.Ends.{written_ring, cons_word as cons_of, prod_word as prod_of, peer_pending, own_gone, low32};
+ghost use Rattle.vchan_protocol.specs.Table.Ends.{written_ring as written_ring_of, prod_word as prod_word_of, peer_pending, own_gone, low32};
 ghost use Rattle.vchan_protocol.specs.Hostile.Turned.{turns, strays, MayPoke};
 ghost use Rattle.vchan_protocol.specs.Table.Plan.{past};
 ghost use Rattle.hostile_seat.specs.Hostile.{strays_along, byte_stores, say_events};
 
-use ring_words::{Layout, Order, Ring, Role, WordName, place, room};
+use ring_words::{Layout, Order, Ring, WordName, place, room};
 use std::marker::Model;
 use vchan_core::Op;
+use vchan_core::words::{cons_word, prod_word, written_ring};
 use vchan_rule::{End, Retired, TurnedEnd};
 
 /// An end that a hostile user has.
@@ -85,9 +86,9 @@ impl<'p> Hostile<'p> {
     pub fn say(&mut self, own: &mut u32, data: &[u8]) -> u32
         ensures page { self.new.page ≡ self.old.page }
         ensures moved { own.new ≡ (own.old + result) % 2 ^ 32 }
-        ensures events { (taken : ℕ) × (result ≡ min (length data.now) (room_of own.old (low32 taken) (order_of self.old.side.orders (written_ring self.old.side.role)))) × (self.new.side ≡ strays_along self.old.side (say_events self.old.side.role self.old.side.orders own.old taken (take result data.now) own.new)) }
+        ensures events { (taken : ℕ) × (result ≡ min (length data.now) (room_of own.old (low32 taken) (order_of self.old.side.orders (written_ring_of self.old.side.role)))) × (self.new.side ≡ strays_along self.old.side (say_events self.old.side.role self.old.side.orders own.old taken (take result data.now) own.new)) }
     {
-        let ring = written(self.end.role());
+        let ring = written_ring(self.end.role());
         let order = self.end.orders().order_of(ring);
         let taken = self.end.load(cons_word(ring));
         let free = room(*own, (taken % 4294967296) as u32, order);
@@ -107,34 +108,6 @@ impl<'p> Hostile<'p> {
     }
 }
 
-/// The ring that an end writes.
-fn written(role: Role) -> Ring
-    ensures { result ≡ written_ring role }
-{
-    match role {
-        Role::Server => Ring::Right,
-        Role::Client => Ring::Left,
-    }
-}
-
-fn cons_word(ring: Ring) -> WordName
-    ensures { result ≡ cons_of ring }
-{
-    match ring {
-        Ring::Left => WordName::LeftCons,
-        Ring::Right => WordName::RightCons,
-    }
-}
-
-fn prod_word(ring: Ring) -> WordName
-    ensures { result ≡ prod_of ring }
-{
-    match ring {
-        Ring::Left => WordName::LeftProd,
-        Ring::Right => WordName::RightProd,
-    }
-}
-
 /// The smaller of a length and a room.
 fn said(len: usize, room: u32) -> u32
     ensures { result ≡ min len room }
@@ -147,7 +120,7 @@ fn said(len: usize, room: u32) -> u32
 
 /// Stores bytes into a ring, from the place of an index on.
 fn store_bytes(end: &mut TurnedEnd<'_>, ring: Ring, order: Order, index: u32, bytes: &[u8])
-    requires ring { ring ≡ written_ring end.old.side.role }
+    requires ring { ring ≡ written_ring_of end.old.side.role }
     requires order { order ≡ order_of end.old.side.orders ring }
     requires few { length bytes.now ≤ 1048576 }
     ensures page { end.new.page ≡ end.old.page }
@@ -168,12 +141,12 @@ fn store_bytes(end: &mut TurnedEnd<'_>, ring: Ring, order: Order, index: u32, by
 /// number, as the producer index. It answers the index.
 #[tactic(auto, using(crate::proofs::ByteLaws::along_push, crate::proofs::ByteLaws::along_orders, crate::proofs::ByteLaws::along_role))]
 fn put(end: &mut TurnedEnd<'_>, ring: Ring, order: Order, index: u32, bytes: &[u8]) -> u32
-    requires ring { ring ≡ written_ring end.old.side.role }
+    requires ring { ring ≡ written_ring_of end.old.side.role }
     requires order { order ≡ order_of end.old.side.orders ring }
     requires few { length bytes.now ≤ 1048576 }
     ensures page { end.new.page ≡ end.old.page }
     ensures moved { result ≡ (index + length bytes.now) % 2 ^ 32 }
-    ensures side { end.new.side ≡ strays_along end.old.side (byte_stores end.old.side.role end.old.side.orders index bytes.now ++ past (Op.Store (prod_of (written_ring end.old.side.role)) result) 0 ∷ []) }
+    ensures side { end.new.side ≡ strays_along end.old.side (byte_stores end.old.side.role end.old.side.orders index bytes.now ++ past (Op.Store (prod_word_of (written_ring_of end.old.side.role)) result) 0 ∷ []) }
 {
     store_bytes(end, ring, order, index, bytes);
     let index = index.wrapping_add(bytes.len() as u32);

@@ -19,12 +19,14 @@ use vchan_io::Memory;
 /// Reads the messages of a channel from bytes that come in any pieces.
 ///
 /// It keeps the place up to which its bytes were given out, and `next` moves that place and no byte.
+// The offset stands apart from the place: side by side they are moved on in one wide load, which waits for
+// the place that `feed` has just stored.
 #[derive(Debug, Drop)]
 pub struct Decoder {
     channel: Channel,
+    at: u64,
     bytes: Vec<u8>,
     given: usize,
-    at: u64,
     fault: Option<FrameFault>,
 }
 

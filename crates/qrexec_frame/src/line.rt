@@ -151,8 +151,14 @@ fn put_hello(out: &mut Vec<u8>, version: u32) -> Result<(), AllocError>
     Ok(())
 }
 
-fn put_data(out: &mut Vec<u8>, name: &[u8], bytes: &[u8]) -> Result<(), AllocError>
-    requires { length name.now ≤ 8 }
+/// A name, the number of some bytes and the bytes. The length of a name is a parameter, so that it is copied
+/// by a store or two.
+fn put_data<const N: usize>(
+    out: &mut Vec<u8>,
+    name: &[u8; N],
+    bytes: &[u8],
+) -> Result<(), AllocError>
+    requires { N ≤ 8 }
     ensures ok { OnOk result (out.new.items ≡ out.old.items ++ ((name.now ++ (decimal (length bytes.now) ++ codes " ")) ++ shown_bytes bytes.now)) }
     ensures no_memory { OnErr result (out.new.items ≡ out.old.items) }
 {
@@ -161,7 +167,7 @@ fn put_data(out: &mut Vec<u8>, name: &[u8], bytes: &[u8]) -> Result<(), AllocErr
     };
     out.reserve(room)?;
     put(out, name);
-    put(out, Buffer::new().format(bytes.len()).as_bytes());
+    put_count(out, bytes.len());
     put(out, b" ");
     put_bytes(out, bytes);
     Ok(())
@@ -274,6 +280,22 @@ fn put_number(out: &mut Vec<u8>, number: u32)
     put(out, Buffer::new().format(number).as_bytes());
 }
 
+/// The number of bytes of a stream's message. Short messages have one digit, which needs no buffer.
+#[inline(always)]
+#[tactic(auto, using(std::proofs::lemmas::Fmt::decimal_digit))]
+fn put_count(out: &mut Vec<u8>, count: usize)
+    requires { vec_len out.old + 20 ≤ vec_capacity out.old }
+    ensures items { out.new.items ≡ out.old.items ++ decimal count }
+    ensures len { vec_len out.new ≤ vec_len out.old + 20 }
+    ensures capacity { vec_capacity out.old ≤ vec_capacity out.new }
+{
+    if count < 10 {
+        out.push_reserved(b'0' + count as u8);
+    } else {
+        put(out, Buffer::new().format(count).as_bytes());
+    }
+}
+
 fn put_text(out: &mut Vec<u8>, text: &[u8])
     requires { vec_len out.old + (length text.now + 1) ≤ vec_capacity out.old }
     ensures items { out.new.items ≡ out.old.items ++ shown_text text.now }
@@ -309,6 +331,7 @@ fn shown(byte: u8) -> u8
     }
 }
 
+#[inline(always)]
 fn put_bytes(out: &mut Vec<u8>, bytes: &[u8])
     requires { vec_len out.old + (2 * length bytes.now + 1) ≤ vec_capacity out.old }
     ensures { out.new.items ≡ out.old.items ++ shown_bytes bytes.now }
@@ -320,6 +343,7 @@ fn put_bytes(out: &mut Vec<u8>, bytes: &[u8])
     put_hex(out, bytes);
 }
 
+#[inline(always)]
 fn put_hex(out: &mut Vec<u8>, bytes: &[u8])
     requires { vec_len out.old + 2 * length bytes.now ≤ vec_capacity out.old }
     ensures { out.new.items ≡ out.old.items ++ encode_lower bytes.now }

@@ -120,6 +120,7 @@ pub fn long_packet(alloc: Global) -> Option<Settled>
 fn make_events(end: &mut End<'_>, most: u32, buf: &mut [u8]) -> Option<Answer>
     requires { IsUnderWay end.old buf.old }
     ensures same { IsSameEnd end.old end.new }
+    ensures sent { (view end.new).sent ≡ (view end.old).sent }
     ensures long { length buf.new ≡ length buf.old }
     ensures goes_on { IfNone result (IsUnderWay end.new buf.new) }
 {
@@ -134,7 +135,7 @@ fn make_events(end: &mut End<'_>, most: u32, buf: &mut [u8]) -> Option<Answer>
 /// A server has begun a read and found no byte, when the client writes two and closes. The read then
 /// finds the client shut, a drain still finds the bytes, and a second one all read.
 pub fn closed_race(alloc: Global) -> Option<Settled>
-    ensures { IfSome result (λ page. (page.client.sent ≡ codes "ab") × (page.server.got ≡ codes "ab") × (page.client.got ≡ [])) }
+    ensures { IfSome result (λ page. HasMoved page (codes "ab") (codes "ab") [] []) }
 {
     let (page, server, client) = small_page(alloc)?;
     let (mut server, mut client) = connected(&page, server, client)?;
@@ -149,9 +150,7 @@ pub fn closed_race(alloc: Global) -> Option<Settled>
     if answer != Some(Answer::PeerClosed) || !server.idle() || server.state() != EndState::Open {
         return None;
     }
-    if drain(&mut server, &mut bytes) != (DrainAnswer::More { count: 2 }) {
-        return None;
-    }
+    drain_all(&mut server, &mut [0; 2])?;
     end_stream(&mut server)?;
     let server = retire(server);
     let client = retire(client);

@@ -1,6 +1,6 @@
 -- A run from what its tasks answered and from its settled pages.
 -- Source: this project's own.
-use Rattle.std.specs.Prelude.{◌≡◌, ◌≢◌, ℕ, ◌^◌, ◌<◌, ◌≤◌, true, false, List, [], ◌∷◌, length, map, slice_index_or, None, Contains, IsPermutation, AllPairs, if◌then◌else◌}
+use Rattle.std.specs.Prelude.{◌≡◌, ◌≢◌, ℕ, ◌≤◌, true, false, List, [], ◌∷◌, length, map, slice_index_or, None, Contains, IsPermutation, AllPairs, if◌then◌else◌}
 use Rattle.ring_words.specs.declared.order.Orders.{Orders}
 use Rattle.ring_words.specs.declared.page.Role.TheVariants.{Server}
 use Rattle.vchan_protocol.specs.declared.call.EndState.TheVariants.{Shut}
@@ -127,7 +127,6 @@ pub record IsJoined (s : Scenario) (dones : List TaskDone) (page : SettledPage) 
 -- all tasks have answered, and all pages are settled, in the order in which they are laid
 pub record AreResults (s : Scenario) (dones : List TaskDone) (pages : List SettledPage) : Type 0 where
   pub scenario : IsScenario s
-  pub numbers_small : Each (λ call. call.number < 2 ^ 64) s.calls
   pub answered : (number : ℕ) → number ≤ length s.domains → HasAnswered s dones number
   pub places : map (λ p. p.place) pages ≡ laid s
   pub joined : Each (IsJoined s dones) pages

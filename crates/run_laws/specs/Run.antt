@@ -1,7 +1,6 @@
 -- A run that is over: what each task owes, and what each settled page promises.
 -- Source: this project's own.
-use Rattle.std.specs.Prelude.{◌≡◌, ◌≢◌, ℕ, ◌^◌, ◌<◌, ◌==◌, true, false, List, if◌then◌else◌, is_some}
-use Rattle.qrexec_frame.specs.Streams.{Each}
+use Rattle.std.specs.Prelude.{◌≡◌, ◌≢◌, ℕ, ◌<◌, ◌==◌, true, false, List, if◌then◌else◌, is_some}
 use Rattle.call_broker.specs.declared.decision.Entry.{Entry}
 use Rattle.call_broker.specs.Domains.{port_after}
 use Rattle.end_view.specs.EndView.{EndView}
@@ -48,7 +47,6 @@ pub record IsHonest (s : Scenario) (d : ℕ) : Type 0 where
 -- a run of a scenario: each page is settled, the ends of hostile domains are turned and no others, and each task has done what it owes
 pub record IsRun (s : Scenario) (run : Run) : Type 0 where
   pub scenario : IsScenario s
-  pub numbers_small : Each (λ call. call.number < 2 ^ 64) s.calls
   pub settled : (place : PagePlace) → IsPlace s place → IsSettled (run.page place)
   pub server_turned : (place : PagePlace) → IsPlace s place → (run.page place).server.turned ≡ hostile_at s (server_of place)
   pub client_turned : (place : PagePlace) → IsPlace s place → (run.page place).client.turned ≡ hostile_at s (client_of place)

@@ -1,5 +1,5 @@
 -- The generated scenario is a scenario.
-use Rattle.std.proofs.Common.{◌≡◌, ℕ, ◌+◌, ◌-◌, ◌*◌, ◌%◌, ◌<◌, ◌≤◌, suc, zero, List, [], ◌∷◌, ◌++◌, length, drop, map, refl, ap, sym, ◌∙◌, append_assoc, append-nil, arith, inr, true, false}
+use Rattle.std.proofs.Common.{◌≡◌, ℕ, ◌+◌, ◌-◌, ◌*◌, ◌%◌, ◌^◌, ◌<◌, ◌≤◌, suc, zero, List, [], ◌∷◌, ◌++◌, length, drop, map, refl, ap, sym, ◌∙◌, append_assoc, append-nil, arith, inr, true, false}
 use Rattle.std.specs.Prelude.{bytes_eq}
 use Rattle.std.specs.List.{All}
 use Rattle.std.proofs.lemmas.Bool.Decides.{nat_tests}
@@ -49,18 +49,19 @@ pub length_fill : (count : ℕ) → length (fill count) ≡ count
 unfolding fill
 length_fill count = length-map-range_with_len (λ i. i % 251) 0 count
 
-call-fits : (number caller target service stdin : ℕ) → CallFits made_domains (generated_call number caller target service stdin)
-call-fits number caller target service stdin = record {
+call-fits : (number caller target service stdin : ℕ) → number < 2 ^ 32 → CallFits made_domains (generated_call number caller target service stdin)
+call-fits number caller target service stdin small = record {
+  number = small;
   caller = places-honest (caller % 4) (omega arith);
   target = names-fit (other_place (caller % 4) (target % 3)) (other-within (caller % 4) (target % 3) (omega arith));
   service = services-fit (service % 6) (omega arith);
   stdin = omega (arith, length_fill (stdin % 2049));
 }
 
-calls-fit : (number x count : ℕ) → All (CallFits made_domains) (generated_calls number x count)
+calls-fit : (number x count : ℕ) → number + count ≤ 2 ^ 32 → All (CallFits made_domains) (generated_calls number x count)
 unfolding generated_calls
-calls-fit number x zero = All-nil (CallFits made_domains)
-calls-fit number x (suc count) = All-cons (CallFits made_domains) (call_from number x) (generated_calls (number + 1) (after_call x) count) (call-fits number _ _ _ _) (calls-fit (number + 1) (after_call x) count)
+calls-fit number x zero few = All-nil (CallFits made_domains)
+calls-fit number x (suc count) few = All-cons (CallFits made_domains) (call_from number x) (generated_calls (number + 1) (after_call x) count) (call-fits number _ _ _ _ (omega (arith, few))) (calls-fit (number + 1) (after_call x) count (omega (arith, few)))
 
 length-calls : (number x count : ℕ) → length (generated_calls number x count) ≡ count
 unfolding generated_calls
@@ -119,7 +120,7 @@ generated_is_scenario seed calls orders left right few = record {
   few_calls = omega (arith, length-calls 1 seed calls);
   domains_fit = domains-fit;
   apart = apart;
-  calls_fit = calls-fit 1 seed calls;
+  calls_fit = calls-fit 1 seed calls (omega (arith, few));
   rising = rise 0 1 seed calls (omega arith);
   stdin = omega (arith, few-bytes 1 seed calls);
   words =

@@ -97,7 +97,7 @@ callers : (s : Plan) → IsScenario s → AllByRecursion (λ call. IsHonest s.do
 callers s is = recursion_from_All _ s.calls (All-weaker (CallFits s.domains) (λ call. IsHonest s.domains call.from) (λ call fits. fits.caller) s.calls is.calls_fit)
 
 fit-left : (domains : List Domain) (call : CallPlan) → CallFits domains call → CallFits (honest domains) (call_left domains call)
-fit-left domains call fits = record { caller = honest-left domains call.from fits.caller; target = fits.target; service = fits.service; stdin = fits.stdin }
+fit-left domains call fits = record { number = fits.number; caller = honest-left domains call.from fits.caller; target = fits.target; service = fits.service; stdin = fits.stdin }
 
 fewer-left : (domains : List Domain) → length (honest domains) ≤ length domains
 fewer-left domains = omega (arith, length-filter (λ (domain : Domain). not (is_hostile domain)) domains, count_by-le-length (λ (domain : Domain). not (is_hostile domain)) domains)

@@ -1,6 +1,6 @@
 -- A scenario: its rings, its domains with the acts of those that are hostile, and its calls.
 -- Source: this project's own; a page's words are those of ring_words.
-use Rattle.std.specs.Prelude.{◌≡◌, ℕ, zero, suc, ◌-◌, ◌+◌, ◌*◌, ◌<◌, ◌≤◌, ◌⊎◌, ◌==◌, not, Bool, true, false, List, [], ◌∷◌, length, is_some, slice_get, sum_by, count_by, Option, Some, None, option_map, bytes_eq, if◌then◌else◌}
+use Rattle.std.specs.Prelude.{◌≡◌, ℕ, zero, suc, ◌-◌, ◌+◌, ◌*◌, ◌^◌, ◌<◌, ◌≤◌, ◌⊎◌, ◌==◌, not, Bool, true, false, List, [], ◌∷◌, length, is_some, slice_get, sum_by, count_by, Option, Some, None, option_map, bytes_eq, if◌then◌else◌}
 use Rattle.std.specs.Option.{option_map_or}
 use Rattle.std.specs.List.{All}
 use Rattle.ring_words.specs.declared.order.Orders.{Orders}
@@ -144,8 +144,9 @@ AreApart (domain ∷ domains) = All (λ other. bytes_eq domain.name other.name �
 abbrev pub IsHonest : List Domain → ℕ → Type 0
 IsHonest domains number = option_map_or is_hostile (domain_at domains number) true ≡ false
 
--- a call of an honest domain, with clean names and an input within the limit
+-- a call of an honest domain, with a number of 32 bits, clean names and an input within the limit
 pub record CallFits (domains : List Domain) (call : CallPlan) : Type 0 where
+  pub number : call.number < 2 ^ 32
   pub caller : IsHonest domains call.from
   pub target : is_name call.to ≡ true
   pub service : is_service call.service ≡ true

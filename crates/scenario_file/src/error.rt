@@ -1,9 +1,10 @@
 //! Why bytes aren't a scenario.
-ghost use Rattle.std.specs.Prelude.{◌≡◌};
+ghost use Rattle.std.specs.Prelude.{◌≡◌, ◌≤◌, ◌+◌, ◌++◌, length, vec_len, vec_capacity, IsOk, OnOk, OnErr};
 
-use crate::path::Path;
+use crate::path::{Path, push_fault_line};
 use std::alloc::AllocError;
 use thiserror::Error;
+use vchan_io::Memory;
 
 /// What is wrong at a place of a scenario file.
 #[derive(Clone, Copy, Debug, PartialEq, Eq)]
@@ -57,6 +58,28 @@ impl From<AllocError> for ScenarioError {
 
     fn from(_refused: AllocError) -> ScenarioError {
         ScenarioError::Memory
+    }
+}
+
+impl ScenarioError {
+    ghost use Rattle.scenario_file.specs.KindWords.{error_line};
+
+    /// Appends the line that tells a user of it, without its end: of a failed check the path and the
+    /// word for the kind, as `call[2].service: bad-text`, and else `out of memory`.
+    ///
+    /// Want of memory leaves `out` as it was, and never comes where `out` has room for the line.
+    pub fn push_line(&self, out: &mut Vec<u8>) -> Result<(), Memory>
+        ensures ok { OnOk result (out.new.items ≡ out.old.items ++ error_line self.now) }
+        ensures err { OnErr result (out.new.items ≡ out.old.items) }
+        ensures room { vec_len out.old + length (error_line self.now) ≤ vec_capacity out.old → IsOk result }
+    {
+        match self {
+            ScenarioError::Bad { kind, at } => push_fault_line(out, *kind, at),
+            ScenarioError::Memory => {
+                out.extend_from_slice(b"out of memory")?;
+                Ok(())
+            }
+        }
     }
 }
 

@@ -33,6 +33,7 @@ pub use file::read;
 pub use generator::{generate, next_number};
 pub use laws::lines_stay_without_hostile;
 pub use line::{Line, LineCause, LineResult};
+pub use lookup::number_named;
 pub use outcomes::honest_lines;
 pub use path::{Path, push_fault_line};
 pub use scenario::{CallPlan, Domain, Scenario};

@@ -38,8 +38,8 @@ pub(crate) fn domain_at_place(domains: &[Domain], place: usize) -> &Domain
     &domains[place]
 }
 
-/// The number of the first domain of a name, from 1 on.
-pub(crate) fn number_named(domains: &[Domain], name: &[u8]) -> Option<u32>
+/// The number of the first domain of a name, from 1 on, among at most 32.
+pub fn number_named(domains: &[Domain], name: &[u8]) -> Option<u32>
     requires { length domains.now ≤ 32 }
     ensures { result ≡ number_named domains.now name.now }
 {

@@ -1,5 +1,5 @@
 //! Where in a scenario file something stands.
-ghost use Rattle.std.specs.Prelude.{◌≡◌, ◌++◌, IfOk, OnErr, string_bytes};
+ghost use Rattle.std.specs.Prelude.{◌≡◌, ◌≤◌, ◌+◌, ◌++◌, length, vec_len, vec_capacity, IsOk, OnOk, OnErr, string_bytes};
 ghost use Rattle.scenario_file.specs.KindWords.{fault_line};
 
 use crate::error::ScenarioKind;
@@ -31,10 +31,12 @@ impl Path {
 }
 
 /// Appends the line that tells a failed check, without its end: the path and the word for the kind,
-/// as `call[2].service: bad-text`. Want of memory leaves `out` as it was.
+/// as `call[2].service: bad-text`. Want of memory leaves `out` as it was, and never comes where `out`
+/// has room for the line.
 pub fn push_fault_line(out: &mut Vec<u8>, kind: ScenarioKind, at: &Path) -> Result<(), Memory>
-    ensures ok { IfOk result (λ _. out.new.items ≡ out.old.items ++ fault_line kind at.now) }
+    ensures ok { OnOk result (out.new.items ≡ out.old.items ++ fault_line kind at.now) }
     ensures err { OnErr result (out.new.items ≡ out.old.items) }
+    ensures room { vec_len out.old + length (fault_line kind at.now) ≤ vec_capacity out.old → IsOk result }
 {
     let word = kind.word();
     let path = at.bytes();

@@ -7,8 +7,7 @@ use Rattle.std.proofs.lemmas.Bool.{cases_lt}
 use Rattle.std.proofs.lemmas.Bool.Decides.{nat_tests}
 use Rattle.hex.specs.Hex.{hex_digit_value}
 use Rattle.script_words.proofs.WordLaws.{tail_whole}
-use Rattle.script_words.specs.ByteStrings.{at_most, byte_of, byte_string, bytes_of_pairs, has_star, repeated, Gains, IsPushRefusal, ◌>>=◌}
-use Rattle.script_words.specs.declared.byte_string.ByteFault.TheVariants.{BadHex, TooManyBytes}
+use Rattle.script_words.specs.ByteStrings.{at_most, byte_of, byte_string, bytes_of_pairs, has_star, repeated, Gains, IsPushRefusal, BadHex, TooManyBytes, ◌>>=◌}
 use Rattle.script_words.specs.declared.byte_string.PushError.{PushError}
 use Rattle.script_words.specs.declared.byte_string.PushError.TheVariants as push
 
@@ -195,14 +194,14 @@ pairs_len (high ∷ low ∷ rest) bytes is =
     let found = one_pair (byte_of high low) (bytes_of_pairs rest) bytes is in omega (arith, found.2, pairs_len rest found.0 found.1)
 
 -- the refusal of digits that are more than may be
-pub refused_many : (most : ℕ) (due : Option (List ℕ)) (e : PushError) → ((bytes : List ℕ) → due ≡ Some bytes → most < length bytes) → e ≡ cond (is_some due) (push.Bad TooManyBytes) (push.Bad BadHex) → IsPushRefusal e (at_most most due)
+pub refused_many : (most : ℕ) (due : Option (List ℕ)) (e : PushError) → ((bytes : List ℕ) → due ≡ Some bytes → most < length bytes) → e ≡ cond (is_some due) push.TooManyBytes push.BadHex → IsPushRefusal e (at_most most due)
 refused_many most None e many is = subst (λ (e : PushError). IsPushRefusal e (Err BadHex)) (sym is) refl
 refused_many most (Some bytes) e many is =
     let over : ltb most (length bytes) ≡ true = grind (arith, nat_tests, many bytes refl) in
     subst (λ (e : PushError). IsPushRefusal e (at_most most (Some bytes))) (sym is) (rw over refl)
 
 -- and of digits for which there is no memory
-pub refused_memory : (most : ℕ) (due : Option (List ℕ)) (e : PushError) → ((bytes : List ℕ) → due ≡ Some bytes → length bytes ≤ most) → e ≡ cond (is_some due) push.Memory (push.Bad BadHex) → IsPushRefusal e (at_most most due)
+pub refused_memory : (most : ℕ) (due : Option (List ℕ)) (e : PushError) → ((bytes : List ℕ) → due ≡ Some bytes → length bytes ≤ most) → e ≡ cond (is_some due) push.Memory push.BadHex → IsPushRefusal e (at_most most due)
 refused_memory most None e few is = subst (λ (e : PushError). IsPushRefusal e (Err BadHex)) (sym is) refl
 refused_memory most (Some bytes) e few is =
     let under : ltb most (length bytes) ≡ false = grind (arith, nat_tests, few bytes refl) in

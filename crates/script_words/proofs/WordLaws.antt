@@ -6,7 +6,7 @@ use Rattle.std.proofs.lemmas.List.Splits.{slice_split_first, length-slice_split}
 use Rattle.std.proofs.lemmas.Bool.Decides.{nat_tests}
 use Rattle.std.proofs.lemmas.List.Sums.{position_or_len_is}
 use Rattle.memchr.specs.Find.{IsFirstByte, is_byte}
-use Rattle.script_words.specs.Words.{lines_of, without_empty_end}
+use Rattle.script_words.specs.Words.{lines_of, only, without_empty_end}
 
 pub not_true : (b : Bool) → ¬ (b ≡ true) → b ≡ false
 not_true true not = absurd (not refl)
@@ -52,6 +52,19 @@ cut_found p xs i is =
 
 pub cut_missing : (p : ℕ → Bool) (xs : List ℕ) → None ≡ position p xs → slice_split p xs ≡ xs ∷ []
 cut_missing p xs is = uncut p xs (missing (position_or_len p xs) (length xs) (sym is))
+
+-- a piece with a separator behind it is not the only one
+not_only : (piece : List ℕ) (more : List (List ℕ)) → 0 < length more → only (piece ∷ more) ≡ None
+not_only piece [] some = absurd (omega arith)
+not_only piece (next ∷ more) some = refl
+
+pub only_cut : (p : ℕ → Bool) (xs : List ℕ) (i : ℕ) → Some i ≡ position p xs → only (slice_split p xs) ≡ None
+only_cut p xs i is =
+    let behind : List ℕ = take (length xs - (i + 1)) (drop (i + 1) xs) in
+    rw (cut_found p xs i is) (not_only (take i xs) (slice_split p behind) (omega (arith, length-slice_split p behind)))
+
+pub only_uncut : (p : ℕ → Bool) (xs : List ℕ) → None ≡ position p xs → only (slice_split p xs) ≡ Some xs
+only_uncut p xs is = rw (cut_missing p xs is) refl
 
 -- what is left behind a line feed is not the end of that line
 pub line_before : (line : List ℕ) (pieces : List (List ℕ)) → 0 < length pieces → without_empty_end (line ∷ pieces) ≡ line ∷ without_empty_end pieces

@@ -4,8 +4,6 @@ use Rattle.std.specs.Prelude.{◌≡◌, ◌++◌, ℕ, ◌+◌, ◌*◌, ◌==�
 use Rattle.std.specs.Option.{option_and_then}
 use Rattle.hex.specs.Hex.{hex_digit_value}
 use Rattle.script_words.specs.Numbers.{number_of}
-use Rattle.script_words.specs.declared.byte_string.ByteFault.{ByteFault}
-use Rattle.script_words.specs.declared.byte_string.ByteFault.TheVariants.{BadHex, TooManyBytes}
 use Rattle.script_words.specs.declared.byte_string.PushError.{PushError}
 use Rattle.script_words.specs.declared.byte_string.PushError.TheVariants as push
 
@@ -49,6 +47,13 @@ byte_string word =
     else if length word == 0 then None
     else bytes_of_pairs word
 
+-- what is wrong with a word that should spell bytes, at most so many
+pub data ByteFault : Type 0 where
+  -- it is no byte string
+  BadHex : ByteFault
+  -- it is a byte string of more bytes
+  TooManyBytes : ByteFault
+
 -- the bytes of a word, where it has some and they are at most so many; or what is wrong with it
 abbrev pub at_most : ℕ → Option (List ℕ) → Result (List ℕ) ByteFault
 at_most most None = Err BadHex
@@ -61,5 +66,6 @@ Gains (Ok bytes) old new = new ≡ old ++ bytes
 
 -- the refusal of a word is the one that is due; want of memory comes only where none is
 abbrev pub IsPushRefusal : PushError → Result (List ℕ) ByteFault → Type 0
-IsPushRefusal (push.Bad fault) due = due ≡ Err fault
+IsPushRefusal push.BadHex due = due ≡ Err BadHex
+IsPushRefusal push.TooManyBytes due = due ≡ Err TooManyBytes
 IsPushRefusal push.Memory due = IsOk due

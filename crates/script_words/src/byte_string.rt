@@ -24,34 +24,19 @@ pub enum ByteError {
     Memory,
 }
 
-/// What is wrong with a word that should spell bytes, at most so many.
+/// Why the bytes of a word weren't appended.
+// It has no parts, so that a result with it is handed back without memory, a line of a stream at a time.
 #[derive(Clone, Copy, Debug, PartialEq, Eq, Error)]
-pub enum ByteFault {
+pub enum PushError {
     /// The word is no byte string.
     #[error("bad hex")]
     BadHex,
-    /// The word is a byte string of more bytes.
+    /// The word is a byte string of more bytes than may be.
     #[error("too many bytes")]
     TooManyBytes,
-}
-
-/// Why the bytes of a word weren't appended.
-#[derive(Clone, Copy, Debug, PartialEq, Eq, Error)]
-pub enum PushError {
-    /// The word doesn't spell bytes, or too many.
-    #[error("{0}")]
-    Bad(ByteFault),
     /// There was no memory for its bytes.
     #[error("out of memory")]
     Memory,
-}
-
-impl PushError {
-    /// The word is no byte string.
-    const BAD_HEX: PushError = PushError::Bad(ByteFault::BadHex);
-
-    /// The word is a byte string of more bytes than may be.
-    const TOO_MANY_BYTES: PushError = PushError::Bad(ByteFault::TooManyBytes);
 }
 
 impl From<AllocError> for PushError {
@@ -78,9 +63,9 @@ pub fn bytes_of(alloc: Global, word: &[u8]) -> Result<Vec<u8>, ByteError>
     let mut bytes = Vec::new(alloc);
     match push_bytes(&mut bytes, word, usize::MAX) {
         Ok(()) => Ok(bytes),
-        Err(PushError::Bad(ByteFault::BadHex)) => Err(ByteError::BadHex),
+        Err(PushError::BadHex) => Err(ByteError::BadHex),
         // There is no memory for more bytes than a vector may have.
-        Err(PushError::Bad(ByteFault::TooManyBytes) | PushError::Memory) => Err(ByteError::Memory),
+        Err(PushError::TooManyBytes | PushError::Memory) => Err(ByteError::Memory),
     }
 }
 
@@ -104,7 +89,7 @@ pub fn push_bytes(out: &mut Vec<u8>, word: &[u8], most: usize) -> Result<(), Pus
     } else if word.len() > 2 && word[2] == b'*' {
         push_repeated(out, word[0], word[1], &word[3..], most)
     } else if word.is_empty() {
-        Err(PushError::BAD_HEX)
+        Err(PushError::BadHex)
     } else {
         push_pairs(out, word, most)
     }
@@ -125,16 +110,16 @@ fn push_repeated(
     let high = digit_value(high);
     let low = digit_value(low);
     if high == NO_DIGIT || low == NO_DIGIT {
-        return Err(PushError::BAD_HEX);
+        return Err(PushError::BadHex);
     }
     let Some(times) = parse_number(count, MOST_TIMES) else {
-        return Err(PushError::BAD_HEX);
+        return Err(PushError::BadHex);
     };
     if times == 0 {
-        return Err(PushError::BAD_HEX);
+        return Err(PushError::BadHex);
     }
     if times > most as u64 {
-        return Err(PushError::TOO_MANY_BYTES);
+        return Err(PushError::TooManyBytes);
     }
     out.resize(out.len() + times as usize, high * 16 + low)?;
     Ok(())
@@ -147,11 +132,11 @@ fn push_pairs(out: &mut Vec<u8>, digits: &[u8], most: usize) -> Result<(), PushE
     ensures err { OnErr result (out.new.items ≡ out.old.items) }
 {
     if digits.len() % 2 != 0 {
-        return Err(PushError::BAD_HEX);
+        return Err(PushError::BadHex);
     }
     let count = digits.len() / 2;
     if count > most {
-        return Err(refusal_of(digits, PushError::TOO_MANY_BYTES));
+        return Err(refusal_of(digits, PushError::TooManyBytes));
     }
     let start = out.len();
     if out.resize(start + count, 0).is_err() {
@@ -161,7 +146,7 @@ fn push_pairs(out: &mut Vec<u8>, digits: &[u8], most: usize) -> Result<(), PushE
         Ok(())
     } else {
         out.truncate(start);
-        Err(PushError::BAD_HEX)
+        Err(PushError::BadHex)
     }
 }
 
@@ -177,10 +162,10 @@ fn push_pair(out: &mut Vec<u8>, high: u8, low: u8, most: usize) -> Result<(), Pu
     let high = digit_value(high);
     let low = digit_value(low);
     if high == NO_DIGIT || low == NO_DIGIT {
-        return Err(PushError::BAD_HEX);
+        return Err(PushError::BadHex);
     }
     if most == 0 {
-        return Err(PushError::TOO_MANY_BYTES);
+        return Err(PushError::TooManyBytes);
     }
     out.extend_from_slice(&[high * 16 + low])?;
     Ok(())
@@ -190,12 +175,12 @@ fn push_pair(out: &mut Vec<u8>, high: u8, low: u8, most: usize) -> Result<(), Pu
 #[inline(never)]
 fn refusal_of(digits: &[u8], why: PushError) -> PushError
     requires { length digits.now % 2 ≡ 0 }
-    ensures { result ≡ if is_some (bytes_of_pairs digits.now) then why else PushError.Bad ByteFault.BadHex }
+    ensures { result ≡ if is_some (bytes_of_pairs digits.now) then why else PushError.BadHex }
 {
     if are_pairs(digits) {
         why
     } else {
-        PushError::BAD_HEX
+        PushError::BadHex
     }
 }
 

@@ -10,7 +10,7 @@ mod lines;
 mod number;
 mod words;
 
-pub use byte_string::{ByteError, ByteFault, PushError, bytes_of, push_bytes};
+pub use byte_string::{ByteError, PushError, bytes_of, push_bytes};
 pub use lines::{LineReader, MOST_LINES, NextLine, TooManyLines};
 pub use number::{is_number, parse_number};
 pub use words::{WordsOfLine, cut_at, first_line};

@@ -43,21 +43,18 @@ fn byte_strings_spell_their_bytes(rt: HostRuntime) -> Result<(), Fail> {
 fn bytes_stand_behind_those_before(rt: HostRuntime) -> Result<(), Fail> {
     let mut bytes = Vec::from_slice(rt.alloc(), b"a")?;
     push_bytes(&mut bytes, b"6263", 2)?;
-    assert_eq!(rt;
-        push_bytes(&mut bytes, b"646x", 2),
-        Err(PushError::Bad(ByteFault::BadHex))
-    );
+    assert_eq!(rt; push_bytes(&mut bytes, b"646x", 2), Err(PushError::BadHex));
     assert_eq!(rt;
         push_bytes(&mut bytes, b"64*3", 2),
-        Err(PushError::Bad(ByteFault::TooManyBytes))
+        Err(PushError::TooManyBytes)
     );
     assert_eq!(rt;
         push_bytes(&mut bytes, b"646566", 2),
-        Err(PushError::Bad(ByteFault::TooManyBytes))
+        Err(PushError::TooManyBytes)
     );
     assert_eq!(rt;
         push_bytes(&mut bytes, b"64656x", 2),
-        Err(PushError::Bad(ByteFault::BadHex))
+        Err(PushError::BadHex)
     );
     push_bytes(&mut bytes, b"64*2", 2)?;
     assert!(rt; bytes.as_slice() == b"abcdd".as_slice());
@@ -101,20 +98,17 @@ fn lines_words_and_numbers_are_read(rt: HostRuntime) {
 #[test]
 fn errors_are_told_in_words(rt: HostRuntime) -> Result<(), Fail> {
     let told = format!(in rt.alloc();
-        "{}; {}; {}; {}; {}; {}; {}; {}",
+        "{}; {}; {}; {}; {}; {}",
         ByteError::BadHex,
         ByteError::Memory,
-        ByteFault::BadHex,
-        ByteFault::TooManyBytes,
-        PushError::Bad(ByteFault::BadHex),
-        PushError::Bad(ByteFault::TooManyBytes),
+        PushError::BadHex,
+        PushError::TooManyBytes,
         PushError::Memory,
         TooManyLines { line: 65_537 },
     )?;
     assert_eq!(rt;
         told.as_str(),
-        "bad hex; out of memory; bad hex; too many bytes; bad hex; too many bytes; out of memory; \
-         line 65537: too many lines"
+        "bad hex; out of memory; bad hex; too many bytes; out of memory; line 65537: too many lines"
     );
     Ok(())
 }

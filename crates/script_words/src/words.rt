@@ -43,6 +43,7 @@ pub fn first_line(bytes: &[u8]) -> Option<(&[u8], &[u8])>
 ///
 /// A few bytes are looked at one by one, where this is called; to search for many bytes at once
 /// pays only where there are more.
+#[inline(always)]
 fn find_byte(bytes: &[u8], wanted: u8) -> Option<usize>
     ensures { result ≡ position (λ byte. byte == wanted) bytes.now }
 {
@@ -112,11 +113,13 @@ impl<'a> WordsOfLine<'a> {
     }
 
     /// The word that is left, where it is the only one.
-    pub fn only(mut self) -> Option<&'a [u8]>
+    #[inline(always)]
+    #[tactic(auto, using(crate::proofs::WordLaws::only_cut, crate::proofs::WordLaws::only_uncut))]
+    pub fn only(self) -> Option<&'a [u8]>
         ensures { option_copied result ≡ only (words_left self.entry) }
     {
-        let word = self.next()?;
-        match self.next() {
+        let word = self.rest?;
+        match find_byte(word, b' ') {
             None => Some(word),
             Some(_) => None,
         }

@@ -1,7 +1,7 @@
 //! Why bytes aren't a script.
 ghost use Rattle.std.specs.Prelude.{◌≡◌};
 
-use script_words::{ByteFault, PushError, TooManyLines};
+use script_words::{PushError, TooManyLines};
 use std::alloc::{AllocError, AllocFailed};
 use thiserror::Error;
 
@@ -117,8 +117,8 @@ impl From<PushError> for LineError {
 
     fn from(error: PushError) -> LineError {
         match error {
-            PushError::Bad(ByteFault::BadHex) => LineError::Bad(ScriptKind::BadHex),
-            PushError::Bad(ByteFault::TooManyBytes) => LineError::Bad(ScriptKind::TooManyBytes),
+            PushError::BadHex => LineError::Bad(ScriptKind::BadHex),
+            PushError::TooManyBytes => LineError::Bad(ScriptKind::TooManyBytes),
             PushError::Memory => LineError::Memory,
         }
     }

@@ -9,8 +9,7 @@ use Rattle.stream_text.specs.Texts.{decoded, text_of}
 use Rattle.stream_text.specs.declared.error.DecodeKind.{DecodeKind}
 use Rattle.stream_text.specs.declared.error.DecodeError.{DecodeError}
 use Rattle.stream_text.specs.declared.error.DecodeError.TheVariants as error
-use Rattle.script_words.specs.ByteStrings.{IsPushRefusal, at_most, byte_string}
-use Rattle.script_words.specs.declared.byte_string.ByteFault.{ByteFault}
+use Rattle.script_words.specs.ByteStrings.{IsPushRefusal, ByteFault, at_most, byte_string}
 use Rattle.script_words.specs.declared.byte_string.PushError.{PushError}
 use Rattle.script_words.specs.declared.byte_string.PushError.TheVariants as push
 use Rattle.script_words.specs.KeptLines.{Lines, stops, refused, line}
@@ -102,7 +101,8 @@ is-good due x is = rw is refl
 
 -- the refusal of a line is that of its byte string
 pub refused-piece : (e : PushError) (number before : ℕ) (text : List ℕ) → IsPushRefusal e (at_most (8388608 - before) (byte_string text)) → IsLineRefusal (refused_at number e) (piece_at number before text)
-refused-piece (push.Bad fault) number before text is = ap (in_line number) is
+refused-piece push.BadHex number before text is = ap (in_line number) is
+refused-piece push.TooManyBytes number before text is = ap (in_line number) is
 refused-piece push.Memory number before text is = some-in-line number (at_most (8388608 - before) (byte_string text)) is
   where
     some-in-line : (number : ℕ) (due : Result (List ℕ) ByteFault) → IsOk due → IsOk (in_line number due)

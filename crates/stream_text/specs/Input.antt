@@ -3,9 +3,8 @@
 use Rattle.std.specs.Prelude.{◌≡◌, ℕ, ◌+◌, ◌-◌, List, [], ◌++◌, length, Result, Ok, Err, IsOk}
 use Rattle.script_words.specs.Words.{lines_of}
 use Rattle.script_words.specs.KeptLines.{Lines, stops, refused, line, kept_lines}
-use Rattle.script_words.specs.ByteStrings.{at_most, byte_string}
-use Rattle.script_words.specs.declared.byte_string.ByteFault.{ByteFault}
-use Rattle.script_words.specs.declared.byte_string.ByteFault.TheVariants as fault
+use Rattle.script_words.specs.ByteStrings.{at_most, byte_string, ByteFault}
+use Rattle.script_words.specs.ByteStrings as fault
 use Rattle.script_words.specs.declared.byte_string.PushError.{PushError}
 use Rattle.script_words.specs.declared.byte_string.PushError.TheVariants as push
 use Rattle.stream_text.specs.declared.error.DecodeKind.{DecodeKind}
@@ -73,5 +72,6 @@ BeginsWell input = FirstIsGood (input_lines input)
 
 -- why the line of this number gave no piece
 abbrev pub refused_at : ℕ → PushError → DecodeError
-refused_at number (push.Bad fault) = error.Bad number (fault_kind fault)
+refused_at number push.BadHex = error.Bad number BadHex
+refused_at number push.TooManyBytes = error.Bad number TooManyBytes
 refused_at number push.Memory = error.Memory

@@ -1,7 +1,7 @@
 //! Why an input was not decoded.
 ghost use Rattle.std.specs.Prelude.{◌≡◌};
 
-use script_words::{ByteFault, PushError, TooManyLines};
+use script_words::{PushError, TooManyLines};
 use std::alloc::AllocError;
 use thiserror::Error;
 use vchan_io::Memory;
@@ -75,11 +75,11 @@ impl DecodeError {
         ensures { result ≡ refused_at line refused }
     {
         match refused {
-            PushError::Bad(ByteFault::BadHex) => DecodeError::Bad {
+            PushError::BadHex => DecodeError::Bad {
                 line,
                 kind: DecodeKind::BadHex,
             },
-            PushError::Bad(ByteFault::TooManyBytes) => DecodeError::Bad {
+            PushError::TooManyBytes => DecodeError::Bad {
                 line,
                 kind: DecodeKind::TooManyBytes,
             },

@@ -12,6 +12,6 @@ mod ends;
 pub mod laws;
 mod place;
 
-pub use ends::{DataEnd, RetiredEnd};
 pub use done::{CallDone, CallEnd, ControlEnd, ServedDone};
+pub use ends::{DataEnd, RetiredEnd};
 pub use place::PagePlace;

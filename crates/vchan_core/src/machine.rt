@@ -500,6 +500,22 @@ impl Machine {
         notify_word(role)
     }
 
+    #[inline(always)]
+    pub(crate) fn ask_as(&self, role: Role) -> WordName
+        requires { self.now.role ≡ role }
+        ensures { result ≡ ask_word_of self.now.role }
+    {
+        ask_word(role)
+    }
+
+    #[inline(always)]
+    pub(crate) fn pending_as(&self, role: Role) -> WordName
+        requires { self.now.role ≡ role }
+        ensures { result ≡ peer_pending_of self.now.role }
+    {
+        peer_pending(role)
+    }
+
     // ---- what an index that it loads tells
 
     fn free(&self, cons: u32) -> u32

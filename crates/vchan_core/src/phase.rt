@@ -45,6 +45,22 @@ pub enum Phase {
     Signal { answer: Answer },
 }
 
+impl Phase {
+    /// Whether the next events of this phase may be some that are made at once: looks, or events on
+    /// bytes. It saves the other phases the search for them; no promise rests on it.
+    #[inline(always)]
+    pub(crate) fn may_go_ahead(self) -> bool {
+        matches!(
+            self,
+            Phase::WriteLive { .. }
+                | Phase::WriteLook { .. }
+                | Phase::ReadLook { .. }
+                | Phase::Put { .. }
+                | Phase::Take { .. }
+        )
+    }
+}
+
 /// What comes of an event: a phase, or the answer of the call.
 #[derive(Clone, Copy, Debug)]
 pub enum Next {

@@ -166,6 +166,10 @@ impl Plain {
         ensures low { ((standing (machine_of self.old who)).prod < 2 ^ 32) × ((standing (machine_of self.old who)).cons < 2 ^ 32) }
         ensures events { MakesEvents result.0 (orders_of self.old) payload.now (at_phase (machine_of self.old who) phase) (words_of self.old) buf.old (at_phase (machine_of self.old who) result.1) (words_of self.new) buf.new }
     {
+        let _counts = self.machine(who).counts();
+        if !phase.may_go_ahead() {
+            return (0, phase);
+        }
         let (looks, looked) = self.look_few(who, phase, most);
         let (moved, at) = self.move_few(who, looked, most - looks, payload, buf);
         (looks + moved, at)

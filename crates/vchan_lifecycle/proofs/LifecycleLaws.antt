@@ -1,18 +1,19 @@
 -- The answers of a connect and of a drain, and the events of a close and of a retire.
-use Rattle.std.proofs.Common.{◌≡◌, ◌↔◌, ℕ, ◌<◌, ◌≤◌, ◌||◌, Bool, true, false, not, min, Result, Ok, Err, List, [], ◌∷◌, ◌++◌, length, refl, sym, ap, ◌∙◌, subst, arith, append-nil}
+use Rattle.std.proofs.Common.{◌≡◌, ◌↔◌, ℕ, suc, zero, ◌+◌, ◌<◌, ◌≤◌, ◌==◌, ◌||◌, bit_and, if◌then◌else◌, Bool, true, false, not, min, Result, Ok, Err, List, [], ◌∷◌, ◌++◌, length, refl, sym, ap, ◌∙◌, subst, arith, append-nil}
 use Rattle.ring_words.specs.declared.page.Role.{Role}
 use Rattle.vchan_protocol.specs.declared.op.Op.{Op}
-use Rattle.vchan_protocol.specs.declared.op.Op.TheVariants.{Store}
+use Rattle.vchan_protocol.specs.declared.op.Op.TheVariants.{Store, Or}
 use Rattle.vchan_protocol.specs.declared.op.PastEvent.{PastEvent}
 use Rattle.vchan_protocol.specs.declared.call.Answer.{Answer}
 use Rattle.vchan_protocol.specs.declared.call.Answer.TheVariants.{Got, NotYet, AllRead, PeerGone, Connected, Done, BadOrders as Refuses}
 use Rattle.vchan_protocol.specs.declared.call.Call.{Call}
 use Rattle.vchan_protocol.specs.declared.call.Call.TheVariants.{Connect, Drain, Close, Retire}
+use Rattle.vchan_protocol.specs.declared.call.Bit.TheVariants.{Written, Consumed}
 use Rattle.vchan_protocol.specs.declared.call.EndState.{EndState}
 use Rattle.vchan_protocol.specs.declared.call.EndState.TheVariants.{Fresh, Open, Shut}
 use Rattle.vchan_protocol.specs.Table.Plan.{Plan, does, answers, Leads}
-use Rattle.vchan_protocol.specs.Table.Ends.{Standing, own_live, own_gone, peer_pending}
-use Rattle.vchan_protocol.specs.Table.Calls.{Trace, close, retire, retire_shut}
+use Rattle.vchan_protocol.specs.Table.Ends.{Standing, own_live, own_gone, peer_pending, ask_word, mask, ready_at, low32}
+use Rattle.vchan_protocol.specs.Table.Calls.{Trace, close, retire, retire_shut, drain, ask, signal, notify, take, take_bytes, take_index}
 use Rattle.vchan_protocol.specs.Answering.Causes.{DrainCause, drain_got, drain_all_read, drain_not_yet, drain_peer_gone, ConnectCause, connect_agrees, connect_refused, waiting_at}
 use Rattle.vchan_protocol.specs.Answering.Loads.{loads_of}
 use Rattle.vchan_protocol.specs.OneEnd.EndingLaw.{tells_end}
@@ -25,7 +26,7 @@ use Rattle.vchan_protocol.proofs.Answering.AnswerLaws.{has_cause, each_cause}
 use Rattle.vchan_lifecycle.specs.declared.BadOrders.{BadOrders}
 use Rattle.vchan_lifecycle.specs.declared.DrainAnswer.{DrainAnswer}
 use Rattle.vchan_lifecycle.specs.declared.DrainAnswer.TheVariants.{More, NotYet as IsNotYet, AllRead as IsAllRead, PeerGone as IsPeerGone}
-use Rattle.vchan_lifecycle.specs.Lifecycle.{AnswersDrain, AnswersConnect, drain_told, connect_told, ops, close_ops, retire_ops, shut, retired_view}
+use Rattle.vchan_lifecycle.specs.Lifecycle.{AnswersDrain, AnswersConnect, drain_told, connect_told, ops, close_ops, retire_ops, shut, retired_view, asks, has_asked, found_none_first}
 
 -- ---- a drain
 
@@ -148,6 +149,46 @@ retire_events e events answer trace = go e.state trace
     go Fresh led = going_events e events answer led
     go Open led = going_events e events answer led
     go Shut led = shut_events e events answer led
+
+-- ---- what a drain asks for
+
+-- no event of what is left of a call asks to be signalled
+abbrev IsQuiet : Plan → Answer → Type 0
+IsQuiet plan answer = (events : List PastEvent) → Leads plan events (answers answer) → has_asked (ops events) ≡ false
+
+quiet_answer : (done answer : Answer) → IsQuiet (answers done) answer
+quiet_answer done answer events led = ap has_asked (last done events answer led)
+
+quiet_event : (op : Op) (next : ℕ → Plan) (answer : Answer) → asks op ≡ false → ((taken : ℕ) → IsQuiet (next taken) answer) → IsQuiet (does op next) answer
+quiet_event op next answer quiet later events led =
+    let f = first op next events answer led in
+    ap has_asked f.ops_are ∙ (λ i. quiet i || has_asked (ops f.later)) ∙ later f.taken f.later f.led
+
+quiet_if : (test : Bool) (one other : Plan) (answer : Answer) → IsQuiet one answer → IsQuiet other answer → IsQuiet (if test then one else other) answer
+quiet_if true one other answer a b = a
+quiet_if false one other answer a b = b
+
+quiet_bytes : (e : Standing) (i k : ℕ) (next : Plan) (answer : Answer) → IsQuiet next answer → IsQuiet (take_bytes e i k next) answer
+quiet_bytes e i zero next answer quiet = quiet
+quiet_bytes e i (suc k) next answer quiet = quiet_event _ (λ _. take_bytes e (i + 1) k next) answer refl (λ taken. quiet_bytes e (i + 1) k next answer quiet)
+
+quiet_take : (e : Standing) (k : ℕ) (done answer : Answer) → IsQuiet (take e k (answers done)) answer
+quiet_take e k done answer =
+    let over = quiet_answer done answer in
+    let signals = quiet_event (Store (peer_pending e.role) 1) (λ _. answers done) answer refl (λ taken. over) in
+    let notifies = quiet_event _ (λ old. if bit_and old (mask Consumed) == 0 then answers done else signal e (answers done)) answer refl (λ old. quiet_if (bit_and old (mask Consumed) == 0) _ _ answer over signals) in
+    quiet_bytes e 0 k (take_index e k (answers done)) answer (quiet_event _ (λ _. notify e Consumed (answers done)) answer refl (λ taken. notifies))
+
+-- with no byte found the next event asks, and else none does
+asks_next : (e : Standing) (k : ℕ) (none : Bool) (next : Plan) (done answer : Answer) (events : List PastEvent) → Leads (if none then ask e Written next else take e k (answers done)) events (answers answer) → has_asked (ops events) ≡ none
+asks_next e k true next done answer events led = ap has_asked (first (Or (ask_word e.role) (mask Written)) (λ _. next) events answer led).ops_are
+asks_next e k false next done answer events led = quiet_take e k done answer events led
+
+pub drain_asks : (e : Standing) (n : ℕ) (events : List PastEvent) (answer : Answer) → Trace e (Drain n) events answer → has_asked (ops events) ≡ found_none_first e events
+unfolding drain
+drain_asks e n [] answer trace = absurd (no_answer _ _ answer trace)
+drain_asks e n (event ∷ later) answer trace =
+    (λ i. asks (trace.0 i) || has_asked (ops later)) ∙ asks_next e _ (ready_at e (low32 event.taken) == 0) _ _ answer later trace.1
 
 -- a close and a retire answer that they are done
 pub close_done : (e : Standing) (events : List PastEvent) (answer : Answer) → Trace e Close events answer → answer ≡ Done

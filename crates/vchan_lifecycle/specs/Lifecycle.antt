@@ -3,14 +3,14 @@
 use Rattle.std.specs.Prelude.{ℕ, min, Some, Result, Ok, Err, Bool, true, false, ◌==◌, ◌||◌, List, [], ◌∷◌, ◌++◌, length, take}
 use Rattle.ring_words.specs.declared.page.Role.{Role}
 use Rattle.vchan_protocol.specs.declared.op.Op.{Op}
-use Rattle.vchan_protocol.specs.declared.op.Op.TheVariants.{Store}
+use Rattle.vchan_protocol.specs.declared.op.Op.TheVariants.{Store, Or}
 use Rattle.vchan_protocol.specs.declared.op.PastEvent.{PastEvent}
 use Rattle.vchan_protocol.specs.declared.call.Answer.{Answer}
 use Rattle.vchan_protocol.specs.declared.call.Answer.TheVariants.{Got, NotYet, AllRead, PeerGone, Connected, BadOrders as Refuses}
 use Rattle.vchan_protocol.specs.declared.call.EndState.{EndState}
 use Rattle.vchan_protocol.specs.declared.call.EndState.TheVariants.{Open, Shut}
 use Rattle.vchan_protocol.specs.declared.side.EndedBy.TheVariants.{AllRead as ByAllRead, PeerGone as ByPeerGone}
-use Rattle.vchan_protocol.specs.Table.Ends.{own_live, own_gone, peer_pending}
+use Rattle.vchan_protocol.specs.Table.Ends.{Standing, own_live, own_gone, peer_pending, ready_at, low32}
 use Rattle.vchan_protocol.specs.History.Core.{first_ended}
 use Rattle.end_view.specs.EndView.{EndView}
 use Rattle.vchan_lifecycle.specs.declared.BadOrders.{BadOrders}
@@ -83,3 +83,19 @@ close_ops role = Store (own_live role) 0 ∷ Store (peer_pending role) 1 ∷ []
 abbrev pub retire_ops : Role → EndState → List Op
 retire_ops role Shut = Store (own_gone role) 1 ∷ Store (peer_pending role) 1 ∷ []
 retire_ops role state = close_ops role ++ Store (own_gone role) 1 ∷ Store (peer_pending role) 1 ∷ []
+
+-- ---- what a drain asks for
+
+-- an end asks to be signalled by an or: some of these events does
+abbrev pub asks : Op → Bool
+asks (Or word bits) = true
+asks _ = false
+
+abbrev pub has_asked : List Op → Bool
+has_asked [] = false
+has_asked (op ∷ later) = asks op || has_asked later
+
+-- a drain's first event is a look at its peer's index, and by what it took no byte waits
+abbrev pub found_none_first : Standing → List PastEvent → Bool
+found_none_first e [] = false
+found_none_first e (event ∷ later) = ready_at e (low32 event.taken) == 0

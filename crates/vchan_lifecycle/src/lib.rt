@@ -5,7 +5,7 @@
 //! for sure, and the retire, which lets go of the page, are this project's own.
 #![tactic(auto)]
 
-ghost use Rattle.std.specs.Prelude.{◌≡◌, ◌≢◌, ◌↔◌, ◌<◌, ◌≤◌, min, true, length, ℕ, Result, is_ok};
+ghost use Rattle.std.specs.Prelude.{◌≡◌, ◌≢◌, ◌↔◌, ◌<◌, ◌≤◌, min, true, false, length, ℕ, Result, is_ok};
 ghost use Rattle.ring_words.specs.declared.page.Role.TheVariants.{Client};
 ghost use Rattle.vchan_protocol.specs.declared.call.Answer.TheVariants.{Done};
 ghost use Rattle.vchan_lifecycle.specs.declared.BadOrders.{BadOrders as Refused};
@@ -18,7 +18,7 @@ ghost use Rattle.vchan_protocol.specs.Answering.Loads.{loads_of};
 ghost use Rattle.end_view.specs.AfterCall.{DrainSees};
 ghost use Rattle.vchan_rule.specs.Seated.{view, last_view, IsOpen};
 ghost use Rattle.vchan_rule.specs.Ends.{IsSameEnd};
-ghost use Rattle.vchan_lifecycle.specs.Lifecycle.{most_asked, AnswersDrain, AnswersConnect, drain_told, connect_told, drained_to, connected_to, shut, retired_view, ops, close_ops, retire_ops};
+ghost use Rattle.vchan_lifecycle.specs.Lifecycle.{most_asked, AnswersDrain, AnswersConnect, drain_told, connect_told, drained_to, connected_to, shut, retired_view, ops, close_ops, retire_ops, has_asked, found_none_first};
 
 use vchan_core::{Answer, Call};
 use vchan_rule::{End, Retired};
@@ -108,6 +108,7 @@ pub fn close(end: &mut End<'_>)
 pub fn retire(mut end: End<'_>) -> Retired
     requires idle { (view end).idle ≡ true }
     ensures view { last_view result ≡ retired_view (view end.entry) }
+    ensures honest { (last_view result).turned ≡ false }
     ensures trail { Trace (standing_of end.entry.side) Retire result.side.trail Done }
     ensures events { ops result.side.trail ≡ retire_ops end.entry.side.role end.entry.side.state }
 {
@@ -117,7 +118,8 @@ pub fn retire(mut end: End<'_>) -> Retired
 
 /// Gets as many bytes as wait, up to the length of the buffer, or says for sure that no more come.
 /// Where it finds none it looks at the peer's live byte and at its gone word, and then looks at the
-/// index again. Each answer comes exactly where its cause is in what the call's events loaded.
+/// index again. Each answer comes exactly where its cause is in what the call's events loaded. It asks
+/// its peer for a signal exactly where its first look found no byte.
 pub fn drain(end: &mut End<'_>, buf: &mut [u8]) -> DrainAnswer
     requires open { IsOpen end.old }
     requires some { 0 < length buf.old }
@@ -129,6 +131,7 @@ pub fn drain(end: &mut End<'_>, buf: &mut [u8]) -> DrainAnswer
     ensures more { (count : ℕ) → result ≡ DrainAnswer.More count → 1 ≤ count }
     ensures few { (count : ℕ) → result ≡ DrainAnswer.More count → count ≤ length buf.old }
     ensures trail { Trace (standing_of end.old.side) (Drain (most_asked buf.old)) end.new.side.trail (drain_told result) }
+    ensures asks { has_asked (ops end.new.side.trail) ≡ found_none_first (standing_of end.old.side) end.new.side.trail }
     ensures cause { (other : DrainAnswer) → (result ≡ other) ↔ DrainCause (standing_of end.old.side) (most_asked buf.old) (loads_of (standing_of end.old.side) end.new.side.trail) (drain_told other) }
 {
     let call = Call::Drain {

@@ -41,45 +41,7 @@ pub record MakesNext (m m' : Machine) (op : Op) : Type 0 where
   pub awake : ¬ IsIdle m'
   pub quiet : (role : Role) → sets_gone op role ≡ false
 
-module _ (start : ℕ) (m m' : Machine) (v : Side) (payload : List ℕ) (op : Op) (n : MakesNext m m' op) (agrees : Agrees start None m v) (has : HasPayload v payload) (bytes : (k : ℕ) → slice_index payload k < 256) where
-  here : Inside start m v payload v
-  here = inside start None m v payload agrees has bytes
-
-  pub byte_left : plan_left v ≡ does op (λ _. rest m')
-  byte_left = plan_is start m v v payload here n.busy ∙ n.plan
-
-  pub byte_next : op ≡ op_next v
-  byte_next = sym (ap next_op byte_left)
-
-  pub byte_goes_on : GoesOn (plan_left v)
-  byte_goes_on = goes_on start m v v payload here n.busy
-
-  pub byte_own : (k : ℕ) → leaves v.payload op k ≡ leaves payload op k
-  byte_own k = stores_own start m v v payload here n.busy op (sym (ap next_op n.plan)) k
-
-  byte_step : (taken : ℕ) → Stepped start m' v taken None
-  byte_step taken =
-      after_step start m m' v v payload None taken here n.busy (sym (ap (λ (p : Plan). after p taken) n.plan)) (λ some. absurd (false≢true some), λ idle. absurd (n.awake idle)) (n.stands ∙ sym (ap (λ (p : Plan). standing_after (standing m) (next_op p)) n.plan))
-
-  pub byte_agrees : (taken : ℕ) → Agrees start None m' (side_after v taken)
-  byte_agrees taken = (byte_step taken).agrees
-
-  pub byte_pays : (taken : ℕ) → HasPayload (side_after v taken) payload
-  byte_pays taken = keeps_payload v taken payload has
-
-  pub byte_along : (taken : ℕ) (buffer : List ℕ) → GoesAlong 1 v buffer (side_after v taken) (landed op taken buffer)
-  byte_along taken buffer =
-      let step = byte_step taken in
-      let trail : (side_after v taken).trail ≡ v.trail ++ past (op_next v) taken ∷ [] = settled-trail (made v (op_next v) taken) (after (plan_left v) taken) in
-      record {
-        way = λ was call given start' long w.
-            way_on was call given start' v buffer taken long w byte_goes_on None (side_after v taken) (landed op taken buffer) step.answer refl (ap (λ (o : Op). landed o taken buffer) byte_next);
-        longer = ap (λ (xs : List PastEvent). length xs) trail ∙ omega (arith, length-append v.trail (past (op_next v) taken ∷ []));
-        long = landed-length op taken buffer;
-        role = step.role_is;
-        orders = step.orders_are;
-        retired = step.retired_is ∙ ap (λ (o : Op). sets_gone o v.role || v.retired) (sym byte_next) ∙ ap (λ (b : Bool). b || v.retired) (n.quiet v.role);
-      }
+-- ---- the bytes of a put or a take so far
 
 pub along_none : (s : Side) (buffer : List ℕ) → GoesAlong 0 s buffer s buffer
 along_none s buffer = record { way = λ was call payload start long w. w; longer = omega arith; long = refl; role = refl; orders = refl; retired = refl }
@@ -94,6 +56,62 @@ along_more i j k s buffer s' buffer' s2 buffer2 all one two =
       orders = two.orders ∙ one.orders;
       retired = two.retired ∙ one.retired;
     }
+
+-- so many bytes were moved: the machine stands for the end, which went along from how it was
+pub record Moving (start : ℕ) (m : Machine) (payload : List ℕ) (was : Side) (first : List ℕ) (count : ℕ) (s : Side) (buffer : List ℕ) : Type 0 where
+  pub agrees : Agrees start None m s
+  pub pays : HasPayload s payload
+  pub along : GoesAlong count was first s buffer
+
+pub moving_none : (start : ℕ) (m : Machine) (payload : List ℕ) (s : Side) (buffer : List ℕ) (count : ℕ) → count ≡ 0 → Agrees start None m s → HasPayload s payload → Moving start m payload s buffer count s buffer
+moving_none start m payload s buffer count none agrees pays = record { agrees = agrees; pays = pays; along = subst (λ (n : ℕ). GoesAlong n s buffer s buffer) (sym none) (along_none s buffer) }
+
+-- one byte more
+module _ (start : ℕ) (m m' : Machine) (payload : List ℕ) (was : Side) (first : List ℕ) (count : ℕ) (v : Side) (buffer : List ℕ) (op : Op) (n : MakesNext m m' op) (h : Moving start m payload was first count v buffer) (bytes : (k : ℕ) → slice_index payload k < 256) where
+  here : Inside start m v payload v
+  here = inside start None m v payload h.agrees h.pays bytes
+
+  left : plan_left v ≡ does op (λ _. rest m')
+  left = plan_is start m v v payload here n.busy ∙ n.plan
+
+  next : op ≡ op_next v
+  next = sym (ap next_op left)
+
+  more : GoesOn (plan_left v)
+  more = goes_on start m v v payload here n.busy
+
+  pub byte_owed : (op ≡ op_next v) × GoesOn (plan_left v)
+  byte_owed = (next, more)
+
+  pub byte_own : (k : ℕ) → leaves v.payload op k ≡ leaves payload op k
+  byte_own k = stores_own start m v v payload here n.busy op (sym (ap next_op n.plan)) k
+
+  step : (taken : ℕ) → Stepped start m' v taken None
+  step taken =
+      after_step start m m' v v payload None taken here n.busy (sym (ap (λ (p : Plan). after p taken) n.plan)) (λ some. absurd (false≢true some), λ idle. absurd (n.awake idle)) (n.stands ∙ sym (ap (λ (p : Plan). standing_after (standing m) (next_op p)) n.plan))
+
+  goes : (taken : ℕ) → GoesAlong 1 v buffer (side_after v taken) (landed op taken buffer)
+  goes taken =
+      let s = step taken in
+      let trail : (side_after v taken).trail ≡ v.trail ++ past (op_next v) taken ∷ [] = settled-trail (made v (op_next v) taken) (after (plan_left v) taken) in
+      record {
+        way = λ was call given start' long w.
+            way_on was call given start' v buffer taken long w more None (side_after v taken) (landed op taken buffer) s.answer refl (ap (λ (o : Op). landed o taken buffer) next);
+        longer = ap (λ (xs : List PastEvent). length xs) trail ∙ omega (arith, length-append v.trail (past (op_next v) taken ∷ []));
+        long = landed-length op taken buffer;
+        role = s.role_is;
+        orders = s.orders_are;
+        retired = s.retired_is ∙ ap (λ (o : Op). sets_gone o v.role || v.retired) (sym next) ∙ ap (λ (b : Bool). b || v.retired) (n.quiet v.role);
+      }
+
+  pub byte_moved : (taken all : ℕ) (now : Side) → now ≡ side_after v taken → all ≡ count + 1 → Moving start m' payload was first all now (landed op taken buffer)
+  byte_moved taken all now is one =
+      subst (λ (s : Side). Moving start m' payload was first all s (landed op taken buffer)) (sym is)
+      (record {
+        agrees = (step taken).agrees;
+        pays = keeps_payload v taken payload h.pays;
+        along = along_more count 1 all was first v buffer (side_after v taken) (landed op taken buffer) one h.along (goes taken);
+      })
 
 -- ---- a byte of a put, and of a take
 

@@ -5,11 +5,13 @@ use Rattle.vchan_protocol.specs.declared.op.PastEvent.{PastEvent}
 use Rattle.vchan_protocol.specs.declared.call.Answer.{Answer}
 use Rattle.vchan_protocol.specs.declared.call.Call.{Call}
 use Rattle.vchan_protocol.specs.declared.side.Side.{Side}
-use Rattle.vchan_protocol.specs.Table.Plan.{after, past, GoesOn}
-use Rattle.vchan_protocol.specs.Table.Calls.{payload_of, loaded_most, most_events}
+use Rattle.vchan_protocol.specs.Table.Plan.{answers, after, past, GoesOn}
+use Rattle.vchan_protocol.specs.Table.Calls.{plan_of, payload_of, loaded_most, most_events}
 use Rattle.vchan_protocol.specs.History.Core.{standing_of, plan_left, op_next, made, side_after, answer_in}
 use Rattle.vchan_protocol.specs.OneEnd.OneCall.{landed, OnWay, IsOver, IsThen}
-use Rattle.vchan_protocol.proofs.OneEnd.OneCallWay.{way_goes_on, landed-length}
+use Rattle.vchan_protocol.proofs.OneEnd.OneCallBytes.{answers_tell}
+use Rattle.vchan_protocol.proofs.OneEnd.OneCallWay.{way_goes_on, landed-length, over_tells}
+use Rattle.vchan_protocol.proofs.Table.Bounds.{ends_call, length-Leads}
 use Rattle.vchan_protocol.proofs.History.EventLaws.{settled-trail}
 use Rattle.vchan_core.specs.OneMachine.Phases.{IsIdle, payload_needed, buffer_needed}
 use Rattle.vchan_core.specs.Page.StandsFor.{HasPayload}
@@ -21,6 +23,7 @@ use Rattle.vchan_rule.specs.Seated.{SeatedEnd, view}
 use Rattle.vchan_rule.specs.Ends.{seen, seen_by, Pays, IsSameEnd}
 use Rattle.vchan_rule.specs.Along.{GoesAlong}
 use Rattle.vchan_rule.specs.Going.{InCalls}
+use Rattle.vchan_rule.specs.Called.{HasCalled}
 
 -- ---- one event of a call
 
@@ -106,3 +109,25 @@ called_view was e call payload start buffer answer honest may page idle over =
 
 pub called_saw : (was e : SeatedEnd) (call : Call) (payload start buffer : List ℕ) (answer : Answer) → was.side.turned ≡ false → MayCall (view was) call → IsOver was.side call payload start e.side buffer answer → SeesAsTold call answer was.side.saw e.side.saw
 called_saw was e call payload start buffer answer honest may over = (view_after was.page was.side call payload start e.side buffer answer honest may.1 over).saw
+
+-- a call that is over made no more events than it may
+pub over_few : (was : Side) (call : Call) (given start : List ℕ) (s : Side) (buffer : List ℕ) (answer : Answer) → IsOver was call given start s buffer answer → length s.trail ≤ most_events (standing_of was) call
+over_few was call given start s buffer answer over = length-Leads (plan_of (standing_of was) call) s.trail (answers answer) (most_events (standing_of was) call) (ends_call (standing_of was) call) over.trace
+
+-- a call that is over, with all that its contract says
+pub has_called : (was e : SeatedEnd) (call : Call) (payload start buffer : List ℕ) (answer : Answer) → was.side.turned ≡ false → MayCall (view was) call → IsSameEnd was e → IsIdle e.machine → e.begun ≡ None → length buffer ≡ length start →
+    IsOver was.side call (take (payload_of call) payload) start e.side buffer answer → HasCalled was call payload start e buffer answer
+has_called was e call payload start buffer answer honest may same idle none long over =
+    let given = take (payload_of call) payload in
+    let moved = answers_tell was.side call given e.side.trail answer over.trace in
+    record {
+      same = same;
+      idle = (idle, none);
+      over = over;
+      tells = over_tells was.side call given start e.side buffer answer over;
+      view = called_view was e call given start buffer answer honest may same.0 idle over;
+      saw = called_saw was e call given start buffer answer honest may over;
+      moved = (moved.pays, moved.takes);
+      long = long;
+      bound = over_few was.side call given start e.side buffer answer over;
+    }

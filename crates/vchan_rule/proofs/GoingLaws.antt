@@ -4,12 +4,11 @@ use Rattle.std.proofs.lemmas.Bool.{false≢true}
 use Rattle.vchan_protocol.specs.declared.call.Answer.{Answer}
 use Rattle.vchan_protocol.specs.declared.call.Call.{Call}
 use Rattle.vchan_protocol.specs.declared.side.Side.{Side}
-use Rattle.vchan_protocol.specs.Table.Plan.{answers, GoesOn}
-use Rattle.vchan_protocol.specs.Table.Calls.{plan_of, payload_of, loaded_most, most_events}
+use Rattle.vchan_protocol.specs.Table.Plan.{GoesOn}
+use Rattle.vchan_protocol.specs.Table.Calls.{payload_of, loaded_most}
 use Rattle.vchan_protocol.specs.History.Core.{standing_of, plan_left}
 use Rattle.vchan_protocol.specs.OneEnd.OneCall.{OnWay, IsOver, IsThen}
 use Rattle.vchan_protocol.proofs.OneEnd.OneCallWay.{way_begins}
-use Rattle.vchan_protocol.proofs.Table.Bounds.{ends_call, length-Leads}
 use Rattle.vchan_core.specs.OneMachine.Phases.{IsIdle, payload_needed, buffer_needed}
 use Rattle.vchan_core.specs.Page.StandsFor.{HasPayload}
 use Rattle.vchan_rule.specs.Seated.{SeatedEnd}
@@ -106,10 +105,6 @@ pub in_calls_over : (was : SeatedEnd) (call : Call) (payload start : List ℕ) (
     IsOver was.side call (take (payload_of call) payload) start e'.side buffer' answer
 in_calls_over was call payload start e buffer answer e' buffer' i goes =
     subst (λ (s : Side). IsOver was.side call (take (payload_of call) payload) start s buffer' answer) (seen_now e' payload (goes.over refl).1) (goes.way was.side call (take (payload_of call) payload) start i.enough i.way)
-
--- a call that is over made no more events than it may
-pub over_few : (was : Side) (call : Call) (given start : List ℕ) (s : Side) (buffer : List ℕ) (answer : Answer) → IsOver was call given start s buffer answer → length s.trail ≤ most_events (standing_of was) call
-over_few was call given start s buffer answer over = length-Leads (plan_of (standing_of was) call) s.trail (answers answer) (most_events (standing_of was) call) (ends_call (standing_of was) call) over.trace
 
 -- a call that was begun, of which no event is made
 pub starts_in : (was : SeatedEnd) (call : Call) (payload start : List ℕ) (e : SeatedEnd) → e.page ≡ was.page → e.start ≡ was.start → e.side ≡ was.side → e.begun ≡ Some call → ¬ IsIdle e.machine → payload_needed e.machine ≤ payload_of call →

@@ -3,4 +3,5 @@ pub mod Seated
 pub mod Ends
 pub mod Along
 pub mod Going
+pub mod Called
 pub mod Done

@@ -8,7 +8,6 @@ use Rattle.ring_words.specs.declared.order.Orders.{Orders}
 use Rattle.ring_words.specs.declared.page.Role.{Role}
 use Rattle.ring_words.specs.declared.page.Role.TheVariants.{Server, Client}
 use Rattle.vchan_protocol.specs.declared.op.Op.{Op}
-use Rattle.vchan_protocol.specs.declared.call.EndState.{EndState}
 use Rattle.vchan_protocol.specs.declared.call.EndState.TheVariants.{Open, Fresh}
 use Rattle.vchan_protocol.specs.declared.side.Side.{Side}
 use Rattle.vchan_protocol.specs.Table.Apply.{takes}
@@ -23,10 +22,6 @@ use Rattle.vchan_rule.specs.declared.rule.Opening.{Opening}
 -- the order words of the start say the page's orders
 abbrev pub said_of : Orders → ℕ × ℕ
 said_of orders = (number_of orders.left, number_of orders.right)
-
-abbrev pub first_state : Role → EndState
-first_state Server = Open
-first_state Client = Fresh
 
 abbrev pub new_server : Orders → ℕ → Side
 new_server orders start = new_side Server orders start Open

@@ -4,11 +4,14 @@ use Rattle.std.specs.Prelude.{◌≡◌, ℕ, true, is_none, Option}
 use Rattle.atomic_table.specs.Seated.{TableId}
 use Rattle.ring_words.specs.declared.order.Orders.{Orders}
 use Rattle.ring_words.specs.declared.page.Role.{Role}
+use Rattle.ring_words.specs.Page.{word_count}
 use Rattle.vchan_protocol.specs.declared.call.Call.{Call}
 use Rattle.vchan_protocol.specs.declared.call.EndState.TheVariants.{Open}
 use Rattle.vchan_protocol.specs.declared.side.Side.{Side}
 use Rattle.vchan_core.specs.declared.machine.Machine.{Machine}
 use Rattle.end_view.specs.EndView.{EndView, view_of}
+use Rattle.end_view.specs.Settled.{Settled}
+use Rattle.vchan_rule.specs.declared.rule.Opening.{Opening}
 
 -- a page: its table, its orders, and at which number all its indices began
 pub record PageView : Type 0 where
@@ -45,13 +48,22 @@ last_view e = view_of e.page true e.side
 abbrev pub IsOpen : SeatedEnd → Type 0
 IsOpen e = ((view e).idle ≡ true) × ((view e).state ≡ Open)
 
--- the seat of an honest end, which has no machine: its page, where its indices began, what it shows, and the call that it has begun and made no event of yet
+-- the seat of an honest end, which has no machine and no words: its page, what it shows, and the call that it has begun and made no event of yet
 pub record SeatedCall : Type 0 where
   pub page : TableId
-  pub start : ℕ
   pub side : Side
   pub begun : Option Call
 
--- an end of this seat, driven by this machine
-abbrev pub driven : SeatedCall → Machine → SeatedEnd
-driven s m = record { page = s.page; start = s.start; side = s.side; machine = m; begun = s.begun }
+-- an end of this seat, on a page whose indices began at this number, driven by this machine
+abbrev pub driven : ℕ → SeatedCall → Machine → SeatedEnd
+driven start s m = record { page = s.page; start = start; side = s.side; machine = m; begun = s.begun }
+
+-- these are the words of the seat's page, with what their table was told when it was made
+abbrev pub AreWordsOf : TableId → Opening → SeatedCall → Type 0
+AreWordsOf table key s = (table ≡ s.page) × (table.words ≡ word_count s.side.orders) × (key.orders ≡ s.side.orders)
+
+-- ---- a page that is done with
+
+-- what stands of a page of these two ends
+abbrev pub settled_page : PageView → SeatedSide → SeatedSide → Settled
+settled_page page server client = record { orders = page.orders; server = last_view server; client = last_view client }

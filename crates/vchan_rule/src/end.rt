@@ -17,9 +17,10 @@ ghost use Rattle.vchan_rule.specs.declared.rule.View.TheVariants.{One};
 ghost use Rattle.vchan_rule.specs.Seated.{view};
 ghost use Rattle.vchan_rule.specs.Along.{GoesAlong};
 ghost use Rattle.vchan_rule.specs.Going.{Starts};
+ghost use Rattle.vchan_rule.specs.Called.{MayMake, HasCalled};
 ghost use Rattle.vchan_rule.specs.Ends.{Pays, IsSameEnd, seen};
 
-use crate::end_seat::EndSeat;
+use crate::end_seat::{EndSeat, OTHERWISE, READS, WRITES};
 use crate::rule::{PageWords, Place};
 use crate::turned::{Retired, TurnedEnd};
 use ring_words::{Orders, Role};
@@ -31,19 +32,20 @@ use vchan_core::{Answer, Call, EndState, Machine, Steps};
 /// event, each of which is one atomic step on one word of the page.
 #[derive(Drop)]
 pub struct End<'p> {
-    seat: EndSeat<'p>,
+    words: &'p PageWords,
+    seat: EndSeat,
     machine: Machine,
 }
 
 impl<'p> Model for End<'p> {
-    ghost use Rattle.vchan_rule.specs.Seated.{SeatedEnd, driven};
+    ghost use Rattle.vchan_rule.specs.Seated.{SeatedEnd, driven, AreWordsOf};
     ghost use Rattle.vchan_rule.specs.Ends.{Agrees};
 
     ghost Value = { SeatedEnd };
 
-    ghost view = { λ e. driven e.seat e.machine };
+    ghost view = { λ e. driven e.words.now.key.start e.seat e.machine };
 
-    ghost invariant = { λ e. Agrees e.seat.start e.seat.begun e.machine e.seat.side };
+    ghost invariant = { λ e. Agrees e.words.now.key.start e.seat.begun e.machine e.seat.side × AreWordsOf e.words.now.table_id e.words.now.key e.seat };
 }
 
 impl<'p> End<'p> {
@@ -62,8 +64,12 @@ impl<'p> End<'p> {
         ensures { (result.page ≡ seat.table_id) × (result.side ≡ new_side role orders start state) × (result.start ≡ start) × (result.begun ≡ None) × IsIdle result.machine }
     {
         let machine = Machine::new(role, orders, state, start);
-        let seat = EndSeat::new(words, seat, role, orders);
-        End { seat, machine }
+        let seat = EndSeat::new(seat, role, orders);
+        End {
+            words,
+            seat,
+            machine,
+        }
     }
 
     /// Which end it is.
@@ -153,7 +159,7 @@ impl<'p> End<'p> {
         ensures out { payload_needed self.new.machine ≤ payload_needed self.old.machine }
         ensures into { buffer_needed self.new.machine ≤ buffer_needed self.old.machine }
     {
-        self.seat.event(&mut self.machine, payload, buf)
+        self.seat.event(self.words, &mut self.machine, payload, buf)
     }
 
     /// The events that come next as long as they are on bytes of a ring. It answers how many they
@@ -173,29 +179,32 @@ impl<'p> End<'p> {
         ensures out { payload_needed self.new.machine ≤ payload_needed self.old.machine }
         ensures into { buffer_needed self.new.machine ≤ buffer_needed self.old.machine }
     {
-        self.seat.move_bytes(&mut self.machine, payload, buf)
+        self.seat
+            .move_bytes(self.words, &mut self.machine, payload, buf)
     }
 
-    /// Begins a call and makes its first events, on a machine of its own, as long as the compiler can
-    /// see their order. `steps` counts them.
+    /// Begins a call, and makes the first events of a write or a read, on a machine of its own, as long
+    /// as the compiler can see their order. `steps` counts them.
     #[inline(always)]
-    fn start<L: Ledger>(
+    fn start<L: Ledger, const WAY: u8>(
         &mut self,
         call: Call,
         payload: &[u8],
         buf: &mut [u8],
         steps: &mut Steps<L>,
     ) -> Option<Answer>
-        requires allowed { MayCall (view self.old) call }
-        requires payload { payload_of call ≤ length payload.now }
-        requires buf { loaded_most (standing_of self.old.side) call ≤ length buf.old }
+        requires { MayMake self.old call payload.now buf.old }
         ensures starts { Starts self.old call payload.now buf.old result self.new buf.new }
         ensures honest { self.old.side.turned ≡ false }
         ensures steps { steps.new ≡ steps.old + length (seen self.new payload.now).trail }
     {
+        let words = self.words;
         let mut machine = self.machine.inside(call);
         self.seat.begin(call);
-        if let Some(answer) = self.seat.quickly(call, &mut machine, payload, buf, steps) {
+        let first = self
+            .seat
+            .quickly::<L, WAY>(words, &mut machine, payload, buf, steps);
+        if let Some(answer) = first {
             self.machine.take_over(&machine);
             return Some(answer);
         }
@@ -203,29 +212,19 @@ impl<'p> End<'p> {
         None
     }
 
-    /// A whole call; `steps` counts its events.
-    pub fn counted_call<L: Ledger>(
+    /// A whole call of this way; `steps` counts its events.
+    fn whole_call<L: Ledger, const WAY: u8>(
         &mut self,
         call: Call,
         payload: &[u8],
         buf: &mut [u8],
         steps: &mut Steps<L>,
     ) -> Answer
-        requires allowed { MayCall (view self.old) call }
-        requires payload { payload_of call ≤ length payload.now }
-        requires buf { loaded_most (standing_of self.old.side) call ≤ length buf.old }
-        ensures same { IsSameEnd self.old self.new }
-        ensures idle { IsIdle self.new.machine × (self.new.begun ≡ None) }
-        ensures over { IsOver self.old.side call (take (payload_of call) payload.now) buf.old self.new.side buf.new result }
-        ensures tells { OverTells self.old.side (take (payload_of call) payload.now) self.new.side buf.new result }
-        ensures view { view self.new ≡ answered_view (view self.old) call (take (payload_of call) payload.now) buf.new result self.new.side.saw }
-        ensures saw { SeesAsTold call result self.old.side.saw self.new.side.saw }
-        ensures moved { (bytes_out result ≤ payload_of call) × (bytes_in result ≤ loaded_most (standing_of self.old.side) call) }
-        ensures long { length buf.new ≡ length buf.old }
+        requires { MayMake self.old call payload.now buf.old }
+        ensures called { HasCalled self.old call payload.now buf.old self.new buf.new result }
         ensures steps { steps.new ≡ steps.old + length self.new.side.trail }
-        ensures bound { steps.new ≤ steps.old + most_events (standing_of self.old.side) call }
     {
-        if let Some(answer) = self.start(call, payload, buf, steps) {
+        if let Some(answer) = self.start::<L, WAY>(call, payload, buf, steps) {
             return answer;
         }
         'events: loop {
@@ -238,25 +237,41 @@ impl<'p> End<'p> {
         }
     }
 
+    /// A whole call; `steps` counts its events.
+    #[inline(always)]
+    pub fn counted_call<L: Ledger>(
+        &mut self,
+        call: Call,
+        payload: &[u8],
+        buf: &mut [u8],
+        steps: &mut Steps<L>,
+    ) -> Answer
+        requires { MayMake self.old call payload.now buf.old }
+        ensures called { HasCalled self.old call payload.now buf.old self.new buf.new result }
+        ensures steps { steps.new ≡ steps.old + length self.new.side.trail }
+    {
+        match call {
+            Call::Write { len } => {
+                self.whole_call::<L, WRITES>(Call::Write { len }, payload, buf, steps)
+            }
+            Call::Read { most } => {
+                self.whole_call::<L, READS>(Call::Read { most }, payload, buf, steps)
+            }
+            _ => self.whole_call::<L, OTHERWISE>(call, payload, buf, steps),
+        }
+    }
+
     /// A whole call. Its events are left as the end's trail, and the lists grow as its answer says.
+    #[inline(always)]
     pub fn do_call(&mut self, call: Call, payload: &[u8], buf: &mut [u8]) -> Answer
-        requires allowed { MayCall (view self.old) call }
-        requires payload { payload_of call ≤ length payload.now }
-        requires buf { loaded_most (standing_of self.old.side) call ≤ length buf.old }
-        ensures same { IsSameEnd self.old self.new }
-        ensures idle { IsIdle self.new.machine × (self.new.begun ≡ None) }
-        ensures over { IsOver self.old.side call (take (payload_of call) payload.now) buf.old self.new.side buf.new result }
-        ensures tells { OverTells self.old.side (take (payload_of call) payload.now) self.new.side buf.new result }
-        ensures view { view self.new ≡ answered_view (view self.old) call (take (payload_of call) payload.now) buf.new result self.new.side.saw }
-        ensures saw { SeesAsTold call result self.old.side.saw self.new.side.saw }
-        ensures moved { (bytes_out result ≤ payload_of call) × (bytes_in result ≤ loaded_most (standing_of self.old.side) call) }
-        ensures long { length buf.new ≡ length buf.old }
-        ensures bound { length self.new.side.trail ≤ most_events (standing_of self.old.side) call }
+        requires { MayMake self.old call payload.now buf.old }
+        ensures { HasCalled self.old call payload.now buf.old self.new buf.new result }
     {
         self.uncounted::<Brand>(call, payload, buf, Blank::new(1))
     }
 
     /// A whole call, with a counter of its own.
+    #[inline(always)]
     fn uncounted<L: Ledger>(
         &mut self,
         call: Call,
@@ -267,18 +282,8 @@ impl<'p> End<'p> {
         requires name { blank.name ≡ L.name }
         requires parts { blank.parts ≡ L.parts }
         requires some { 0 < L.parts }
-        requires allowed { MayCall (view self.old) call }
-        requires payload { payload_of call ≤ length payload.now }
-        requires buf { loaded_most (standing_of self.old.side) call ≤ length buf.old }
-        ensures same { IsSameEnd self.old self.new }
-        ensures idle { IsIdle self.new.machine × (self.new.begun ≡ None) }
-        ensures over { IsOver self.old.side call (take (payload_of call) payload.now) buf.old self.new.side buf.new result }
-        ensures tells { OverTells self.old.side (take (payload_of call) payload.now) self.new.side buf.new result }
-        ensures view { view self.new ≡ answered_view (view self.old) call (take (payload_of call) payload.now) buf.new result self.new.side.saw }
-        ensures saw { SeesAsTold call result self.old.side.saw self.new.side.saw }
-        ensures moved { (bytes_out result ≤ payload_of call) × (bytes_in result ≤ loaded_most (standing_of self.old.side) call) }
-        ensures long { length buf.new ≡ length buf.old }
-        ensures bound { length self.new.side.trail ≤ most_events (standing_of self.old.side) call }
+        requires may { MayMake self.old call payload.now buf.old }
+        ensures { HasCalled self.old call payload.now buf.old self.new buf.new result }
     {
         let mut steps = Steps::<L>::new(blank);
         self.counted_call(call, payload, buf, &mut steps)
@@ -290,8 +295,12 @@ impl<'p> End<'p> {
         ensures page { result.page ≡ self.entry.page }
         ensures side { (consumed : ℕ) × (result.side ≡ turns self.entry.side consumed) }
     {
-        let Self { seat, machine: _ } = self;
-        seat.turn()
+        let Self {
+            words,
+            seat,
+            machine: _,
+        } = self;
+        seat.turn(words)
     }
 
     /// The end makes no event any more. It has retired, and so it is shut.
@@ -301,7 +310,11 @@ impl<'p> End<'p> {
         ensures same { (result.page ≡ self.entry.page) × (result.side ≡ self.entry.side) }
         ensures honest { result.side.turned ≡ false }
     {
-        let Self { seat, machine: _ } = self;
+        let Self {
+            words: _,
+            seat,
+            machine: _,
+        } = self;
         seat.rest()
     }
 }

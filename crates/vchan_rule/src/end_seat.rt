@@ -1,9 +1,9 @@
 //! The seat of an honest end, and the events that it makes on the words of its page.
 //!
-//! The machine that says which event comes next stands apart, so that a whole call can keep it in a
-//! local variable.
+//! The machine that says which event comes next stands apart, and so do the words, so that a whole
+//! call can keep both in local variables: after an atomic step all that lies in memory is loaded
+//! again.
 ghost use Rattle.std.specs.Prelude.{◌≡◌, ◌≤◌, ◌+◌, ◌||◌, ℕ, [], ◌∷◌, length, IsSome, None, Some, ◌↔◌, false, true};
-ghost use Rattle.ring_words.specs.Page.{word_count};
 ghost use Rattle.vchan_protocol.specs.declared.call.EndState.TheVariants.{Shut};
 ghost use Rattle.vchan_protocol.specs.Table.Plan.{after, GoesOn};
 ghost use Rattle.vchan_protocol.specs.Table.Apply.{Fits};
@@ -15,7 +15,7 @@ ghost use Rattle.vchan_protocol.specs.Hostile.TurnedLaw.{LiesAtCount};
 ghost use Rattle.vchan_core.specs.OneMachine.Phases.{IsIdle, payload_needed, buffer_needed};
 ghost use Rattle.vchan_core.specs.Page.StandsFor.{HasPayload};
 ghost use Rattle.vchan_rule.specs.declared.rule.View.TheVariants.{One};
-ghost use Rattle.vchan_rule.specs.Seated.{driven};
+ghost use Rattle.vchan_rule.specs.Seated.{driven, AreWordsOf};
 ghost use Rattle.vchan_rule.specs.Along.{GoesAlong};
 ghost use Rattle.vchan_rule.specs.Ends.{Agrees, Pays, IsSameEnd, end_in, seen};
 ghost use Rattle.vchan_rule.specs.Going.{IsReady, Goes};
@@ -27,12 +27,20 @@ use ring_words::{Layout, Orders, Role, WordName};
 use std::marker::{Brand, Model};
 use std::snapshot::Snapshot;
 use std::sync::ledger::Ledger;
+use vchan_core::words::{cons_word, written_ring};
 use vchan_core::{Ahead, Answer, Call, Machine, Op, Steps};
 
-/// An end's seat at the table of its page, and all of the end but its machine.
+/// The ways of a whole call: a write and a read make most of their events in an order that the
+/// compiler can see.
+pub(crate) const WRITES: u8 = 0;
+
+pub(crate) const READS: u8 = 1;
+
+pub(crate) const OTHERWISE: u8 = 2;
+
+/// An end's seat at the table of its page, and all of the end but the words and its machine.
 #[derive(Drop)]
-pub(crate) struct EndSeat<'p> {
-    words: &'p PageWords,
+pub(crate) struct EndSeat {
     seat: Place,
     layout: Layout,
     role: Role,
@@ -40,18 +48,17 @@ pub(crate) struct EndSeat<'p> {
     begun: Snapshot<Option<Call>>,
 }
 
-impl<'p> Model for EndSeat<'p> {
+impl Model for EndSeat {
     ghost use Rattle.std.specs.Prelude.{◌≡◌, [], ◌∷◌};
-    ghost use Rattle.ring_words.specs.Page.{word_count};
     ghost use Rattle.vchan_rule.specs.Seated.{SeatedCall};
     ghost use Rattle.vchan_rule.specs.Ends.{end_in};
     ghost use Rattle.vchan_rule.specs.declared.rule.View.TheVariants.{One};
 
     ghost Value = { SeatedCall };
 
-    ghost view = { λ e. record { page = e.seat.table_id; start = e.words.now.key.start; side = end_in e.seat.me.0; begun = e.begun.value } };
+    ghost view = { λ e. record { page = e.seat.table_id; side = end_in e.seat.me.0; begun = e.begun.value } };
 
-    ghost invariant = { λ e. (e.seat.table_id ≡ e.words.now.table_id) × (e.words.now.table_id.words ≡ word_count e.layout.orders) × (e.words.now.key.orders ≡ e.layout.orders) × (e.seat.me ≡ (One (end_in e.seat.me.0), [])) × ((end_in e.seat.me.0).orders ≡ e.layout.orders) × ((end_in e.seat.me.0).role ≡ e.role) × ((end_in e.seat.me.0).retired ≡ e.retired) };
+    ghost invariant = { λ e. (e.seat.me ≡ (One (end_in e.seat.me.0), [])) × ((end_in e.seat.me.0).orders ≡ e.layout.orders) × ((end_in e.seat.me.0).role ≡ e.role) × ((end_in e.seat.me.0).retired ≡ e.retired) };
 }
 
 /// A ring byte that was loaded goes to its place in the buffer.
@@ -80,17 +87,15 @@ fn retired_after(op: Op, role: Role, retired: bool) -> bool
     }
 }
 
-impl<'p> EndSeat<'p> {
+impl EndSeat {
     /// The seat of an end that has not retired and is in no call.
-    pub(crate) fn new(words: &'p PageWords, seat: Place, role: Role, orders: Orders) -> EndSeat<'p>
-        requires page { (seat.table_id ≡ words.now.table_id) × (words.now.table_id.words ≡ word_count orders) × (words.now.key.orders ≡ orders) }
+    pub(crate) fn new(seat: Place, role: Role, orders: Orders) -> EndSeat
         requires one { seat.me ≡ (One (end_in seat.me.0), []) }
         requires side { ((end_in seat.me.0).orders ≡ orders) × ((end_in seat.me.0).role ≡ role) × ((end_in seat.me.0).retired ≡ false) }
-        ensures { (result.page ≡ seat.table_id) × (result.start ≡ words.now.key.start) × (result.side ≡ end_in seat.me.0) × (result.begun ≡ None) }
+        ensures { (result.page ≡ seat.table_id) × (result.side ≡ end_in seat.me.0) × (result.begun ≡ None) }
     {
         let begun = Snapshot::of(&None);
         EndSeat {
-            words,
             seat,
             layout: Layout::new(orders),
             role,
@@ -120,7 +125,7 @@ impl<'p> EndSeat<'p> {
     /// Notes the call that begins, and makes no event.
     #[inline(always)]
     pub(crate) fn begin(&mut self, call: Call)
-        ensures same { (self.new.page ≡ self.old.page) × (self.new.start ≡ self.old.start) × (self.new.side ≡ self.old.side) }
+        ensures same { (self.new.page ≡ self.old.page) × (self.new.side ≡ self.old.side) }
         ensures begun { self.new.begun ≡ Some call }
     {
         self.begun = Snapshot::of(&Some(call));
@@ -130,16 +135,19 @@ impl<'p> EndSeat<'p> {
     #[inline(always)]
     pub(crate) fn event(
         &mut self,
+        words: &PageWords,
         machine: &mut Machine,
         payload: &[u8],
         buf: &mut [u8],
     ) -> Option<Answer>
-        requires ready { IsReady (driven self.old machine.old) payload.now buf.old }
-        ensures same { IsSameEnd (driven self.old machine.old) (driven self.new machine.new) }
-        ensures event { (taken : ℕ) × (self.new.side ≡ side_after (seen (driven self.old machine.old) payload.now) taken) × (result ≡ answer_in (after (plan_left (seen (driven self.old machine.old) payload.now)) taken)) × (buf.new ≡ landed (op_next (seen (driven self.old machine.old) payload.now)) taken buf.old) }
-        ensures goes_on { GoesOn (plan_left (seen (driven self.old machine.old) payload.now)) }
-        ensures agrees { Agrees self.new.start None machine.new self.new.side }
-        ensures places { LiesAtCount (seen (driven self.old machine.old) payload.now) (op_next (seen (driven self.old machine.old) payload.now)) }
+        requires words { AreWordsOf words.now.table_id words.now.key self.old }
+        requires ready { IsReady (driven words.now.key.start self.old machine.old) payload.now buf.old }
+        ensures words { AreWordsOf words.now.table_id words.now.key self.new }
+        ensures same { IsSameEnd (driven words.now.key.start self.old machine.old) (driven words.now.key.start self.new machine.new) }
+        ensures event { (taken : ℕ) × (self.new.side ≡ side_after (seen (driven words.now.key.start self.old machine.old) payload.now) taken) × (result ≡ answer_in (after (plan_left (seen (driven words.now.key.start self.old machine.old) payload.now)) taken)) × (buf.new ≡ landed (op_next (seen (driven words.now.key.start self.old machine.old) payload.now)) taken buf.old) }
+        ensures goes_on { GoesOn (plan_left (seen (driven words.now.key.start self.old machine.old) payload.now)) }
+        ensures agrees { Agrees words.now.key.start None machine.new self.new.side }
+        ensures places { LiesAtCount (seen (driven words.now.key.start self.old machine.old) payload.now) (op_next (seen (driven words.now.key.start self.old machine.old) payload.now)) }
         ensures begun { self.new.begun ≡ None }
         ensures payload { HasPayload self.new.side payload.now }
         ensures idle { IsSome result ↔ IsIdle machine.new }
@@ -148,7 +156,7 @@ impl<'p> EndSeat<'p> {
     {
         let op = machine.next();
         let value = perform::<Brand>(
-            self.words,
+            words,
             &mut self.seat,
             &self.begun,
             &self.layout,
@@ -166,15 +174,18 @@ impl<'p> EndSeat<'p> {
     #[inline(always)]
     pub(crate) fn move_bytes(
         &mut self,
+        words: &PageWords,
         machine: &mut Machine,
         payload: &[u8],
         buf: &mut [u8],
     ) -> u32
-        requires ready { IsReady (driven self.old machine.old) payload.now buf.old }
+        requires words { AreWordsOf words.now.table_id words.now.key self.old }
+        requires ready { IsReady (driven words.now.key.start self.old machine.old) payload.now buf.old }
         requires begun { self.old.begun ≡ None }
-        ensures same { IsSameEnd (driven self.old machine.old) (driven self.new machine.new) }
+        ensures words { AreWordsOf words.now.table_id words.now.key self.new }
+        ensures same { IsSameEnd (driven words.now.key.start self.old machine.old) (driven words.now.key.start self.new machine.new) }
         ensures along { GoesAlong result self.old.side buf.old self.new.side buf.new }
-        ensures agrees { Agrees self.new.start None machine.new self.new.side }
+        ensures agrees { Agrees words.now.key.start None machine.new self.new.side }
         ensures busy { ¬ IsIdle machine.new }
         ensures begun { self.new.begun ≡ None }
         ensures payload { HasPayload self.new.side payload.now }
@@ -183,20 +194,13 @@ impl<'p> EndSeat<'p> {
     {
         match machine.ahead() {
             Ahead::Puts(span) => {
-                put_bytes(
-                    self.words,
-                    &mut self.seat,
-                    &self.layout,
-                    machine,
-                    span,
-                    payload,
-                );
+                put_bytes(words, &mut self.seat, &self.layout, machine, span, payload);
                 machine.put_all(span);
                 span.count - span.at
             }
             Ahead::Takes(span) => {
                 take_bytes(
-                    self.words,
+                    words,
                     &mut self.seat,
                     &self.layout,
                     machine,
@@ -215,36 +219,42 @@ impl<'p> EndSeat<'p> {
     #[inline(always)]
     fn counted_event<L: Ledger>(
         &mut self,
+        words: &PageWords,
         machine: &mut Machine,
         payload: &[u8],
         buf: &mut [u8],
         steps: &mut Steps<L>,
     ) -> Option<Answer>
-        requires { IsReady (driven self.old machine.old) payload.now buf.old }
+        requires words { AreWordsOf words.now.table_id words.now.key self.old }
+        requires ready { IsReady (driven words.now.key.start self.old machine.old) payload.now buf.old }
+        ensures words { AreWordsOf words.now.table_id words.now.key self.new }
         ensures begun { self.new.begun ≡ None }
-        ensures goes { Goes (driven self.old machine.old) payload.now buf.old result (driven self.new machine.new) buf.new }
-        ensures steps { steps.new + length (seen (driven self.old machine.old) payload.now).trail ≡ steps.old + length (seen (driven self.new machine.new) payload.now).trail }
+        ensures goes { Goes (driven words.now.key.start self.old machine.old) payload.now buf.old result (driven words.now.key.start self.new machine.new) buf.new }
+        ensures steps { steps.new + length (seen (driven words.now.key.start self.old machine.old) payload.now).trail ≡ steps.old + length (seen (driven words.now.key.start self.new machine.new) payload.now).trail }
     {
         steps.tick();
-        self.event(machine, payload, buf)
+        self.event(words, machine, payload, buf)
     }
 
     /// The events on bytes of a ring that come next; `steps` counts them.
     #[inline(always)]
     fn counted_bytes<L: Ledger>(
         &mut self,
+        words: &PageWords,
         machine: &mut Machine,
         payload: &[u8],
         buf: &mut [u8],
         steps: &mut Steps<L>,
     )
-        requires ready { IsReady (driven self.old machine.old) payload.now buf.old }
+        requires words { AreWordsOf words.now.table_id words.now.key self.old }
+        requires ready { IsReady (driven words.now.key.start self.old machine.old) payload.now buf.old }
         requires begun { self.old.begun ≡ None }
+        ensures words { AreWordsOf words.now.table_id words.now.key self.new }
         ensures begun { self.new.begun ≡ None }
-        ensures goes { Goes (driven self.old machine.old) payload.now buf.old None (driven self.new machine.new) buf.new }
-        ensures steps { steps.new + length (seen (driven self.old machine.old) payload.now).trail ≡ steps.old + length (seen (driven self.new machine.new) payload.now).trail }
+        ensures goes { Goes (driven words.now.key.start self.old machine.old) payload.now buf.old None (driven words.now.key.start self.new machine.new) buf.new }
+        ensures steps { steps.new + length (seen (driven words.now.key.start self.old machine.old) payload.now).trail ≡ steps.old + length (seen (driven words.now.key.start self.new machine.new) payload.now).trail }
     {
-        let moved = self.move_bytes(machine, payload, buf);
+        let moved = self.move_bytes(words, machine, payload, buf);
         steps.add(moved);
     }
 
@@ -253,101 +263,107 @@ impl<'p> EndSeat<'p> {
     #[inline(always)]
     fn look_and_move<L: Ledger, const WRITES: bool>(
         &mut self,
+        words: &PageWords,
         machine: &mut Machine,
         payload: &[u8],
         buf: &mut [u8],
         steps: &mut Steps<L>,
     ) -> Option<Answer>
-        requires { IsReady (driven self.old machine.old) payload.now buf.old }
-        ensures goes { Goes (driven self.old machine.old) payload.now buf.old result (driven self.new machine.new) buf.new }
-        ensures steps { steps.new + length (seen (driven self.old machine.old) payload.now).trail ≡ steps.old + length (seen (driven self.new machine.new) payload.now).trail }
+        requires words { AreWordsOf words.now.table_id words.now.key self.old }
+        requires ready { IsReady (driven words.now.key.start self.old machine.old) payload.now buf.old }
+        ensures words { AreWordsOf words.now.table_id words.now.key self.new }
+        ensures goes { Goes (driven words.now.key.start self.old machine.old) payload.now buf.old result (driven words.now.key.start self.new machine.new) buf.new }
+        ensures steps { steps.new + length (seen (driven words.now.key.start self.old machine.old) payload.now).trail ≡ steps.old + length (seen (driven words.now.key.start self.new machine.new) payload.now).trail }
     {
-        if let Some(answer) = self.counted_event(machine, payload, buf, steps) {
+        if let Some(answer) = self.counted_event(words, machine, payload, buf, steps) {
             return Some(answer);
         }
-        self.counted_bytes(machine, payload, buf, steps);
-        self.two_events::<L, WRITES>(machine, payload, buf, steps)
+        self.counted_bytes(words, machine, payload, buf, steps);
+        self.two_events::<L, WRITES>(words, machine, payload, buf, steps)
     }
 
     #[inline(always)]
     fn two_events<L: Ledger, const WRITES: bool>(
         &mut self,
+        words: &PageWords,
         machine: &mut Machine,
         payload: &[u8],
         buf: &mut [u8],
         steps: &mut Steps<L>,
     ) -> Option<Answer>
-        requires { IsReady (driven self.old machine.old) payload.now buf.old }
-        ensures goes { Goes (driven self.old machine.old) payload.now buf.old result (driven self.new machine.new) buf.new }
-        ensures steps { steps.new + length (seen (driven self.old machine.old) payload.now).trail ≡ steps.old + length (seen (driven self.new machine.new) payload.now).trail }
+        requires words { AreWordsOf words.now.table_id words.now.key self.old }
+        requires ready { IsReady (driven words.now.key.start self.old machine.old) payload.now buf.old }
+        ensures words { AreWordsOf words.now.table_id words.now.key self.new }
+        ensures goes { Goes (driven words.now.key.start self.old machine.old) payload.now buf.old result (driven words.now.key.start self.new machine.new) buf.new }
+        ensures steps { steps.new + length (seen (driven words.now.key.start self.old machine.old) payload.now).trail ≡ steps.old + length (seen (driven words.now.key.start self.new machine.new) payload.now).trail }
     {
-        if let Some(answer) = self.counted_event(machine, payload, buf, steps) {
+        if let Some(answer) = self.counted_event(words, machine, payload, buf, steps) {
             return Some(answer);
         }
-        self.counted_event(machine, payload, buf, steps)
+        self.counted_event(words, machine, payload, buf, steps)
     }
 
     /// A write that has begun: a look whether the peer is live, and then as in `look_and_move`.
     #[inline(always)]
     fn live_and_move<L: Ledger>(
         &mut self,
+        words: &PageWords,
         machine: &mut Machine,
         payload: &[u8],
         buf: &mut [u8],
         steps: &mut Steps<L>,
     ) -> Option<Answer>
-        requires { IsReady (driven self.old machine.old) payload.now buf.old }
-        ensures goes { Goes (driven self.old machine.old) payload.now buf.old result (driven self.new machine.new) buf.new }
-        ensures steps { steps.new + length (seen (driven self.old machine.old) payload.now).trail ≡ steps.old + length (seen (driven self.new machine.new) payload.now).trail }
+        requires words { AreWordsOf words.now.table_id words.now.key self.old }
+        requires ready { IsReady (driven words.now.key.start self.old machine.old) payload.now buf.old }
+        ensures words { AreWordsOf words.now.table_id words.now.key self.new }
+        ensures goes { Goes (driven words.now.key.start self.old machine.old) payload.now buf.old result (driven words.now.key.start self.new machine.new) buf.new }
+        ensures steps { steps.new + length (seen (driven words.now.key.start self.old machine.old) payload.now).trail ≡ steps.old + length (seen (driven words.now.key.start self.new machine.new) payload.now).trail }
     {
-        if let Some(answer) = self.counted_event(machine, payload, buf, steps) {
+        if let Some(answer) = self.counted_event(words, machine, payload, buf, steps) {
             return Some(answer);
         }
-        self.look_and_move::<L, true>(machine, payload, buf, steps)
+        self.look_and_move::<L, true>(words, machine, payload, buf, steps)
     }
 
-    /// The first events of a call that was just begun, in an order that the compiler can see; most
-    /// calls that move bytes are over then. No other call makes an event here.
+    /// The first events of a call of this way that was just begun; most writes and reads are over then.
+    /// A call of no such way makes no event here.
     #[inline(always)]
-    pub(crate) fn quickly<L: Ledger>(
+    pub(crate) fn quickly<L: Ledger, const WAY: u8>(
         &mut self,
-        call: Call,
+        words: &PageWords,
         machine: &mut Machine,
         payload: &[u8],
         buf: &mut [u8],
         steps: &mut Steps<L>,
     ) -> Option<Answer>
-        requires { IsReady (driven self.old machine.old) payload.now buf.old }
-        ensures goes { Goes (driven self.old machine.old) payload.now buf.old result (driven self.new machine.new) buf.new }
-        ensures steps { steps.new + length (seen (driven self.old machine.old) payload.now).trail ≡ steps.old + length (seen (driven self.new machine.new) payload.now).trail }
+        requires words { AreWordsOf words.now.table_id words.now.key self.old }
+        requires ready { IsReady (driven words.now.key.start self.old machine.old) payload.now buf.old }
+        ensures goes { Goes (driven words.now.key.start self.old machine.old) payload.now buf.old result (driven words.now.key.start self.new machine.new) buf.new }
+        ensures words { AreWordsOf words.now.table_id words.now.key self.new }
+        ensures steps { steps.new + length (seen (driven words.now.key.start self.old machine.old) payload.now).trail ≡ steps.old + length (seen (driven words.now.key.start self.new machine.new) payload.now).trail }
     {
-        match call {
-            Call::Write { len: _ } => self.live_and_move(machine, payload, buf, steps),
-            Call::Read { most: _ } => {
-                self.look_and_move::<L, false>(machine, payload, buf, steps)
-            }
+        match WAY {
+            WRITES => self.live_and_move(words, machine, payload, buf, steps),
+            READS => self.look_and_move::<L, false>(words, machine, payload, buf, steps),
             _ => None,
         }
     }
 
     /// Gives the end up, with one event: a load of the consumer index of the ring that it writes.
-    pub(crate) fn turn(self) -> TurnedEnd<'p>
-        requires { self.side.turned ≡ false }
-        ensures page { result.page ≡ self.entry.page }
-        ensures side { (consumed : ℕ) × (result.side ≡ turns self.entry.side consumed) }
+    pub(crate) fn turn<'p>(self, words: &'p PageWords) -> TurnedEnd<'p>
+        requires words { AreWordsOf words.now.table_id words.now.key self }
+        requires honest { self.side.turned ≡ false }
+        ensures page { result.page ≡ self.page }
+        ensures side { (consumed : ℕ) × (result.side ≡ turns self.side consumed) }
     {
         let Self {
-            words,
             mut seat,
             layout,
             role,
             retired: _,
             begun: _,
         } = self;
-        let word = match role {
-            Role::Server => WordName::RightCons,
-            Role::Client => WordName::LeftCons,
-        };
+        let word = cons_word(written_ring(role));
         give_up::<Brand>(words, &mut seat, &layout, word);
         TurnedEnd {
             words,
@@ -362,10 +378,9 @@ impl<'p> EndSeat<'p> {
         requires honest { self.side.turned ≡ false }
         requires retired { self.side.retired ≡ true }
         requires shut { self.side.state ≡ Shut }
-        ensures { (result.page ≡ self.entry.page) × (result.side ≡ self.entry.side) }
+        ensures { (result.page ≡ self.page) × (result.side ≡ self.side) }
     {
         let Self {
-            words: _,
             seat,
             layout: _,
             role,

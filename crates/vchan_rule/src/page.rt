@@ -1,10 +1,11 @@
 //! A page with its two seats, and what is known once both ends are done.
 ghost use Rattle.std.specs.Prelude.{◌≡◌, None, IfOk};
 ghost use Rattle.ring_words.specs.declared.page.Role.TheVariants.{Server, Client};
-ghost use Rattle.end_view.specs.Settled.{IsSettled, settled_view};
+ghost use Rattle.end_view.specs.EndView.{state_at_first};
+ghost use Rattle.end_view.specs.Settled.{IsSettled};
 ghost use Rattle.vchan_protocol.specs.History.Core.{new_side};
 ghost use Rattle.vchan_core.specs.OneMachine.Phases.{IsIdle};
-ghost use Rattle.vchan_rule.specs.Rule.{first_state};
+ghost use Rattle.vchan_rule.specs.Seated.{settled_page};
 
 use crate::end::End;
 use crate::rule::{Halves, Opening, PageTable, Place};
@@ -13,7 +14,7 @@ use ring_words::{Orders, Role};
 use std::alloc::Global;
 use std::marker::Model;
 use std::snapshot::Snapshot;
-use vchan_core::{EndState, Plain};
+use vchan_core::{EndState, start_words};
 use vchan_io::Memory;
 
 /// A page that two ends share.
@@ -49,14 +50,14 @@ impl Model for IdleSeat {
     ghost use Rattle.std.specs.Prelude.{◌≡◌, [], ◌∷◌};
     ghost use Rattle.vchan_protocol.specs.History.Core.{new_side};
     ghost use Rattle.vchan_rule.specs.Seated.{SeatView};
-    ghost use Rattle.vchan_rule.specs.Rule.{first_state};
+    ghost use Rattle.end_view.specs.EndView.{state_at_first};
     ghost use Rattle.vchan_rule.specs.declared.rule.View.TheVariants.{One};
 
     ghost Value = { SeatView };
 
     ghost view = { λ s. record { page = record { table = s.seat.table_id; orders = s.orders; start = s.start }; role = s.role } };
 
-    ghost invariant = { λ s. s.seat.me ≡ (One (new_side s.role s.orders s.start (first_state s.role)), []) };
+    ghost invariant = { λ s. s.seat.me ≡ (One (new_side s.role s.orders s.start (state_at_first s.role)), []) };
 }
 
 impl Page {
@@ -70,9 +71,9 @@ impl Page {
         ensures { IfOk result (λ p. (p.0.orders ≡ orders) × (p.0.start ≡ start) × (p.1 ≡ record { page = p.0; role = Server }) × (p.2 ≡ record { page = p.0; role = Client })) }
     {
         let said = (orders.left.number(), orders.right.number());
-        let plain = Plain::open(alloc, orders, start, said, EndState::Fresh)?;
+        let words = start_words(alloc, orders, start, said, EndState::Fresh)?;
         let opening = Opening { orders, start };
-        let (table, mut server) = PageTable::of_words(alloc, plain.words().list(), &opening)?;
+        let (table, mut server) = PageTable::of_words(alloc, words.list(), &opening)?;
         let client = table.shared.split_seat::<Halves>(&mut server);
         let page = Page {
             table,
@@ -99,7 +100,7 @@ impl Page {
     pub fn attach(&self, seat: IdleSeat) -> End<'_>
         requires { seat.page ≡ self.now }
         ensures page { (result.page ≡ self.now.table) × (result.start ≡ self.now.start) }
-        ensures side { result.side ≡ new_side seat.role self.now.orders self.now.start (first_state seat.role) }
+        ensures side { result.side ≡ new_side seat.role self.now.orders self.now.start (state_at_first seat.role) }
         ensures idle { IsIdle result.machine × (result.begun ≡ None) }
     {
         let IdleSeat {
@@ -122,11 +123,12 @@ impl Page {
         )
     }
 
-    /// Closes the page, once both its ends are done. Both come from the two seats of this page.
+    /// Closes the page, once both its ends are done. Both come from the two seats of this page. What is
+    /// settled has the page's orders and the two ends as they were.
     pub fn finish(self, server: Retired, client: Retired) -> Settled
         requires server { (server.page ≡ self.table) × (server.side.role ≡ Server) }
         requires client { (client.page ≡ self.table) × (client.side.role ≡ Client) }
-        ensures { result ≡ settled_view self.orders self.table server.side client.side }
+        ensures { result ≡ settled_page self server client }
     {
         let Retired {
             mut seat,

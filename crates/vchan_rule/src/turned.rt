@@ -1,6 +1,6 @@
 //! An end that was given up to a hostile user, and an end that makes no event any more.
 ghost use Rattle.std.specs.Prelude.{◌≡◌, true};
-ghost use Rattle.vchan_protocol.specs.Table.Ends.{peer_pending, own_gone};
+ghost use Rattle.vchan_protocol.specs.Table.Ends.{peer_pending as peer_pending_of, own_gone as own_gone_of};
 ghost use Rattle.vchan_protocol.specs.Hostile.Turned.{strays, MayPoke};
 
 use crate::rule::{PageWords, Place};
@@ -8,6 +8,7 @@ use crate::steps::{stray_load, stray_store};
 use ring_words::{Layout, Orders, Role, WordName};
 use std::marker::{Brand, Model};
 use vchan_core::Op;
+use vchan_core::words::{own_gone, peer_pending};
 
 /// An end that was given up to a hostile user, who may load and store any word that lies on the
 /// shared page or in its rings, and may signal the peer. It stays given up.
@@ -69,19 +70,16 @@ impl<'p> TurnedEnd<'p> {
     /// Sets the peer's pending word.
     pub fn signal(&mut self)
         ensures same { self.new.page ≡ self.old.page }
-        ensures event { self.new.side ≡ strays self.old.side (Op.Store (peer_pending self.old.side.role) 1) 0 }
+        ensures event { self.new.side ≡ strays self.old.side (Op.Store (peer_pending_of self.old.side.role) 1) 0 }
     {
-        let word = match self.role {
-            Role::Server => WordName::CliPending,
-            Role::Client => WordName::SrvPending,
-        };
+        let word = peer_pending(self.role);
         stray_store::<Brand>(self.words, &mut self.seat, &self.layout, word, 1);
     }
 
     /// Sets its gone word, and signals its peer.
     pub fn retire(self) -> Retired
         ensures same { result.page ≡ self.entry.page }
-        ensures events { result.side ≡ strays (strays self.entry.side (Op.Store (own_gone self.entry.side.role) 1) 0) (Op.Store (peer_pending self.entry.side.role) 1) 0 }
+        ensures events { result.side ≡ strays (strays self.entry.side (Op.Store (own_gone_of self.entry.side.role) 1) 0) (Op.Store (peer_pending_of self.entry.side.role) 1) 0 }
         ensures turned { result.side.turned ≡ true }
     {
         let Self {
@@ -90,12 +88,8 @@ impl<'p> TurnedEnd<'p> {
             layout,
             role,
         } = self;
-        let (gone, pending) = match role {
-            Role::Server => (WordName::SrvGone, WordName::CliPending),
-            Role::Client => (WordName::CliGone, WordName::SrvPending),
-        };
-        stray_store::<Brand>(words, &mut seat, &layout, gone, 1);
-        stray_store::<Brand>(words, &mut seat, &layout, pending, 1);
+        stray_store::<Brand>(words, &mut seat, &layout, own_gone(role), 1);
+        stray_store::<Brand>(words, &mut seat, &layout, peer_pending(role), 1);
         Retired {
             seat,
             role,

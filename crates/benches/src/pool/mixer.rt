@@ -1,6 +1,6 @@
 //! The tasks of the bench.
 ghost use Rattle.std.specs.Prelude.{◌≡◌, ◌<◌};
-ghost use Rattle.benches.specs.Mixed.{stirred, stirred_often, mixed_after};
+ghost use Rattle.benches.specs.Mixed.{stirred, stirred_often};
 
 use task_pool::{PoolTask, Turn};
 
@@ -14,12 +14,18 @@ pub struct Mixer {
 }
 
 impl PoolTask for Mixer {
+    ghost use Rattle.task_pool.specs.Owes.{Pays};
+    ghost use Rattle.benches.specs.Owed.{owed, Shortens};
+
     type Done = u64;
 
-    ghost owes = { λ task done. done ≡ mixed_after task.left task.steps task.state };
+    ghost owes = { λ task done. done ≡ owed task };
 
     #[tactic(auto, using(crate::proofs::MixedLaws::last_mixed, crate::proofs::MixedLaws::mixed_on))]
-    fn turn(self) -> Turn<Mixer> {
+    fn turn(self) -> Turn<Mixer>
+        ensures pays { Pays (λ task done. done ≡ owed task) self result }
+        ensures shorter { Shortens self result }
+    {
         let state = stir_often(self.state, self.steps);
         if self.left == 1 {
             return Turn::Done(state);

@@ -1,5 +1,5 @@
 //! The two runs of the tasks: by one plain loop, and by a pool.
-ghost use Rattle.std.specs.Prelude.{◌≡◌, ◌≤◌, ◌<◌, ◌^◌, vec_len, IfOk};
+ghost use Rattle.std.specs.Prelude.{◌≡◌, ◌≤◌, ◌<◌, ◌%◌, ◌^◌, sum, sum_by, vec_len, IfOk};
 ghost use Rattle.std.specs.List.{AllZip};
 ghost use Rattle.benches.specs.Owed.{owed};
 
@@ -27,24 +27,28 @@ pub fn mixers(alloc: Global, tasks: u32, turns: u32, steps: u32) -> Result<Vec<M
     Ok(load)
 }
 
-/// What the tasks give, by one plain loop over all turns, added up in 64 bits.
-pub fn by_loop(tasks: Vec<Mixer>) -> u64 {
+/// The numbers that the tasks owe, made by one plain loop over all turns and added up in 64 bits.
+pub fn by_loop(tasks: Vec<Mixer>) -> u64
+    ensures { result ≡ sum_by owed tasks.items % 2 ^ 64 }
+{
     let mut sum = 0u64;
-    for task in tasks {
+    'tasks: for task in tasks {
         sum = sum.wrapping_add(last_turn(task));
     }
     sum
 }
 
-fn last_turn(task: Mixer) -> u64 {
+/// The number that a task owes, by all its turns.
+fn last_turn(task: Mixer) -> u64
+    ensures { result ≡ owed task }
+{
     let mut now = task;
-    for _ in 0..u64::MAX {
+    'turns: loop {
         match now.turn() {
             Turn::Again(next) => now = next,
             Turn::Done(done) => return done,
         }
     }
-    0
 }
 
 /// What each task gives, by a pool with so many workers: the number that it owes.
@@ -62,8 +66,10 @@ pub fn by_pool<R: Threads + Wait + Sync>(
     run_pool(rt, alloc, tasks, workers, &OpenGate)
 }
 
-/// The sum in 64 bits.
-pub fn added(numbers: &[u64]) -> u64 {
+/// The sum in 64 bits. Of what [`by_pool`] gives it is that of [`by_loop`].
+pub fn added(numbers: &[u64]) -> u64
+    ensures { result ≡ sum numbers.now % 2 ^ 64 }
+{
     let mut sum = 0u64;
     for number in numbers {
         sum = sum.wrapping_add(*number);

@@ -136,7 +136,6 @@ pub there_is_a_run : (orders : Orders) → IsRun (tiny orders) (tiny_run orders)
 unfolding tiny tiny_run over
 there_is_a_run orders = record {
   scenario = scenario orders;
-  numbers_small = tt;
   settled = λ place there. settled orders place;
   server_turned = λ place there. sym (none-hostile orders (server_of place));
   client_turned = λ place there. sym (none-hostile orders (client_of place));

@@ -184,7 +184,7 @@ scenario orders = record {
   few_calls = omega arith;
   domains_fit = All-from_recursion DomainFits (one orders).domains (record { name = refl; numbers = (refl, inr refl); acts = tt }, tt);
   apart = (All-from_recursion _ [] tt, tt);
-  calls_fit = All-from_recursion (CallFits (one orders).domains) (the_call ∷ []) (record { caller = refl; target = refl; service = refl; stdin = omega arith }, tt);
+  calls_fit = All-from_recursion (CallFits (one orders).domains) (the_call ∷ []) (record { number = omega arith; caller = refl; target = refl; service = refl; stdin = omega arith }, tt);
   rising = (omega arith, tt);
   stdin = omega arith;
   words = omega (arith, few-words orders);
@@ -235,7 +235,6 @@ agent orders (suc (suc d)) h = let bad = h.there in cc
 pub there_is_a_run : (orders : Orders) → IsRun (one orders) (one_run orders)
 there_is_a_run orders = record {
   scenario = scenario orders;
-  numbers_small = (omega arith, tt);
   settled = λ place there. settled orders ((one_run orders).page place) refl;
   server_turned = λ place there. sym (none-hostile orders (server_of place));
   client_turned = λ place there. sym (none-hostile orders (client_of place));

@@ -277,7 +277,6 @@ pub results_are_runs : ResultsAreRuns
 results_are_runs s dones pages h = (
   record {
     scenario = h.scenario;
-    numbers_small = h.numbers_small;
     settled = settled-at s dones pages h;
     server_turned = λ place lies. view-turned s (server_of place) (answer_at dones (server_of place)) (task-ends s dones pages h (server_of place) (server-within s place lies)) place (server-own s place lies);
     client_turned = λ place lies. view-turned s (client_of place) (answer_at dones (client_of place)) (task-ends s dones pages h (client_of place) (client-within s place lies)) place (client-own s place lies);

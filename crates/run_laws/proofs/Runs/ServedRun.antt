@@ -227,7 +227,7 @@ scenario orders = record {
   few_calls = omega arith;
   domains_fit = All-from_recursion DomainFits (two orders).domains (record { name = refl; numbers = (refl, inr refl); acts = tt }, (record { name = refl; numbers = (refl, inr refl); acts = tt }, tt));
   apart = (All-from_recursion (λ x. bytes_eq (codes "a") x.name ≡ false) (record { name = codes "b"; hostile = None; ports = 4; version = 3 } ∷ []) (refl, tt), (All-from_recursion _ [] tt, tt));
-  calls_fit = All-from_recursion (CallFits (two orders).domains) (the_call ∷ []) (record { caller = refl; target = refl; service = refl; stdin = omega arith }, tt);
+  calls_fit = All-from_recursion (CallFits (two orders).domains) (the_call ∷ []) (record { number = omega arith; caller = refl; target = refl; service = refl; stdin = omega arith }, tt);
   rising = (omega arith, tt);
   stdin = omega arith;
   words = omega (arith, few-words orders);
@@ -331,7 +331,6 @@ agent orders (suc (suc (suc d))) h = let bad = h.there in cc
 pub there_is_a_run : (orders : Orders) → IsRun (two orders) (two_run orders)
 there_is_a_run orders = record {
   scenario = scenario orders;
-  numbers_small = (omega arith, tt);
   settled = λ place there. settled orders place;
   server_turned = λ place there. (unturned orders place).0 ∙ sym (none-hostile orders (server_of place));
   client_turned = λ place there. (unturned orders place).1 ∙ sym (none-hostile orders (client_of place));

@@ -95,9 +95,9 @@ caller-there : (o : Option Domain) → option_map_or is_hostile o true ≡ false
 caller-there None honest = cc
 caller-there (Some domain) honest = (refl, honest)
 
-calls-are : (s : Scenario) (calls : List CallPlan) → Each (CallFits s.domains) calls → Each (λ call. call.number < 2 ^ 64) calls → Each (IsCall s) calls
-calls-are s [] fit small = tt
-calls-are s (call ∷ calls) fit small =
+calls-are : (s : Scenario) (calls : List CallPlan) → Each (CallFits s.domains) calls → Each (IsCall s) calls
+calls-are s [] fit = tt
+calls-are s (call ∷ calls) fit =
     let caller = caller-there (domain_at s.domains call.from) fit.0.caller in
     let parts = and_parts (nat_le 1 (length call.service) && nat_le (length call.service) 63) (list_all is_service_byte call.service) fit.0.service in
     let sizes = and_parts (nat_le 1 (length call.service)) (nat_le (length call.service) 63) parts.0 in
@@ -106,13 +106,13 @@ calls-are s (call ∷ calls) fit small =
         from_some = caller.0;
         from_honest = caller.1;
         caller = fit.0.caller;
-        number_small = small.0;
+        number_small = omega (arith, fit.0.number);
         to = name-is call.to fit.0.target;
         service_short = high;
         service_clean = kept-as-it-is is_service_byte call.service parts.1;
         service_no_nul = no_nul_in_service call.service fit.0.service;
       },
-      calls-are s calls fit.1 small.1,
+      calls-are s calls fit.1,
     )
 
 above : (below : ℕ) (calls : List CallPlan) → Rises below calls → (j : ℕ) (d : CallPlan) → j < length calls → below < (slice_index_or calls j d).number
@@ -129,14 +129,14 @@ numbers-rise below (call ∷ calls) rises (suc i) (suc j) d less within = number
 
 -- ---- a scenario
 
-pub clean-scenario : (s : Scenario) → IsScenario s → Each (λ call. call.number < 2 ^ 64) s.calls → IsClean s
-clean-scenario s is small = record {
+pub clean-scenario : (s : Scenario) → IsScenario s → IsClean s
+clean-scenario s is = record {
   domains = domains-are s.domains (recursion_from_All DomainFits s.domains is.domains_fit);
   names_differ = names-apart s.domains is.apart;
-  calls = calls-are s s.calls (recursion_from_All (CallFits s.domains) s.calls is.calls_fit) small;
+  calls = calls-are s s.calls (recursion_from_All (CallFits s.domains) s.calls is.calls_fit);
   numbers_rise = numbers-rise 0 s.calls is.rising;
   few = is.few_calls;
 }
 
 pub facts : (s : Scenario) (run : Run) → IsRun s run → IsClean s
-facts s run h = clean-scenario s h.scenario h.numbers_small
+facts s run h = clean-scenario s h.scenario

@@ -12,17 +12,10 @@ fn told(rt: &impl AllocGlobal, file: &[u8]) -> Result<Vec<u8>, Fail> {
     }
 }
 
-/// The line of a fault. Want of memory is none, and fails the test.
+/// The line that tells an error.
 fn line_of(rt: &impl AllocGlobal, error: ScenarioError) -> Result<Vec<u8>, Fail> {
-    match error {
-        ScenarioError::Bad { kind, at } => fault_line(rt, kind, &at),
-        ScenarioError::Memory => Err(Fail::from(ScenarioError::Memory)),
-    }
-}
-
-fn fault_line(rt: &impl AllocGlobal, kind: ScenarioKind, at: &Path) -> Result<Vec<u8>, Fail> {
     let mut line = Vec::new(rt.alloc());
-    push_fault_line(&mut line, kind, at)?;
+    error.push_line(&mut line)?;
     Ok(line)
 }
 

@@ -5,9 +5,8 @@ use Rattle.step_script.specs.declared.error.ScriptKind.{ScriptKind}
 use Rattle.step_script.specs.declared.error.ScriptKind.TheVariants.{BadLine, BadNumber, BadHex, TooManyBytes}
 use Rattle.script_words.specs.Words.{only}
 use Rattle.script_words.specs.Numbers.{number_of}
-use Rattle.script_words.specs.ByteStrings.{at_most, byte_string}
-use Rattle.script_words.specs.declared.byte_string.ByteFault.{ByteFault}
-use Rattle.script_words.specs.declared.byte_string.ByteFault.TheVariants as fault
+use Rattle.script_words.specs.ByteStrings.{at_most, byte_string, ByteFault}
+use Rattle.script_words.specs.ByteStrings as fault
 
 -- the second step, where the first gave a value
 infixl 10 ◌>>=◌

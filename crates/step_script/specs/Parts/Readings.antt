@@ -6,7 +6,6 @@ use Rattle.script_words.specs.declared.byte_string.PushError.{PushError}
 use Rattle.script_words.specs.declared.byte_string.PushError.TheVariants as push
 use Rattle.script_words.specs.declared.lines.TooManyLines.{TooManyLines}
 use Rattle.step_script.specs.Language.Grammar.{front_from}
-use Rattle.step_script.specs.Language.Operands.{fault_kind}
 use Rattle.step_script.specs.declared.error.BadLine.{BadLine}
 use Rattle.step_script.specs.declared.error.ScriptKind.{ScriptKind}
 use Rattle.step_script.specs.declared.error.ScriptKind.TheVariants as kind
@@ -74,7 +73,8 @@ error_at line.Memory number = script.Memory
 
 -- why a line with such a word wasn't read
 abbrev pub line_error_of : PushError → LineError
-line_error_of (push.Bad fault) = line.Bad (fault_kind fault)
+line_error_of push.BadHex = line.Bad kind.BadHex
+line_error_of push.TooManyBytes = line.Bad kind.TooManyBytes
 line_error_of push.Memory = line.Memory
 
 -- the bad line where there are too many

@@ -182,10 +182,23 @@ impl EndPlayer {
         }
         self.make_room(page, who, call)?;
         self.call = call;
-        self.payload.clear();
-        self.payload.extend_from_slice(payload)?;
+        self.keep(payload)?;
         page.begin(who, call);
         Ok(())
+    }
+
+    /// Keeps the bytes that a call writes or sends. Other calls have none, and need no copy.
+    #[inline(always)]
+    fn keep(&mut self, payload: &[u8]) -> Result<(), AllocError>
+        ensures payload { OnOk result (self.new.payload.items ≡ payload.now) }
+        ensures buffer { self.new.buffer ≡ self.old.buffer }
+        ensures call { self.new.call ≡ self.old.call }
+    {
+        self.payload.clear();
+        if payload.is_empty() {
+            return Ok(());
+        }
+        self.payload.extend_from_slice(payload)
     }
 
     /// Makes the buffer long enough for the bytes that a call may take.

@@ -91,7 +91,7 @@ fn read_end_line(
 }
 
 /// Reads the words behind an act's word.
-#[inline(never)]
+#[inline(always)]
 fn read_line_of_act(
     payload: &mut Vec<u8>,
     orders: Orders,
@@ -128,6 +128,7 @@ fn read_line_of_act(
 }
 
 /// Reads the words `WORD VALUE` of a poke.
+#[inline(never)]
 fn read_poke(orders: Orders, who: Role, mut words: WordsOfLine) -> Result<Line, LineError>
     ensures line { (payload : List ℕ) → Gives (λ line. line_with line payload) result (poke_of orders who (words_left words.entry)) }
     ensures fits { (payload : List ℕ) (room : ℕ) → IfOk result (λ line. LineKeeps orders room (line_with line payload)) }

@@ -246,7 +246,7 @@ impl Machine {
     }
 
     #[tactic(auto, unfolding(crate::specs::OneMachine::Phases::rest_at, vchan_protocol::specs::Table::Calls::read_looked))]
-    fn read_looked(&self, most: u32, prod: u32) -> Next
+    pub(crate) fn read_looked(&self, most: u32, prod: u32) -> Next
         ensures plan { plan_at (standing self.now) result ≡ read_looked_plan (standing self.now) most prod }
         ensures payload_left { payload_next result ≡ 0 }
         ensures buffer_left { buffer_next (read_size (standing self.now)) result ≤ min most (read_size (standing self.now)) }

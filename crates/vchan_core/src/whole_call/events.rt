@@ -13,7 +13,7 @@ use crate::machine::Machine;
 use crate::machine::outcomes::{notified, put_on, take_on};
 use crate::phase::{Next, Phase};
 use crate::totals::Totals;
-use crate::words::{cons_word, mask, prod_word};
+use crate::words::{cons_word, low32, mask, prod_word};
 use ring_words::{Role, Words};
 use vchan_protocol::{Answer, Bit};
 
@@ -52,6 +52,26 @@ impl Machine {
                 writes.stays();
                 reads.stays();
                 self.notify_peer(role, bit, answer, words)
+            }
+            Phase::Signal { answer } => {
+                writes.stays();
+                reads.stays();
+                self.signal_peer(role, answer, words)
+            }
+            Phase::ReadLook { most } => {
+                writes.stays();
+                reads.stays();
+                self.look_for_bytes(role, most, words)
+            }
+            Phase::ReadAsk { most } => {
+                writes.stays();
+                reads.stays();
+                self.ask_for_bytes(role, most, words)
+            }
+            Phase::ReadLookAgain { most } => {
+                writes.stays();
+                reads.stays();
+                self.look_again_for_bytes(role, most, words)
             }
             // Copies of their own, so that the phase and what comes of it lie in memory here alone.
             _ => {
@@ -132,6 +152,62 @@ impl Machine {
         let asked = words.load(word);
         words.store(word, asked & (u64::MAX - mask(bit)));
         notified(bit, answer, asked)
+    }
+
+    /// The signal of a peer that had asked for it, with which a call ends.
+    #[tactic(auto, unfolding(vchan_protocol::specs::Table::Ends::standing_after, crate::specs::OneMachine::Phases::rest_at))]
+    #[inline(always)]
+    fn signal_peer(&self, role: Role, answer: Answer, words: &mut Words) -> Next
+        requires role { self.now.role ≡ role }
+        requires orders { words.old.orders ≡ self.now.orders }
+        ensures orders { words.new.orders ≡ words.old.orders }
+        ensures event { (payload : List ℕ) → (buffer : List ℕ) → MakesEventAt words.old.orders self.now (Phase.Signal answer) words.old.list payload buffer self.now result words.new.list buffer }
+    {
+        let _counts = self.counts();
+        words.store(self.pending_as(role), 1);
+        Next::Done(answer)
+    }
+
+    /// The first look of a read at how many bytes wait, where it is made alone.
+    #[tactic(auto, unfolding(vchan_protocol::specs::Table::Ends::standing_after, crate::specs::OneMachine::Phases::rest_at, vchan_protocol::specs::Table::Calls::read))]
+    #[inline(always)]
+    fn look_for_bytes(&self, role: Role, most: u32, words: &Words) -> Next
+        requires role { self.now.role ≡ role }
+        requires orders { words.now.orders ≡ self.now.orders }
+        ensures event { (payload : List ℕ) → (buffer : List ℕ) → MakesEventAt words.now.orders self.now (Phase.ReadLook most) words.now.list payload buffer self.now result words.now.list buffer }
+    {
+        let _counts = self.counts();
+        let prod = words.load(prod_word(self.read_as(role)));
+        self.read_found(most, low32(prod))
+    }
+
+    /// A read that found too few bytes asks its peer for a signal.
+    #[tactic(auto, unfolding(vchan_protocol::specs::Table::Ends::standing_after, crate::specs::OneMachine::Phases::rest_at))]
+    #[inline(always)]
+    fn ask_for_bytes(&self, role: Role, most: u32, words: &mut Words) -> Next
+        requires role { self.now.role ≡ role }
+        requires orders { words.old.orders ≡ self.now.orders }
+        ensures orders { words.new.orders ≡ words.old.orders }
+        ensures event { (payload : List ℕ) → (buffer : List ℕ) → MakesEventAt words.old.orders self.now (Phase.ReadAsk most) words.old.list payload buffer self.now result words.new.list buffer }
+    {
+        let _counts = self.counts();
+        let word = self.ask_as(role);
+        let asked = words.load(word);
+        words.store(word, asked | mask(Bit::Written));
+        Next::To(Phase::ReadLookAgain { most })
+    }
+
+    /// The last look of a read, behind its question.
+    #[tactic(auto, unfolding(vchan_protocol::specs::Table::Ends::standing_after, crate::specs::OneMachine::Phases::rest_at))]
+    #[inline(always)]
+    fn look_again_for_bytes(&self, role: Role, most: u32, words: &Words) -> Next
+        requires role { self.now.role ≡ role }
+        requires orders { words.now.orders ≡ self.now.orders }
+        ensures event { (payload : List ℕ) → (buffer : List ℕ) → MakesEventAt words.now.orders self.now (Phase.ReadLookAgain most) words.now.list payload buffer self.now result words.now.list buffer }
+    {
+        let _counts = self.counts();
+        let prod = words.load(prod_word(self.read_as(role)));
+        self.read_looked(most, low32(prod))
     }
 
     /// [`Machine::event`] for the phases that are seldom, as one function that is called.

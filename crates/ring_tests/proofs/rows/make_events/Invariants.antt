@@ -4,4 +4,4 @@ use Rattle.ring_tests.specs.Rows.{IsUnderWay}
 use Rattle.ring_tests.proofs.rows.make_events.Given as goal
 
 abbrev pub invariant-events : goal.invariant-events
-invariant-events l = IsSameEnd l.initial.end l.end × (length l.buf ≡ length l.initial.buf) × IsUnderWay l.end l.buf
+invariant-events l = IsSameEnd l.initial.end l.end × (l.end.side.sent ≡ l.initial.end.side.sent) × (length l.buf ≡ length l.initial.buf) × IsUnderWay l.end l.buf

@@ -1,10 +1,9 @@
-use Rattle.std.proofs.Common.{◌≡◌, ◌≤◌, ◌-◌, [], ℕ, List, None}
+use Rattle.std.proofs.Common.{◌≡◌, ◌≤◌, ◌-◌, [], ℕ, List}
 use Rattle.vchan_protocol.specs.declared.op.Op.TheVariants.{Nothing}
 use Rattle.vchan_core.specs.OneMachine.Ahead.{put_at}
-use Rattle.vchan_core.specs.Page.StandsFor.{HasPayload}
-use Rattle.vchan_rule.specs.Ends.{end_in, Agrees}
-use Rattle.vchan_rule.specs.Along.{GoesAlong}
+use Rattle.vchan_rule.specs.Ends.{end_in}
 use Rattle.vchan_rule.specs.declared.rule.View.TheVariants.{One}
+use Rattle.vchan_rule.proofs.ByteLaws.{Moving}
 use Rattle.vchan_rule.proofs.steps.put_bytes.Given as goal
 
 abbrev pub ghosts-put_byte : goal.ghosts-put_byte
@@ -14,9 +13,7 @@ abbrev pub invariant-bytes : goal.invariant-bytes
 invariant-bytes l =
     (l.span.at ≤ l.at) × (l.at ≤ l.span.count)
     × (l.seat.table_id ≡ l.initial.seat.table_id) × (l.seat.me ≡ (One (end_in l.seat.me.0), []))
-    × Agrees l.words.key.start None (put_at l.machine l.span l.at) (end_in l.seat.me.0)
-    × HasPayload (end_in l.seat.me.0) l.payload
-    × ((buffer : List ℕ) → GoesAlong (l.at - l.span.at) (end_in l.initial.seat.me.0) buffer (end_in l.seat.me.0) buffer)
+    × ((buffer : List ℕ) → Moving l.words.key.start (put_at l.machine l.span l.at) l.payload (end_in l.initial.seat.me.0) buffer (l.at - l.span.at) (end_in l.seat.me.0) buffer)
 
 abbrev pub decreases-bytes : goal.decreases-bytes
 decreases-bytes l = l.span.count - l.at

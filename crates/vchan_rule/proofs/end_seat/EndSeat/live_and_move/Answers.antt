@@ -4,7 +4,7 @@ use Rattle.vchan_rule.proofs.end_seat.EndSeat.live_and_move.Goals as goal
 
 pub returns-clause-goes : goal.returns-clause-goes
 returns-clause-goes g c =
-    let was = driven c.args.self.now c.args.machine.now in
-    let one = driven c.counted_event.new.self c.counted_event.new.machine in
-    let two = driven c.look_and_move.new.self c.look_and_move.new.machine in
+    let was = driven c.args.words.now.key.start c.args.self.now c.args.machine.now in
+    let one = driven c.args.words.now.key.start c.counted_event.new.self c.counted_event.new.machine in
+    let two = driven c.args.words.now.key.start c.look_and_move.new.self c.look_and_move.new.machine in
     goes_then was c.args.payload.now c.args.buf.now one c.counted_event.new.buf c.look_and_move.result two c.look_and_move.new.buf c.in_default.ensures.goes c.look_and_move.ensures.goes

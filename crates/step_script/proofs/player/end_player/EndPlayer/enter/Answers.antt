@@ -15,10 +15,10 @@ returns-in-Some c =
 pub returns : goal.returns
 returns c =
     let seen = call_with c.args.call c.args.payload.now in
-    let value : c.extend_from_slice.new.self.items ≡ c.args.payload.now =
-    c.in_ok-extend_from_slice.ensures.items ∙ ap (λ (l : List ℕ). l ++ c.args.payload.now) c.clear.ensures.items in
-    let kept : EndPlayer = record { call = c.args.call; payload = c.extend_from_slice.new.self; buffer = c.make_room.new.self.buffer } in
+    let kept : EndPlayer = c.keep.new.self in
+    let value : kept.payload.items ≡ c.args.payload.now = c.in_ok-keep.ensures.payload in
+    let room : length kept.buffer.items ≡ length c.make_room.new.self.buffer.items = rw c.in_ok-keep.ensures.buffer refl in
     does_allowed c.args.who (λ (core : Core). call_refusal core c.args.who c.args.call) (begins_call c.args.who seen) c.args.page.now c.begin.new.self c.args.self.now kept c.args.text.now.items c.args.text.now.items
     (λ core stands. sym c.in_default.is ∙ c.call_refusal.ensures.refusal core stands)
     (does_begin c.args.who seen c.args.page.now c.begin.new.self c.args.self.now kept c.args.text.now.items c.requires.fits.payload c.begin.ensures.stands
-    (omega (arith, c.begin.ensures.payload_left, c.requires.fits.payload, ap (λ (l : List ℕ). length l) value)) (omega (arith, c.begin.ensures.buffer_left, c.in_ok-make_room.ensures.room)) refl value c.begin.ensures.other)
+    (omega (arith, c.begin.ensures.payload_left, c.requires.fits.payload, ap (λ (l : List ℕ). length l) value)) (omega (arith, c.begin.ensures.buffer_left, c.in_ok-make_room.ensures.room, room)) c.in_ok-keep.ensures.call value c.begin.ensures.other)

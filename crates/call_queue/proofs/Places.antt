@@ -1,0 +1,92 @@
+-- Elements at places of a list.
+use Rattle.std.proofs.Common.{◌≡◌, ℕ, ◌<◌, suc, zero, List, [], ◌∷◌, length, map, drop, refl, ap, sym, ◌∙◌, arith, Some, subst, get_or}
+use Rattle.std.specs.Prelude.{slice_get, slice_set, slice_index}
+use Rattle.qrexec_frame.specs.Streams.{Each}
+
+pub each-at : {A : Type 0} (P : A → Type 0) (xs : List A) (i : ℕ) (x : A) → Each P xs → slice_get xs i ≡ Some x → P x
+each-at P [] i x each is = cc
+each-at {A} P (y ∷ xs) zero x each is = let same : y ≡ x = cc in subst P same each.0
+each-at P (y ∷ xs) (suc i) x each is = each-at P xs i x each.1 is
+
+pub each-set : {A : Type 0} (P : A → Type 0) (xs : List A) (i : ℕ) (x : A) → Each P xs → P x → Each P (slice_set xs i x)
+each-set P [] i x each new = tt
+each-set P (y ∷ xs) zero x each new = (new, each.1)
+each-set P (y ∷ xs) (suc i) x each new = (each.0, each-set P xs i x each.1 new)
+
+pub each-map : {A : Type 0} (P Q : A → Type 0) → ((x : A) → P x → Q x) → (xs : List A) → Each P xs → Each Q xs
+each-map P Q go [] each = tt
+each-map P Q go (x ∷ xs) each = (go x each.0, each-map P Q go xs each.1)
+
+pub each-both : {A : Type 0} (P Q : A → Type 0) (xs : List A) → Each P xs → Each Q xs → Each (λ x. P x × Q x) xs
+each-both P Q [] p q = tt
+each-both P Q (x ∷ xs) p q = ((p.0, q.0), each-both P Q xs p.1 q.1)
+
+pub within-get : {A : Type 0} (xs : List A) (i : ℕ) (x : A) → slice_get xs i ≡ Some x → i < length xs
+within-get [] i x is = cc
+within-get (y ∷ xs) zero x is = omega arith
+within-get (y ∷ xs) (suc i) x is = omega (arith, within-get xs i x is)
+
+pub get-within : {A : Type 0} (xs : List A) (i : ℕ) → i < length xs → (x : A) × (slice_get xs i ≡ Some x)
+get-within [] i less = absurd (omega (arith, less))
+get-within (y ∷ xs) zero less = (y, refl)
+get-within (y ∷ xs) (suc i) less = get-within xs i (omega (arith, less))
+
+pub map-get : {A B : Type 0} (f : A → B) (xs : List A) (i : ℕ) (x : A) → slice_get xs i ≡ Some x → slice_get (map f xs) i ≡ Some (f x)
+map-get f [] i x is = cc
+map-get f (y ∷ xs) zero x is = let same : y ≡ x = cc in ap (λ z. Some (f z)) same
+map-get f (y ∷ xs) (suc i) x is = map-get f xs i x is
+
+-- what is at a place of a map comes from that place
+pub map-got : {A B : Type 0} (f : A → B) (xs : List A) (i : ℕ) (y : B) → slice_get (map f xs) i ≡ Some y → (x : A) × (slice_get xs i ≡ Some x) × (f x ≡ y)
+map-got f [] i y is = cc
+map-got f (x ∷ xs) zero y is = (x, refl, cc)
+map-got f (x ∷ xs) (suc i) y is = map-got f xs i y is
+
+-- a map doesn't see a change that f doesn't see
+pub map-set-same : {A B : Type 0} (f : A → B) (xs : List A) (i : ℕ) (x y : A) → slice_get xs i ≡ Some x → f y ≡ f x → map f (slice_set xs i y) ≡ map f xs
+map-set-same f [] i x y is same = refl
+map-set-same f (z ∷ xs) zero x y is same = let there : z ≡ x = cc in ap (λ b. b ∷ map f xs) (same ∙ ap f (sym there))
+map-set-same f (z ∷ xs) (suc i) x y is same = ap (λ r. f z ∷ r) (map-set-same f xs i x y is same)
+
+pub map-set-one : {A B : Type 0} (f : A → B) (xs : List A) (i : ℕ) (y : A) → map f (slice_set xs i y) ≡ slice_set (map f xs) i (f y)
+map-set-one f [] i y = refl
+map-set-one f (z ∷ xs) zero y = refl
+map-set-one f (z ∷ xs) (suc i) y = ap (λ r. f z ∷ r) (map-set-one f xs i y)
+
+pub length-set-one : {A : Type 0} (xs : List A) (i : ℕ) (y : A) → length (slice_set xs i y) ≡ length xs
+length-set-one [] i y = refl
+length-set-one (z ∷ xs) zero y = refl
+length-set-one (z ∷ xs) (suc i) y = ap suc (length-set-one xs i y)
+
+-- what stands behind a place is as it was
+pub drop-set : {A : Type 0} (P : A → Type 0) (n : ℕ) (xs : List A) (i : ℕ) (y : A) → Each P (drop n xs) → P y → Each P (drop n (slice_set xs i y))
+drop-set P zero xs i y each new = each-set P xs i y each new
+drop-set P (suc n) [] i y each new = tt
+drop-set P (suc n) (z ∷ xs) zero y each new = each
+drop-set P (suc n) (z ∷ xs) (suc i) y each new = drop-set P n xs i y each new
+
+pub drop-next : {A : Type 0} (P : A → Type 0) (n : ℕ) (xs : List A) (y : A) → Each P (drop n xs) → Each P (drop (suc n) (slice_set xs n y))
+drop-next P zero [] y each = tt
+drop-next P zero (z ∷ xs) y each = each.1
+drop-next P (suc n) [] y each = tt
+drop-next P (suc n) (z ∷ xs) y each = drop-next P n xs y each
+
+pub drop-at : {A : Type 0} (P : A → Type 0) (n : ℕ) (xs : List A) (x : A) → Each P (drop n xs) → slice_get xs n ≡ Some x → P x
+drop-at P zero [] x each is = cc
+drop-at P zero (y ∷ xs) x each is = let same : y ≡ x = cc in subst P same each.0
+drop-at P (suc n) [] x each is = cc
+drop-at P (suc n) (y ∷ xs) x each is = drop-at P n xs x each is
+
+pub drop-set-if : {A : Type 0} (P : A → Type 0) (n : ℕ) (xs : List A) (i : ℕ) (x y : A) → Each P (drop n xs) → slice_get xs i ≡ Some x → (P x → P y) → Each P (drop n (slice_set xs i y))
+drop-set-if P zero [] i x y each is go = tt
+drop-set-if {A} P zero (z ∷ xs) zero x y each is go = let same : z ≡ x = cc in (go (subst P same each.0), each.1)
+drop-set-if P zero (z ∷ xs) (suc i) x y each is go = (each.0, drop-set-if P zero xs i x y each.1 is go)
+drop-set-if P (suc n) [] i x y each is go = tt
+drop-set-if P (suc n) (z ∷ xs) zero x y each is go = each
+drop-set-if P (suc n) (z ∷ xs) (suc i) x y each is go = drop-set-if P n xs i x y each is go
+
+-- the number at a place that is within
+pub index-is : (xs : List ℕ) (i n : ℕ) → i < length xs → n ≡ get_or xs i n → slice_index xs i ≡ n
+index-is [] i n less is = absurd (omega (arith, less))
+index-is (x ∷ xs) zero n less is = sym is
+index-is (x ∷ xs) (suc i) n less is = index-is xs i n (omega (arith, less)) is

@@ -1,0 +1,12 @@
+use Rattle.std.proofs.Common.{◌≡◌, ◌++◌}
+use Rattle.std.specs.Vec.Iter.{into_iter_items}
+use Rattle.task_duties.specs.Pairwise.{EachPair}
+use Rattle.call_queue.specs.Inside.{IsFresh}
+use Rattle.call_queue.proofs.setup.queued.Given as goal
+
+-- the calls so far are kept, and the others are left
+abbrev pub invariant-loop-plan : goal.invariant-loop-plan
+invariant-loop-plan l = record {
+  so_far : EachPair (IsFresh l.targets) l.yielded l.queued.items;
+  left : l.yielded ++ into_iter_items l.plan-iterator ≡ l.fn.calls.items;
+}

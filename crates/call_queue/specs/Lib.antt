@@ -1,0 +1,4 @@
+pub mod Queue
+pub mod Asking
+pub mod Index
+pub mod Inside

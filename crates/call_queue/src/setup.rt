@@ -1,0 +1,60 @@
+//! A queue before anything was heard or said.
+ghost use Rattle.std.specs.Prelude.{◌≡◌, ◌<◌, ◌^◌, map, IfOk, OnOk};
+ghost use Rattle.qrexec_frame.specs.Streams.{Each};
+ghost use Rattle.task_duties.specs.Words.{ident_of};
+ghost use Rattle.task_duties.specs.Pairwise.{EachPair};
+ghost use Rattle.call_queue.specs.Inside.{IsFresh};
+
+use crate::call::{CallAnswer, QueuedCall};
+use crate::index::{Index, index_of, place_in};
+use crate::trigger::ident_text;
+use qrexec_frame::Text;
+use scenario_file::CallPlan;
+use std::alloc::{AllocError, Global};
+use std::snapshot::Snapshot;
+use vchan_io::Memory;
+
+/// The idents of some calls.
+pub(crate) fn idents_of(alloc: Global, calls: &[CallPlan]) -> Result<Vec<Text>, Memory>
+    ensures are { IfOk result (λ idents. idents.items ≡ map (λ c. ident_of c.number) calls.now) }
+    ensures small { OnOk result (Each (λ c. c.number < 2 ^ 32) calls.now) }
+{
+    let mut idents = Vec::new(alloc);
+    for call in calls {
+        idents.push(ident_text(alloc, call.number)?)?;
+    }
+    Ok(idents)
+}
+
+/// The names of their targets.
+pub(crate) fn targets_of(alloc: Global, calls: &[CallPlan]) -> Result<Vec<Text>, AllocError>
+    ensures { IfOk result (λ targets. targets.items ≡ map (λ c. c.to) calls.now) }
+{
+    let mut targets = Vec::new(alloc);
+    for call in calls {
+        targets.push(call.to.clone()?)?;
+    }
+    Ok(targets)
+}
+
+/// The calls as a queue keeps them, before anything was heard or said of them. Each target has a place in
+/// the index.
+pub(crate) fn queued(
+    alloc: Global,
+    calls: Vec<CallPlan>,
+    targets: &Index,
+) -> Result<Vec<QueuedCall>, AllocError>
+    ensures { IfOk result (λ queued. EachPair (IsFresh targets.now) calls.items queued.items) }
+{
+    let mut queued = Vec::new(alloc);
+    for plan in calls {
+        queued.push(QueuedCall {
+            given: Snapshot::of(&plan),
+            target: place_in(targets, plan.to.bytes()).unwrap_or(0),
+            plan,
+            answer: CallAnswer::Waits,
+            is_open: false,
+        })?;
+    }
+    Ok(queued)
+}

@@ -1,0 +1,67 @@
+//! The trigger of a call.
+ghost use Rattle.std.specs.Prelude.{◌≡◌, ◌<◌, ◌^◌, IfOk};
+ghost use Rattle.qrexec_frame.specs.Messages.{IsSpellable};
+ghost use Rattle.qrexec_frame.specs.Texts.{HasNoNul, FitsText};
+ghost use Rattle.task_duties.specs.Words.{ident_of};
+ghost use Rattle.call_queue.specs.Queue.{trigger_of, FitsTrigger};
+
+use itoa::Buffer;
+use qrexec_frame::{Message, Text, TextError};
+use scenario_file::CallPlan;
+use std::alloc::Global;
+use vchan_io::Memory;
+
+/// The ident by which the call of a number is asked for.
+pub(crate) fn ident_text(alloc: Global, number: u32) -> Result<Text, Memory>
+    ensures is { IfOk result (λ ident. ident ≡ ident_of number) }
+    ensures short { IfOk result (λ ident. FitsText 31 ident) }
+    ensures number { number < 2 ^ 32 }
+{
+    let bytes = ident_bytes(alloc, number)?;
+    match Text::of(alloc, &bytes) {
+        Ok(text) => Ok(text),
+        Err(TextError::Memory) => Err(Memory),
+        Err(TextError::Nul) => unreachable!(),
+    }
+}
+
+fn ident_bytes(alloc: Global, number: u32) -> Result<Vec<u8>, Memory>
+    ensures { IfOk result (λ bytes. bytes.items ≡ ident_of number) }
+{
+    let mut bytes = Vec::from_slice(alloc, b"call-")?;
+    let mut buffer = Buffer::new();
+    bytes.extend_from_slice(buffer.format(number).as_bytes())?;
+    Ok(bytes)
+}
+
+/// The trigger of a call: below version 3 it is a `Trigger`, and else a `Trigger3`.
+pub(crate) fn trigger_of(alloc: Global, plan: &CallPlan, version: u32) -> Result<Message, Memory>
+    requires { FitsTrigger plan.now }
+    ensures is { IfOk result (λ message. message ≡ trigger_of version plan.now) }
+    ensures spelt { IfOk result (λ message. IsSpellable message) }
+{
+    let target = plan.to.clone()?;
+    let service = plan.service.clone()?;
+    let ident = ident_text(alloc, plan.number)?;
+    is_text(&target);
+    is_text(&service);
+    if version < 3 {
+        return Ok(Message::Trigger {
+            target,
+            ident,
+            service,
+        });
+    }
+    Ok(Message::Trigger3 {
+        target,
+        ident,
+        service,
+    })
+}
+
+// No byte of a text is NUL.
+fn is_text(text: &Text)
+    ensures { HasNoNul text.now }
+{
+    let _bytes = text.bytes();
+}

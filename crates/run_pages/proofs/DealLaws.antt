@@ -1,0 +1,213 @@
+-- Dealing one page more.
+use Rattle.std.proofs.Common.{◌≡◌, ◌≢◌, ◌⊎◌, inl, inr, ℕ, zero, suc, ◌+◌, ◌-◌, ◌<◌, ◌≤◌, List, [], ◌∷◌, ◌++◌, length, map, set, refl, ap, sym, ◌∙◌, subst, arith, append_assoc, length-append, length-set, Option, Some, None}
+use Rattle.std.specs.Prelude.{◌==◌, true, false, slice_get, filter_map, if◌then◌else◌}
+use Rattle.std.proofs.lemmas.List.{append-nil}
+use Rattle.std.proofs.lemmas.Bool.{eq-eqb, ne_eqb}
+use Rattle.std.proofs.lemmas.Bool.Decides.{eqb_tells}
+use Rattle.std.proofs.lemmas.Option.{slice_get_within}
+use Rattle.std.specs.Prelude.{is_none, IsNone}
+use Rattle.end_view.specs.EndView.{EndView, view_of, state_at_first}
+use Rattle.vchan_protocol.specs.History.Core.{new_side}
+use Rattle.vchan_core.specs.OneMachine.Phases.{IsIdle}
+use Rattle.vchan_rule.specs.Seated.{SeatedEnd, SeatView, view}
+use Rattle.ring_words.specs.declared.page.Role.{Role}
+use Rattle.task_duties.specs.TaskOwes.{EndAt, all_ends, broker_ends}
+use Rattle.task_duties.specs.GivenEnds.{all_given, given_at}
+use Rattle.task_duties.specs.declared.ends.DataEnd.{DataEnd}
+use Rattle.task_duties.specs.declared.place.PagePlace.TheVariants.{Control, Payload}
+use Rattle.ring_words.specs.declared.page.Role.TheVariants.{Server, Client}
+use Rattle.run_laws.specs.Laid.{server_of, client_of}
+use Rattle.run_pages.specs.declared.deal.Hand.{Hand}
+use Rattle.run_pages.specs.Pages.{PageAt, new_end, end_on, new_ends}
+use Rattle.run_pages.specs.Dealt.{hand_ends, HandsDealt, ControlsDealt, AreDealt, AddsHand, Gives}
+use Rattle.run_pages.proofs.NumberLaws.{map-append}
+use Rattle.run_pages.proofs.ListLaws.{get-set, get-more}
+
+same-test : (a b : ℕ) → a ≡ b → (a == b) ≡ true
+same-test a b e = eq-eqb a b e
+
+-- a data end comes into the hand at a place
+pub gives-set : (old : List Hand) (number : ℕ) (h h' : Hand) (end : DataEnd) → 1 ≤ number → slice_get old (number - 1) ≡ Some h
+    → h'.control ≡ h.control → h'.payload.items ≡ h.payload.items ++ end ∷ [] → Gives number (given_at end) old (set old (number - 1) h')
+gives-set old number h h' end some at control payload = record { count = length-set old (number - 1) h'; each = each }
+  where
+    ends-of : (domain : ℕ) → hand_ends domain h' ≡ hand_ends domain h ++ given_at end ∷ []
+    ends-of domain =
+        ap (λ c. all_ends domain (view c) (all_given h'.payload.items)) control ∙ ap (λ l. all_ends domain (view h.control) (map given_at l)) payload
+        ∙ ap (λ l. all_ends domain (view h.control) l) (map-append given_at h.payload.items (end ∷ []))
+
+    each : (k : ℕ) (hand : Hand) → slice_get (set old (number - 1) h') k ≡ Some hand
+        → (before : Hand) × (slice_get old k ≡ Some before) × (hand_ends (k + 1) hand ≡ hand_ends (k + 1) before ++ (if k + 1 == number then given_at end ∷ [] else []))
+    each k hand is = by (get-set old (number - 1) k h' hand is)
+      where
+        by : ((k ≡ number - 1) × (h' ≡ hand)) ⊎ ((k ≢ number - 1) × (slice_get old k ≡ Some hand))
+            → (before : Hand) × (slice_get old k ≡ Some before) × (hand_ends (k + 1) hand ≡ hand_ends (k + 1) before ++ (if k + 1 == number then given_at end ∷ [] else []))
+        by (inl e) = (
+          h,
+          subst (λ j. slice_get old j ≡ Some h) (sym e.0) at,
+          subst (λ x. hand_ends (k + 1) x ≡ hand_ends (k + 1) h ++ (if k + 1 == number then given_at end ∷ [] else [])) e.1
+              (rw (same-test (k + 1) number (omega (arith, e.0, some))) (ends-of (k + 1))),
+        )
+        by (inr e) = (hand, e.1, rw (ne_eqb (k + 1) number (λ s. e.0 (omega (arith, s)))) (sym (append-nil (hand_ends (k + 1) hand))))
+
+-- ---- the ends of a page on which nothing has happened
+
+none-true : {A : Type 0} (o : Option A) → IsNone o → is_none o ≡ true
+none-true None n = refl
+none-true (Some x) n = cc
+
+-- an end that was attached to a seat
+pub attached-view : (e : SeatedEnd) (seat : SeatView) (p : PageAt) (role : Role) → seat ≡ record { page = p.page; role = role } → e.page ≡ p.page.table
+    → e.side ≡ new_side seat.role p.page.orders p.page.start (state_at_first seat.role) → IsIdle e.machine → view e ≡ (new_end p role).view
+attached-view e seat p role is page side idle =
+    ap (λ t. view_of t (is_none e.machine.phase) e.side) page
+    ∙ ap (λ b. view_of p.page.table b e.side) (none-true e.machine.phase idle)
+    ∙ ap (λ s. view_of p.page.table true s) (side ∙ ap (λ x. new_side x.role p.page.orders p.page.start (state_at_first x.role)) is)
+
+-- ---- the ends of one page more
+
+filter-append : {A B : Type 0} (f : A → Option B) (xs : List A) (x : A) → filter_map f (xs ++ x ∷ []) ≡ filter_map f xs ++ filter_map f (x ∷ [])
+filter-append f [] x = refl
+filter-append {A} {B} f (y ∷ xs) x = by (f y) refl (filter-append f xs x)
+  where
+    by : (o : Option B) → f y ≡ o → filter_map f (xs ++ x ∷ []) ≡ filter_map f xs ++ filter_map f (x ∷ []) → filter_map f (y ∷ xs ++ x ∷ []) ≡ filter_map f (y ∷ xs) ++ filter_map f (x ∷ [])
+    by None e more = rw e more
+    by (Some b) e more = rw e (ap (λ l. b ∷ l) more)
+
+ends-more : (pages : List PageAt) (p : PageAt) (number : ℕ) → new_ends (pages ++ p ∷ []) number ≡ new_ends pages number ++ new_ends (p ∷ []) number
+ends-more pages p number = filter-append (end_on number) pages p
+
+-- the server's end is that of its domain, the client's that of its
+ends-server : (p : PageAt) (number : ℕ) → server_of p.place ≡ number → new_ends (p ∷ []) number ≡ new_end p Server ∷ []
+ends-server p number e = rw (same-test (server_of p.place) number e) refl
+
+ends-client : (p : PageAt) (number : ℕ) → server_of p.place ≢ number → client_of p.place ≡ number → new_ends (p ∷ []) number ≡ new_end p Client ∷ []
+ends-client p number n e = rw (ne_eqb (server_of p.place) number n) (rw (same-test (client_of p.place) number e) refl)
+
+ends-none : (p : PageAt) (number : ℕ) → server_of p.place ≢ number → client_of p.place ≢ number → new_ends (p ∷ []) number ≡ []
+ends-none p number n m = rw (ne_eqb (server_of p.place) number n) (rw (ne_eqb (client_of p.place) number m) refl)
+
+pub map-length : {A B : Type 0} (f : A → B) (xs : List A) → length (map f xs) ≡ length xs
+map-length f [] = refl
+map-length f (x ∷ xs) = ap suc (map-length f xs)
+
+-- ---- a control page
+
+broker-more : (domain : ℕ) (vs : List EndView) (v : EndView) → broker_ends domain (vs ++ v ∷ []) ≡ broker_ends domain vs ++ record { place = Control (domain + length vs); view = v } ∷ []
+broker-more domain [] v = ap (λ d. record { place = Control d; view = v } ∷ []) (omega arith)
+broker-more domain (w ∷ vs) v =
+    ap (λ l. record { place = Control domain; view = w } ∷ l)
+    (broker-more (domain + 1) vs v ∙ ap (λ d. broker_ends (domain + 1) vs ++ record { place = Control d; view = v } ∷ []) (omega arith))
+
+pub control-dealt : (pages : List PageAt) (controls : List SeatedEnd) (hands hands' : List Hand) (p : PageAt) (domain : ℕ) (server client : SeatedEnd)
+    → AreDealt pages controls hands → p.place ≡ Control domain → domain ≡ length hands + 1
+    → view server ≡ (new_end p Server).view → view client ≡ (new_end p Client).view → AddsHand server hands hands'
+    → AreDealt (pages ++ p ∷ []) (controls ++ client ∷ []) hands'
+control-dealt pages controls hands hands' p domain server client dealt place next server-is client-is adds =
+    record { controls_are = controls-are; hands_are = hands-are; as_many = omega (arith, dealt.as_many, adds.count, length-append controls (client ∷ [])); beyond = beyond }
+  where
+    server-at : server_of p.place ≡ domain
+    server-at = ap server_of place
+
+    client-at : client_of p.place ≡ 0
+    client-at = ap client_of place
+
+    client-end : record { place = Control (1 + length (map view controls)); view = view client } ≡ new_end p Client
+    client-end =
+        ap (λ d. record { place = Control d; view = view client }) (omega (arith, next, dealt.as_many, map-length view controls))
+        ∙ ap (λ place. record { place = place; view = view client }) (sym place) ∙ ap (λ v. record { place = p.place; view = v }) client-is
+
+    controls-are : ControlsDealt (pages ++ p ∷ []) (controls ++ client ∷ [])
+    controls-are =
+        ap (broker_ends 1) (map-append view controls (client ∷ [])) ∙ broker-more 1 (map view controls) (view client)
+        ∙ ap (λ l. l ++ record { place = Control (1 + length (map view controls)); view = view client } ∷ []) dealt.controls_are
+        ∙ ap (λ e. new_ends pages 0 ++ e ∷ []) client-end
+        ∙ sym (ap (λ l. new_ends pages 0 ++ l) (ends-client p 0 (λ e. absurd (omega (arith, e, server-at, next))) client-at))
+        ∙ sym (ends-more pages p 0)
+
+    server-end : (k : ℕ) → k ≡ length hands → record { place = Control (k + 1); view = view server } ≡ new_end p Server
+    server-end k e =
+        ap (λ d. record { place = Control d; view = view server }) (omega (arith, next, e))
+        ∙ ap (λ place. record { place = place; view = view server }) (sym place) ∙ ap (λ v. record { place = p.place; view = v }) server-is
+
+    hands-are : HandsDealt (pages ++ p ∷ []) hands'
+    hands-are k hand is = by (adds.each k hand is)
+      where
+        by : (slice_get hands k ≡ Some hand) ⊎ ((k ≡ length hands) × (hand.control ≡ server) × (hand.payload.items ≡ [])) → hand_ends (k + 1) hand ≡ new_ends (pages ++ p ∷ []) (k + 1)
+        by (inl old) =
+            dealt.hands_are k hand old
+            ∙ sym (ends-more pages p (k + 1) ∙ ap (λ l. new_ends pages (k + 1) ++ l) (ends-none p (k + 1)
+            (λ e. absurd (omega (arith, e, server-at, next, slice_get_within hands k hand old))) (λ e. absurd (omega (arith, e, client-at))))
+            ∙ append-nil (new_ends pages (k + 1)))
+        by (inr new) =
+            ap (λ c. all_ends (k + 1) (view c) (all_given hand.payload.items)) new.1 ∙ ap (λ l. all_ends (k + 1) (view server) (map given_at l)) new.2
+            ∙ ap (λ e. e ∷ []) (server-end k new.0)
+            ∙ sym (ends-more pages p (k + 1) ∙ ap (λ l. l ++ new_ends (p ∷ []) (k + 1)) (dealt.beyond (k + 1) (omega (arith, new.0)))
+            ∙ ends-server p (k + 1) (omega (arith, server-at, next, new.0)))
+
+    beyond : (number : ℕ) → length hands' < number → new_ends (pages ++ p ∷ []) number ≡ []
+    beyond number far =
+        ends-more pages p number
+        ∙ ap (λ l. l ++ new_ends (p ∷ []) number) (dealt.beyond number (omega (arith, far, adds.count)))
+        ∙ ends-none p number (λ e. absurd (omega (arith, e, server-at, next, far, adds.count))) (λ e. absurd (omega (arith, e, client-at, far)))
+
+-- ---- a data page
+
+-- what is given to a domain is its end of the page
+pub end-at : (p : PageAt) (from to port : ℕ) (v : EndView) (role : Role) → p.place ≡ Payload from to port → v ≡ (new_end p role).view → record { place = Payload from to port; view = v } ≡ new_end p role
+end-at p from to port v role place view = ap (λ place. record { place = place; view = v }) (sym place) ∙ ap (λ v. record { place = p.place; view = v }) view
+
+-- an end, for one hand alone
+abbrev added : ℕ → ℕ → EndAt → List EndAt
+added number n end = if n == number then end ∷ [] else []
+
+pub payload-dealt : (pages : List PageAt) (controls : List SeatedEnd) (hands between hands' : List Hand) (p : PageAt) (from to port : ℕ)
+    → AreDealt pages controls hands → p.place ≡ Payload from to port → from ≢ to → 1 ≤ from → from ≤ length hands → 1 ≤ to → to ≤ length hands
+    → Gives from (new_end p Server) hands between → Gives to (new_end p Client) between hands'
+    → AreDealt (pages ++ p ∷ []) controls hands'
+payload-dealt pages controls hands between hands' p from to port dealt place apart some-from few-from some-to few-to first second =
+    record { controls_are = controls-are; hands_are = hands-are; as_many = omega (arith, dealt.as_many, first.count, second.count); beyond = beyond }
+  where
+    server-at : server_of p.place ≡ from
+    server-at = ap server_of place
+
+    client-at : client_of p.place ≡ to
+    client-at = ap client_of place
+
+    nothing-of : (number : ℕ) → from ≢ number → to ≢ number → new_ends (pages ++ p ∷ []) number ≡ new_ends pages number
+    nothing-of number n m =
+        ends-more pages p number ∙ ap (λ l. new_ends pages number ++ l) (ends-none p number (λ e. n (sym server-at ∙ e)) (λ e. m (sym client-at ∙ e)))
+        ∙ append-nil (new_ends pages number)
+
+    controls-are : ControlsDealt (pages ++ p ∷ []) controls
+    controls-are = dealt.controls_are ∙ sym (nothing-of 0 (λ e. absurd (omega (arith, e, some-from))) (λ e. absurd (omega (arith, e, some-to))))
+
+    beyond : (number : ℕ) → length hands' < number → new_ends (pages ++ p ∷ []) number ≡ []
+    beyond number far =
+        nothing-of number (λ e. absurd (omega (arith, e, far, few-from, first.count, second.count))) (λ e. absurd (omega (arith, e, far, few-to, first.count, second.count)))
+        ∙ dealt.beyond number (omega (arith, far, first.count, second.count))
+
+    -- what came into a hand is what the page has of its domain
+    came : (n : ℕ) → added from n (new_end p Server) ++ added to n (new_end p Client) ≡ new_ends (p ∷ []) n
+    came n = by (eqb_tells n from) (eqb_tells n to)
+      where
+        by : (((n == from) ≡ true) × (n ≡ from)) ⊎ (((n == from) ≡ false) × (n ≢ from)) → (((n == to) ≡ true) × (n ≡ to)) ⊎ (((n == to) ≡ false) × (n ≢ to))
+            → added from n (new_end p Server) ++ added to n (new_end p Client) ≡ new_ends (p ∷ []) n
+        by (inl a) (inl b) = absurd (apart (sym a.1 ∙ b.1))
+        by (inl a) (inr b) = rw a.0 (rw b.0 (sym (ends-server p n (server-at ∙ sym a.1))))
+        by (inr a) (inl b) = rw a.0 (rw b.0 (sym (ends-client p n (λ e. a.1 (sym e ∙ server-at)) (client-at ∙ sym b.1))))
+        by (inr a) (inr b) = rw a.0 (rw b.0 (sym (ends-none p n (λ e. a.1 (sym e ∙ server-at)) (λ e. b.1 (sym e ∙ client-at)))))
+
+    hands-are : HandsDealt (pages ++ p ∷ []) hands'
+    hands-are k hand is = by (second.each k hand is)
+      where
+        by : (middle : Hand) × (slice_get between k ≡ Some middle) × (hand_ends (k + 1) hand ≡ hand_ends (k + 1) middle ++ added to (k + 1) (new_end p Client))
+            → hand_ends (k + 1) hand ≡ new_ends (pages ++ p ∷ []) (k + 1)
+        by s = by' (first.each k s.0 s.1)
+          where
+            by' : (before : Hand) × (slice_get hands k ≡ Some before) × (hand_ends (k + 1) s.0 ≡ hand_ends (k + 1) before ++ added from (k + 1) (new_end p Server))
+                → hand_ends (k + 1) hand ≡ new_ends (pages ++ p ∷ []) (k + 1)
+            by' f =
+                s.2 ∙ ap (λ l. l ++ added to (k + 1) (new_end p Client)) (f.2 ∙ ap (λ l. l ++ added from (k + 1) (new_end p Server)) (dealt.hands_are k f.0 f.1))
+                ∙ append_assoc (new_ends pages (k + 1)) (added from (k + 1) (new_end p Server)) (added to (k + 1) (new_end p Client))
+                ∙ ap (λ l. new_ends pages (k + 1) ++ l) (came (k + 1)) ∙ sym (ends-more pages p (k + 1))

@@ -1,0 +1,16 @@
+-- Laying one page more.
+use Rattle.std.proofs.Common.{◌≡◌, List, [], ◌∷◌, ◌++◌, map, ap, sym, ◌∙◌}
+use Rattle.scenario_file.specs.Scenario.{Plan as Scenario}
+use Rattle.task_duties.specs.declared.place.PagePlace.{PagePlace}
+use Rattle.run_pages.specs.declared.lay.PageSeats.{PageSeats}
+use Rattle.run_pages.specs.Pages.{PageAt, IsLaidFor, AreSeatsOf, IsLaying}
+use Rattle.run_pages.proofs.NumberLaws.{map-append}
+use Rattle.run_pages.proofs.ListLaws.{each-more, pair-more}
+
+pub lay-more : (s : Scenario) (places : List PagePlace) (pages : List PageAt) (seats : List PageSeats) (p : PageAt) (x : PageSeats)
+    → IsLaidFor s p → AreSeatsOf p x → IsLaying s places pages seats → IsLaying s (places ++ p.place ∷ []) (pages ++ p ∷ []) (seats ++ x ∷ [])
+lay-more s places pages seats p x laid sits before = record {
+  at = map-append (λ q. q.place) pages (p ∷ []) ∙ ap (λ l. l ++ p.place ∷ []) before.at;
+  each = each-more (IsLaidFor s) pages p before.each laid;
+  seated = pair-more AreSeatsOf pages seats p x before.seated sits;
+}

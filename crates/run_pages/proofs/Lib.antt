@@ -1,0 +1,7 @@
+pub mod NumberLaws
+pub mod RouteLaws
+pub mod ListLaws
+pub mod DealLaws
+pub mod LayLaws
+pub mod FollowLaws
+pub mod DealingLaws

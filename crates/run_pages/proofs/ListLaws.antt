@@ -1,0 +1,69 @@
+-- Elements of lists that grow by one, or change at one place.
+use Rattle.std.proofs.Common.{◌≡◌, ◌≢◌, ◌⊎◌, inl, inr, ℕ, zero, suc, ◌+◌, ◌-◌, ◌<◌, ◌≤◌, List, [], ◌∷◌, ◌++◌, length, set, refl, ap, sym, ◌∙◌, subst, arith, Option, Some, None}
+use Rattle.std.specs.Prelude.{slice_get}
+use Rattle.qrexec_frame.specs.Streams.{Each}
+use Rattle.task_duties.specs.Pairwise.{EachPair}
+
+-- an element of a list that was changed at one place
+pub get-set : {A : Type 0} (xs : List A) (i k : ℕ) (y x : A) → slice_get (set xs i y) k ≡ Some x → ((k ≡ i) × (y ≡ x)) ⊎ ((k ≢ i) × (slice_get xs k ≡ Some x))
+get-set [] i k y x is = absurd (none-some is)
+  where
+    none-some : None ≡ Some x → ⊥
+    none-some e = cc
+get-set (z ∷ xs) zero zero y x is = inl (refl, some-eq is)
+  where
+    some-eq : Some y ≡ Some x → y ≡ x
+    some-eq e = cc
+get-set (z ∷ xs) zero (suc k) y x is = inr ((λ e. absurd (omega (arith, e))), is)
+get-set (z ∷ xs) (suc i) zero y x is = inr ((λ e. absurd (omega (arith, e))), is)
+get-set (z ∷ xs) (suc i) (suc k) y x is = up (get-set xs i k y x is)
+  where
+    up : ((k ≡ i) × (y ≡ x)) ⊎ ((k ≢ i) × (slice_get xs k ≡ Some x)) → ((suc k ≡ suc i) × (y ≡ x)) ⊎ ((suc k ≢ suc i) × (slice_get xs k ≡ Some x))
+    up (inl e) = inl (ap suc e.0, e.1)
+    up (inr e) = inr ((λ s. e.0 (omega (arith, s))), e.1)
+
+-- an element of a list with one more behind it
+pub get-more : {A : Type 0} (xs : List A) (y x : A) (k : ℕ) → slice_get (xs ++ y ∷ []) k ≡ Some x → (slice_get xs k ≡ Some x) ⊎ ((k ≡ length xs) × (y ≡ x))
+get-more [] y x zero is = inr (refl, some-eq is)
+  where
+    some-eq : Some y ≡ Some x → y ≡ x
+    some-eq e = cc
+get-more [] y x (suc k) is = absurd (none-some is)
+  where
+    none-some : None ≡ Some x → ⊥
+    none-some e = cc
+get-more (z ∷ xs) y x zero is = inl is
+get-more (z ∷ xs) y x (suc k) is = up (get-more xs y x k is)
+  where
+    up : (slice_get xs k ≡ Some x) ⊎ ((k ≡ length xs) × (y ≡ x)) → (slice_get xs k ≡ Some x) ⊎ ((suc k ≡ suc (length xs)) × (y ≡ x))
+    up (inl e) = inl e
+    up (inr e) = inr (ap suc e.0, e.1)
+
+-- facts of each element, or of each two, with one more
+pub each-more : {A : Type 0} (P : A → Type 0) (xs : List A) (x : A) → Each P xs → P x → Each P (xs ++ x ∷ [])
+each-more P [] y e p = (p, tt)
+each-more P (x ∷ xs) y e p = (e.0, each-more P xs y e.1 p)
+
+pub pair-more : {A B : Type 0} (R : A → B → Type 0) (xs : List A) (ys : List B) (x : A) (y : B) → EachPair R xs ys → R x y → EachPair R (xs ++ x ∷ []) (ys ++ y ∷ [])
+pair-more R [] [] x y e r = (r, tt)
+pair-more R (a ∷ xs) (b ∷ ys) x y e r = (e.0, pair-more R xs ys x y e.1 r)
+pair-more R [] (b ∷ ys) x y e r = absurd e
+pair-more R (a ∷ xs) [] x y e r = absurd e
+
+-- the last pair of two lists
+pub record LastPair {A B : Type 0} (R : A → B → Type 0) (xs : List A) (x : A) (ys : List B) : Type 0 where
+  pub rest : List B
+  pub last : B
+  pub is : ys ≡ rest ++ last ∷ []
+  pub pairs : EachPair R xs rest
+  pub pair : R x last
+
+pub last-pair : {A B : Type 0} (R : A → B → Type 0) (xs : List A) (x : A) (ys : List B) → EachPair R (xs ++ x ∷ []) ys → LastPair R xs x ys
+last-pair R [] x [] e = absurd e
+last-pair R [] x (y ∷ []) e = record { rest = []; last = y; is = refl; pairs = tt; pair = e.0 }
+last-pair R [] x (y ∷ z ∷ ys) e = absurd e.1
+last-pair R (a ∷ xs) x [] e = absurd e
+last-pair R (a ∷ xs) x (y ∷ ys) e = up (last-pair R xs x ys e.1)
+  where
+    up : LastPair R xs x ys → LastPair R (a ∷ xs) x (y ∷ ys)
+    up l = record { rest = y ∷ l.rest; last = l.last; is = ap (λ m. y ∷ m) l.is; pairs = (e.0, l.pairs); pair = l.pair }

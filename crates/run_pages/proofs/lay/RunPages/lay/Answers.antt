@@ -1,0 +1,22 @@
+use Rattle.std.proofs.Common.{◌≡◌, ◌<◌, ◌+◌, ◌++◌, ◌∷◌, [], ◌∙◌, refl, arith, subst, sym, ap, map, take, get_or, length, rules}
+use Rattle.std.proofs.lemmas.List.{take_more}
+use Rattle.std.proofs.lemmas.Grind.{common_steps}
+use Rattle.run_pages.specs.Pages.{IsLaying, page_at}
+use Rattle.run_pages.proofs.LayLaws.{lay-more}
+use Rattle.run_pages.proofs.NumberLaws.{map-append}
+use Rattle.run_pages.proofs.lay.RunPages.lay.Goals as goal
+
+pub loop-place-preserved : goal.loop-place-preserved
+loop-place-preserved c =
+    let items = c.deref-place-items.result.now in
+    let k = c.loop-place.place-index in
+    let page = c.in_ok-page.page in
+    let within : k < length items = omega (arith, c.loop-place-test.true) in
+    let here : get_or items k page.place ≡ page.place = grind (arith, common_steps, c.in_ok-page.ensures.place, within) in
+    let taken : take (k + 1) items ≡ take k items ++ page.place ∷ [] = take_more items k page.place within ∙ ap (λ p. take k items ++ p ∷ []) here in
+    let pages : map page_at c.push.new.self.items ≡ map page_at c.loop-place.pages.items ++ page_at page ∷ [] =
+    ap (map page_at) c.in_ok-push.ensures.items ∙ map-append page_at c.loop-place.pages.items (page ∷ []) in
+    subst (λ places. IsLaying c.args.scenario.now places (map page_at c.push.new.self.items) c.push-in-loop-place.new.self.items) (sym taken)
+    (subst (λ pages. IsLaying c.args.scenario.now (take k items ++ page.place ∷ []) pages c.push-in-loop-place.new.self.items) (sym pages)
+    (subst (λ seats. IsLaying c.args.scenario.now (take k items ++ page.place ∷ []) (map page_at c.loop-place.pages.items ++ page_at page ∷ []) seats) (sym c.in_ok-push-2.ensures.items)
+    (lay-more c.args.scenario.now (take k items) (map page_at c.loop-place.pages.items) c.loop-place.seats.items (page_at page) c.in_ok-page.seats_of_page c.in_ok-page.ensures.laid c.in_ok-page.ensures.seats c.loop-place.invariant)))

@@ -1,0 +1,10 @@
+use Rattle.std.proofs.Common.{◌≡◌, ◌∙◌, ◌+◌, ◌++◌, ◌∷◌, [], ap, map, refl, arith}
+use Rattle.std.specs.List.{flat_map}
+use Rattle.task_duties.specs.declared.place.PagePlace.TheVariants.{Control}
+use Rattle.run_laws.specs.Laid.{all_domains, laid_between}
+use Rattle.run_pages.proofs.NumberLaws.{flat-more}
+use Rattle.run_pages.proofs.places.places.Goals as goal
+
+pub loop-place-preserved : goal.loop-place-preserved
+loop-place-preserved c = c.in_ok-push_from.ensures
+    ∙ flat-more (λ from. flat_map (laid_between c.args.scenario.now from) (all_domains c.args.scenario.now)) 1 1 c.loop-place.place (c.loop-place.place + 1) (map Control (all_domains c.args.scenario.now)) c.loop-place.places.items (omega arith) c.loop-place.invariant

@@ -1,0 +1,68 @@
+-- The pages of a run, and their ends before anything has happened.
+-- Source: this project's own.
+use Rattle.std.specs.Prelude.{◌≡◌, ℕ, ◌==◌, true, List, map, filter_map, Option, Some, None, if◌then◌else◌}
+use Rattle.ring_words.specs.declared.page.Role.{Role}
+use Rattle.ring_words.specs.declared.page.Role.TheVariants.{Server, Client}
+use Rattle.vchan_protocol.specs.History.Core.{new_side}
+use Rattle.qrexec_frame.specs.Streams.{Each}
+use Rattle.end_view.specs.EndView.{view_of, state_at_first}
+use Rattle.vchan_rule.specs.Seated.{PageView}
+use Rattle.scenario_file.specs.Scenario.{Plan as Scenario}
+use Rattle.task_duties.specs.declared.place.PagePlace.{PagePlace}
+use Rattle.task_duties.specs.Pairwise.{EachPair}
+use Rattle.task_duties.specs.TaskOwes.{EndAt}
+use Rattle.run_laws.specs.Laid.{laid, server_of, client_of}
+use Rattle.run_laws.specs.Results.{orders_of}
+use Rattle.run_pages.specs.declared.lay.LaidPage.{LaidPage}
+use Rattle.run_pages.specs.declared.lay.PageSeats.{PageSeats}
+
+-- a page, and where it lies
+pub record PageAt : Type 0 where
+  pub place : PagePlace
+  pub page : PageView
+
+abbrev pub page_at : LaidPage → PageAt
+page_at p = record { place = p.place; page = p.page }
+
+-- a page has the orders of its place, and the first index of the scenario
+pub record IsLaidFor (s : Scenario) (p : PageAt) : Type 0 where
+  pub orders : p.page.orders ≡ orders_of s p.place
+  pub start : p.page.start ≡ s.start
+
+-- these are the pages that are laid for a scenario
+pub record AreLaid (s : Scenario) (pages : List PageAt) : Type 0 where
+  pub places : map (λ p. p.place) pages ≡ laid s
+  pub each : Each (IsLaidFor s) pages
+
+-- the seats of a page
+pub record AreSeatsOf (p : PageAt) (seats : PageSeats) : Type 0 where
+  pub server : seats.server ≡ record { page = p.page; role = Server }
+  pub client : seats.client ≡ record { page = p.page; role = Client }
+
+abbrev pub HasSeats : List PageAt → List PageSeats → Type 0
+HasSeats pages seats = EachPair AreSeatsOf pages seats
+
+-- ---- their ends
+
+-- an end of a page on which nothing has happened
+abbrev pub new_end : PageAt → Role → EndAt
+new_end p role = record { place = p.place; view = view_of p.page.table true (new_side role p.page.orders p.page.start (state_at_first role)) }
+
+-- the end that a domain has of a page, or the broker, whose number is 0
+abbrev pub end_on : ℕ → PageAt → Option EndAt
+end_on number p =
+    if server_of p.place == number then Some (new_end p Server)
+    else if client_of p.place == number then Some (new_end p Client)
+    else None
+
+-- all ends of a domain, in the order of the pages
+abbrev pub new_ends : List PageAt → ℕ → List EndAt
+new_ends pages number = filter_map (end_on number) pages
+
+-- ---- while they are laid
+
+-- the pages at these places are laid, and have these seats
+pub record IsLaying (s : Scenario) (places : List PagePlace) (pages : List PageAt) (seats : List PageSeats) : Type 0 where
+  pub at : map (λ p. p.place) pages ≡ places
+  pub each : Each (IsLaidFor s) pages
+  pub seated : HasSeats pages seats

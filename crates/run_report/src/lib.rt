@@ -1,0 +1,16 @@
+//! The report of a run, and its text.
+//!
+//! It serves whoever runs a scenario: what came of each call and of each session with a hostile
+//! caller, and the pages on which it came. What a lawful report is, `run_laws` says; here it gets its
+//! types, its text, and the text of its sums.
+#![tactic(auto)]
+
+mod lines;
+mod report;
+mod summary;
+mod text;
+
+pub use report::{Report, SettledPage};
+pub use run_laws::{CallLine, CallResult, MixedOutcome, ServedLine};
+pub use summary::summary_text;
+pub use text::report_text;

@@ -1,0 +1,42 @@
+//! The report of a run.
+use run_laws::{CallLine, ServedLine};
+use std::marker::Model;
+use task_duties::PagePlace;
+use vchan_rule::Settled;
+
+/// A page that is done with, and where it lay.
+#[derive(Drop)]
+pub struct SettledPage {
+    /// Where it lay.
+    pub place: PagePlace,
+    /// What stands of it.
+    pub settled: Settled,
+}
+
+impl Model for SettledPage {
+    ghost use Rattle.run_laws.specs.Report.{SettledPage as PageOfReport};
+
+    ghost Value = { PageOfReport };
+
+    ghost view = { λ p. record { place = p.place; settled = p.settled } };
+}
+
+/// The report of a run. Contracts see it as a record in which the lists are plain lists.
+#[derive(Drop)]
+pub struct Report {
+    /// A line for each call, in the order of the scenario.
+    pub calls: Vec<CallLine>,
+    /// A line for each session in which an honest domain served a hostile one, in order of the
+    /// caller's number, the server's number and the port.
+    pub served: Vec<ServedLine>,
+    /// All pages of the run.
+    pub pages: Vec<SettledPage>,
+}
+
+impl Model for Report {
+    ghost use Rattle.run_laws.specs.Report.{Report as LinesAndPages};
+
+    ghost Value = { LinesAndPages };
+
+    ghost view = { λ r. record { calls = r.calls.items; served = r.served.items; pages = r.pages.items } };
+}

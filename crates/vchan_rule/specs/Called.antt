@@ -1,0 +1,30 @@
+-- A whole call of an end: when it may be made, and what it leaves.
+use Rattle.std.specs.Prelude.{◌≡◌, ◌≤◌, ℕ, None, List, length, take}
+use Rattle.vchan_protocol.specs.declared.call.Answer.{Answer}
+use Rattle.vchan_protocol.specs.declared.call.Call.{Call}
+use Rattle.vchan_protocol.specs.Table.Calls.{payload_of, loaded_most, most_events}
+use Rattle.vchan_protocol.specs.History.Core.{standing_of}
+use Rattle.vchan_protocol.specs.OneEnd.OneCall.{bytes_out, bytes_in, IsOver, OverTells}
+use Rattle.vchan_core.specs.OneMachine.Phases.{IsIdle}
+use Rattle.end_view.specs.AfterCall.{MayCall, answered_view, SeesAsTold}
+use Rattle.vchan_rule.specs.Seated.{SeatedEnd, view}
+use Rattle.vchan_rule.specs.Ends.{IsSameEnd}
+
+-- the end may make this call now, with these bytes and a buffer that has room for all that it may load
+pub record MayMake (e : SeatedEnd) (call : Call) (payload buffer : List ℕ) : Type 0 where
+  pub allowed : MayCall (view e) call
+  pub pays : payload_of call ≤ length payload
+  pub room : loaded_most (standing_of e.side) call ≤ length buffer
+
+-- A whole call of the end `was`, with these bytes and this buffer, gave this answer, and left the end and the buffer so. Its events are the end's trail,
+-- and the lists grow as its answer says.
+pub record HasCalled (was : SeatedEnd) (call : Call) (payload start : List ℕ) (e : SeatedEnd) (buffer : List ℕ) (answer : Answer) : Type 0 where
+  pub same : IsSameEnd was e
+  pub idle : IsIdle e.machine × (e.begun ≡ None)
+  pub over : IsOver was.side call (take (payload_of call) payload) start e.side buffer answer
+  pub tells : OverTells was.side (take (payload_of call) payload) e.side buffer answer
+  pub view : view e ≡ answered_view (view was) call (take (payload_of call) payload) buffer answer e.side.saw
+  pub saw : SeesAsTold call answer was.side.saw e.side.saw
+  pub moved : (bytes_out answer ≤ payload_of call) × (bytes_in answer ≤ loaded_most (standing_of was.side) call)
+  pub long : length buffer ≡ length start
+  pub bound : length e.side.trail ≤ most_events (standing_of was.side) call
