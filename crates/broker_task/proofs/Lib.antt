@@ -5,3 +5,4 @@ pub mod PostLaws
 pub mod ReplyLaws
 pub mod PostingLaws
 pub mod HearingSteps
+pub mod SendingSteps

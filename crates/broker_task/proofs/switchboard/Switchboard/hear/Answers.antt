@@ -1,3 +1,4 @@
+use Rattle.broker_task.proofs.SendingSteps.{gone-on}
 use Rattle.std.proofs.Common.{◌≡◌, ◌∙◌, ◌-◌, ◌+◌, ap, sym, subst, List, [], ◌∷◌, ◌++◌, Option, Some, None, length, true}
 use Rattle.std.specs.Prelude.{IfSome}
 use Rattle.call_broker.specs.declared.event.Event.{Event}
