@@ -78,7 +78,7 @@ read-other journal e d domain is apart = read-more journal e d ∙ ap (λ b. rea
 read-port : (x y : Daemon) (events : List Event) → y.port ≡ x.port → y.domain ≡ x.domain → HasRead x events → HasRead y events
 read-port x y events port domain h =
     read-still x y events domain (ap (λ (q : PortState). (view q.end).got) port) (ap (λ (q : PortState). is_shut (view q.end).state) port) (ap (λ (q : PortState). q.fault) port)
-        (λ heard g. subst (λ (q : PortState). HasHeard q heard) (sym port) g) h
+    (λ heard g. subst (λ (q : PortState). HasHeard q heard) (sym port) g) h
 
 reads-port : (x y : Daemon) (events : List Event) → y.port ≡ x.port → y.domain ≡ x.domain → ReadsOn x events → ReadsOn y events
 reads-port x y events port domain h = record {
@@ -105,8 +105,8 @@ hearing-on domain journal e before now new own h hands ports =
           (λ d x y m q apart. subst (λ es. HasRead y es) (sym (read-other journal e d domain own apart)) (read-port x y (read_from journal d) m.0 m.1 (q apart))) others;
       own = each-moved S (λ d x. d ≡ domain → ReadsOn x (read_from (journal ++ e ∷ []) d)) SamePort now new ports
           (λ d x y m q same.
-            let mine' : is_from d e.event ≡ true = subst (λ k. is_from k e.event ≡ true) (sym same) own in
-            subst (λ es. ReadsOn y es) (sym (read-own journal e d mine')) (reads-port x y (read_from journal d ++ e.event ∷ []) m.0 m.1 (q same))) mine;
+          let mine' : is_from d e.event ≡ true = subst (λ k. is_from k e.event ≡ true) (sym same) own in
+          subst (λ es. ReadsOn y es) (sym (read-own journal e d mine')) (reads-port x y (read_from journal d ++ e.event ∷ []) m.0 m.1 (q same))) mine;
     }
 
 -- ---- how much is left of what was taken
@@ -167,10 +167,10 @@ pub hearing-next : (domain : ℕ) (journal : List Entry) (e : Entry) (ds new : L
     → ((events : List Event) → ReadsOn x events → HandsOut y events (Some e.event)) → EachMoves SamePort (set ds i y) new → IsHearing domain journal ds → IsHearing domain (journal ++ e ∷ []) new
 hearing-next domain journal e ds new i x y there number own hands ports h =
     hearing-on domain journal e ds (set ds i y) new own h
-        (moves-one (λ d a b. (d ≢ domain → b ≡ a) × (d ≡ domain → (events : List Event) → ReadsOn a events → ReadsOn b (events ++ e.event ∷ []))) ds i x y there
-          ((λ apart. absurd (apart number)), (λ same events reads. (hands events reads).0))
-          (λ d z apart. ((λ away. refl), (λ same. absurd (apart (same ∙ sym number))))))
-        ports
+    (moves-one (λ d a b. (d ≢ domain → b ≡ a) × (d ≡ domain → (events : List Event) → ReadsOn a events → ReadsOn b (events ++ e.event ∷ []))) ds i x y there
+    ((λ apart. absurd (apart number)), (λ same events reads. (hands events reads).0))
+    (λ d z apart. ((λ away. refl), (λ same. absurd (apart (same ∙ sym number))))))
+    ports
 
 pub left-falls : (ds new : List Daemon) (i : ℕ) (x y : Daemon) → IsAt ds i x → HasFewerLeft x.port y.port → EachMoves SamePort (set ds i y) new → left_in new i < left_in ds i
 left-falls ds new i x y there fewer ports =
@@ -184,7 +184,7 @@ pub heard-out : (domain : ℕ) (journal : List Entry) (ds : List Daemon) (i : �
 heard-out domain journal ds i x y there number hands h =
     let R : ℕ → Daemon → Daemon → Type 0 = λ d a b. (d ≢ domain → b ≡ a) × (d ≡ domain → (events : List Event) → ReadsOn a events → HasReadAll b events) in
     let moves : EachMoves R ds (set ds i y) =
-        moves-one R ds i x y there ((λ apart. absurd (apart number)), (λ same events reads. hands events reads)) (λ d z apart. ((λ away. refl), (λ same. absurd (apart (same ∙ sym number))))) in
+    moves-one R ds i x y there ((λ apart. absurd (apart number)), (λ same events reads. hands events reads)) (λ d z apart. ((λ away. refl), (λ same. absurd (apart (same ∙ sym number))))) in
     record {
       others = each-moved (λ d a. d ≢ domain → HasRead a (read_from journal d)) (λ d a. d ≢ domain → HasRead a (read_from journal d)) R ds (set ds i y) moves
           (λ d a b m q apart. subst (λ (z : Daemon). HasRead z (read_from journal d)) (sym (m.0 apart)) (q apart)) h.others;

@@ -143,4 +143,4 @@ pub read-sending : (old new : Daemon) (events : List Event) (answer : SendAnswer
     → ((heard : List Message) → HasHeard old.port heard → HasHeard new.port heard) → HasRead old events → HasRead new events
 read-sending old new events answer payload domain only is hears_on h =
     read-still old new events domain (ap (λ (e : EndView). e.got) is ∙ sent-got (end_of old) answer payload) (ap (λ (e : EndView). is_shut e.state) is ∙ ap is_shut (sent-state (end_of old) answer payload))
-        (ap (λ (p : PortState). p.fault) only) hears_on h
+    (ap (λ (p : PortState). p.fault) only) hears_on h

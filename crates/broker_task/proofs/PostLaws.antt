@@ -107,7 +107,15 @@ moves-letter ds k l n x y some there adds =
 posts-from : (hub : Domains) (e : Event) (decided : Decision) (d : ℕ) (more : List Letter) (n : ℕ) (x y : Daemon) → Adds more n x y → messages_in more ≡ puts hub d e decided
     → Each (λ l. IsFit hub l.message) more → Each (λ l. l.held ≡ false → IsFree l.message) more → n ≡ one_if (is_answer d e decided) → Posts hub (record { event = e; decision = decided }) d x y
 posts-from hub e decided d more n x y a are fit free counted = record {
-  domain = a.domain; port = a.port; awaited = a.awaited; more = more; letters = a.letters; are = are; replies = fit; free = free; counted = a.counted ∙ ap (λ k. x.answered + k) counted;
+  domain = a.domain;
+  port = a.port;
+  awaited = a.awaited;
+  more = more;
+  letters = a.letters;
+  are = are;
+  replies = fit;
+  free = free;
+  counted = a.counted ∙ ap (λ k. x.answered + k) counted;
 }
 
 pub posts-nothing : (hub : Domains) (e : Event) (decided : Decision) (d : ℕ) (x : Daemon) → IsReplyTo hub e decided Nothing → Posts hub (record { event = e; decision = decided }) d x x
@@ -127,7 +135,7 @@ posts-refused hub (Trigger f t s i) (decision.Refused cause) from d m x y own is
     by_test : (b : Bool) → (d == f) ≡ b → Adds (letter_if b (record { message = m; held = false })) (count_if b 1) x y → Posts hub (record { event = Trigger f t s i; decision = decision.Refused cause }) d x y
     by_test true here a' =
         posts-from hub (Trigger f t s i) (decision.Refused cause) d (record { message = m; held = false } ∷ []) 1 x y a' (rw here (ap (λ k. k ∷ []) is)) (fit, tt) ((λ free. subst IsFree (sym is) tt), tt)
-            (rw (swap here) refl)
+        (rw (swap here) refl)
       where
         swap : (d == f) ≡ true → (f == d) ≡ true
         swap h = grind (arith, nat_tests, h)
@@ -158,7 +166,7 @@ posts-accepted hub (Trigger f t s i) (decision.Accepted q port) from to d exec c
         → Posts hub (record { event = Trigger f t s i; decision = decision.Accepted q port }) d x y
     by_tests true true here there a' =
         posts-from hub (Trigger f t s i) (decision.Accepted q port) d (record { message = connect; held = true } ∷ record { message = exec; held = false } ∷ []) 1 x y a'
-            (rw (here, there) (ap (λ k. k ∷ exec ∷ []) is.2 ∙ ap (λ k. message.Connect q port i ∷ k ∷ []) is.1)) (fit.1, (fit.0, tt)) ((λ free. cc), ((λ free. subst IsFree (sym is.1) tt), tt)) (rw (swap true here) refl)
+        (rw (here, there) (ap (λ k. k ∷ exec ∷ []) is.2 ∙ ap (λ k. message.Connect q port i ∷ k ∷ []) is.1)) (fit.1, (fit.0, tt)) ((λ free. cc), ((λ free. subst IsFree (sym is.1) tt), tt)) (rw (swap true here) refl)
     by_tests true false here there a' =
         posts-from hub (Trigger f t s i) (decision.Accepted q port) d (record { message = connect; held = true } ∷ []) 1 x y a' (rw (here, there) (ap (λ k. k ∷ []) is.2)) (fit.1, tt) ((λ free. cc), tt) (rw (swap true here) refl)
     by_tests false true here there a' =

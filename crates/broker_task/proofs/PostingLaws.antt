@@ -50,10 +50,10 @@ messages-append (x ∷ xs) ys = ap (λ r. x.message ∷ r) (messages-append xs y
 pub put-behind : (said waits lost all more : List Message) → IsPermutation (said ++ (waits ++ lost)) all → IsPermutation (said ++ ((waits ++ more) ++ lost)) (all ++ more)
 put-behind said waits lost all more kept =
     let swapped : IsPermutation ((waits ++ more) ++ lost) ((waits ++ lost) ++ more) =
-        subst (λ l. IsPermutation l ((waits ++ lost) ++ more)) (sym (append_assoc waits more lost))
-        (subst (λ l. IsPermutation (waits ++ (more ++ lost)) l) (sym (append_assoc waits lost more)) (IsPermutation-append_right waits (more ++ lost) (lost ++ more) (IsPermutation-append_comm more lost))) in
+    subst (λ l. IsPermutation l ((waits ++ lost) ++ more)) (sym (append_assoc waits more lost))
+    (subst (λ l. IsPermutation (waits ++ (more ++ lost)) l) (sym (append_assoc waits lost more)) (IsPermutation-append_right waits (more ++ lost) (lost ++ more) (IsPermutation-append_comm more lost))) in
     let moved : IsPermutation (said ++ ((waits ++ more) ++ lost)) ((said ++ (waits ++ lost)) ++ more) =
-        subst (λ l. IsPermutation (said ++ ((waits ++ more) ++ lost)) l) (sym (append_assoc said (waits ++ lost) more)) (IsPermutation-append_right said _ _ swapped) in
+    subst (λ l. IsPermutation (said ++ ((waits ++ more) ++ lost)) l) (sym (append_assoc said (waits ++ lost) more)) (IsPermutation-append_right said _ _ swapped) in
     IsPermutation-trans _ _ _ moved (IsPermutation-append (said ++ (waits ++ lost)) all more more kept (IsPermutation-refl more))
 
 -- ---- an entry more
@@ -139,7 +139,7 @@ posted-more hub journal said e room d x y p h =
       lost = h.lost;
       kept =
           let waits : messages_in y.outbox.letters.items ≡ messages_in x.outbox.letters.items ++ puts hub d e.event e.decision =
-              ap messages_in p.letters ∙ messages-append x.outbox.letters.items p.more ∙ ap (λ r. messages_in x.outbox.letters.items ++ r) p.are in
+          ap messages_in p.letters ∙ messages-append x.outbox.letters.items p.more ∙ ap (λ r. messages_in x.outbox.letters.items ++ r) p.are in
           subst (λ w. IsPermutation (said d ++ (w ++ h.lost)) (outbox hub (journal ++ e ∷ []) d)) (sym waits)
           (subst (λ o. IsPermutation (said d ++ ((messages_in x.outbox.letters.items ++ puts hub d e.event e.decision) ++ h.lost)) o) (sym (outbox-more hub d journal e))
           (put-behind (said d) (messages_in x.outbox.letters.items) h.lost (outbox hub journal d) (puts hub d e.event e.decision) h.kept));
@@ -147,9 +147,9 @@ posted-more hub journal said e room d x y p h =
       letters =
           subst (λ l. Each (IsLetter hub (journal ++ e ∷ []) said d) l) (sym p.letters)
           (each-append (IsLetter hub (journal ++ e ∷ []) said d) x.outbox.letters.items p.more
-            (each-as (IsLetter hub journal said d) (IsLetter hub (journal ++ e ∷ []) said d) x.outbox.letters.items (λ l is. record { fits = is.fits; may = λ free. on l.message (is.may free) }) h.letters)
-            (each-with (λ (l : Letter). IsFit hub l.message) (λ (l : Letter). l.held ≡ false → IsFree l.message) (IsLetter hub (journal ++ e ∷ []) said d) p.more
-              (λ l fits free. record { fits = fits; may = λ up. free-goes (journal ++ e ∷ []) said d l.message (free up) }) p.replies p.free));
+          (each-as (IsLetter hub journal said d) (IsLetter hub (journal ++ e ∷ []) said d) x.outbox.letters.items (λ l is. record { fits = is.fits; may = λ free. on l.message (is.may free) }) h.letters)
+          (each-with (λ (l : Letter). IsFit hub l.message) (λ (l : Letter). l.held ≡ false → IsFree l.message) (IsLetter hub (journal ++ e ∷ []) said d) p.more
+          (λ l fits free. record { fits = fits; may = λ up. free-goes (journal ++ e ∷ []) said d l.message (free up) }) p.replies p.free));
       went = each-as (MayGo journal said d) (MayGo (journal ++ e ∷ []) said d) (said d) on h.went;
       counted = p.counted ∙ ap (λ n. n + one_if (is_answer d e.event e.decision)) h.counted ∙ sym (answered-more d journal e);
       dropped = none-dropped d journal e room ∙ h.dropped ∙ sym gone;

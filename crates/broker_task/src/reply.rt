@@ -21,9 +21,15 @@ const USER: &[u8] = b"DEFAULT:QUBESRPC ";
 pub(crate) enum Reply {
     Nothing,
     // For the caller.
-    Refused { refused: Message },
+    Refused {
+        refused: Message,
+    },
     // For the domain that is to serve, and for the caller.
-    Accepted { to: u32, exec: Message, connect: Message },
+    Accepted {
+        to: u32,
+        exec: Message,
+        connect: Message,
+    },
 }
 
 /// The reply to an event, once it was decided.

@@ -10,7 +10,7 @@ loop-letter-init c = sym (mapped-none (released c.args.target c.args.meant) c.ar
 
 pub loop-letter-preserved : goal.loop-letter-preserved
 loop-letter-preserved c = elim c.if-connects.branch [
-  then-connects w ↦ release-next c.args.target c.args.meant c.args.letters.now c.loop-letter.letters _ c.loop-letter.letter-index c.letter-item.result (omega arith) c.loop-letter.invariant c.letter-item.is w.if-connects.ensures w.letters-is
+  | then-connects w ↦ release-next c.args.target c.args.meant c.args.letters.now c.loop-letter.letters _ c.loop-letter.letter-index c.letter-item.result (omega arith) c.loop-letter.invariant c.letter-item.is w.if-connects.ensures w.letters-is
   | else-connects w ↦ keep-next c.args.target c.args.meant c.args.letters.now c.loop-letter.letters _ c.loop-letter.letter-index c.letter-item.result (omega arith) c.loop-letter.invariant c.letter-item.is w.if-connects.ensures w.letters-is
 ]
 

@@ -17,7 +17,7 @@ pub returns-in-Some-clause-hands : goal.returns-in-Some-clause-hands
 returns-in-Some-clause-hands c = λ events h.
     let fits = subst (λ (o : Option Message). IfSome o (λ m. IsSpellable m)) c.in-Some.is c.in_ok-message.ensures.fits in
     hands-event c.args.self.now (record c.args.self.now { port = c.next.new.self }) events c.in-Some.message c.event_of.result refl h
-        (λ heard g. subst (λ o. Hands c.next.new.self heard o) c.in-Some.is (c.in_ok-message.ensures.hands heard g)) c.event_of.ensures fits
+    (λ heard g. subst (λ o. Hands c.next.new.self heard o) c.in-Some.is (c.in_ok-message.ensures.hands heard g)) c.event_of.ensures fits
 
 pub returns-in-Some-clause-said : goal.returns-in-Some-clause-said
 returns-in-Some-clause-said c = λ said h. said-hearing c.args.self.now.port c.next.new.self said c.next.ensures.only h
@@ -25,7 +25,7 @@ returns-in-Some-clause-said c = λ said h. said-hearing c.args.self.now.port c.n
 pub returns-in-None-clause-hands : goal.returns-in-None-clause-hands
 returns-in-None-clause-hands c = λ events h.
     hands-none c.args.self.now (record c.args.self.now { port = c.next.new.self }) events refl (c.next.ensures.only.1 ∙ c.requires.line.talker) (c.next.ensures.only.2 ∙ c.requires.line.own) h
-        (λ heard g. subst (λ o. Hands c.next.new.self heard o) c.in-None.is (c.in_ok-message.ensures.hands heard g))
+    (λ heard g. subst (λ o. Hands c.next.new.self heard o) c.in-None.is (c.in_ok-message.ensures.hands heard g))
 
 pub returns-in-None-clause-said : goal.returns-in-None-clause-said
 returns-in-None-clause-said c = λ said h. said-hearing c.args.self.now.port c.next.new.self said c.next.ensures.only h

@@ -19,7 +19,7 @@ post-requires-clause-target c =
     let after = c.journal-journal.result.now in
     let journal_is : after ≡ old.journal ++ e ∷ [] = c.journal-journal.ensures.entries ∙ ap (λ (b : Brokered). b.journal) kept in
     let last = last-entry old.journal e c.index-journal-journal.result (length after) (ap length journal_is)
-        (c.index-journal-journal.is ∙ ap (λ (l : List Entry). get_or l (length after - 1) c.index-journal-journal.result) journal_is) in
+    (c.index-journal-journal.is ∙ ap (λ (l : List Entry). get_or l (length after - 1) c.index-journal-journal.result) journal_is) in
     let reply = subst (λ (x : Entry). IsReplyTo c.event.new.self.hub x.event c.in_ok-decision.decision c.in_ok-reply.reply) (sym c.index-journal-journal.is ∙ last) c.in_ok-reply.ensures.reply in
     let reply_old = subst (λ (b : Brokered). IsReplyTo b.hub c.args.event c.in_ok-decision.decision c.in_ok-reply.reply) kept reply in
     let within = within-reply old.hub (events old.journal) c.args.event c.in_ok-decision.decision c.in_ok-reply.reply c.in_ok-decision.ensures.decided reply_old in
@@ -35,15 +35,15 @@ returns-clause-posting c =
     let after = c.journal-journal.result.now in
     let journal_is : after ≡ old.journal ++ e ∷ [] = c.journal-journal.ensures.entries ∙ ap (λ (b : Brokered). b.journal) kept in
     let last = last-entry old.journal e c.index-journal-journal.result (length after) (ap length journal_is)
-        (c.index-journal-journal.is ∙ ap (λ (l : List Entry). get_or l (length after - 1) c.index-journal-journal.result) journal_is) in
+    (c.index-journal-journal.is ∙ ap (λ (l : List Entry). get_or l (length after - 1) c.index-journal-journal.result) journal_is) in
     let reply = subst (λ (x : Entry). IsReplyTo c.event.new.self.hub x.event c.in_ok-decision.decision c.in_ok-reply.reply) (sym c.index-journal-journal.is ∙ last) c.in_ok-reply.ensures.reply in
     let numbered = numbered-from old.hub c.args.from c.args.event c.requires.own c.requires.sender c.requires.room in
     on-ok c.post.result (c.post.ensures.posts c.event.new.self.hub c.args.event c.in_ok-decision.decision c.requires.own reply c.in_ok-reply.ensures.fits)
-        (λ moved.
-          let moves : EachMoves (Posts old.hub e) ds new =
-              subst (λ (b : Brokered). EachMoves (Posts b.hub e) ds new) kept
-              (subst (λ (l : List Daemon). EachMoves (Posts c.event.new.self.hub e) l new) c.as_mut_slice.ensures.value moved) in
-          let back = written-back new ds c.args.self.now.daemons.len moves.count (omega (arith, c.args.self.now.daemons.ok.0)) in
-          let done = posting-more old.hub old.journal ds new c.args.event c.in_ok-decision.decision c.requires.posting moves c.in_ok-decision.ensures.decided numbered c.requires.room in
-          subst (λ (b : Brokered). IsPosting b.hub b.journal (take c.args.self.now.daemons.len (new ++ drop (length new) ds))) (sym kept)
-          (subst (λ (l : List Daemon). IsPosting old.hub (old.journal ++ e ∷ []) l) (sym back) done))
+    (λ moved.
+    let moves : EachMoves (Posts old.hub e) ds new =
+    subst (λ (b : Brokered). EachMoves (Posts b.hub e) ds new) kept
+    (subst (λ (l : List Daemon). EachMoves (Posts c.event.new.self.hub e) l new) c.as_mut_slice.ensures.value moved) in
+    let back = written-back new ds c.args.self.now.daemons.len moves.count (omega (arith, c.args.self.now.daemons.ok.0)) in
+    let done = posting-more old.hub old.journal ds new c.args.event c.in_ok-decision.decision c.requires.posting moves c.in_ok-decision.ensures.decided numbered c.requires.room in
+    subst (λ (b : Brokered). IsPosting b.hub b.journal (take c.args.self.now.daemons.len (new ++ drop (length new) ds))) (sym kept)
+    (subst (λ (l : List Daemon). IsPosting old.hub (old.journal ++ e ∷ []) l) (sym back) done))
