@@ -1,4 +1,4 @@
-mod Places
+pub mod Places
 mod Sublists
 mod CountLaws
 mod TriggerLaws

@@ -1,7 +1,8 @@
 -- Dealing one page more.
-use Rattle.std.proofs.Common.{◌≡◌, ◌≢◌, ◌⊎◌, inl, inr, ℕ, zero, suc, ◌+◌, ◌-◌, ◌<◌, ◌≤◌, List, [], ◌∷◌, ◌++◌, length, map, set, refl, ap, sym, ◌∙◌, subst, arith, append_assoc, length-append, length-set, Option, Some, None}
-use Rattle.std.specs.Prelude.{◌==◌, true, false, slice_get, filter_map, if◌then◌else◌}
-use Rattle.std.proofs.lemmas.List.{append-nil}
+use Rattle.std.proofs.Common.{◌≡◌, ◌≢◌, ◌⊎◌, inl, inr, ℕ, suc, ◌+◌, ◌-◌, ◌<◌, ◌≤◌, List, [], ◌∷◌, ◌++◌, length, map, set, refl, ap, sym, ◌∙◌, subst, arith, append_assoc, length-append, length-set, Option, Some, None}
+use Rattle.std.specs.Prelude.{◌==◌, true, false, slice_get, if◌then◌else◌}
+use Rattle.std.proofs.lemmas.List.{append-nil, map-append}
+use Rattle.std.proofs.lemmas.List.Elements.{filter_map-append}
 use Rattle.std.proofs.lemmas.Bool.{eq-eqb, ne_eqb}
 use Rattle.std.proofs.lemmas.Bool.Decides.{eqb_tells}
 use Rattle.std.proofs.lemmas.Option.{slice_get_within}
@@ -20,8 +21,7 @@ use Rattle.run_laws.specs.Laid.{server_of, client_of}
 use Rattle.run_pages.specs.declared.deal.Hand.{Hand}
 use Rattle.run_pages.specs.Pages.{PageAt, new_end, end_on, new_ends}
 use Rattle.run_pages.specs.Dealt.{hand_ends, HandsDealt, ControlsDealt, AreDealt, AddsHand, Gives}
-use Rattle.run_pages.proofs.NumberLaws.{map-append}
-use Rattle.run_pages.proofs.ListLaws.{get-set, get-more}
+use Rattle.run_pages.proofs.ListLaws.{get-set}
 
 same-test : (a b : ℕ) → a ≡ b → (a == b) ≡ true
 same-test a b e = eq-eqb a b e
@@ -66,25 +66,17 @@ attached-view e seat p role is page side idle =
 
 -- ---- the ends of one page more
 
-filter-append : {A B : Type 0} (f : A → Option B) (xs : List A) (x : A) → filter_map f (xs ++ x ∷ []) ≡ filter_map f xs ++ filter_map f (x ∷ [])
-filter-append f [] x = refl
-filter-append {A} {B} f (y ∷ xs) x = by (f y) refl (filter-append f xs x)
-  where
-    by : (o : Option B) → f y ≡ o → filter_map f (xs ++ x ∷ []) ≡ filter_map f xs ++ filter_map f (x ∷ []) → filter_map f (y ∷ xs ++ x ∷ []) ≡ filter_map f (y ∷ xs) ++ filter_map f (x ∷ [])
-    by None e more = rw e more
-    by (Some b) e more = rw e (ap (λ l. b ∷ l) more)
-
-ends-more : (pages : List PageAt) (p : PageAt) (number : ℕ) → new_ends (pages ++ p ∷ []) number ≡ new_ends pages number ++ new_ends (p ∷ []) number
-ends-more pages p number = filter-append (end_on number) pages p
+pub ends-more : (pages : List PageAt) (p : PageAt) (number : ℕ) → new_ends (pages ++ p ∷ []) number ≡ new_ends pages number ++ new_ends (p ∷ []) number
+ends-more pages p number = filter_map-append (end_on number) pages (p ∷ [])
 
 -- the server's end is that of its domain, the client's that of its
-ends-server : (p : PageAt) (number : ℕ) → server_of p.place ≡ number → new_ends (p ∷ []) number ≡ new_end p Server ∷ []
+pub ends-server : (p : PageAt) (number : ℕ) → server_of p.place ≡ number → new_ends (p ∷ []) number ≡ new_end p Server ∷ []
 ends-server p number e = rw (same-test (server_of p.place) number e) refl
 
-ends-client : (p : PageAt) (number : ℕ) → server_of p.place ≢ number → client_of p.place ≡ number → new_ends (p ∷ []) number ≡ new_end p Client ∷ []
+pub ends-client : (p : PageAt) (number : ℕ) → server_of p.place ≢ number → client_of p.place ≡ number → new_ends (p ∷ []) number ≡ new_end p Client ∷ []
 ends-client p number n e = rw (ne_eqb (server_of p.place) number n) (rw (same-test (client_of p.place) number e) refl)
 
-ends-none : (p : PageAt) (number : ℕ) → server_of p.place ≢ number → client_of p.place ≢ number → new_ends (p ∷ []) number ≡ []
+pub ends-none : (p : PageAt) (number : ℕ) → server_of p.place ≢ number → client_of p.place ≢ number → new_ends (p ∷ []) number ≡ []
 ends-none p number n m = rw (ne_eqb (server_of p.place) number n) (rw (ne_eqb (client_of p.place) number m) refl)
 
 pub map-length : {A B : Type 0} (f : A → B) (xs : List A) → length (map f xs) ≡ length xs

@@ -6,7 +6,7 @@ use Rattle.task_duties.specs.declared.place.PagePlace.{PagePlace}
 use Rattle.task_duties.specs.declared.place.PagePlace.TheVariants.{Control, Payload}
 use Rattle.run_pages.specs.declared.lay.PageSeats.{PageSeats}
 use Rattle.run_pages.specs.declared.deal.Hand.{Hand}
-use Rattle.run_pages.specs.Pages.{PageAt, AreLaid, AreSeatsOf, HasSeats}
+use Rattle.run_pages.specs.Pages.{PageAt, AreLaid, HasSeats}
 use Rattle.run_pages.specs.Dealt.{Follows, AreDealt, HandsDealt, IsDealing, controls_in, hands_after}
 use Rattle.scenario_file.specs.Scenario.{Plan as Scenario}
 use Rattle.run_pages.proofs.FollowLaws.{controls-laid, laid-follows}

@@ -1,8 +1,8 @@
 -- The pages that are laid for a scenario follow one another as they are dealt.
-use Rattle.std.proofs.Common.{◌≡◌, ◌≢◌, ◌⊎◌, inl, inr, ℕ, zero, suc, ◌+◌, ◌<◌, ◌≤◌, List, [], ◌∷◌, ◌++◌, length, map, refl, ap, sym, ◌∙◌, subst, arith, append_assoc}
+use Rattle.std.proofs.Common.{◌≡◌, ◌≢◌, ◌⊎◌, inl, inr, ℕ, zero, suc, ◌+◌, ◌≤◌, List, [], ◌∷◌, ◌++◌, length, map, refl, ap, sym, ◌∙◌, subst, arith, append_assoc}
 use Rattle.std.proofs.lemmas.List.{append-nil}
 use Rattle.call_broker.specs.Domains.{first_port}
-use Rattle.std.specs.Prelude.{◌==◌, true, false, Bool, if◌then◌else◌}
+use Rattle.std.specs.Prelude.{◌==◌, true, false}
 use Rattle.std.specs.List.{flat_map}
 use Rattle.std.proofs.lemmas.Bool.Decides.{eqb_tells}
 use Rattle.scenario_file.specs.Scenario.{Plan as Scenario}
@@ -62,7 +62,7 @@ laid-follows s =
 
 -- ---- how many are control pages
 
-controls-append : (xs ys : List PagePlace) → controls_in (xs ++ ys) ≡ controls_in xs + controls_in ys
+pub controls-append : (xs ys : List PagePlace) → controls_in (xs ++ ys) ≡ controls_in xs + controls_in ys
 controls-append [] ys = omega arith
 controls-append (Control domain ∷ xs) ys = omega (arith, controls-append xs ys)
 controls-append (Payload from to port ∷ xs) ys = controls-append xs ys

@@ -1,10 +1,10 @@
 -- Laying one page more.
-use Rattle.std.proofs.Common.{◌≡◌, List, [], ◌∷◌, ◌++◌, map, ap, sym, ◌∙◌}
+use Rattle.std.proofs.Common.{List, [], ◌∷◌, ◌++◌, ap, ◌∙◌}
 use Rattle.scenario_file.specs.Scenario.{Plan as Scenario}
 use Rattle.task_duties.specs.declared.place.PagePlace.{PagePlace}
 use Rattle.run_pages.specs.declared.lay.PageSeats.{PageSeats}
 use Rattle.run_pages.specs.Pages.{PageAt, IsLaidFor, AreSeatsOf, IsLaying}
-use Rattle.run_pages.proofs.NumberLaws.{map-append}
+use Rattle.std.proofs.lemmas.List.{map-append}
 use Rattle.run_pages.proofs.ListLaws.{each-more, pair-more}
 
 pub lay-more : (s : Scenario) (places : List PagePlace) (pages : List PageAt) (seats : List PageSeats) (p : PageAt) (x : PageSeats)

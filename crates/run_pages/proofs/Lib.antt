@@ -3,5 +3,6 @@ pub mod RouteLaws
 pub mod ListLaws
 pub mod DealLaws
 pub mod LayLaws
+pub mod SettleLaws
 pub mod FollowLaws
 pub mod DealingLaws

@@ -1,5 +1,5 @@
 -- Elements of lists that grow by one, or change at one place.
-use Rattle.std.proofs.Common.{◌≡◌, ◌≢◌, ◌⊎◌, inl, inr, ℕ, zero, suc, ◌+◌, ◌-◌, ◌<◌, ◌≤◌, List, [], ◌∷◌, ◌++◌, length, set, refl, ap, sym, ◌∙◌, subst, arith, Option, Some, None}
+use Rattle.std.proofs.Common.{◌≡◌, ◌≢◌, ◌⊎◌, inl, inr, ℕ, zero, suc, List, [], ◌∷◌, ◌++◌, length, set, refl, ap, arith, Some, None}
 use Rattle.std.specs.Prelude.{slice_get}
 use Rattle.qrexec_frame.specs.Streams.{Each}
 use Rattle.task_duties.specs.Pairwise.{EachPair}

@@ -1,20 +1,13 @@
 -- Lists over numbers, one number more.
-use Rattle.std.proofs.Common.{◌≡◌, ℕ, zero, suc, ◌+◌, ◌*◌, List, [], ◌∷◌, ◌++◌, map, refl, ap, sym, ◌∙◌, arith, append_assoc}
+use Rattle.std.proofs.Common.{◌≡◌, ℕ, zero, suc, ◌+◌, ◌*◌, List, [], ◌∷◌, ◌++◌, map, ap, sym, ◌∙◌, arith, append_assoc}
 use Rattle.std.specs.List.{flat_map}
-use Rattle.std.proofs.lemmas.List.{append-nil}
+use Rattle.std.proofs.lemmas.List.{append-nil, map-append}
+use Rattle.std.proofs.lemmas.Grind.{flat_map-append}
 use Rattle.task_duties.specs.Places.{numbers}
 
 numbers-more : (from by k : ℕ) → numbers from by (suc k) ≡ numbers from by k ++ (from + by * k) ∷ []
 numbers-more from by zero = ap (λ n. n ∷ []) (omega arith)
 numbers-more from by (suc k) = ap (λ l. from ∷ l) (numbers-more (from + by) by k ∙ ap (λ n. numbers (from + by) by k ++ n ∷ []) (omega arith))
-
-pub map-append : {A B : Type 0} (f : A → B) (xs ys : List A) → map f (xs ++ ys) ≡ map f xs ++ map f ys
-map-append f [] ys = refl
-map-append f (x ∷ xs) ys = ap (λ l. f x ∷ l) (map-append f xs ys)
-
-flat-append : {A B : Type 0} (f : A → List B) (xs ys : List A) → flat_map f (xs ++ ys) ≡ flat_map f xs ++ flat_map f ys
-flat-append f [] ys = refl
-flat-append f (x ∷ xs) ys = ap (λ l. f x ++ l) (flat-append f xs ys) ∙ sym (append_assoc (f x) (flat_map f xs) (flat_map f ys))
 
 -- what is made of the numbers, behind what was there before
 pub map-more : {A : Type 0} (f : ℕ → A) (from by k n : ℕ) (old now : List A) → n ≡ from + by * k
@@ -31,5 +24,5 @@ flat-more f from by k n old now e is =
     let up : suc k ≡ k + 1 = omega arith in
     ap (λ l. l ++ f n) is ∙ append_assoc old (flat_map f (numbers from by k)) (f n)
     ∙ ap (λ l. old ++ l) (ap (λ l. flat_map f (numbers from by k) ++ l) (sym (append-nil (f n)) ∙ ap (λ m. f m ++ []) e)
-    ∙ sym (flat-append f (numbers from by k) ((from + by * k) ∷ []))
+    ∙ sym (flat_map-append f (numbers from by k) ((from + by * k) ∷ []))
     ∙ ap (flat_map f) (sym (numbers-more from by k)) ∙ ap (λ m. flat_map f (numbers from by m)) up)

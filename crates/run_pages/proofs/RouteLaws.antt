@@ -1,14 +1,12 @@
 -- The routes of calls, and how many pages are laid for them.
-use Rattle.std.proofs.Common.{◌≡◌, ℕ, ◌+◌, ◌≤◌, List, [], ◌∷◌, map, refl, ap, sym, ◌∙◌}
-use Rattle.std.specs.Prelude.{◌==◌, Bool, true, false, cond, Some, if◌then◌else◌}
+use Rattle.std.proofs.Common.{◌≡◌, ℕ, ◌+◌, List, [], ◌∷◌, map, refl, ap, sym, ◌∙◌}
+use Rattle.std.specs.Prelude.{◌==◌, true, false, cond, Some}
 use Rattle.std.specs.List.{count_by}
-use Rattle.std.specs.Option.{option_map_or}
 use Rattle.std.proofs.lemmas.List.Sums.{sum_by-cons}
-use Rattle.scenario_file.specs.Scenario.{Plan as Scenario, domain_of, domain_named, hostile_at, is_hostile}
+use Rattle.scenario_file.specs.Scenario.{Plan as Scenario, domain_of, hostile_at, is_hostile}
 use Rattle.scenario_file.specs.declared.scenario.Domain.{Domain}
 use Rattle.scenario_file.specs.declared.scenario.CallPlan.{CallPlan}
 use Rattle.run_laws.specs.Laid.{calls_between, pages_between, is_from_to}
-use Rattle.run_pages.specs.declared.routes.Route.{Route}
 use Rattle.run_pages.specs.Routes.{route_of, routes_of, is_route}
 
 count-along : (s : Scenario) (from to : ℕ) (calls : List CallPlan)

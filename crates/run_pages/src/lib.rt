@@ -1,4 +1,4 @@
-//! The pages of a run: laid for a scenario, and dealt to its tasks.
+//! The pages of a run: laid for a scenario, dealt to its tasks, and settled once the tasks are done.
 //!
 //! It serves whoever runs a scenario. Each domain has a control page with the broker, and each call a
 //! data page between its caller and its target; a hostile caller has as many as it has ports. Where
@@ -9,6 +9,7 @@ mod deal;
 mod lay;
 mod places;
 mod routes;
+mod settle;
 
 pub use deal::{Dealt, Hand};
 pub use lay::{PageSeats, RunPages};

@@ -14,3 +14,6 @@ pub use report::{Report, SettledPage};
 pub use run_laws::{CallLine, CallResult, MixedOutcome, ServedLine};
 pub use summary::summary_text;
 pub use text::report_text;
+
+#[cfg(test)]
+mod tests;

@@ -7,7 +7,7 @@ use Rattle.std.proofs.lemmas.Bool.{cases_lt}
 use Rattle.std.proofs.lemmas.Bool.Decides.{nat_tests}
 use Rattle.hex.specs.Hex.{hex_digit_value}
 use Rattle.script_words.proofs.WordLaws.{tail_whole}
-use Rattle.script_words.specs.ByteStrings.{at_most, byte_of, byte_string, bytes_of_pairs, has_star, repeated, Gains, IsPushRefusal, BadHex, TooManyBytes, ◌>>=◌}
+use Rattle.script_words.specs.ByteStrings.{at_most, byte_of, byte_string, bytes_of_pairs, has_star, repeated, Gains, IsPushRefusal, BadHex, ◌>>=◌}
 use Rattle.script_words.specs.declared.byte_string.PushError.{PushError}
 use Rattle.script_words.specs.declared.byte_string.PushError.TheVariants as push
 

@@ -12,7 +12,7 @@ use Rattle.stream_text.specs.declared.error.DecodeError.TheVariants as error
 use Rattle.script_words.specs.ByteStrings.{IsPushRefusal, ByteFault, at_most, byte_string}
 use Rattle.script_words.specs.declared.byte_string.PushError.{PushError}
 use Rattle.script_words.specs.declared.byte_string.PushError.TheVariants as push
-use Rattle.script_words.specs.KeptLines.{Lines, stops, refused, line}
+use Rattle.script_words.specs.KeptLines.{Lines, stops, line}
 use Rattle.script_words.specs.LinesLeft.{IsNext}
 use Rattle.script_words.specs.declared.lines.TooManyLines.{TooManyLines}
 use Rattle.stream_text.specs.declared.error.DecodeKind.TheVariants as kind

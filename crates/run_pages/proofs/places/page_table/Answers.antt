@@ -1,4 +1,4 @@
-use Rattle.std.proofs.Common.{◌≡◌, ◌∙◌, ◌+◌, ◌++◌, ◌∷◌, [], ap, map, refl, arith}
+use Rattle.std.proofs.Common.{◌∙◌, ◌+◌, [], map, arith}
 use Rattle.run_laws.specs.Laid.{all_domains, pages_between}
 use Rattle.run_pages.proofs.NumberLaws.{flat-more}
 use Rattle.run_pages.proofs.places.page_table.Goals as goal

@@ -1,4 +1,4 @@
-use Rattle.std.proofs.Common.{◌≡◌, ◌∙◌, ◌+◌, ◌++◌, ◌∷◌, [], ap, map, refl, arith}
+use Rattle.std.proofs.Common.{◌∙◌, ◌+◌, map, arith}
 use Rattle.std.specs.List.{flat_map}
 use Rattle.task_duties.specs.declared.place.PagePlace.TheVariants.{Control}
 use Rattle.run_laws.specs.Laid.{all_domains, laid_between}

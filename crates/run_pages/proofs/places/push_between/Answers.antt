@@ -1,4 +1,4 @@
-use Rattle.std.proofs.Common.{◌≡◌, ◌∙◌, ◌+◌, ◌++◌, ◌∷◌, [], ap, map, refl, arith}
+use Rattle.std.proofs.Common.{◌∙◌}
 use Rattle.call_broker.specs.Domains.{first_port}
 use Rattle.task_duties.specs.declared.place.PagePlace.TheVariants.{Payload}
 use Rattle.run_pages.proofs.NumberLaws.{map-more}

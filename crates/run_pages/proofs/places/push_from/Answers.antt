@@ -1,4 +1,4 @@
-use Rattle.std.proofs.Common.{◌≡◌, ◌∙◌, ◌+◌, ◌++◌, ◌∷◌, [], ap, map, refl, arith}
+use Rattle.std.proofs.Common.{◌∙◌, ◌+◌, ◌++◌, ap, map, arith}
 use Rattle.run_laws.specs.Laid.{laid_between}
 use Rattle.call_broker.specs.Domains.{first_port}
 use Rattle.task_duties.specs.Places.{numbers}

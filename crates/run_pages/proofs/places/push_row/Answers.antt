@@ -1,4 +1,4 @@
-use Rattle.std.proofs.Common.{◌≡◌, ◌∙◌, ◌+◌, ◌++◌, ◌∷◌, [], ap, map, refl, arith}
+use Rattle.std.proofs.Common.{◌∙◌, ◌+◌, ◌++◌, ◌∷◌, [], ap, arith}
 use Rattle.run_laws.specs.Laid.{pages_between}
 use Rattle.run_pages.proofs.NumberLaws.{map-more}
 use Rattle.run_pages.proofs.places.push_row.Goals as goal

@@ -1,4 +1,4 @@
-use Rattle.std.proofs.Common.{◌≡◌, ◌≤◌, ◌++◌, map, take}
+use Rattle.std.proofs.Common.{◌≡◌, ◌++◌, map}
 use Rattle.task_duties.specs.Places.{numbers}
 use Rattle.run_laws.specs.Laid.{pages_between}
 use Rattle.run_pages.proofs.places.push_row.Given as goal

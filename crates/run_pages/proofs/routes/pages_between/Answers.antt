@@ -1,7 +1,7 @@
-use Rattle.std.proofs.Common.{◌≡◌, ◌∙◌, ap, sym, subst, true, false, rules}
+use Rattle.std.proofs.Common.{◌≡◌, ◌∙◌, ap, sym, true, false, rules}
 use Rattle.std.specs.Prelude.{Some, ◌==◌}
 use Rattle.std.specs.List.{count_by}
-use Rattle.scenario_file.specs.Scenario.{domain_at, domain_of, is_hostile}
+use Rattle.scenario_file.specs.Scenario.{domain_of, is_hostile}
 use Rattle.std.proofs.lemmas.Bool.{ne_eqb}
 use Rattle.run_pages.specs.Routes.{is_route}
 use Rattle.run_pages.proofs.RouteLaws.{between-calls, between-ports, count-routes, honest-at}

@@ -1,4 +1,4 @@
-use Rattle.std.proofs.Common.{◌≡◌, ◌≤◌, ◌++◌, map, take}
+use Rattle.std.proofs.Common.{◌≡◌, map, take}
 use Rattle.run_pages.specs.Routes.{route_of}
 use Rattle.run_pages.proofs.routes.routes.Given as goal
 

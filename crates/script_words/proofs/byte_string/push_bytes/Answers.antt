@@ -1,4 +1,4 @@
-use Rattle.std.proofs.Common.{ℕ, List, Option, Bool, true, subst, sym, refl, arith, ◌∙◌, ◌&&◌, ◌≡◌}
+use Rattle.std.proofs.Common.{ℕ, List, Option, true, subst, sym, arith, ◌∙◌, ◌≡◌}
 use Rattle.std.specs.Result.{IfErr}
 use Rattle.std.proofs.lemmas.Bool.Decides.{nat_tests}
 use Rattle.script_words.specs.ByteStrings.{at_most, has_star, IsPushRefusal}

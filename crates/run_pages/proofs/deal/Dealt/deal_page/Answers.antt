@@ -1,4 +1,4 @@
-use Rattle.std.proofs.Common.{◌≡◌, ◌∙◌, ◌++◌, ◌∷◌, [], length, refl, arith, subst, sym, ap}
+use Rattle.std.proofs.Common.{◌≡◌, ◌∙◌, ◌++◌, ◌∷◌, [], length, subst, sym}
 use Rattle.ring_words.specs.declared.page.Role.TheVariants.{Server, Client}
 use Rattle.vchan_rule.specs.Seated.{view}
 use Rattle.run_pages.specs.Pages.{new_end, page_at}

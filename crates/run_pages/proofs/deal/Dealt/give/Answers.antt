@@ -1,4 +1,4 @@
-use Rattle.std.proofs.Common.{◌≡◌, ◌-◌, refl, arith}
+use Rattle.std.proofs.Common.{◌-◌, refl, arith}
 use Rattle.std.proofs.lemmas.Option.{slice_get_read}
 use Rattle.run_pages.proofs.DealLaws.{gives-set}
 use Rattle.run_pages.proofs.deal.Dealt.give.Goals as goal

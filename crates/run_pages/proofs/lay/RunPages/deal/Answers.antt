@@ -1,7 +1,7 @@
-use Rattle.std.proofs.Common.{◌≡◌, ◌<◌, ◌+◌, ◌++◌, ◌∷◌, [], ◌∙◌, ℕ, refl, arith, subst, sym, ap, map, take, drop, get_or, length, rules}
+use Rattle.std.proofs.Common.{◌≡◌, ◌<◌, ◌+◌, [], ◌∙◌, arith, subst, sym, ap, map, take, drop, get_or, length}
 use Rattle.std.specs.Vec.Iter.{into_iter_items}
-use Rattle.run_pages.specs.Pages.{PageAt, HasSeats, page_at}
-use Rattle.run_pages.specs.Dealt.{AreDealt, Follows, IsDealing, controls_in}
+use Rattle.run_pages.specs.Pages.{HasSeats, page_at}
+use Rattle.run_pages.specs.Dealt.{AreDealt, IsDealing}
 use Rattle.run_pages.proofs.DealingLaws.{IsNext, all-dealt, dealing-on, get-map, is-next, next-follows, none-dealt, take-all, within-seats}
 use Rattle.std.proofs.lemmas.Grind.{common_steps}
 use Rattle.run_pages.proofs.DealLaws.{map-length}

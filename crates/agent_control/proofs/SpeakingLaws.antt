@@ -1,0 +1,226 @@
+-- What an agent has said, through each message more.
+use Rattle.std.proofs.Common.{◌≡◌, ℕ, ◌<◌, List, [], ◌∷◌, ◌++◌, length, refl, ap, sym, ◌∙◌, inl, inr, Option, Some, None, subst, append_assoc, zero, suc, arith, drop, Bor}
+use Rattle.std.specs.Prelude.{Bool, true, false, nat_lt, slice_get, slice_set, if◌then◌else◌}
+use Rattle.std.specs.Slice.{IsItemAt}
+use Rattle.std.specs.Option.{option_copied}
+use Rattle.std.proofs.lemmas.List.{append-nil, length-map}
+use Rattle.qrexec_frame.specs.declared.message.Message.{Message}
+use Rattle.qrexec_frame.specs.declared.message.Message.TheVariants as m
+use Rattle.qrexec_frame.specs.Streams.{Each}
+use Rattle.vchan_rule.specs.Ends.{IsSameEnd}
+use Rattle.scenario_file.specs.declared.scenario.CallPlan.{CallPlan}
+use Rattle.task_duties.specs.Pairwise.{SomeOf}
+use Rattle.task_duties.specs.Words.{ident_of}
+use Rattle.task_duties.specs.Agent.Answers.{Asked}
+use Rattle.task_duties.specs.Agent.Saying.{AsksToServe, is_at, IsOfVersion, IsTold}
+use Rattle.call_queue.specs.Queue.{Queued, QueueState, asked_as, asked_by, IsDue, HasToSay, trigger_of, after_trigger, IsConnectedAt}
+use Rattle.call_queue.specs.Asking.{Asks}
+use Rattle.call_queue.proofs.Places.{map-got, map-set-same, get-within}
+use Rattle.call_queue.proofs.AskingLaws.{asks-stranger}
+use Rattle.agent_control.specs.declared.control.AgentControl.{AgentControl}
+use Rattle.agent_control.specs.declared.control.SessionEnd.{SessionEnd}
+use Rattle.agent_control.specs.Speaking.{MayTell, IsTellable, HasCall, Speaks, CanSpeak, SaysMore, Tells, Says}
+
+each-more : {A : Type 0} (P : A → Type 0) (xs : List A) (x : A) → Each P xs → P x → Each P (xs ++ x ∷ [])
+each-more P [] x each last = (last, tt)
+each-more P (y ∷ xs) x each last = (each.0, each-more P xs x each.1 last)
+
+some-at : {A : Type 0} (P : A → Type 0) (xs : List A) (i : ℕ) (x : A) → slice_get xs i ≡ Some x → P x → SomeOf P xs
+some-at P [] i x is h = cc
+some-at {A} P (y ∷ xs) zero x is h = let same : y ≡ x = cc in inl (subst P (sym same) h)
+some-at P (y ∷ xs) (suc i) x is h = inr (some-at P xs i x is h)
+
+-- ---- nothing more
+
+-- where a message had no room, all that was said still is
+still : (old new : AgentControl) (w : Message) (heard said : List Message) → Says old new w false → Speaks old heard said → Speaks new heard said
+still old new w heard said s h = record {
+  said_is = s.said_is said h.said_is;
+  asks = subst (λ q. Asks q said) (sym s.queue) h.asks;
+  of_version = subst (λ v. Each (IsOfVersion v) said) (sym s.version) h.of_version;
+  told = subst (λ q. Each (IsTold (asked_by q) heard) said) (sym s.queue) h.told;
+  unsaid = subst (λ u. Each (IsTellable (asked_by new.queue) heard) u.items) (sym s.unsaid) (subst (λ q. Each (IsTellable (asked_by q) heard) old.unsaid.items) (sym s.queue) h.unsaid);
+}
+
+pub says-nothing : (old new : AgentControl) (w : Message) → IsSameEnd old.port.end new.port.end → Says old new w false → SaysMore old new
+says-nothing old new w end s = record {
+  end = end;
+  can = s.can;
+  asked = ap asked_by s.queue;
+  heard = s.heard;
+  speaks = λ heard said h. ([], subst (λ l. Speaks new heard l) (sym (append-nil said)) (still old new w heard said s h));
+}
+
+pub tells-nothing : (old new : AgentControl) (e : SessionEnd) (w : Message) → IsSameEnd old.port.end new.port.end → Says old new w false → Tells old new e
+tells-nothing old new e w end s = record {
+  end = end;
+  can = s.can;
+  asked = ap asked_by s.queue;
+  heard = s.heard;
+  unsaid = s.unsaid;
+  speaks = λ heard said h may. ([], subst (λ l. Speaks new heard l) (sym (append-nil said)) (still old new w heard said s h));
+}
+
+pub says-same : (c : AgentControl) → CanSpeak c → SaysMore c c
+says-same c can = record { end = (refl, refl, refl, refl); can = can; asked = refl; heard = λ heard h. h; speaks = λ heard said h. ([], subst (λ l. Speaks c heard l) (sym (append-nil said)) h) }
+
+pub says-then : (a b c : AgentControl) → SaysMore a b → SaysMore b c → SaysMore a c
+says-then a b c p q = record {
+  end = (q.end.0 ∙ p.end.0, q.end.1 ∙ p.end.1, q.end.2 ∙ p.end.2, q.end.3 ∙ p.end.3);
+  can = q.can;
+  asked = q.asked ∙ p.asked;
+  heard = λ heard h. q.heard heard (p.heard heard h);
+  speaks = λ heard said h.
+      let x = p.speaks heard said h in
+      let y = q.speaks heard (said ++ x.0) x.1 in
+      (x.0 ++ y.0, subst (λ l. Speaks c heard l) (append_assoc said x.0 y.0) y.1);
+}
+
+-- ---- one message more
+
+-- with another queue that has the same answers
+with-queue : (mid : AgentControl) (queue : QueueState) → asked_by queue ≡ asked_by mid.queue → CanSpeak mid → CanSpeak (record mid { queue = queue })
+with-queue mid queue asked can = record {
+  is_open = can.is_open;
+  talker = can.talker;
+  greeted = can.greeted;
+  version = can.version;
+  version_is = can.version_is;
+  calls = subst (λ l. Each (λ e. HasCall l e.call) mid.unsaid.items) (sym asked) can.calls;
+}
+
+-- the message that has gone is one that may be said, and the queue stands for it
+goes : (old mid : AgentControl) (queue : QueueState) (w : Message) (heard said : List Message) → Says old mid w true → asked_by queue ≡ asked_by mid.queue → Asks queue (said ++ w ∷ []) → IsOfVersion mid.port.version w
+    → IsTold (asked_by queue) heard w → Speaks old heard said → Speaks (record mid { queue = queue }) heard (said ++ w ∷ [])
+goes old mid queue w heard said s asked asks version told h =
+    let same : asked_by queue ≡ asked_by old.queue = asked ∙ ap asked_by s.queue in
+    record {
+      said_is = s.said_is said h.said_is;
+      asks = asks;
+      of_version = each-more (IsOfVersion mid.port.version) said w (subst (λ v. Each (IsOfVersion v) said) (sym s.version) h.of_version) version;
+      told = each-more (IsTold (asked_by queue) heard) said w (subst (λ l. Each (IsTold l heard) said) (sym same) h.told) told;
+      unsaid = subst (λ u. Each (IsTellable (asked_by queue) heard) u.items) (sym s.unsaid) (subst (λ l. Each (IsTellable l heard) old.unsaid.items) (sym same) h.unsaid);
+    }
+
+-- ---- the end of a session
+
+pub tells-other : (old mid : AgentControl) (e : SessionEnd) → e.call ≡ None → IsSameEnd old.port.end mid.port.end → Says old mid (m.Terminated e.domain e.port) true → Tells old mid e
+tells-other old mid e none end s = record {
+  end = end;
+  can = s.can;
+  asked = ap asked_by s.queue;
+  heard = s.heard;
+  unsaid = s.unsaid;
+  speaks = λ heard said h may.
+      let there : SomeOf (AsksToServe e.domain e.port) heard = subst (λ o. MayTell (asked_by old.queue) heard o e.domain e.port) none may in
+      (m.Terminated e.domain e.port ∷ [], goes old mid mid.queue (m.Terminated e.domain e.port) heard said s refl (asks-stranger mid.queue e.domain e.port said (subst (λ q. Asks q said) (sym s.queue) h.asks)) tt (inr there) h);
+}
+
+pub tells-own : (old mid : AgentControl) (queue : QueueState) (e : SessionEnd) (place : ℕ) → e.call ≡ Some place → place < length mid.queue.calls → IsSameEnd old.port.end mid.port.end → Says old mid (m.Terminated e.domain e.port) true
+    → ((c : Queued) → slice_get mid.queue.calls place ≡ Some c → queue ≡ record mid.queue { calls = slice_set mid.queue.calls place (record c { is_open = false }) })
+    → ((said : List Message) (d port : ℕ) → IsConnectedAt mid.queue place d port → Asks mid.queue said → Asks queue (said ++ m.Terminated d port ∷ [])) → Tells old (record mid { queue = queue }) e
+tells-own old mid queue e place own within end s is asks =
+    let at = get-within mid.queue.calls place within in
+    let same : asked_by queue ≡ asked_by mid.queue = ap asked_by (is at.0 at.1) ∙ map-set-same asked_as mid.queue.calls place at.0 (record at.0 { is_open = false }) at.1 refl in
+    record {
+      end = end;
+      can = with-queue mid queue same s.can;
+      asked = same ∙ ap asked_by s.queue;
+      heard = s.heard;
+      unsaid = s.unsaid;
+      speaks = λ heard said h may. (m.Terminated e.domain e.port ∷ [], told heard said h same (subst (λ o. MayTell (asked_by old.queue) heard o e.domain e.port) own may));
+    }
+  where
+    told : (heard said : List Message) → Speaks old heard said → asked_by queue ≡ asked_by mid.queue → MayTell (asked_by old.queue) heard (Some place) e.domain e.port
+        → Speaks (record mid { queue = queue }) heard (said ++ m.Terminated e.domain e.port ∷ [])
+    told heard said h same may =
+        let here : slice_get (asked_by mid.queue) place ≡ Some may.0 = ap (λ q. slice_get (asked_by q) place) s.queue ∙ may.1 in
+        let got = map-got asked_as mid.queue.calls place may.0 here in
+        let connected : IsConnectedAt mid.queue place e.domain e.port = (got.0, got.1, ap (λ (a : Asked). is_at e.domain e.port a.answer) got.2 ∙ may.2) in
+        let there : slice_get (asked_by queue) place ≡ Some may.0 = ap (λ l. slice_get l place) same ∙ here in
+        goes old mid queue (m.Terminated e.domain e.port) heard said s same (asks said e.domain e.port connected (subst (λ q. Asks q said) (sym s.queue) h.asks)) tt
+        (inl (some-at (λ (a : Asked). is_at e.domain e.port a.answer ≡ true) (asked_by queue) place may.0 there may.2)) h
+
+-- ---- a trigger
+
+is-of-version : (version : ℕ) (call : CallPlan) → IsOfVersion (Some version) (trigger_of version call)
+is-of-version version call = by_version (nat_lt version 3) refl
+  where
+    by_version : (b : Bool) → nat_lt version 3 ≡ b → IsOfVersion (Some version) (if b then m.Trigger call.to (ident_of call.number) call.service else m.Trigger3 call.to (ident_of call.number) call.service)
+    by_version true is = (version, refl, is)
+    by_version false is = (version, refl, is)
+
+is-told : (asked : List Asked) (heard : List Message) (version : ℕ) (call : CallPlan) → IsTold asked heard (trigger_of version call)
+is-told asked heard version call = by_version (nat_lt version 3)
+  where
+    by_version : (b : Bool) → IsTold asked heard (if b then m.Trigger call.to (ident_of call.number) call.service else m.Trigger3 call.to (ident_of call.number) call.service)
+    by_version true = tt
+    by_version false = tt
+
+pub says-trigger : (old mid : AgentControl) (queue : QueueState) (version : ℕ) (w : Message) → old.port.version ≡ Some version → IsSameEnd old.port.end mid.port.end → Says old mid w true → HasToSay old.queue version (Some w)
+    → ((c : Queued) → IsDue mid.queue c → queue ≡ after_trigger mid.queue c)
+    → ((said : List Message) (v : ℕ) (x : Message) → HasToSay mid.queue v (Some x) → Asks mid.queue said → Asks queue (said ++ x ∷ [])) → SaysMore old (record mid { queue = queue })
+says-trigger old mid queue version w v end s says is asks =
+    let now : HasToSay mid.queue version (Some w) = subst (λ q. HasToSay q version (Some w)) (sym s.queue) says in
+    let same : asked_by queue ≡ asked_by mid.queue = ap asked_by (is now.0 now.1) ∙ map-set-same asked_as mid.queue.calls mid.queue.next now.0 _ now.1.0 refl in
+    let of_version : IsOfVersion mid.port.version w = subst (λ o. IsOfVersion o w) (sym (s.version ∙ v)) (subst (λ x. IsOfVersion (Some version) x) (sym now.2) (is-of-version version now.0.call)) in
+    record {
+      end = end;
+      can = with-queue mid queue same s.can;
+      asked = same ∙ ap asked_by s.queue;
+      heard = s.heard;
+      speaks = λ heard said h. (w ∷ [], goes old mid queue w heard said s same (asks said version w now (subst (λ q. Asks q said) (sym s.queue) h.asks)) of_version (subst (λ x. IsTold (asked_by queue) heard x) (sym now.2) (is-told (asked_by queue) heard version now.0.call)) h);
+    }
+
+-- the call that is to be told of is one of the queue
+pub within-queue : (old mid : AgentControl) (e : SessionEnd) (place : ℕ) (w : Message) → HasCall (asked_by old.queue) e.call → e.call ≡ Some place → Says old mid w true → place < length mid.queue.calls
+within-queue old mid e place w has own s =
+    let here : place < length (asked_by old.queue) = subst (λ o. HasCall (asked_by old.queue) o) own has in
+    let there : place < length (asked_by mid.queue) = subst (λ q. place < length (asked_by q)) (sym s.queue) here in
+    subst (λ n. place < n) (length-map mid.queue.calls asked_as) there
+
+-- the first end that was unsaid was told, and is taken out
+pub tells-first : (old mid new : AgentControl) (e : SessionEnd) (rest : List SessionEnd) → Tells old mid e → mid.unsaid.items ≡ e ∷ rest → new.unsaid.items ≡ rest → new ≡ record mid { unsaid = new.unsaid } → SaysMore old new
+tells-first old mid new e rest t first rest_is new_is =
+    let was : old.unsaid.items ≡ e ∷ rest = ap (λ u. u.items) (sym t.unsaid) ∙ first in
+    subst (λ x. SaysMore old x) (sym new_is) (record {
+      end = t.end;
+      can = record {
+        is_open = t.can.is_open;
+        talker = t.can.talker;
+        greeted = t.can.greeted;
+        version = t.can.version;
+        version_is = t.can.version_is;
+        calls = subst (λ l. Each (λ x. HasCall (asked_by mid.queue) x.call) l) (sym rest_is) (subst (λ l. Each (λ x. HasCall (asked_by mid.queue) x.call) l) first t.can.calls).1;
+      };
+      asked = t.asked;
+      heard = t.heard;
+      speaks = λ heard said h.
+          let may = subst (λ l. Each (IsTellable (asked_by old.queue) heard) l) was h.unsaid in
+          let more = t.speaks heard said h may.0 in (
+            more.0,
+            record {
+              said_is = more.1.said_is;
+              asks = more.1.asks;
+              of_version = more.1.of_version;
+              told = more.1.told;
+              unsaid = subst (λ l. Each (IsTellable (asked_by mid.queue) heard) l) (sym rest_is) (subst (λ l. Each (IsTellable (asked_by mid.queue) heard) l) first more.1.unsaid).1;
+            },
+          );
+    })
+
+-- and where it had no room it is unsaid still
+pub tells-not : (old mid : AgentControl) (e : SessionEnd) (rest : List SessionEnd) → Tells old mid e → old.unsaid.items ≡ e ∷ rest → SaysMore old mid
+tells-not old mid e rest t first = record {
+  end = t.end;
+  can = t.can;
+  asked = t.asked;
+  heard = t.heard;
+  speaks = λ heard said h. t.speaks heard said h (subst (λ l. Each (IsTellable (asked_by old.queue) heard) l) first h.unsaid).0;
+}
+
+-- what is lent of the front is the first element
+pub first-of : (items : List SessionEnd) (o : Option (Bor SessionEnd)) (e : SessionEnd) → IsItemAt items 0 o → option_copied o ≡ Some e → items ≡ e ∷ drop 1 items
+first-of items None e item is = cc
+first-of [] (Some x) e item is = absurd (omega (arith, item.3.0))
+first-of (y ∷ items) (Some x) e item is = let same : x.now ≡ e = cc in ap (λ z. z ∷ items) (sym item.1 ∙ same)

@@ -1,0 +1,77 @@
+-- What an agent says on its control channel: its port and the queue of its calls, tied to the messages that were said and heard.
+-- Source: the messages are those of the qrexec protocol; the order and the limit are this project's own.
+use Rattle.std.specs.Prelude.{◌≡◌, ℕ, ◌<◌, Bool, true, false, List, [], ◌∷◌, ◌++◌, length, slice_get, Option, Some, None}
+use Rattle.qrexec_frame.specs.declared.message.Message.{Message}
+use Rattle.qrexec_frame.specs.Streams.{Each}
+use Rattle.vchan_rule.specs.Seated.{IsOpen}
+use Rattle.vchan_rule.specs.Ends.{IsSameEnd}
+use Rattle.task_duties.specs.Pairwise.{SomeOf}
+use Rattle.task_duties.specs.Agent.Answers.{Asked}
+use Rattle.task_duties.specs.Agent.Saying.{is_at, IsOfVersion, IsTold, AsksToServe}
+use Rattle.control_port.specs.Port.{PortState, HasSaid, HasHeard}
+use Rattle.control_port.specs.declared.talk.Talker.TheVariants.{Agent}
+use Rattle.call_queue.specs.Queue.{asked_by}
+use Rattle.call_queue.specs.Asking.{Asks}
+use Rattle.agent_control.specs.declared.control.AgentControl.{AgentControl}
+use Rattle.agent_control.specs.declared.control.SessionEnd.{SessionEnd}
+
+-- an end of a session that may be told: of a call of the agent's own that has that domain and port, or of what it was asked to serve
+abbrev pub MayTell : List Asked → List Message → Option ℕ → ℕ → ℕ → Type 0
+MayTell asked heard (Some place) domain port = (a : Asked) × (slice_get asked place ≡ Some a) × (is_at domain port a.answer ≡ true)
+MayTell asked heard None domain port = SomeOf (AsksToServe domain port) heard
+
+abbrev pub IsTellable : List Asked → List Message → SessionEnd → Type 0
+IsTellable asked heard e = MayTell asked heard e.call e.domain e.port
+
+-- the call of an end of a session is there
+abbrev pub HasCall : List Asked → Option ℕ → Type 0
+HasCall asked (Some place) = place < length asked
+HasCall asked None = Unit {0}
+
+-- the agent has said these messages, having heard those: its triggers in their order and within the limit, each of the version that was agreed on, and ends of calls that it may tell
+pub record Speaks (c : AgentControl) (heard said : List Message) : Type 0 where
+  pub said_is : HasSaid c.port said
+  pub asks : Asks c.queue said
+  pub of_version : Each (IsOfVersion c.port.version) said
+  pub told : Each (IsTold (asked_by c.queue) heard) said
+  pub unsaid : Each (IsTellable (asked_by c.queue) heard) c.unsaid.items
+
+-- the agent can say more: its channel is open, its greeting has gone, a version is agreed on, and each call that it is to tell of is there
+pub record CanSpeak (c : AgentControl) : Type 0 where
+  pub is_open : IsOpen c.port.end
+  pub talker : c.port.talker ≡ Agent
+  pub greeted : c.port.greeted ≡ true
+  pub version : ℕ
+  pub version_is : c.port.version ≡ Some version
+  pub calls : Each (λ e. HasCall (asked_by c.queue) e.call) c.unsaid.items
+
+-- the agent said more, and nothing else changed
+pub record SaysMore (old new : AgentControl) : Type 0 where
+  pub end : IsSameEnd old.port.end new.port.end
+  pub can : CanSpeak new
+  pub asked : asked_by new.queue ≡ asked_by old.queue
+  pub heard : (heard : List Message) → HasHeard old.port heard → HasHeard new.port heard
+  pub speaks : (heard said : List Message) → Speaks old heard said → (more : List Message) × Speaks new heard (said ++ more)
+
+-- the same, where an end of a session was told that isn't among those unsaid
+pub record Tells (old new : AgentControl) (e : SessionEnd) : Type 0 where
+  pub end : IsSameEnd old.port.end new.port.end
+  pub can : CanSpeak new
+  pub asked : asked_by new.queue ≡ asked_by old.queue
+  pub heard : (heard : List Message) → HasHeard old.port heard → HasHeard new.port heard
+  pub unsaid : new.unsaid ≡ old.unsaid
+  pub speaks : (heard said : List Message) → Speaks old heard said → IsTellable (asked_by old.queue) heard e → (more : List Message) × Speaks new heard (said ++ more)
+
+-- a message more has gone, or none
+abbrev pub HasSaidOne : PortState → List Message → Message → Bool → Type 0
+HasSaidOne p said m true = HasSaid p (said ++ m ∷ [])
+HasSaidOne p said m false = HasSaid p said
+
+-- one message was said or had no room: only the end of the port moved
+pub record Says (old new : AgentControl) (m : Message) (gone : Bool) : Type 0 where
+  pub can : CanSpeak new
+  pub heard : (heard : List Message) → HasHeard old.port heard → HasHeard new.port heard
+  pub said_is : (said : List Message) → HasSaid old.port said → HasSaidOne new.port said m gone
+  pub version : new.port.version ≡ old.port.version
+  pub queue : new.queue ≡ old.queue
+  pub unsaid : new.unsaid ≡ old.unsaid

@@ -1,0 +1,11 @@
+//! An agent's side of its control channel: what it says of its own calls and of sessions that are over.
+//!
+//! It serves the task of an agent, which opens and turns the sessions. In Qubes OS each call is a process
+//! of its own; that one agent says all of it, in the order of a file and with at most sixteen open calls
+//! to a target, is this project's own.
+#![tactic(auto)]
+
+mod control;
+mod speech;
+
+pub use control::{AgentControl, SessionEnd};

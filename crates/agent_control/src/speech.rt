@@ -1,0 +1,137 @@
+//! What an agent says.
+ghost use Rattle.std.specs.Prelude.{◌≡◌, true, OnOk, IfOk};
+ghost use Rattle.qrexec_frame.specs.Messages.{IsSpellable as Fits};
+ghost use Rattle.task_duties.specs.Hearing.{to_broker};
+ghost use Rattle.vchan_rule.specs.Seated.{IsOpen};
+ghost use Rattle.vchan_rule.specs.Ends.{IsSameEnd};
+ghost use Rattle.call_queue.specs.Queue.{asked_by};
+ghost use Rattle.agent_control.specs.Speaking.{CanSpeak, HasCall, SaysMore, Tells, Says};
+
+use crate::control::{AgentControl, SessionEnd};
+use qrexec_frame::Message;
+use std::alloc::Global;
+use vchan_io::Memory;
+use vchan_packet::SendAnswer;
+
+impl<'p> AgentControl<'p> {
+    /// Says what there is to say, as far as it has room: the ends of sessions, and then the triggers of
+    /// calls. After want of memory the end can still be retired, and no more is said of what went out.
+    pub fn say_on(&mut self, alloc: Global) -> Result<(), Memory>
+        requires can { CanSpeak self.old }
+        ensures end { IsSameEnd self.old.port.end self.new.port.end }
+        ensures open { IsOpen self.new.port.end }
+        ensures more { OnOk result (SaysMore self.old self.new) }
+    {
+        if !self.say_ends()? {
+            return Ok(());
+        }
+        self.say_triggers(alloc)?;
+        Ok(())
+    }
+
+    // Says the ends of sessions, and answers whether all have gone.
+    fn say_ends(&mut self) -> Result<bool, Memory>
+        requires can { CanSpeak self.old }
+        ensures end { IsSameEnd self.old.port.end self.new.port.end }
+        ensures open { IsOpen self.new.port.end }
+        ensures more { OnOk result (SaysMore self.old self.new) }
+    {
+        'ends: for _ in 0..self.unsaid.len() {
+            if !self.say_end()? {
+                return Ok(false);
+            }
+        }
+        Ok(true)
+    }
+
+    // Says the first end of a session that is unsaid, and answers whether that has gone.
+    fn say_end(&mut self) -> Result<bool, Memory>
+        requires can { CanSpeak self.old }
+        ensures end { IsSameEnd self.old.port.end self.new.port.end }
+        ensures open { IsOpen self.new.port.end }
+        ensures more { OnOk result (SaysMore self.old self.new) }
+    {
+        let Some(end) = self.unsaid.front().copied() else {
+            return Ok(false);
+        };
+        if !self.tell(end)? {
+            return Ok(false);
+        }
+        let _told = self.unsaid.pop_front();
+        Ok(true)
+    }
+
+    // Tells the end of a session, and answers whether that has gone.
+    fn tell(&mut self, end: SessionEnd) -> Result<bool, Memory>
+        requires can { CanSpeak self.old }
+        requires call { HasCall (asked_by self.old.queue) end.call }
+        ensures end { IsSameEnd self.old.port.end self.new.port.end }
+        ensures open { IsOpen self.new.port.end }
+        ensures tells { OnOk result (Tells self.old self.new end) }
+    {
+        let message = Message::Terminated {
+            domain: end.domain,
+            port: end.port,
+        };
+        if !self.say(&message)? {
+            return Ok(false);
+        }
+        match end.call {
+            Some(place) => {
+                self.queue.ended(place);
+                Ok(true)
+            }
+            None => Ok(true),
+        }
+    }
+
+    // Says the triggers of calls, as far as the limit and the room allow.
+    fn say_triggers(&mut self, alloc: Global) -> Result<(), Memory>
+        requires can { CanSpeak self.old }
+        ensures end { IsSameEnd self.old.port.end self.new.port.end }
+        ensures open { IsOpen self.new.port.end }
+        ensures more { OnOk result (SaysMore self.old self.new) }
+    {
+        'triggers: for _ in 0..self.queue.count() {
+            if !self.say_trigger(alloc)? {
+                return Ok(());
+            }
+        }
+        Ok(())
+    }
+
+    // Says the trigger that is next, and answers whether one has gone.
+    fn say_trigger(&mut self, alloc: Global) -> Result<bool, Memory>
+        requires can { CanSpeak self.old }
+        ensures end { IsSameEnd self.old.port.end self.new.port.end }
+        ensures open { IsOpen self.new.port.end }
+        ensures more { OnOk result (SaysMore self.old self.new) }
+    {
+        let Some(version) = self.port.version() else {
+            return Ok(false);
+        };
+        let Some(message) = self.queue.front(alloc, version)? else {
+            return Ok(false);
+        };
+        if !self.say(&message)? {
+            return Ok(false);
+        }
+        self.queue.triggered();
+        Ok(true)
+    }
+
+    // Says one message, and answers whether it has gone.
+    fn say(&mut self, message: &Message) -> Result<bool, Memory>
+        requires can { CanSpeak self.old }
+        requires fits { Fits message.now }
+        requires may { to_broker message.now ≡ true }
+        ensures end { IsSameEnd self.old.port.end self.new.port.end }
+        ensures open { IsOpen self.new.port.end }
+        ensures says { IfOk result (λ gone. Says self.old self.new message.now gone) }
+    {
+        match self.port.say(message)? {
+            SendAnswer::Sent => Ok(true),
+            _ => Ok(false),
+        }
+    }
+}

@@ -1,0 +1,96 @@
+-- An unused end that was found, and what contracts see once it is put to use.
+use Rattle.std.proofs.Common.{◌≡◌, ℕ, List, get_or, refl, ap, sym, ◌∙◌, Option, Some}
+use Rattle.std.specs.Prelude.{slice_get, Bool}
+use Rattle.std.proofs.lemmas.Option.{get_or_from_slice_get}
+use Rattle.ring_words.specs.declared.page.Role.{Role}
+use Rattle.ring_words.specs.declared.page.Role.TheVariants.{Server, Client}
+use Rattle.service_gate.specs.declared.builtin.Builtin.{Builtin}
+use Rattle.qrexec_frame.specs.Streams.{Each}
+use Rattle.task_duties.specs.declared.place.PagePlace.{PagePlace}
+use Rattle.task_duties.specs.declared.place.PagePlace.TheVariants.{Payload}
+use Rattle.data_slots.specs.declared.slot.Slot.{Slot}
+use Rattle.data_slots.specs.declared.slot.Stage.{Stage}
+use Rattle.data_slots.specs.declared.slot.Stage.TheVariants.{Unused, Calls, Serves, CallIsOver, ServingIsOver, Taken}
+use Rattle.data_slots.specs.Slots.{Held, Called, Serves as ServedHere, SlotsState, IsEndOf}
+use Rattle.data_slots.specs.Stages.{ForNothing, ForCall, ForServing, Frame, place_of, frame_of, use_of, end_of, IsStage, IsUnusedBy}
+use Rattle.data_slots.specs.Whole.{frames, held_in, IsUsedAt}
+use Rattle.data_slots.proofs.ListLaws.{get-map, get-map-back, each-get}
+
+-- a slot whose end is unused
+pub record IsFree (slots : List Slot) (at : ℕ) (place : PagePlace) (slot : Slot) : Type 0 where
+  pub here : slice_get slots at ≡ Some slot
+  pub unused : use_of slot.stage ≡ ForNothing
+  pub lies : place_of slot ≡ place
+
+pub is-free : (slots : List Slot) (at : ℕ) (place : PagePlace) (slot : Slot) → IsUsedAt (frames slots) at place ForNothing → slot ≡ get_or slots at slot → IsFree slots at place slot
+is-free slots at place slot used read =
+    let back = get-map-back frame_of slots at (record { held = used.held; used = ForNothing }) used.is in
+    let same : slot ≡ back.0 = read ∙ get_or_from_slice_get slots at back.0 slot back.1 in
+    record {
+      here = back.1 ∙ ap Some (sym same);
+      unused = ap (λ s. use_of s.stage) same ∙ ap (λ (f : Frame). f.used) back.2;
+      lies = ap place_of same ∙ (ap (λ (f : Frame). f.held.place) back.2 ∙ used.lies);
+    }
+
+server-role : (domain f t p : ℕ) (role : Role) → f ≡ domain → IsEndOf domain (Payload f t p) role → role ≡ Server
+server-role domain f t p Server same h = refl
+server-role domain f t p Client same h = absurd (h.1 same)
+
+client-role : (domain f t p : ℕ) (role : Role) → t ≡ domain → IsEndOf domain (Payload f t p) role → role ≡ Client
+client-role domain f t p Server same h = absurd (h.1 same)
+client-role domain f t p Client same h = refl
+
+unused-by : (version : ℕ) (role : Role) (stage : Stage) → IsStage version stage → use_of stage ≡ ForNothing → (end_of stage).role ≡ role → IsUnusedBy role stage
+unused-by version role (Unused end) h unused is = (h, is)
+unused-by version role (Calls number input session) h unused is = absurd (bad number input.value.items unused)
+  where
+    bad : (n : ℕ) (bytes : List ℕ) → ForCall n bytes ≡ ForNothing → ⊥
+    bad n bytes e = cc
+unused-by version role (Serves number service session) h unused is = absurd (bad number service.value unused)
+  where
+    bad : (n : ℕ) (b : Builtin) → ForServing n b ≡ ForNothing → ⊥
+    bad n b e = cc
+unused-by version role (CallIsOver number input ended) h unused is = absurd (bad number input.value.items unused)
+  where
+    bad : (n : ℕ) (bytes : List ℕ) → ForCall n bytes ≡ ForNothing → ⊥
+    bad n bytes e = cc
+unused-by version role (ServingIsOver number service ended) h unused is = absurd (bad number service.value unused)
+  where
+    bad : (n : ℕ) (b : Builtin) → ForServing n b ≡ ForNothing → ⊥
+    bad n b e = cc
+unused-by version role Taken h unused is = absurd h
+
+from-is : (a b c f t p : ℕ) → Payload a b c ≡ Payload f t p → a ≡ f
+from-is a b c f t p e = cc
+
+to-is : (a b c f t p : ℕ) → Payload a b c ≡ Payload f t p → b ≡ t
+to-is a b c f t p e = cc
+
+-- it is a server's where the agent calls, and a client's where it is called
+pub free-server : (domain version to port : ℕ) (slots : List Slot) (at : ℕ) (slot : Slot) → Each (λ s. IsStage version s.stage) slots → Each (λ h. IsEndOf domain h.place h.role) (held_in slots)
+    → IsFree slots at (Payload domain to port) slot → IsUnusedBy Server slot.stage
+free-server domain version to port slots at slot stages ends free =
+    unused-by version Server slot.stage (each-get (λ s. IsStage version s.stage) slots at slot stages free.here) free.unused
+    (server-role domain slot.from slot.to slot.port (end_of slot.stage).role (from-is slot.from slot.to slot.port domain to port free.lies)
+    (each-get (λ h. IsEndOf domain h.place h.role) (held_in slots) at (frame_of slot).held ends (get-map (λ s. (frame_of s).held) slots at slot free.here)))
+
+pub free-client : (domain version from port : ℕ) (slots : List Slot) (at : ℕ) (slot : Slot) → Each (λ s. IsStage version s.stage) slots → Each (λ h. IsEndOf domain h.place h.role) (held_in slots)
+    → IsFree slots at (Payload from domain port) slot → IsUnusedBy Client slot.stage
+free-client domain version from port slots at slot stages ends free =
+    unused-by version Client slot.stage (each-get (λ s. IsStage version s.stage) slots at slot stages free.here) free.unused
+    (client-role domain slot.from slot.to slot.port (end_of slot.stage).role (to-is slot.from slot.to slot.port from domain port free.lies)
+    (each-get (λ h. IsEndOf domain h.place h.role) (held_in slots) at (frame_of slot).held ends (get-map (λ s. (frame_of s).held) slots at slot free.here)))
+
+-- two states are the same where their lists are
+pub same-state : (domain version : ℕ) (held held' : List Held) (unused unused' : List PagePlace) (called called' : List (Option Called)) (served served' : List ServedHere) (count count' : ℕ) (spent : Bool)
+    → held ≡ held' → unused ≡ unused' → called ≡ called' → served ≡ served' → count ≡ count'
+    → ◌≡◌ {A = SlotsState} (record { domain = domain; version = version; held = held; unused = unused; called = called; served = served; open_count = count; spent = spent })
+    (record { domain = domain; version = version; held = held'; unused = unused'; called = called'; served = served'; open_count = count'; spent = spent })
+same-state domain version held held' unused unused' called called' served served' count count' spent a b c d e =
+    λ i. record { domain = domain; version = version; held = a i; unused = b i; called = c i; served = d i; open_count = e i; spent = spent }
+
+pub call-used : (number : ℕ) (input : List ℕ) → ForCall number input ≡ ForNothing → ⊥
+call-used number input e = cc
+
+pub serving-used : (number : ℕ) (service : Builtin) → ForServing number service ≡ ForNothing → ⊥
+serving-used number service e = cc

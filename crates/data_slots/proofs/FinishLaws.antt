@@ -1,0 +1,264 @@
+-- All ends while they are retired one after another, and what they report.
+use Rattle.std.proofs.Common.{◌≡◌, ◌≢◌, ℕ, ◌+◌, ◌≤◌, zero, suc, List, [], ◌∷◌, ◌++◌, map, refl, ap, sym, ◌∙◌, arith, append_assoc, subst, Option, Some, None}
+use Rattle.std.specs.Prelude.{false, slice_get, option_map, option_and_then, IsSome}
+use Rattle.std.proofs.lemmas.List.{map-append}
+use Rattle.qrexec_frame.specs.Streams.{Each}
+use Rattle.end_view.specs.EndView.{EndView}
+use Rattle.service_gate.specs.declared.builtin.Builtin.{Builtin}
+use Rattle.task_duties.specs.declared.place.PagePlace.{PagePlace}
+use Rattle.task_duties.specs.declared.place.PagePlace.TheVariants.{Payload}
+use Rattle.task_duties.specs.declared.done.ServedDone.{ServedDone}
+use Rattle.task_duties.specs.declared.ends.RetiredEnd.{RetiredEnd}
+use Rattle.task_duties.specs.Pairwise.{EachPair}
+use Rattle.task_duties.specs.TaskOwes.{EndAt}
+use Rattle.task_duties.specs.GivenEnds.{all_retired, retired_at}
+use Rattle.data_slots.specs.declared.slot.Slot.{Slot}
+use Rattle.data_slots.specs.declared.done.CallOver.{CallOver}
+use Rattle.data_slots.specs.declared.note.CallNote.{CallNote}
+use Rattle.data_slots.specs.declared.note.ServedNote.{ServedNote}
+use Rattle.data_slots.specs.declared.report.Report.{Report}
+use Rattle.data_slots.specs.declared.report.Report.TheVariants.{Nothing, Call, Serving}
+use Rattle.data_slots.specs.Slots.{Held, held_at}
+use Rattle.data_slots.specs.Done.{ReportsCalled, ReportsServes}
+use Rattle.data_slots.specs.Reports.{call_in, served_in}
+use Rattle.data_slots.specs.Stages.{Use, ForCall, ForServing, Frame, place_of, frame_of, use_of, CanRetire, IsReportOf}
+use Rattle.data_slots.specs.Whole.{frames, held_in, called_of, serves_of, IsUsedAt, HaveEnds}
+use Rattle.data_slots.specs.Finished.{AreReported, AreCalls, AreServings, KeepsServings, HasCall, IsElsewhere, KeepsOthers, call_at, served_at}
+use Rattle.data_slots.proofs.ListLaws.{each-push, some-get}
+
+pub append-nil : {A : Type 0} (xs : List A) → xs ++ [] ≡ xs
+append-nil [] = refl
+append-nil (x ∷ xs) = ap (λ ys. x ∷ ys) (append-nil xs)
+
+-- ---- ends that are retired one after another
+
+-- some are retired, and the rest can be
+pub record AreRetiring (slots rest : List Slot) (retired : List RetiredEnd) : Type 0 where
+  pub can : Each (λ s. CanRetire s.stage) rest
+  pub held : map held_at (all_retired retired) ++ held_in rest ≡ held_in slots
+  pub honest : Each (λ e. e.view.turned ≡ false) (all_retired retired)
+
+pub one-more : (slots rest : List Slot) (slot : Slot) (retired : List RetiredEnd) (x : RetiredEnd) → held_at (retired_at x) ≡ (frame_of slot).held → (retired_at x).view.turned ≡ false
+    → AreRetiring slots (slot ∷ rest) retired → AreRetiring slots rest (retired ++ x ∷ [])
+one-more slots rest slot retired x held honest h = record {
+  can = h.can.1;
+  held = ap (λ hs. hs ++ held_in rest) (ap (map held_at) (map-append retired_at retired (x ∷ [])) ∙ map-append held_at (all_retired retired) (retired_at x ∷ []))
+      ∙ (append_assoc (map held_at (all_retired retired)) (held_at (retired_at x) ∷ []) (held_in rest)
+      ∙ (ap (λ k. map held_at (all_retired retired) ++ k ∷ held_in rest) held ∙ h.held));
+  honest = subst (λ es. Each (λ e. e.view.turned ≡ false) es) (sym (map-append retired_at retired (x ∷ []))) (each-push (λ (e : EndAt). e.view.turned ≡ false) (all_retired retired) (retired_at x) h.honest honest);
+}
+
+pub all-held : (slots : List Slot) (retired : List RetiredEnd) → AreRetiring slots [] retired → map held_at (all_retired retired) ≡ held_in slots
+all-held slots retired h = sym (append-nil (map held_at (all_retired retired))) ∙ h.held
+
+-- what more is reported of the rest is reported of all
+abbrev pub ReportsOn : ℕ → List Slot → List Slot → List RetiredEnd → List Report → Type 0
+ReportsOn version slots rest retired reports =
+    (ends : List EndAt) (more : List Report) → AreReported version (frames rest) ends more → AreReported version (frames slots) (all_retired retired ++ ends) (reports ++ more)
+
+pub report-more : (version : ℕ) (slots rest : List Slot) (slot : Slot) (retired : List RetiredEnd) (reports : List Report) (x : RetiredEnd) (r : Report) → held_at (retired_at x) ≡ (frame_of slot).held
+    → IsReportOf version (place_of slot) (use_of slot.stage) (retired_at x).view r → ReportsOn version slots (slot ∷ rest) retired reports → ReportsOn version slots rest (retired ++ x ∷ []) (reports ++ r ∷ [])
+report-more version slots rest slot retired reports x r held is h ends more rest_is =
+    let one = h (retired_at x ∷ ends) (r ∷ more) (held, is, rest_is) in
+    let ends_are = ap (λ es. es ++ ends) (map-append retired_at retired (x ∷ [])) ∙ append_assoc (all_retired retired) (retired_at x ∷ []) ends in
+    subst (λ es. AreReported version (frames slots) es ((reports ++ r ∷ []) ++ more)) (sym ends_are)
+    (subst (λ rs. AreReported version (frames slots) (all_retired retired ++ retired_at x ∷ ends) rs) (sym (append_assoc reports (r ∷ []) more)) one)
+
+pub report-all : (version : ℕ) (slots : List Slot) (retired : List RetiredEnd) (reports : List Report) → ReportsOn version slots [] retired reports → AreReported version (frames slots) (all_retired retired) reports
+report-all version slots retired reports h =
+    subst (λ es. AreReported version (frames slots) es reports) (append-nil (all_retired retired)) (subst (λ rs. AreReported version (frames slots) (all_retired retired ++ []) rs) (append-nil reports) (h [] [] tt))
+
+-- ---- reports by their numbers
+
+-- what is reported of the end of a number
+record At (version : ℕ) (place : PagePlace) (used : Use) (at : ℕ) (ends : List EndAt) (reports : List Report) : Type 0 where
+  pub end : EndAt
+  pub report : Report
+  pub end_is : slice_get ends at ≡ Some end
+  pub lies : end.place ≡ place
+  pub report_is : slice_get reports at ≡ Some report
+  pub is : IsReportOf version place used end.view report
+
+reported-at : (version : ℕ) (fs : List Frame) (ends : List EndAt) (reports : List Report) (at : ℕ) (held : Held) (used : Use) → AreReported version fs ends reports
+    → slice_get fs at ≡ Some (record { held = held; used = used }) → At version held.place used at ends reports
+reported-at version [] ends reports at held used h is = cc
+reported-at version (f ∷ fs) [] reports at held used h is = absurd h
+reported-at version (f ∷ fs) (e ∷ ends) [] at held used h is = absurd h
+reported-at version (f ∷ fs) (e ∷ ends) (r ∷ reports) zero held used h is =
+    let same : f ≡ record { held = held; used = used } = cc in
+    record {
+      end = e;
+      report = r;
+      end_is = refl;
+      lies = ap (λ (k : Held). k.place) (h.0 ∙ ap (λ (g : Frame). g.held) same);
+      report_is = refl;
+      is = subst (λ (g : Frame). IsReportOf version g.held.place g.used e.view r) same h.1;
+    }
+reported-at version (f ∷ fs) (e ∷ ends) (r ∷ reports) (suc at) held used h is =
+    let a = reported-at version fs ends reports at held used h.2 is in
+    record { end = a.end; report = a.report; end_is = a.end_is; lies = a.lies; report_is = a.report_is; is = a.is }
+
+used-at : (version : ℕ) (fs : List Frame) (ends : List EndAt) (reports : List Report) (at : ℕ) (place : PagePlace) (used : Use) → AreReported version fs ends reports → IsUsedAt fs at place used
+    → At version place used at ends reports
+used-at version fs ends reports at place used h u = subst (λ p. At version p used at ends reports) u.lies (reported-at version fs ends reports at u.held used h u.is)
+
+call-report : (version from to port number : ℕ) (input : List ℕ) (end : EndView) (r : Report) → IsReportOf version (Payload from to port) (ForCall number input) end r → (over : CallOver) × (r ≡ Call number over)
+call-report version from to port number input end (Call n over) h = (over, ap (λ k. Call k over) h.0)
+call-report version from to port number input end (Serving n done) h = absurd h
+call-report version from to port number input end Nothing h = absurd h
+
+serving-report : (version from to port number : ℕ) (service : Builtin) (end : EndView) (r : Report) → IsReportOf version (Payload from to port) (ForServing number service) end r
+    → (done : ServedDone) × (r ≡ Serving number done)
+serving-report version from to port number service end (Serving n done) h = (done, ap (λ k. Serving k done) h.0)
+serving-report version from to port number service end (Call n over) h = absurd h
+serving-report version from to port number service end Nothing h = absurd h
+
+pub are-calls : (version domain : ℕ) (fs : List Frame) (ends : List EndAt) (reports : List Report) (calls : List (Option CallNote)) (served : List ServedNote) → AreReported version fs ends reports
+    → HaveEnds domain fs calls served → AreCalls reports calls
+are-calls version domain fs ends reports calls served h have number n is =
+    let a = used-at version fs ends reports n.at (Payload domain n.to n.port) (ForCall number n.input.value.items) h (have.called number n is) in
+    let r = call-report version domain n.to n.port number n.input.value.items a.end.view a.report a.is in
+    (r.0, a.report_is ∙ ap Some r.1)
+
+pub are-servings : (version domain : ℕ) (fs : List Frame) (ends : List EndAt) (reports : List Report) (calls : List (Option CallNote)) (served : List ServedNote) → AreReported version fs ends reports
+    → HaveEnds domain fs calls served → AreServings reports served
+are-servings version domain fs ends reports calls served h have number n is =
+    let a = used-at version fs ends reports n.at (Payload n.from domain n.port) (ForServing number n.service.value) h (have.serving number n is) in
+    let r = serving-report version n.from domain n.port number n.service.value a.end.view a.report a.is in
+    (r.0, a.report_is ∙ ap Some r.1)
+
+-- ---- and what contracts say of them
+
+pairs : {A B C : Type 0} (R : B → C → Type 0) (f : A → B) (g : A → C) (xs : List A) → ((m : ℕ) (x : A) → slice_get xs m ≡ Some x → R (f x) (g x)) → EachPair R (map f xs) (map g xs)
+pairs R f g [] h = tt
+pairs R f g (x ∷ xs) h = (h 0 x refl, pairs R f g xs (λ m. h (suc m)))
+
+pub reports-called : (version domain : ℕ) (fs : List Frame) (ends : List EndAt) (reports : List Report) (calls : List (Option CallNote)) (served : List ServedNote) → AreReported version fs ends reports
+    → HaveEnds domain fs calls served → EachPair (ReportsCalled domain version ends) (map (option_map called_of) calls) (map (call_at reports) calls)
+reports-called version domain fs ends reports calls served h have = pairs (ReportsCalled domain version ends) (option_map called_of) (call_at reports) calls each
+  where
+    reports-of : (number : ℕ) (n : CallNote) (end : EndAt) (r : Report) → slice_get ends n.at ≡ Some end → end.place ≡ Payload domain n.to n.port
+        → IsReportOf version (Payload domain n.to n.port) (ForCall number n.input.value.items) end.view r → ReportsCalled domain version ends (Some (called_of n)) (call_in r)
+    reports-of number n end (Call k over) here lies is = (is.1, is.2, some-get _ ends n.at end here (lies, is.3))
+    reports-of number n end (Serving k done) here lies is = absurd is
+    reports-of number n end Nothing here lies is = absurd is
+
+    each : (m : ℕ) (o : Option CallNote) → slice_get calls m ≡ Some o → ReportsCalled domain version ends (option_map called_of o) (call_at reports o)
+    each m None is = tt
+    each m (Some n) is =
+        let a = used-at version fs ends reports n.at (Payload domain n.to n.port) (ForCall m n.input.value.items) h (have.called m n is) in
+        subst (λ o. ReportsCalled domain version ends (Some (called_of n)) o) (sym (ap (option_and_then call_in) a.report_is)) (reports-of m n a.end a.report a.end_is a.lies a.is)
+
+-- a list of answers that are there
+some-pairs : {A B C : Type 0} (R : B → C → Type 0) (f : A → B) (g : A → Option C) (xs : List A) (ys : List C) → map Some ys ≡ map g xs
+    → ((m : ℕ) (x : A) → slice_get xs m ≡ Some x → (y : C) × (g x ≡ Some y) × R (f x) y) → EachPair R (map f xs) ys
+some-pairs R f g [] [] same h = tt
+some-pairs R f g [] (y ∷ ys) same h = cc
+some-pairs R f g (x ∷ xs) [] same h = cc
+some-pairs {A} {B} {C} R f g (x ∷ xs) (y ∷ ys) same h =
+    let a = h 0 x refl in
+    let k : Some y ≡ g x = cc in
+    let k' : Some y ≡ Some a.0 = k ∙ a.1 in
+    let e : a.0 ≡ y = cc in
+    let more : map Some ys ≡ map g xs = cc in
+    (subst (λ (z : C). R (f x) z) e a.2, some-pairs R f g xs ys more (λ m. h (suc m)))
+
+pub reports-serves : (version domain : ℕ) (fs : List Frame) (ends : List EndAt) (reports : List Report) (calls : List (Option CallNote)) (served : List ServedNote) (done : List ServedDone)
+    → AreReported version fs ends reports → HaveEnds domain fs calls served → map Some done ≡ map (served_at reports) served → EachPair (ReportsServes domain version ends) (map serves_of served) done
+reports-serves version domain fs ends reports calls served done h have same = some-pairs (ReportsServes domain version ends) serves_of (served_at reports) served done same each
+  where
+    reports-of : (m : ℕ) (n : ServedNote) (end : EndAt) (r : Report) → slice_get ends n.at ≡ Some end → end.place ≡ Payload n.from domain n.port → slice_get reports n.at ≡ Some r
+        → IsReportOf version (Payload n.from domain n.port) (ForServing m n.service.value) end.view r → (d : ServedDone) × (served_at reports n ≡ Some d) × ReportsServes domain version ends (serves_of n) d
+    reports-of m n end (Serving k d) here lies at is = (d, ap (option_and_then served_in) at, (is.1, is.2, some-get _ ends n.at end here (lies, is.3)))
+    reports-of m n end (Call k over) here lies at is = absurd is
+    reports-of m n end Nothing here lies at is = absurd is
+
+    each : (m : ℕ) (n : ServedNote) → slice_get served m ≡ Some n → (d : ServedDone) × (served_at reports n ≡ Some d) × ReportsServes domain version ends (serves_of n) d
+    each m n is =
+        let u = used-at version fs ends reports n.at (Payload n.from domain n.port) (ForServing m n.service.value) h (have.serving m n is) in
+        reports-of m n u.end u.report u.end_is u.lies u.report_is u.is
+
+-- ---- reports that are taken out one after another
+
+call-number : (a b : CallOver) (m k : ℕ) → Call m a ≡ Call k b → m ≡ k
+call-number a b m k e = cc
+
+pub later-calls : (first now next : List Report) (calls : List (Option CallNote)) (k : ℕ) (o : Option CallNote) → AreCalls first calls → slice_get calls k ≡ Some o
+    → ((m : ℕ) (n : CallNote) → k ≤ m → slice_get calls m ≡ Some (Some n) → slice_get now n.at ≡ slice_get first n.at) → KeepsOthers o now next
+    → (m : ℕ) (n : CallNote) → k + 1 ≤ m → slice_get calls m ≡ Some (Some n) → slice_get next n.at ≡ slice_get first n.at
+later-calls first now next calls k o are here later keeps m n less is = keeps n.at (elsewhere o here) ∙ later m n (omega (arith, less)) is
+  where
+    elsewhere : (o : Option CallNote) → slice_get calls k ≡ Some o → IsElsewhere o n.at
+    elsewhere None here = tt
+    elsewhere (Some q) here = λ same.
+        let a = are m n is in
+        let b = are k q here in
+        let e : Some (Call m a.0) ≡ Some (Call k b.0) = sym a.1 ∙ (ap (slice_get first) same ∙ b.1) in
+        let e' : Call m a.0 ≡ Call k b.0 = cc in
+        let e'' : m ≡ k = call-number a.0 b.0 m k e' in
+        omega (arith, less, e'')
+
+pub other-servings : (first now next : List Report) (calls : List (Option CallNote)) (k : ℕ) (o : Option CallNote) → AreCalls first calls → slice_get calls k ≡ Some o → KeepsServings first now → KeepsOthers o now next
+    → KeepsServings first next
+other-servings first now next calls k o are here kept keeps at number done is = keeps at (elsewhere o here) ∙ kept at number done is
+  where
+    bad : (m n : ℕ) (a : CallOver) (d : ServedDone) → ◌≡◌ {A = Option Report} (Some (Call m a)) (Some (Serving n d)) → ⊥
+    bad m n a d e = cc
+
+    elsewhere : (o : Option CallNote) → slice_get calls k ≡ Some o → IsElsewhere o at
+    elsewhere None here = tt
+    elsewhere (Some q) here = λ same. let b = are k q here in bad k number b.0 done (sym b.1 ∙ (ap (slice_get first) (sym same) ∙ is))
+
+pub same-call : (first now : List Report) (calls : List (Option CallNote)) (k : ℕ) (o : Option CallNote) → slice_get calls k ≡ Some o
+    → ((m : ℕ) (n : CallNote) → k ≤ m → slice_get calls m ≡ Some (Some n) → slice_get now n.at ≡ slice_get first n.at) → call_at now o ≡ call_at first o
+same-call first now calls k None here later = refl
+same-call first now calls k (Some q) here later = ap (option_and_then call_in) (later k q (omega arith) here)
+
+pub has-call : (first now : List Report) (calls : List (Option CallNote)) (k : ℕ) (o : Option CallNote) → AreCalls first calls → slice_get calls k ≡ Some o
+    → ((m : ℕ) (n : CallNote) → k ≤ m → slice_get calls m ≡ Some (Some n) → slice_get now n.at ≡ slice_get first n.at) → HasCall now o
+has-call first now calls k None are here later = tt
+has-call first now calls k (Some q) are here later =
+    let a = are k q here in
+    let e = later k q (omega arith) here ∙ a.1 in
+    subst (λ (x : Option Report). IsSome (option_and_then call_in x)) (sym e) refl
+
+serving-number : (a b : ServedDone) (m k : ℕ) → Serving m a ≡ Serving k b → m ≡ k
+serving-number a b m k e = cc
+
+pub later-servings : (first now next : List Report) (served : List ServedNote) (k : ℕ) (q : ServedNote) → AreServings first served → slice_get served k ≡ Some q
+    → ((m : ℕ) (n : ServedNote) → k ≤ m → slice_get served m ≡ Some n → slice_get now n.at ≡ slice_get first n.at) → ((at : ℕ) → at ≢ q.at → slice_get next at ≡ slice_get now at)
+    → (m : ℕ) (n : ServedNote) → k + 1 ≤ m → slice_get served m ≡ Some n → slice_get next n.at ≡ slice_get first n.at
+later-servings first now next served k q are here later keeps m n less is = keeps n.at apart ∙ later m n (omega (arith, less)) is
+  where
+    apart : n.at ≢ q.at
+    apart same =
+        let a = are m n is in
+        let b = are k q here in
+        let e : Some (Serving m a.0) ≡ Some (Serving k b.0) = sym a.1 ∙ (ap (slice_get first) same ∙ b.1) in
+        let e' : Serving m a.0 ≡ Serving k b.0 = cc in
+        let e'' : m ≡ k = serving-number a.0 b.0 m k e' in
+        omega (arith, less, e'')
+
+pub same-serving : (first now : List Report) (served : List ServedNote) (k : ℕ) (q : ServedNote) → slice_get served k ≡ Some q
+    → ((m : ℕ) (n : ServedNote) → k ≤ m → slice_get served m ≡ Some n → slice_get now n.at ≡ slice_get first n.at) → served_at now q ≡ served_at first q
+same-serving first now served k q here later = ap (option_and_then served_in) (later k q (omega arith) here)
+
+pub has-serving : (first now : List Report) (served : List ServedNote) (k : ℕ) (q : ServedNote) → AreServings first served → slice_get served k ≡ Some q
+    → ((m : ℕ) (n : ServedNote) → k ≤ m → slice_get served m ≡ Some n → slice_get now n.at ≡ slice_get first n.at) → IsSome (served_at now q)
+has-serving first now served k q are here later =
+    let a = are k q here in
+    let e = later k q (omega arith) here ∙ a.1 in
+    subst (λ (x : Option Report). IsSome (option_and_then served_in x)) (sym e) refl
+
+pub keeps-are : (old new : List Report) (served : List ServedNote) → KeepsServings old new → AreServings old served → AreServings new served
+keeps-are old new served keeps are number n is = let a = are number n is in (a.0, keeps n.at number a.0 a.1)
+
+pub served-same : (old new : List Report) (served : List ServedNote) → KeepsServings old new → AreServings old served → map (served_at new) served ≡ map (served_at old) served
+served-same old new served keeps are = mapped served (λ m n is. same n (are m n is))
+  where
+    same : (n : ServedNote) → {number : ℕ} → (done : ServedDone) × (slice_get old n.at ≡ Some (Serving number done)) → served_at new n ≡ served_at old n
+    same n {number} a = ap (option_and_then served_in) (keeps n.at number a.0 a.1 ∙ sym a.1)
+
+    mapped : (ns : List ServedNote) → ((m : ℕ) (n : ServedNote) → slice_get ns m ≡ Some n → served_at new n ≡ served_at old n) → map (served_at new) ns ≡ map (served_at old) ns
+    mapped [] h = refl
+    mapped (n ∷ ns) h = let first = h 0 n refl in let more = mapped ns (λ m. h (suc m)) in rw (first, more) refl

@@ -1,0 +1,10 @@
+pub mod ListLaws
+mod IndexLaws
+mod PlaceLaws
+mod OpenLaws
+mod WholeLaws
+mod GivenLaws
+mod BeginLaws
+mod TurnLaws
+mod FinishLaws
+pub mod AgentLaws

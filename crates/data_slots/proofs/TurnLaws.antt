@@ -1,0 +1,180 @@
+-- All ends through a turn of one session.
+use Rattle.std.proofs.Common.{◌≡◌, ℕ, ◌<◌, List, [], ◌∷◌, ◌++◌, length, map, set, get_or, refl, ap, sym, ◌∙◌, arith, append_assoc, subst, Option, Some, None}
+use Rattle.std.specs.Prelude.{true, false, slice_get, option_map}
+use Rattle.std.specs.List.{swap_remove}
+use Rattle.std.proofs.lemmas.List.{map-set, length-map}
+use Rattle.std.proofs.lemmas.Option.{slice_get_within, get_or_from_slice_get}
+use Rattle.qrexec_frame.specs.Streams.{Each}
+use Rattle.task_duties.specs.declared.place.PagePlace.{PagePlace}
+use Rattle.task_duties.specs.declared.place.PagePlace.TheVariants.{Control, Payload}
+use Rattle.task_duties.specs.Pairwise.{SomeOf}
+use Rattle.data_slots.specs.declared.slot.Slot.{Slot}
+use Rattle.data_slots.specs.declared.slot.Stage.{Stage}
+use Rattle.data_slots.specs.declared.slot.Stage.TheVariants.{Unused, Calls, Serves, CallIsOver, ServingIsOver, Taken}
+use Rattle.data_slots.specs.declared.note.CallNote.{CallNote}
+use Rattle.data_slots.specs.declared.note.ServedNote.{ServedNote}
+use Rattle.data_slots.specs.declared.ends.Ends.{Ends}
+use Rattle.data_slots.specs.declared.done.SessionOver.{SessionOver}
+use Rattle.data_slots.specs.Slots.{SlotsState, IsEndOf}
+use Rattle.data_slots.specs.Done.{IsToldOver, IsBegun, TellsMore}
+use Rattle.data_slots.specs.Stages.{Use, ForNothing, ForCall, ForServing, Frame, place_of, frame_of, use_of, is_session, IsStage, CanTurn, CanRetire, Tells}
+use Rattle.data_slots.specs.Index.{PlaceIndex, IsIndexOf}
+use Rattle.data_slots.specs.Whole.{frames, sessions, called_of, serves_of, AreOpen, HaveEnds, IsNoted, AreWhole, IsWhole, state_of, IsTurned, HasSameEnds}
+use Rattle.data_slots.proofs.ListLaws.{get-map, get-map-back, each-get, each-set, map-set-same, set-same, some-get}
+use Rattle.data_slots.proofs.OpenLaws.{open-at, open-less}
+use Rattle.data_slots.proofs.WholeLaws.{held-set, places-set}
+
+-- a slot whose session is open, by its place among the open ones
+pub record IsBusy (slots : List Slot) (at : ℕ) (slot : Slot) : Type 0 where
+  pub here : slice_get slots at ≡ Some slot
+  pub session : is_session slot.stage ≡ true
+
+pub busy-within : (slots : List Slot) (busy : List ℕ) (next at : ℕ) → AreOpen (sessions slots) busy → next < length busy → at ≡ get_or busy next at → at < length slots
+busy-within slots busy next at h less read =
+    subst (λ n. at < n) (length-map slots (λ (s : Slot). is_session s.stage)) (slice_get_within (sessions slots) at true (open-at (sessions slots) busy next at h less read))
+
+pub busy-slot : (slots : List Slot) (busy : List ℕ) (next at : ℕ) (slot : Slot) → AreOpen (sessions slots) busy → next < length busy → at ≡ get_or busy next at → slot ≡ get_or slots at slot → IsBusy slots at slot
+busy-slot slots busy next at slot h less read item =
+    let back = get-map-back (λ (s : Slot). is_session s.stage) slots at true (open-at (sessions slots) busy next at h less read) in
+    let same : slot ≡ back.0 = item ∙ get_or_from_slice_get slots at back.0 slot back.1 in
+    record { here = back.1 ∙ ap Some (sym same); session = ap (λ s. is_session s.stage) same ∙ back.2 }
+
+pub can-turn : (version : ℕ) (stage : Stage) → IsStage version stage → is_session stage ≡ true → CanTurn stage
+can-turn version (Unused end) h is = bad is
+  where
+    bad : false ≡ true → CanTurn (Unused end)
+    bad e = cc
+can-turn version (Calls number input session) h is = h.0
+can-turn version (Serves number service session) h is = h.0
+can-turn version (CallIsOver number input ended) h is = bad is
+  where
+    bad : false ≡ true → CanTurn (CallIsOver number input ended)
+    bad e = cc
+can-turn version (ServingIsOver number service ended) h is = bad is
+  where
+    bad : false ≡ true → CanTurn (ServingIsOver number service ended)
+    bad e = cc
+can-turn version Taken h is = absurd h
+
+-- a slot that is still what it was used for
+turns : (domain version : ℕ) (slots : List Slot) (index : PlaceIndex) (busy busy' : List ℕ) (calls : List (Option CallNote)) (served : List ServedNote) (at : ℕ) (slot slot' : Slot)
+    → AreWhole domain version slots index busy calls served → slice_get slots at ≡ Some slot → frame_of slot' ≡ frame_of slot → IsStage version slot'.stage
+    → AreOpen (set (sessions slots) at (is_session slot'.stage)) busy' → AreWhole domain version (set slots at slot') index busy' calls served
+turns domain version slots index busy busy' calls served at slot slot' whole here same stage now_open =
+    let held = ap (λ (f : Frame). f.held) same in
+    let fs = map-set-same frame_of slots at slot slot' here same in
+    record {
+      version_is = whole.version_is;
+      stages = each-set (λ s. IsStage version s.stage) slots at slot' whole.stages stage;
+      of_domain = subst (λ hs. Each (λ h. IsEndOf domain h.place h.role) hs) (sym (held-set slots at slot slot' here held)) whole.of_domain;
+      indexed = subst (λ ps. IsIndexOf ps index) (sym (places-set slots at slot slot' here held)) whole.indexed;
+      are_open = subst (λ bs. AreOpen bs busy') (sym (map-set (λ (s : Slot). is_session s.stage) slots at slot')) now_open;
+      have_ends = subst (λ gs. HaveEnds domain gs calls served) (sym fs) whole.have_ends;
+      noted = subst (λ gs. Each (λ f. IsNoted domain calls served f.held.place f.used) gs) (sym fs) whole.noted;
+    }
+
+pub turns-on : (domain version : ℕ) (slots : List Slot) (index : PlaceIndex) (busy : List ℕ) (calls : List (Option CallNote)) (served : List ServedNote) (at : ℕ) (slot slot' : Slot)
+    → AreWhole domain version slots index busy calls served → IsBusy slots at slot → frame_of slot' ≡ frame_of slot → IsStage version slot'.stage → is_session slot'.stage ≡ true
+    → AreWhole domain version (set slots at slot') index busy calls served
+turns-on domain version slots index busy calls served at slot slot' whole is same stage session =
+    let was : slice_get (sessions slots) at ≡ Some true = get-map (λ (s : Slot). is_session s.stage) slots at slot is.here ∙ ap Some is.session in
+    let unchanged = ap (set (sessions slots) at) session ∙ set-same (sessions slots) at true was in
+    turns domain version slots index busy busy calls served at slot slot' whole is.here same stage (subst (λ bs. AreOpen bs busy) (sym unchanged) whole.are_open)
+
+pub turns-over : (domain version : ℕ) (slots : List Slot) (index : PlaceIndex) (busy : List ℕ) (next : ℕ) (calls : List (Option CallNote)) (served : List ServedNote) (at : ℕ) (slot slot' : Slot)
+    → AreWhole domain version slots index busy calls served → IsBusy slots at slot → next < length busy → at ≡ get_or busy next at → frame_of slot' ≡ frame_of slot → IsStage version slot'.stage
+    → is_session slot'.stage ≡ false → AreWhole domain version (set slots at slot') index (swap_remove busy next at) calls served
+turns-over domain version slots index busy next calls served at slot slot' whole is less read same stage session =
+    let was : slice_get (sessions slots) at ≡ Some true = get-map (λ (s : Slot). is_session s.stage) slots at slot is.here ∙ ap Some is.session in
+    turns domain version slots index busy (swap_remove busy next at) calls served at slot slot' whole is.here same stage
+    (subst (λ b. AreOpen (set (sessions slots) at b) (swap_remove busy next at)) (sym session) (open-less (sessions slots) busy next at whole.are_open less read was))
+
+-- ---- what is told
+
+begun : (e : Ends) (place : PagePlace) (used : Use) (told : SessionOver) → IsNoted e.domain e.calls.items e.served.items place used → Tells place used told → IsToldOver (state_of e false) told
+begun e (Payload from to port) (ForCall number input) told noted tells =
+    let n = noted.0 in
+    let to_is : to ≡ n.to = ends-to from to port e.domain n.to n.port noted.2 in
+    let port_is : port ≡ n.port = ends-port from to port e.domain n.to n.port noted.2 in
+    subst (λ t. IsToldOver (state_of e false) t) (sym tells) (called_of n, called-at e number n noted.1, sym to_is, sym port_is)
+  where
+    ends-to : (a b c f t p : ℕ) → Payload a b c ≡ Payload f t p → b ≡ t
+    ends-to a b c f t p e = cc
+
+    ends-port : (a b c f t p : ℕ) → Payload a b c ≡ Payload f t p → c ≡ p
+    ends-port a b c f t p e = cc
+
+    called-at : (e : Ends) (number : ℕ) (n : CallNote) → slice_get e.calls.items number ≡ Some (Some n) → slice_get (state_of e false).called number ≡ Some (Some (called_of n))
+    called-at e number n h = get-map (λ (o : Option CallNote). option_map called_of o) e.calls.items number (Some n) h
+begun e (Payload from to port) (ForServing number service) told noted tells =
+    let n = noted.0 in
+    let from_is : n.from ≡ from = sym (ends-from from to port n.from e.domain n.port noted.2) in
+    let port_is : n.port ≡ port = sym (ends-port from to port n.from e.domain n.port noted.2) in
+    subst (λ t. IsToldOver (state_of e false) t) (sym tells)
+    (some-get (λ x. (x.from ≡ from) × (x.port ≡ port)) (map serves_of e.served.items) number (serves_of n) (get-map serves_of e.served.items number n noted.1) (from_is, port_is))
+  where
+    ends-from : (a b c f t p : ℕ) → Payload a b c ≡ Payload f t p → a ≡ f
+    ends-from a b c f t p e = cc
+
+    ends-port : (a b c f t p : ℕ) → Payload a b c ≡ Payload f t p → c ≡ p
+    ends-port a b c f t p e = cc
+begun e place ForNothing told noted tells = absurd (never place tells)
+  where
+    never : (p : PagePlace) → Tells p ForNothing told → ⊥
+    never (Payload f t q) h = h
+    never (Control d) h = h
+begun e (Control d) (ForCall number input) told noted tells = absurd tells
+begun e (Control d) (ForServing number service) told noted tells = absurd tells
+
+pub tells-begun : (e : Ends) (at : ℕ) (slot : Slot) (told : SessionOver) → IsWhole e → slice_get e.slots.items at ≡ Some slot → Tells (place_of slot) (use_of slot.stage) told → IsToldOver (state_of e false) told
+tells-begun e at slot told whole here tells =
+    begun e (place_of slot) (use_of slot.stage) told
+    (each-get (λ f. IsNoted e.domain e.calls.items e.served.items f.held.place f.used) (frames e.slots.items) at (frame_of slot) whole.noted (get-map frame_of e.slots.items at slot here)) tells
+
+-- ---- one turn after another
+
+pub tells-none : (s : SlotsState) (before : List SessionOver) → TellsMore s before before
+tells-none s before = ([], sym (append-nil before), tt)
+  where
+    append-nil : (xs : List SessionOver) → xs ++ [] ≡ xs
+    append-nil [] = refl
+    append-nil (x ∷ xs) = ap (λ ys. x ∷ ys) (append-nil xs)
+
+tells-after : (s s' : SlotsState) (before mid now : List SessionOver) → s'.called ≡ s.called → s'.served ≡ s.served → TellsMore s before mid → TellsMore s' mid now → TellsMore s before now
+tells-after s s' before mid now called served one two = (one.0 ++ two.0, two.1 ∙ (ap (λ l. l ++ two.0) one.1 ∙ append_assoc before one.0 two.0), each-both one.0 one.2 (each-same two.0 two.2))
+  where
+    each-both : (xs : List SessionOver) → Each (IsToldOver s) xs → Each (IsToldOver s) two.0 → Each (IsToldOver s) (xs ++ two.0)
+    each-both [] a b = b
+    each-both (x ∷ xs) a b = (a.0, each-both xs a.1 b)
+
+    begun-same : (number : Option ℕ) (domain port : ℕ) → IsBegun s' number domain port → IsBegun s number domain port
+    begun-same (Some n) domain port h = (h.0, ap (λ cs. slice_get cs n) (sym called) ∙ h.1, h.2, h.3)
+    begun-same None domain port h = subst (λ xs. SomeOf (λ x. (x.from ≡ domain) × (x.port ≡ port)) xs) served h
+
+    each-same : (xs : List SessionOver) → Each (IsToldOver s') xs → Each (IsToldOver s) xs
+    each-same [] a = tt
+    each-same (x ∷ xs) a = (begun-same x.number x.domain x.port a.0, each-same xs a.1)
+
+-- what a loop of turns keeps
+pub record IsTurning (old new : Ends) (before now : List SessionOver) : Type 0 where
+  pub turned : IsTurned old new before now
+  pub same : HasSameEnds old new
+  pub retire : Each (λ s. CanRetire s.stage) new.slots.items
+
+turned-after : (a b c : Ends) (before mid now : List SessionOver) → IsTurned a b before mid → IsTurned b c mid now → IsTurned a c before now
+turned-after a b c before mid now one two = record {
+  whole = two.whole;
+  state = two.state ∙ ap (λ (s : SlotsState). record s { open_count = length c.busy.items }) one.state;
+  count = omega (arith, one.count, two.count);
+  told = tells-after (state_of a false) (state_of b false) before mid now (ap (λ (s : SlotsState). s.called) one.state) (ap (λ (s : SlotsState). s.served) one.state) one.told two.told;
+}
+
+pub turning-on : (a b c : Ends) (before mid now : List SessionOver) → IsTurning a b before mid → IsTurned b c mid now → HasSameEnds b c → Each (λ s. CanRetire s.stage) c.slots.items → IsTurning a c before now
+turning-on a b c before mid now h turned same retire = record {
+  turned = turned-after a b c before mid now h.turned turned;
+  same = (same.0 ∙ h.same.0, same.1 ∙ h.same.1, same.2 ∙ h.same.2);
+  retire = retire;
+}
+
+pub same-ends-after : (a b c : Ends) → HasSameEnds a b → HasSameEnds b c → HasSameEnds a c
+same-ends-after a b c one two = (two.0 ∙ one.0, two.1 ∙ one.1, two.2 ∙ one.2)

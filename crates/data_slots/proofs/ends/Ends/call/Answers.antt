@@ -1,0 +1,50 @@
+use Rattle.std.proofs.Common.{ap, sym, ◌∙◌, subst, ◌∷◌, [], length, refl, arith, map, set, length-append}
+use Rattle.std.specs.Prelude.{None, Some, false, option_map}
+use Rattle.std.proofs.lemmas.Option.{slice_get_within}
+use Rattle.std.proofs.lemmas.List.{map-set}
+use Rattle.task_duties.specs.declared.place.PagePlace.TheVariants.{Payload}
+use Rattle.data_slots.specs.declared.note.CallNote.{CallNote}
+use Rattle.data_slots.specs.Stages.{ForNothing, ForCall, frame_of, IsStage}
+use Rattle.data_slots.specs.Whole.{frames, called_of, IsUsedAt}
+use Rattle.data_slots.proofs.WholeLaws.{IsPutTo, begins-call, held-set, unused-now}
+use Rattle.data_slots.proofs.BeginLaws.{is-free, free-server, same-state, call-used}
+use Rattle.data_slots.proofs.ends.Ends.call.Goals as goal
+
+pub call-requires-clause-unused : goal.call-requires-clause-unused
+call-requires-clause-unused c =
+    let e = c.args.self.now in
+    let free = is-free e.slots.items c.in-Some.at (Payload e.domain c.args.to c.args.port) c.index_mut.result.now (subst (λ ss. IsUsedAt (frames ss) c.in-Some.at (Payload e.domain c.args.to c.args.port) ForNothing) c.deref.ensures.value c.in-Some.ensures.found) c.index_mut.ensures.value in
+    free-server e.domain e.version c.args.to c.args.port e.slots.items c.in-Some.at c.index_mut.result.now c.requires.whole.stages c.requires.whole.of_domain free
+
+pub index_mut-requires-2 : goal.index_mut-requires-2
+index_mut-requires-2 c =
+    let less = slice_get_within c.args.self.now.calls.items c.args.number None c.requires.number in
+    omega (arith, less, c.args.self.now.calls.ok.0)
+
+pub returns-clause-whole : goal.returns-clause-whole
+returns-clause-whole c =
+    let e = c.args.self.now in
+    let note : CallNote = record { at = c.in-Some.at; to = c.args.to; port = c.args.port; input = c.of.result } in
+    let free = is-free e.slots.items c.in-Some.at (Payload e.domain c.args.to c.args.port) c.index_mut.result.now (subst (λ ss. IsUsedAt (frames ss) c.in-Some.at (Payload e.domain c.args.to c.args.port) ForNothing) c.deref.ensures.value c.in-Some.ensures.found) c.index_mut.ensures.value in
+    let seen = c.of-seen.ensures ∙ sym c.of.ensures in
+    let put : IsPutTo e.version c.index_mut.result.now c.call.new.self (ForCall c.args.number note.input.value.items) = record {
+      frame = c.call.ensures.frame ∙ ap (λ v. record (frame_of c.index_mut.result.now) { used = ForCall c.args.number v.items }) seen;
+      stage = subst (λ v. IsStage v c.call.new.self.stage) c.in_ok-caller.ensures.asked.2 c.call.ensures.stage;
+      session = c.call.ensures.session;
+    } in
+    rw c.in_ok-push.ensures.items
+    (begins-call e.domain e.version e.slots.items e.index e.busy.items e.calls.items e.served.items c.args.number note c.index_mut.result.now c.call.new.self c.requires.whole free.here free.unused free.lies c.requires.number put)
+
+pub returns-clause-ok : goal.returns-clause-ok
+returns-clause-ok c =
+    let e = c.args.self.now in
+    let note : CallNote = record { at = c.in-Some.at; to = c.args.to; port = c.args.port; input = c.of.result } in
+    let free = is-free e.slots.items c.in-Some.at (Payload e.domain c.args.to c.args.port) c.index_mut.result.now (subst (λ ss. IsUsedAt (frames ss) c.in-Some.at (Payload e.domain c.args.to c.args.port) ForNothing) c.deref.ensures.value c.in-Some.ensures.found) c.index_mut.ensures.value in
+    same-state e.domain e.version _ _ _ _ _ _ _ _ _ _ false
+    (held-set e.slots.items c.in-Some.at c.index_mut.result.now c.call.new.self free.here (ap (λ f. f.held) c.call.ensures.frame))
+    (unused-now e.slots.items e.index c.in-Some.at e.domain c.args.to c.args.port c.index_mut.result.now c.call.new.self (ForCall c.args.number c.of-seen.result.value.items) c.requires.whole.indexed free.here free.lies free.unused
+    (call-used c.args.number c.of-seen.result.value.items) c.call.ensures.frame)
+    (map-set (option_map called_of) e.calls.items c.args.number (Some note)
+    ∙ ap (λ v. set (map (option_map called_of) e.calls.items) c.args.number (Some (record { to = c.args.to; port = c.args.port; input = v.items }))) c.of.ensures)
+    refl
+    (ap length c.in_ok-push.ensures.items ∙ length-append e.busy.items (c.in-Some.at ∷ []))

@@ -1,0 +1,47 @@
+use Rattle.std.proofs.Common.{ap, sym, ◌∙◌, subst, List, map}
+use Rattle.std.specs.Prelude.{Option, option_map}
+use Rattle.task_duties.specs.Pairwise.{EachPair}
+use Rattle.task_duties.specs.GivenEnds.{all_retired}
+use Rattle.data_slots.specs.declared.note.CallNote.{CallNote}
+use Rattle.data_slots.specs.declared.note.ServedNote.{ServedNote}
+use Rattle.data_slots.specs.declared.report.Report.{Report}
+use Rattle.data_slots.specs.Done.{ReportsCalled}
+use Rattle.data_slots.specs.Whole.{frames, called_of}
+use Rattle.data_slots.specs.Finished.{AreCalls, AreServings, call_at, served_at}
+use Rattle.data_slots.proofs.OpenLaws.{all-shut}
+use Rattle.data_slots.proofs.FinishLaws.{are-calls, are-servings, reports-called, reports-serves}
+use Rattle.data_slots.proofs.ends.Ends.finish.Goals as goal
+
+pub finish_all-ends-requires-clause-closed : goal.finish_all-ends-requires-clause-closed
+finish_all-ends-requires-clause-closed c = all-shut c.args.self.slots.items c.args.self.busy.items c.requires.whole.are_open c.requires.idle
+
+pub session_ends-requires-clause-calls : goal.session_ends-requires-clause-calls
+session_ends-requires-clause-calls c =
+    let e = c.args.self in
+    let reported = c.finish_all-ends.ensures.reported e.version c.requires.whole.stages in
+    let are = are-calls e.version e.domain (frames e.slots.items) (all_retired c.finish_all-ends.result.items) c.finish_all-ends.new.reports.items e.calls.items e.served.items reported c.requires.whole.have_ends in
+    subst (λ (rs : List Report). AreCalls rs c.deref.result.now) (sym c.deref_mut.ensures.value) (subst (λ (ns : List (Option CallNote)). AreCalls c.finish_all-ends.new.reports.items ns) (sym c.deref.ensures.value) are)
+
+pub session_ends-requires-clause-served : goal.session_ends-requires-clause-served
+session_ends-requires-clause-served c =
+    let e = c.args.self in
+    let reported = c.finish_all-ends.ensures.reported e.version c.requires.whole.stages in
+    let are = are-servings e.version e.domain (frames e.slots.items) (all_retired c.finish_all-ends.result.items) c.finish_all-ends.new.reports.items e.calls.items e.served.items reported c.requires.whole.have_ends in
+    subst (λ (rs : List Report). AreServings rs c.deref-2.result.now) (sym c.deref_mut.ensures.value) (subst (λ (ns : List ServedNote). AreServings c.finish_all-ends.new.reports.items ns) (sym c.deref-2.ensures.value) are)
+
+pub returns-clause-calls : goal.returns-clause-calls
+returns-clause-calls c =
+    let e = c.args.self in
+    let ends = all_retired c.finish_all-ends.result.items in
+    let reported = c.finish_all-ends.ensures.reported e.version c.requires.whole.stages in
+    let is = c.in_ok-calls.ensures.calls ∙ (ap (λ (rs : List Report). map (call_at rs) c.deref.result.now) c.deref_mut.ensures.value ∙ ap (λ ns. map (call_at c.finish_all-ends.new.reports.items) ns) c.deref.ensures.value) in
+    subst (λ ds. EachPair (ReportsCalled e.domain e.version ends) (map (option_map called_of) e.calls.items) ds) (sym is)
+    (reports-called e.version e.domain (frames e.slots.items) ends c.finish_all-ends.new.reports.items e.calls.items e.served.items reported c.requires.whole.have_ends)
+
+pub returns-clause-served : goal.returns-clause-served
+returns-clause-served c =
+    let e = c.args.self in
+    let ends = all_retired c.finish_all-ends.result.items in
+    let reported = c.finish_all-ends.ensures.reported e.version c.requires.whole.stages in
+    let is = c.in_ok-calls.ensures.served ∙ (ap (λ (rs : List Report). map (served_at rs) c.deref-2.result.now) c.deref_mut.ensures.value ∙ ap (λ ns. map (served_at c.finish_all-ends.new.reports.items) ns) c.deref-2.ensures.value) in
+    reports-serves e.version e.domain (frames e.slots.items) ends c.finish_all-ends.new.reports.items e.calls.items e.served.items _ reported c.requires.whole.have_ends is

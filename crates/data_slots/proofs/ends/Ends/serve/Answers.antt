@@ -1,0 +1,45 @@
+use Rattle.std.proofs.Common.{◌≡◌, ◌+◌, ap, sym, ◌∙◌, subst, ◌∷◌, ◌++◌, [], length, refl, arith, map, length-append}
+use Rattle.std.specs.Prelude.{false}
+use Rattle.std.proofs.lemmas.List.{map-append}
+use Rattle.task_duties.specs.declared.place.PagePlace.TheVariants.{Payload}
+use Rattle.data_slots.specs.declared.note.ServedNote.{ServedNote}
+use Rattle.data_slots.specs.Stages.{ForNothing, ForServing, frame_of, IsStage}
+use Rattle.data_slots.specs.Whole.{frames, serves_of, IsUsedAt}
+use Rattle.data_slots.proofs.WholeLaws.{IsPutTo, begins-serving, held-set, unused-now}
+use Rattle.data_slots.proofs.BeginLaws.{is-free, free-client, same-state, serving-used}
+use Rattle.data_slots.proofs.ends.Ends.serve.Goals as goal
+
+pub serve-requires-clause-unused : goal.serve-requires-clause-unused
+serve-requires-clause-unused c =
+    let e = c.args.self.now in
+    let free = is-free e.slots.items c.in-Some.at (Payload c.args.from e.domain c.args.port) c.index_mut.result.now (subst (λ ss. IsUsedAt (frames ss) c.in-Some.at (Payload c.args.from e.domain c.args.port) ForNothing) c.deref.ensures.value c.in-Some.ensures.found) c.index_mut.ensures.value in
+    free-client e.domain e.version c.args.from c.args.port e.slots.items c.in-Some.at c.index_mut.result.now c.requires.whole.stages c.requires.whole.of_domain free
+
+pub returns-clause-whole : goal.returns-clause-whole
+returns-clause-whole c =
+    let e = c.args.self.now in
+    let note : ServedNote = record { at = c.in-Some.at; from = c.args.from; port = c.args.port; service = c.of.result } in
+    let free = is-free e.slots.items c.in-Some.at (Payload c.args.from e.domain c.args.port) c.index_mut.result.now (subst (λ ss. IsUsedAt (frames ss) c.in-Some.at (Payload c.args.from e.domain c.args.port) ForNothing) c.deref.ensures.value c.in-Some.ensures.found) c.index_mut.ensures.value in
+    let seen = c.of-seen.ensures ∙ sym c.of.ensures in
+    let number : c.len-number.result ≡ length e.served.items = omega (arith, c.len-number.ensures, e.served.ok.0) in
+    let put : IsPutTo e.version c.index_mut.result.now c.serve.new.self (ForServing (length e.served.items) note.service.value) = record {
+      frame = c.serve.ensures.frame ∙ (ap (λ v. record (frame_of c.index_mut.result.now) { used = ForServing c.len-number.result v }) seen ∙ ap (λ n. record (frame_of c.index_mut.result.now) { used = ForServing n note.service.value }) number);
+      stage = subst (λ v. IsStage v c.serve.new.self.stage) c.in_ok-serving.ensures.asked.1 c.serve.ensures.stage;
+      session = c.serve.ensures.session;
+    } in
+    rw (c.push_within.ensures.items, c.in_ok-reserve.ensures.items, c.in_ok-push.ensures.items)
+    (begins-serving e.domain e.version e.slots.items e.index e.busy.items e.calls.items e.served.items note c.index_mut.result.now c.serve.new.self c.requires.whole free.here free.unused free.lies put)
+
+pub returns-clause-ok : goal.returns-clause-ok
+returns-clause-ok c =
+    let e = c.args.self.now in
+    let note : ServedNote = record { at = c.in-Some.at; from = c.args.from; port = c.args.port; service = c.of.result } in
+    let free = is-free e.slots.items c.in-Some.at (Payload c.args.from e.domain c.args.port) c.index_mut.result.now (subst (λ ss. IsUsedAt (frames ss) c.in-Some.at (Payload c.args.from e.domain c.args.port) ForNothing) c.deref.ensures.value c.in-Some.ensures.found) c.index_mut.ensures.value in
+    same-state e.domain e.version _ _ _ _ _ _ _ _ _ _ false
+    (held-set e.slots.items c.in-Some.at c.index_mut.result.now c.serve.new.self free.here (ap (λ f. f.held) c.serve.ensures.frame))
+    (unused-now e.slots.items e.index c.in-Some.at c.args.from e.domain c.args.port c.index_mut.result.now c.serve.new.self (ForServing c.len-number.result c.of-seen.result.value) c.requires.whole.indexed free.here free.lies free.unused
+    (serving-used c.len-number.result c.of-seen.result.value) c.serve.ensures.frame)
+    refl
+    (ap (λ ns. map serves_of ns) c.in_ok-push.ensures.items
+    ∙ (map-append serves_of e.served.items (note ∷ []) ∙ ap (λ v. map serves_of e.served.items ++ record { from = c.args.from; port = c.args.port; service = v } ∷ []) c.of.ensures))
+    (ap length c.push_within.ensures.items ∙ (length-append c.reserve.new.self.items (c.in-Some.at ∷ []) ∙ ap (λ b. length b + 1) c.in_ok-reserve.ensures.items))

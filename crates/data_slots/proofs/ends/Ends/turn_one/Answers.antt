@@ -1,0 +1,83 @@
+use Rattle.std.proofs.Common.{ap, sym, ◌∙◌, subst, ◌∷◌, [], length, refl, arith, set, length-append}
+use Rattle.std.specs.Prelude.{false, is_none, IfSome}
+use Rattle.std.specs.List.{swap_remove}
+use Rattle.data_slots.specs.Stages.{IsStage, Tells, place_of, use_of, frame_of}
+use Rattle.data_slots.specs.Whole.{AreWhole, unused_in, state_of}
+use Rattle.data_slots.proofs.ListLaws.{each-get, map-set-same, same-read}
+use Rattle.data_slots.proofs.WholeLaws.{held-set}
+use Rattle.data_slots.proofs.BeginLaws.{same-state}
+use Rattle.data_slots.proofs.TurnLaws.{busy-within, busy-slot, can-turn, turns-on, turns-over, tells-begun, tells-none}
+use Rattle.data_slots.proofs.ends.Ends.turn_one.Goals as goal
+
+pub index_mut-requires : goal.index_mut-requires
+index_mut-requires c =
+    let e = c.args.self.now in
+    let less = busy-within e.slots.items e.busy.items c.args.next c.index-at.result.now c.requires.whole.are_open c.requires.next c.index-at.ensures in
+    omega (arith, less, e.slots.ok.0)
+
+pub turn-requires-clause-open : goal.turn-requires-clause-open
+turn-requires-clause-open c =
+    let e = c.args.self.now in
+    let slot = c.index_mut.result.now in
+    let is = busy-slot e.slots.items e.busy.items c.args.next c.index-at.result.now slot c.requires.whole.are_open c.requires.next c.index-at.ensures c.index_mut.ensures.value in
+    can-turn e.version slot.stage (each-get (λ s. IsStage e.version s.stage) e.slots.items c.index-at.result.now slot c.requires.whole.stages is.here) is.session
+
+pub returns-in_err-told-clause-same : goal.returns-in_err-told-clause-same
+returns-in_err-told-clause-same c =
+    let e = c.args.self.now in
+    let is = busy-slot e.slots.items e.busy.items c.args.next c.index-at.result.now c.index_mut.result.now c.requires.whole.are_open c.requires.next c.index-at.ensures c.index_mut.ensures.value in
+    (held-set e.slots.items c.index-at.result.now c.index_mut.result.now c.turn.new.self is.here (ap (λ f. f.held) c.turn.ensures.frame), refl, refl)
+
+pub returns-in_default-clause-turned : goal.returns-in_default-clause-turned
+returns-in_default-clause-turned c =
+    let e = c.args.self.now in
+    let slot = c.index_mut.result.now in
+    let is = busy-slot e.slots.items e.busy.items c.args.next c.index-at.result.now slot c.requires.whole.are_open c.requires.next c.index-at.ensures c.index_mut.ensures.value in
+    let was = each-get (λ s. IsStage e.version s.stage) e.slots.items c.index-at.result.now slot c.requires.whole.stages is.here in
+    record {
+      whole = turns-on e.domain e.version e.slots.items e.index e.busy.items e.calls.items e.served.items c.index-at.result.now slot c.turn.new.self c.requires.whole is c.turn.ensures.frame
+          (c.in_ok-told.ensures.stage e.version was) (c.in_ok-told.ensures.session ∙ ap is_none c.in_default.is);
+      state = same-state e.domain e.version _ _ _ _ _ _ _ _ _ _ false
+          (held-set e.slots.items c.index-at.result.now slot c.turn.new.self is.here (ap (λ f. f.held) c.turn.ensures.frame))
+          (ap unused_in (map-set-same frame_of e.slots.items c.index-at.result.now slot c.turn.new.self is.here c.turn.ensures.frame)) refl refl refl;
+      count = refl;
+      told = tells-none (state_of e false) c.args.over.now.items;
+    }
+
+pub returns-in_default-clause-same : goal.returns-in_default-clause-same
+returns-in_default-clause-same c =
+    let e = c.args.self.now in
+    let is = busy-slot e.slots.items e.busy.items c.args.next c.index-at.result.now c.index_mut.result.now c.requires.whole.are_open c.requires.next c.index-at.ensures c.index_mut.ensures.value in
+    (held-set e.slots.items c.index-at.result.now c.index_mut.result.now c.turn.new.self is.here (ap (λ f. f.held) c.turn.ensures.frame), refl, refl)
+
+pub returns-in_err-push-clause-same : goal.returns-in_err-push-clause-same
+returns-in_err-push-clause-same c =
+    let e = c.args.self.now in
+    let is = busy-slot e.slots.items e.busy.items c.args.next c.index-at.result.now c.index_mut.result.now c.requires.whole.are_open c.requires.next c.index-at.ensures c.index_mut.ensures.value in
+    (held-set e.slots.items c.index-at.result.now c.index_mut.result.now c.turn.new.self is.here (ap (λ f. f.held) c.turn.ensures.frame), refl, refl)
+
+pub returns-clause-turned : goal.returns-clause-turned
+returns-clause-turned c =
+    let e = c.args.self.now in
+    let at = c.index-at.result.now in
+    let slot = c.index_mut.result.now in
+    let is = busy-slot e.slots.items e.busy.items c.args.next at slot c.requires.whole.are_open c.requires.next c.index-at.ensures c.index_mut.ensures.value in
+    let was = each-get (λ s. IsStage e.version s.stage) e.slots.items at slot c.requires.whole.stages is.here in
+    let removed = c.swap_remove.ensures.items ∙ ap (swap_remove e.busy.items c.args.next) (same-read e.busy.items c.args.next c.swap_remove.result at c.requires.next c.swap_remove.ensures.value c.index-at.ensures) in
+    let whole = turns-over e.domain e.version e.slots.items e.index e.busy.items c.args.next e.calls.items e.served.items at slot c.turn.new.self c.requires.whole is c.requires.next c.index-at.ensures c.turn.ensures.frame
+    (c.in_ok-told.ensures.stage e.version was) (c.in_ok-told.ensures.session ∙ ap is_none c.in-Some.is) in
+    let tells = subst (λ o. IfSome o (λ t. Tells (place_of slot) (use_of slot.stage) t)) c.in-Some.is c.in_ok-told.ensures.told in
+    record {
+      whole = subst (λ b. AreWhole e.domain e.version (set e.slots.items at c.turn.new.self) e.index b e.calls.items e.served.items) (sym removed) whole;
+      state = same-state e.domain e.version _ _ _ _ _ _ _ _ _ _ false
+          (held-set e.slots.items at slot c.turn.new.self is.here (ap (λ f. f.held) c.turn.ensures.frame))
+          (ap unused_in (map-set-same frame_of e.slots.items at slot c.turn.new.self is.here c.turn.ensures.frame)) refl refl refl;
+      count = omega (arith, c.swap_remove.ensures.len, e.busy.ok.0, c.swap_remove.new.self.ok.0, ap length c.in_ok-push.ensures.items, length-append c.args.over.now.items (c.in-Some.told ∷ []));
+      told = (c.in-Some.told ∷ [], c.in_ok-push.ensures.items, (tells-begun e at slot c.in-Some.told c.requires.whole is.here tells, tt));
+    }
+
+pub returns-clause-same : goal.returns-clause-same
+returns-clause-same c =
+    let e = c.args.self.now in
+    let is = busy-slot e.slots.items e.busy.items c.args.next c.index-at.result.now c.index_mut.result.now c.requires.whole.are_open c.requires.next c.index-at.ensures c.index_mut.ensures.value in
+    (held-set e.slots.items c.index-at.result.now c.index_mut.result.now c.turn.new.self is.here (ap (λ f. f.held) c.turn.ensures.frame), refl, refl)

@@ -1,0 +1,26 @@
+use Rattle.std.proofs.Common.{ap, sym, ◌∙◌, subst}
+use Rattle.task_duties.specs.declared.place.PagePlace.TheVariants.{Payload}
+use Rattle.data_slots.specs.Stages.{Frame, Tells, framed, IsStage}
+use Rattle.data_slots.specs.declared.slot.Stage.{Stage}
+use Rattle.data_slots.proofs.slot.Slot.turn.Goals as goal
+
+pub returns-in_err-turn-clause-frame : goal.returns-in_err-turn-clause-frame
+returns-in_err-turn-clause-frame c = c.turn.ensures.frame (Payload c.args.self.now.from c.args.self.now.to c.args.self.now.port)
+
+pub returns-in-None-clause-frame : goal.returns-in-None-clause-frame
+returns-in-None-clause-frame c = c.turn.ensures.frame (Payload c.args.self.now.from c.args.self.now.to c.args.self.now.port)
+
+pub returns-in-Some-clause-frame : goal.returns-in-Some-clause-frame
+returns-in-Some-clause-frame c =
+    let place = Payload c.args.self.now.from c.args.self.now.to c.args.self.now.port in
+    c.finish.ensures.frame place ∙ (ap (framed place) c.replace-stage.ensures.value ∙ c.turn.ensures.frame place)
+
+pub returns-in-Some-clause-stage : goal.returns-in-Some-clause-stage
+returns-in-Some-clause-stage c = λ version stage.
+    let P : Stage → Type 0 = IsStage version in
+    c.finish.ensures.stage version (subst P (sym c.replace-stage.ensures.value) (c.in_ok-turn.ensures.stage version stage))
+
+pub returns-in-Some-clause-told : goal.returns-in-Some-clause-told
+returns-in-Some-clause-told c =
+    let place = Payload c.args.self.now.from c.args.self.now.to c.args.self.now.port in
+    subst (λ (f : Frame). Tells place f.used c.told-told.result) (c.turn.ensures.frame place) c.told-told.ensures

@@ -1,0 +1,48 @@
+-- What is given back of data ends that are done with.
+-- Source: this project's own.
+use Rattle.std.specs.Prelude.{◌≡◌, ℕ, List, ◌++◌, Option, Some, None, slice_get}
+use Rattle.service_gate.specs.Owing.{builtin_owes}
+use Rattle.end_view.specs.EndView.{EndView}
+use Rattle.task_duties.specs.declared.place.PagePlace.{PagePlace}
+use Rattle.task_duties.specs.declared.place.PagePlace.TheVariants.{Payload}
+use Rattle.task_duties.specs.declared.done.ServedDone.{ServedDone}
+use Rattle.task_duties.specs.Pairwise.{SomeOf}
+use Rattle.qrexec_frame.specs.Streams.{Each}
+use Rattle.task_duties.specs.TaskOwes.{EndAt}
+use Rattle.task_duties.specs.Agent.Sessions.{CallerDone, CallerOwes, IsService, ServingOwes}
+use Rattle.data_slots.specs.declared.done.CallOver.{CallOver}
+use Rattle.data_slots.specs.declared.done.SessionOver.{SessionOver}
+use Rattle.data_slots.specs.Slots.{Called, Serves, SlotsState}
+
+-- some end at this place is as P says
+abbrev pub HasEnd : List EndAt → PagePlace → (EndView → Type 0) → Type 0
+HasEnd ends place P = SomeOf (λ e. (e.place ≡ place) × P e.view) ends
+
+-- what a call of the agent's own reports
+abbrev pub caller_done : CallOver → CallerDone
+caller_done c = record { outcome = c.outcome; stdout = c.stdout; stderr = c.stderr; got = c.got }
+
+-- a call that has a session reports it, and owes that of the end at its place; any other call reports nothing
+abbrev pub ReportsCalled : ℕ → ℕ → List EndAt → Option Called → Option CallOver → Type 0
+ReportsCalled domain version ends None None = Unit {0}
+ReportsCalled domain version ends (Some c) (Some over) =
+    (over.to ≡ c.to) × (over.port ≡ c.port) × HasEnd ends (Payload domain c.to c.port) (CallerOwes version c.input (caller_done over))
+ReportsCalled domain version ends _ _ = ⊥
+
+-- and so does what was served, whatever name the service has
+abbrev pub ReportsServes : ℕ → ℕ → List EndAt → Serves → ServedDone → Type 0
+ReportsServes domain version ends s done =
+    (done.from ≡ s.from) × (done.port ≡ s.port)
+    × HasEnd ends (Payload s.from domain s.port) (λ view. (name : List ℕ) → IsService name (builtin_owes s.service) → ServingOwes version name done.outcome done.got view)
+
+-- a session that is told to be over is one that was begun: of a call of the agent's own, by its number, or of what it serves
+abbrev pub IsBegun : SlotsState → Option ℕ → ℕ → ℕ → Type 0
+IsBegun s (Some number) domain port = (c : Called) × (slice_get s.called number ≡ Some (Some c)) × (c.to ≡ domain) × (c.port ≡ port)
+IsBegun s None domain port = SomeOf (λ x. (x.from ≡ domain) × (x.port ≡ port)) s.served
+
+abbrev pub IsToldOver : SlotsState → SessionOver → Type 0
+IsToldOver s over = IsBegun s over.number over.domain over.port
+
+-- sessions that are told to be over are put behind those before
+abbrev pub TellsMore : SlotsState → List SessionOver → List SessionOver → Type 0
+TellsMore s before now = (told : List SessionOver) × (now ≡ before ++ told) × Each (IsToldOver s) told

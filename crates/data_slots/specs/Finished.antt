@@ -1,0 +1,50 @@
+-- What ends report once all of them are retired.
+use Rattle.std.specs.Prelude.{◌≡◌, ◌≢◌, ℕ, List, [], ◌∷◌, slice_get, option_and_then, Option, Some, None, IsSome}
+use Rattle.task_duties.specs.declared.done.ServedDone.{ServedDone}
+use Rattle.task_duties.specs.TaskOwes.{EndAt}
+use Rattle.data_slots.specs.declared.done.CallOver.{CallOver}
+use Rattle.data_slots.specs.declared.note.CallNote.{CallNote}
+use Rattle.data_slots.specs.declared.note.ServedNote.{ServedNote}
+use Rattle.data_slots.specs.declared.report.Report.{Report}
+use Rattle.data_slots.specs.declared.report.Report.TheVariants.{Call, Serving}
+use Rattle.data_slots.specs.Slots.{held_at}
+use Rattle.data_slots.specs.Reports.{call_in, served_in}
+use Rattle.data_slots.specs.Stages.{Frame, IsReportOf}
+
+-- each end is the one that it was, and its report is that of its use
+abbrev pub AreReported : ℕ → List Frame → List EndAt → List Report → Type 0
+AreReported version [] [] [] = Unit {0}
+AreReported version (f ∷ fs) (e ∷ ends) (r ∷ reports) = (held_at e ≡ f.held) × IsReportOf version f.held.place f.used e.view r × AreReported version fs ends reports
+AreReported version _ _ _ = ⊥
+
+-- what a noted call came to, and a noted session that served
+abbrev pub call_at : List Report → Option CallNote → Option CallOver
+call_at reports None = None
+call_at reports (Some n) = option_and_then call_in (slice_get reports n.at)
+
+abbrev pub served_at : List Report → ServedNote → Option ServedDone
+served_at reports n = option_and_then served_in (slice_get reports n.at)
+
+-- each of them has a report of its own number
+abbrev pub AreCalls : List Report → List (Option CallNote) → Type 0
+AreCalls reports calls = (number : ℕ) (n : CallNote) → slice_get calls number ≡ Some (Some n) → (over : CallOver) × (slice_get reports n.at ≡ Some (Call number over))
+
+abbrev pub AreServings : List Report → List ServedNote → Type 0
+AreServings reports served = (number : ℕ) (n : ServedNote) → slice_get served number ≡ Some n → (done : ServedDone) × (slice_get reports n.at ≡ Some (Serving number done))
+
+-- the reports of served sessions are as before
+abbrev pub KeepsServings : List Report → List Report → Type 0
+KeepsServings old new = (at number : ℕ) (done : ServedDone) → slice_get old at ≡ Some (Serving number done) → slice_get new at ≡ Some (Serving number done)
+
+-- a noted call has a report
+abbrev pub HasCall : List Report → Option CallNote → Type 0
+HasCall reports None = Unit {0}
+HasCall reports (Some n) = IsSome (call_at reports (Some n))
+
+-- only the report of a noted call is another one
+abbrev pub IsElsewhere : Option CallNote → ℕ → Type 0
+IsElsewhere None at = Unit {0}
+IsElsewhere (Some n) at = at ≢ n.at
+
+abbrev pub KeepsOthers : Option CallNote → List Report → List Report → Type 0
+KeepsOthers note old new = (at : ℕ) → IsElsewhere note at → slice_get new at ≡ slice_get old at

@@ -1,0 +1,158 @@
+-- A data end, and what it is used for.
+use Rattle.std.specs.Prelude.{◌≡◌, ℕ, List, [], Bool, true, false, Some, None}
+use Rattle.ring_words.specs.declared.page.Role.{Role}
+use Rattle.ring_words.specs.declared.page.Role.TheVariants.{Server}
+use Rattle.vchan_protocol.specs.declared.call.EndState.TheVariants.{Shut}
+use Rattle.service_gate.specs.Owing.{builtin_owes}
+use Rattle.service_gate.specs.declared.builtin.Builtin.{Builtin}
+use Rattle.vchan_rule.specs.Seated.{view, last_view, IsOpen}
+use Rattle.end_view.specs.EndView.{EndView, IsUnused}
+use Rattle.task_duties.specs.declared.place.PagePlace.{PagePlace}
+use Rattle.task_duties.specs.declared.place.PagePlace.TheVariants.{Payload}
+use Rattle.task_duties.specs.Agent.Sessions.{chunk, CallerOwes, IsService, ServingOwes}
+use Rattle.qrexec_data.specs.declared.outcome.Outcome.{Outcome}
+use Rattle.qrexec_data.specs.CallerSide.{CallerState, CallerStandsFor}
+use Rattle.qrexec_data.specs.ServingSide.{ServingState}
+use Rattle.channel_session.specs.Calling.{IsCalling}
+use Rattle.channel_session.specs.Answering.{IsAnswering, IsAtWork}
+use Rattle.channel_session.specs.Ended.{done_of}
+use Rattle.data_slots.specs.declared.slot.Stage.{Stage}
+use Rattle.data_slots.specs.declared.slot.Stage.TheVariants.{Unused, Calls, Serves, CallIsOver, ServingIsOver, Taken}
+use Rattle.data_slots.specs.declared.slot.Slot.{Slot}
+use Rattle.data_slots.specs.declared.done.SessionOver.{SessionOver}
+use Rattle.data_slots.specs.declared.report.Report.{Report}
+use Rattle.data_slots.specs.declared.report.Report.TheVariants.{Call, Serving}
+use Rattle.data_slots.specs.Done.{caller_done}
+use Rattle.data_slots.specs.Slots.{Held, held_of}
+
+-- what an end is used for: nothing, a call of the agent's own by its number, or what it serves by its number
+pub data Use : Type 0 where
+  ForNothing : Use
+  ForCall : (number : ℕ) (input : List ℕ) → Use
+  ForServing : (number : ℕ) (service : Builtin) → Use
+
+abbrev pub is_nothing : Use → Bool
+is_nothing ForNothing = true
+is_nothing used = false
+
+abbrev pub use_of : Stage → Use
+use_of (Unused end) = ForNothing
+use_of (Calls number input session) = ForCall number input.value.items
+use_of (Serves number service session) = ForServing number service.value
+use_of (CallIsOver number input ended) = ForCall number input.value.items
+use_of (ServingIsOver number service ended) = ForServing number service.value
+use_of Taken = ForNothing
+
+-- no end, which a slot has only while its stage changes
+unfoldable pub no_end : EndView
+no_end = record {
+  page = record { words = 0; slots = 0; views_name = 0; atom = 0; block = 0; offset = 0; slot_names = [] };
+  role = Server;
+  state = Shut;
+  idle = true;
+  sent = [];
+  got = [];
+  saw = false;
+  ended = None;
+  drained = false;
+  misled = false;
+  retired = true;
+  turned = false;
+  consumed = 0;
+  trail = [];
+}
+
+abbrev pub end_of : Stage → EndView
+end_of (Unused end) = view end
+end_of (Calls number input session) = view session.end
+end_of (Serves number service session) = view session.end
+end_of (CallIsOver number input ended) = last_view ended.retired
+end_of (ServingIsOver number service ended) = last_view ended.retired
+end_of Taken = no_end
+
+-- whether a session is open
+abbrev pub is_session : Stage → Bool
+is_session (Calls number input session) = true
+is_session (Serves number service session) = true
+is_session _ = false
+
+-- what stands of an end of an agent of this version
+abbrev pub IsStage : ℕ → Stage → Type 0
+IsStage version (Unused end) = IsUnused (view end)
+IsStage version (Calls number input session) =
+    IsCalling session.caller session.end × (session.caller.replies.own ≡ version) × (session.caller.requests.input ≡ input.value.items)
+IsStage version (Serves number service session) =
+    IsAtWork session.serving session.end × (session.serving.answering.own ≡ version) × IsAnswering (builtin_owes service.value) session.serving session.end
+IsStage version (CallIsOver number input ended) = CallerOwes version input.value.items (done_of ended) (last_view ended.retired)
+IsStage version (ServingIsOver number service ended) =
+    (name : List ℕ) → IsService name (builtin_owes service.value) → ServingOwes version name ended.outcome ended.got (last_view ended.retired)
+IsStage version Taken = ⊥
+
+-- the end is between two calls, or it is retired and was given up to nobody
+abbrev pub CanRetire : Stage → Type 0
+CanRetire (Unused end) = (view end).idle ≡ true
+CanRetire (Calls number input session) = IsOpen session.end
+CanRetire (Serves number service session) = (view session.end).idle ≡ true
+CanRetire (CallIsOver number input ended) = (last_view ended.retired).turned ≡ false
+CanRetire (ServingIsOver number service ended) = (last_view ended.retired).turned ≡ false
+CanRetire Taken = ⊥
+
+-- an end of this role that did nothing yet
+abbrev pub IsUnusedBy : Role → Stage → Type 0
+IsUnusedBy role (Unused end) = IsUnused (view end) × ((view end).role ≡ role)
+IsUnusedBy role _ = ⊥
+
+-- a caller, or a side that serves, that has read and sent nothing
+pub record IsNewCaller (caller : CallerState) : Type 0 where
+  pub chunk_is : caller.requests.chunk ≡ chunk
+  pub undecided : caller.replies.outcome ≡ None
+  pub nothing : caller.inbox.got ≡ []
+  pub stands : CallerStandsFor caller []
+
+pub record IsNewServing (serving : ServingState Builtin) : Type 0 where
+  pub chunk_is : serving.answering.chunk ≡ chunk
+  pub undecided : serving.answering.outcome ≡ None
+  pub nothing : serving.inbox.got ≡ []
+
+-- a session is open, and its two parts agree
+abbrev pub CanTurn : Stage → Type 0
+CanTurn (Calls number input session) = IsCalling session.caller session.end
+CanTurn (Serves number service session) = IsAtWork session.serving session.end
+CanTurn _ = ⊥
+
+-- a session that came out so can be finished
+abbrev pub HasComeOut : Outcome → Stage → Type 0
+HasComeOut outcome (Calls number input session) = IsCalling session.caller session.end × (session.caller.replies.outcome ≡ Some outcome)
+HasComeOut outcome (Serves number service session) = IsAtWork session.serving session.end × (session.serving.answering.outcome ≡ Some outcome)
+HasComeOut outcome _ = ⊥
+
+-- what the broker is told of a session at this place
+abbrev pub Tells : PagePlace → Use → SessionOver → Type 0
+Tells (Payload from to port) (ForCall number input) told = told ≡ record { domain = to; port = port; number = Some number }
+Tells (Payload from to port) (ForServing number service) told = told ≡ record { domain = from; port = port; number = None }
+Tells place used told = ⊥
+
+-- a report is that of an end at this place that was used so and is now seen so
+abbrev pub IsReportOf : ℕ → PagePlace → Use → EndView → Report → Type 0
+IsReportOf version place ForNothing end report = Unit {0}
+IsReportOf version (Payload from to port) (ForCall number input) end (Call n over) =
+    (n ≡ number) × (over.to ≡ to) × (over.port ≡ port) × CallerOwes version input (caller_done over) end
+IsReportOf version (Payload from to port) (ForServing number service) end (Serving n done) =
+    (n ≡ number) × (done.from ≡ from) × (done.port ≡ port) × ((name : List ℕ) → IsService name (builtin_owes service) → ServingOwes version name done.outcome done.got end)
+IsReportOf version place used end report = ⊥
+
+-- ---- with its place
+
+-- what no turn changes of an end: which it is, and what it is used for
+pub record Frame : Type 0 where
+  pub held : Held
+  pub used : Use
+
+abbrev pub place_of : Slot → PagePlace
+place_of s = Payload s.from s.to s.port
+
+abbrev pub framed : PagePlace → Stage → Frame
+framed place stage = record { held = held_of place (end_of stage); used = use_of stage }
+
+abbrev pub frame_of : Slot → Frame
+frame_of s = framed (place_of s) s.stage

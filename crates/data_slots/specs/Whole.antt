@@ -1,0 +1,112 @@
+-- How the ends of an agent, and what is noted of them, agree.
+use Rattle.std.specs.Prelude.{◌≡◌, ℕ, ◌+◌, ◌≤◌, ◌==◌, Bool, false, List, map, filter_map, length, slice_get, option_map, unwrap_or, Option, Some, None, if◌then◌else◌}
+use Rattle.std.specs.List.{sum_by}
+use Rattle.qrexec_frame.specs.Streams.{Each}
+use Rattle.task_duties.specs.declared.place.PagePlace.{PagePlace}
+use Rattle.task_duties.specs.declared.place.PagePlace.TheVariants.{Payload}
+use Rattle.data_slots.specs.declared.slot.Slot.{Slot}
+use Rattle.data_slots.specs.declared.note.CallNote.{CallNote}
+use Rattle.data_slots.specs.declared.note.ServedNote.{ServedNote}
+use Rattle.data_slots.specs.declared.ends.Ends.{Ends}
+use Rattle.data_slots.specs.Slots.{Held, Called, Serves, SlotsState, IsEndOf}
+use Rattle.data_slots.specs.Stages.{Use, ForNothing, ForCall, ForServing, Frame, place_of, frame_of, is_session, IsStage}
+use Rattle.data_slots.specs.declared.done.SessionOver.{SessionOver}
+use Rattle.data_slots.specs.Done.{TellsMore}
+use Rattle.data_slots.specs.Index.{PlaceIndex, IsIndexOf}
+
+-- ---- all ends, as lists
+
+abbrev pub frames : List Slot → List Frame
+frames slots = map frame_of slots
+
+abbrev pub held_in : List Slot → List Held
+held_in slots = map (λ s. (frame_of s).held) slots
+
+abbrev pub places : List Slot → List PagePlace
+places slots = map place_of slots
+
+abbrev pub sessions : List Slot → List Bool
+sessions slots = map (λ s. is_session s.stage) slots
+
+-- where an end lies that is used for nothing
+abbrev pub unused_at : PagePlace → Use → Option PagePlace
+unused_at place ForNothing = Some place
+unused_at place used = None
+
+abbrev pub unused_in : List Frame → List PagePlace
+unused_in fs = filter_map (λ f. unused_at f.held.place f.used) fs
+
+abbrev pub called_of : CallNote → Called
+called_of n = record { to = n.to; port = n.port; input = n.input.value.items }
+
+abbrev pub serves_of : ServedNote → Serves
+serves_of n = record { from = n.from; port = n.port; service = n.service.value }
+
+-- ---- which sessions are open
+
+-- how often a number is in a list
+abbrev pub times : ℕ → List ℕ → ℕ
+times i numbers = sum_by (λ n. if n == i then 1 else 0) numbers
+
+-- the list has the number of each open session once, and no other
+abbrev pub AreOpen : List Bool → List ℕ → Type 0
+AreOpen are_sessions numbers = (i : ℕ) → times i numbers ≡ (if unwrap_or (slice_get are_sessions i) false then 1 else 0)
+
+-- ---- which end is used by what
+
+-- the end of this number lies there, and is used so
+pub record IsUsedAt (fs : List Frame) (at : ℕ) (place : PagePlace) (used : Use) : Type 0 where
+  pub held : Held
+  pub is : slice_get fs at ≡ Some (record { held = held; used = used })
+  pub lies : held.place ≡ place
+
+-- each noted call has its end, and each served session
+pub record HaveEnds (domain : ℕ) (fs : List Frame) (calls : List (Option CallNote)) (served : List ServedNote) : Type 0 where
+  pub called : (number : ℕ) (n : CallNote) → slice_get calls number ≡ Some (Some n) → IsUsedAt fs n.at (Payload domain n.to n.port) (ForCall number n.input.value.items)
+  pub serving : (number : ℕ) (n : ServedNote) → slice_get served number ≡ Some n → IsUsedAt fs n.at (Payload n.from domain n.port) (ForServing number n.service.value)
+
+-- what an end is used for is noted
+abbrev pub IsNoted : ℕ → List (Option CallNote) → List ServedNote → PagePlace → Use → Type 0
+IsNoted domain calls served place ForNothing = Unit {0}
+IsNoted domain calls served place (ForCall number input) = (n : CallNote) × (slice_get calls number ≡ Some (Some n)) × (place ≡ Payload domain n.to n.port)
+IsNoted domain calls served place (ForServing number service) = (n : ServedNote) × (slice_get served number ≡ Some n) × (place ≡ Payload n.from domain n.port)
+
+-- ---- all of it
+
+pub record AreWhole (domain version : ℕ) (slots : List Slot) (index : PlaceIndex) (busy : List ℕ) (calls : List (Option CallNote)) (served : List ServedNote) : Type 0 where
+  pub version_is : (2 ≤ version) × (version ≤ 3)
+  pub stages : Each (λ s. IsStage version s.stage) slots
+  pub of_domain : Each (λ h. IsEndOf domain h.place h.role) (held_in slots)
+  pub indexed : IsIndexOf (places slots) index
+  pub are_open : AreOpen (sessions slots) busy
+  pub have_ends : HaveEnds domain (frames slots) calls served
+  pub noted : Each (λ f. IsNoted domain calls served f.held.place f.used) (frames slots)
+
+abbrev pub IsWhole : Ends → Type 0
+IsWhole e = AreWhole e.domain e.version e.slots.items e.index e.busy.items e.calls.items e.served.items
+
+-- as contracts see it
+abbrev pub state_of : Ends → Bool → SlotsState
+state_of e spent = record {
+  domain = e.domain;
+  version = e.version;
+  held = held_in e.slots.items;
+  unused = unused_in (frames e.slots.items);
+  called = map (option_map called_of) e.calls.items;
+  served = map serves_of e.served.items;
+  open_count = length e.busy.items;
+  spent = spent;
+}
+
+-- ---- a turn
+
+-- all ends are whole after it, and only fewer sessions are open: those that were told
+pub record IsTurned (old new : Ends) (before now : List SessionOver) : Type 0 where
+  pub whole : IsWhole new
+  pub state : state_of new false ≡ record (state_of old false) { open_count = length new.busy.items }
+  pub count : length new.busy.items + length now ≡ length old.busy.items + length before
+  pub told : TellsMore (state_of old false) before now
+
+-- it has the same ends
+abbrev pub HasSameEnds : Ends → Ends → Type 0
+HasSameEnds old new = (held_in new.slots.items ≡ held_in old.slots.items) × (new.domain ≡ old.domain) × (new.version ≡ old.version)

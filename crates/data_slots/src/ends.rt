@@ -1,0 +1,309 @@
+//! The data ends of an agent, and what is noted of them.
+ghost use Rattle.std.specs.Prelude.{◌≡◌, ◌+◌, ◌<◌, ◌≤◌, ◌++◌, ◌∷◌, [], ℕ, true, false, is_some, Some, None, IfOk, IfSome, OnOk, OnErr, length, map, replicate, slice_get, slice_set, vec_capacity, if◌then◌else◌};
+ghost use Rattle.qrexec_frame.specs.Streams.{Each};
+ghost use Rattle.task_duties.specs.declared.place.PagePlace.TheVariants.{Payload};
+ghost use Rattle.task_duties.specs.Places.{has_place, without};
+ghost use Rattle.task_duties.specs.Pairwise.{EachPair};
+ghost use Rattle.task_duties.specs.TaskOwes.{places_in};
+ghost use Rattle.task_duties.specs.GivenEnds.{all_given, all_retired};
+ghost use Rattle.data_slots.specs.Slots.{held_at, IsGiven, AreApart};
+ghost use Rattle.data_slots.specs.Done.{ReportsCalled, ReportsServes};
+ghost use Rattle.data_slots.specs.Stages.{ForNothing, CanRetire, IsStage};
+ghost use Rattle.data_slots.specs.Given.{unused_slots};
+ghost use Rattle.data_slots.specs.Index.{IsIndexOf};
+ghost use Rattle.data_slots.specs.Whole.{frames, held_in, places, unused_in, IsUsedAt, IsWhole, IsTurned, HasSameEnds, state_of};
+
+use crate::done::{DataDone, SessionOver};
+use crate::finish::{finish_all, give_up_all, session_ends};
+use crate::index::{Index, end_at, index_of};
+use crate::note::{CallNote, ServedNote};
+use crate::room::push_within;
+use crate::slot::{Slot, Stage};
+use qrexec_data::{Caller, Serving};
+use service_gate::Builtin;
+use std::alloc::{AllocError, Global};
+use std::snapshot::Snapshot;
+use task_duties::{DataEnd, RetiredEnd};
+use vchan_io::Memory;
+
+/// The most bytes that a session puts into one message.
+const CHUNK: u32 = 65_536;
+
+/// The ends in the order in which they were given, and what is noted of them.
+#[derive(Drop)]
+pub(crate) struct Ends<'p> {
+    pub(crate) alloc: Global,
+    pub(crate) domain: u32,
+    pub(crate) version: u32,
+    pub(crate) slots: Vec<Slot<'p>>,
+    pub(crate) index: Index,
+    /// Which of the ends have an open session.
+    pub(crate) busy: Vec<usize>,
+    /// The sessions of the agent's own calls, by the numbers of the calls.
+    pub(crate) calls: Vec<Option<CallNote>>,
+    /// What is served, in the order in which it was begun.
+    pub(crate) served: Vec<ServedNote>,
+}
+
+impl<'p> Ends<'p> {
+    /// Ends that are all unused, for an agent that has so many calls of its own.
+    pub(crate) fn new(
+        alloc: Global,
+        domain: u32,
+        version: u32,
+        ends: Vec<DataEnd<'p>>,
+        calls: usize,
+    ) -> Result<Ends<'p>, Memory>
+        requires version { (2 ≤ version) × (version ≤ 3) }
+        requires given { Each (IsGiven domain) (all_given ends.items) }
+        requires apart { AreApart (places_in (all_given ends.items)) }
+        ensures whole { IfOk result (λ e. IsWhole e) }
+        ensures state { IfOk result (λ e. state_of e false ≡ record {
+          domain = domain;
+          version = version;
+          held = map held_at (all_given ends.entry.items);
+          unused = places_in (all_given ends.entry.items);
+          called = replicate calls None;
+          served = [];
+          open_count = 0;
+          spent = false;
+        }) }
+        ensures retire { IfOk result (λ e. Each (λ s. CanRetire s.stage) e.slots.items) }
+    {
+        let slots = unused_slots(alloc, ends)?;
+        let index = index_of(alloc, &slots)?;
+        Ok(Ends {
+            alloc,
+            domain,
+            version,
+            slots,
+            index,
+            busy: Vec::new(alloc),
+            calls: no_notes(alloc, calls)?,
+            served: Vec::new(alloc),
+        })
+    }
+
+    /// Whether there is an unused end at this place.
+    pub(crate) fn is_unused(&self, from: u32, to: u32, port: u32) -> bool
+        requires whole { IsWhole self.now }
+        requires retire { Each (λ s. CanRetire s.stage) self.now.slots.items }
+        ensures { result ≡ has_place (Payload from to port) (unused_in (frames self.now.slots.items)) }
+    {
+        find_unused(&self.index, &self.slots, from, to, port).is_some()
+    }
+
+    /// Opens the unused end for the own call of this number.
+    pub(crate) fn call(
+        &mut self,
+        number: usize,
+        to: u32,
+        port: u32,
+        input: Vec<u8>,
+    ) -> Result<(), Memory>
+        requires whole { IsWhole self.old }
+        requires retire { Each (λ s. CanRetire s.stage) self.old.slots.items }
+        requires number { slice_get self.old.calls.items number ≡ Some None }
+        requires unused { has_place (Payload self.old.domain to port) (unused_in (frames self.old.slots.items)) ≡ true }
+        ensures whole { IsWhole self.new }
+        ensures retire { Each (λ s. CanRetire s.stage) self.new.slots.items }
+        ensures ok { OnOk result (state_of self.new false ≡ record (state_of self.old false) {
+          unused = without (Payload self.old.domain to port) (unused_in (frames self.old.slots.items));
+          called = slice_set (state_of self.old false).called number (Some (record { to = to; port = port; input = input.items }));
+          open_count = length self.old.busy.items + 1;
+        }) }
+        ensures err { OnErr result (state_of self.new false ≡ state_of self.old false) }
+    {
+        let Some(at) = find_unused(&self.index, &self.slots, self.domain, to, port) else {
+            unreachable!()
+        };
+        let note = CallNote {
+            at,
+            to,
+            port,
+            input: Snapshot::of(&input),
+        };
+        let seen = Snapshot::of(&input);
+        let caller = Caller::new(self.alloc, input, self.version, CHUNK)?;
+        self.busy.push(at)?;
+        self.slots[at].call(number, seen, caller);
+        self.calls[number] = Some(note);
+        Ok(())
+    }
+
+    /// Opens the unused end for what this service is asked for.
+    pub(crate) fn serve(&mut self, from: u32, port: u32, service: Builtin) -> Result<(), Memory>
+        requires whole { IsWhole self.old }
+        requires retire { Each (λ s. CanRetire s.stage) self.old.slots.items }
+        requires unused { has_place (Payload from self.old.domain port) (unused_in (frames self.old.slots.items)) ≡ true }
+        ensures whole { IsWhole self.new }
+        ensures retire { Each (λ s. CanRetire s.stage) self.new.slots.items }
+        ensures ok { OnOk result (state_of self.new false ≡ record (state_of self.old false) {
+          unused = without (Payload from self.old.domain port) (unused_in (frames self.old.slots.items));
+          served = (state_of self.old false).served ++ record { from = from; port = port; service = service } ∷ [];
+          open_count = length self.old.busy.items + 1;
+        }) }
+        ensures err { OnErr result (state_of self.new false ≡ state_of self.old false) }
+    {
+        let Some(at) = find_unused(&self.index, &self.slots, from, self.domain, port) else {
+            unreachable!()
+        };
+        let note = ServedNote {
+            at,
+            from,
+            port,
+            service: Snapshot::of(&service),
+        };
+        let seen = Snapshot::of(&service);
+        let number = self.served.len();
+        let serving = Serving::new(self.alloc, service, self.version, CHUNK)?;
+        self.busy.reserve(1)?;
+        self.served.push(note)?;
+        push_within(&mut self.busy, at);
+        self.slots[at].serve(number, seen, serving);
+        Ok(())
+    }
+
+    /// One turn of each open session. Those that are over now are put behind `over`.
+    pub(crate) fn turn(
+        &mut self,
+        scratch: &mut [u8],
+        over: &mut Vec<SessionOver>,
+    ) -> Result<(), Memory>
+        requires whole { IsWhole self.old }
+        requires retire { Each (λ s. CanRetire s.stage) self.old.slots.items }
+        requires some { 0 < length scratch.old }
+        ensures turned { OnOk result (IsTurned self.old self.new over.old.items over.new.items) }
+        ensures same { HasSameEnds self.old self.new }
+        ensures retire { Each (λ s. CanRetire s.stage) self.new.slots.items }
+        ensures long { length scratch.new ≡ length scratch.old }
+    {
+        let mut next = 0;
+        while next < self.busy.len() {
+            if !self.turn_one(next, scratch, over)? {
+                next += 1;
+            }
+        }
+        Ok(())
+    }
+
+    // One turn of the session of this place among the open ones. It answers whether the session is over
+    // now, where another has its place.
+    fn turn_one(
+        &mut self,
+        next: usize,
+        scratch: &mut [u8],
+        over: &mut Vec<SessionOver>,
+    ) -> Result<bool, Memory>
+        requires whole { IsWhole self.old }
+        requires retire { Each (λ s. CanRetire s.stage) self.old.slots.items }
+        requires next { next < length self.old.busy.items }
+        requires some { 0 < length scratch.old }
+        ensures turned { OnOk result (IsTurned self.old self.new over.old.items over.new.items) }
+        ensures fewer { IfOk result (λ is_over. length self.new.busy.items + (if is_over then 1 else 0) ≡ length self.old.busy.items) }
+        ensures same { HasSameEnds self.old self.new }
+        ensures retire { Each (λ s. CanRetire s.stage) self.new.slots.items }
+        ensures long { length scratch.new ≡ length scratch.old }
+    {
+        let at = self.busy[next];
+        let Some(told) = self.slots[at].turn(scratch)? else {
+            return Ok(false);
+        };
+        over.push(told)?;
+        self.busy.swap_remove(next);
+        Ok(true)
+    }
+
+    /// Retires all ends, of which no session is open, and says what their sessions came to. The list has
+    /// room for them. Where memory doesn't suffice all of them are retired first.
+    pub(crate) fn finish(self, retired: Vec<RetiredEnd>) -> Result<DataDone, Memory>
+        requires whole { IsWhole self }
+        requires retire { Each (λ s. CanRetire s.stage) self.slots.items }
+        requires idle { self.busy.items ≡ [] }
+        requires empty { retired.items ≡ [] }
+        requires room { length self.slots.items ≤ vec_capacity retired }
+        ensures held { IfOk result (λ done. map held_at (all_retired done.ends.items) ≡ held_in self.entry.slots.items) }
+        ensures honest { IfOk result (λ done. Each (λ e. e.view.turned ≡ false) (all_retired done.ends.items)) }
+        ensures calls { IfOk result (λ done. EachPair (ReportsCalled self.entry.domain self.entry.version (all_retired done.ends.items)) (state_of self.entry false).called done.calls.items) }
+        ensures served { IfOk result (λ done. EachPair (ReportsServes self.entry.domain self.entry.version (all_retired done.ends.items)) (state_of self.entry false).served done.served.items) }
+    {
+        let Ends {
+            alloc,
+            slots,
+            calls,
+            served,
+            ..
+        } = self;
+        let mut reports = Vec::new(alloc);
+        if reports.reserve(slots.len()).is_err() {
+            let _ = give_up_all(slots, retired);
+            return Err(Memory);
+        }
+        let ends = finish_all(slots, retired, &mut reports);
+        let (calls, served) = session_ends(alloc, &calls, &served, &mut reports)?;
+        Ok(DataDone {
+            ends,
+            calls,
+            served,
+        })
+    }
+
+    /// Retires all ends, whatever they are used for. The list has room for them.
+    pub(crate) fn give_up(self, retired: Vec<RetiredEnd>) -> Vec<RetiredEnd>
+        requires retire { Each (λ s. CanRetire s.stage) self.slots.items }
+        requires empty { retired.items ≡ [] }
+        requires room { length self.slots.items ≤ vec_capacity retired }
+        ensures held { map held_at (all_retired result.items) ≡ held_in self.entry.slots.items }
+        ensures honest { Each (λ e. e.view.turned ≡ false) (all_retired result.items) }
+    {
+        let Ends { slots, .. } = self;
+        give_up_all(slots, retired)
+    }
+}
+
+// Slots whose ends are all unused.
+fn unused_slots<'p>(alloc: Global, ends: Vec<DataEnd<'p>>) -> Result<Vec<Slot<'p>>, AllocError>
+    ensures { IfOk result (λ slots. slots.items ≡ unused_slots ends.entry.items) }
+{
+    let mut slots = Vec::new(alloc);
+    for DataEnd {
+        from,
+        to,
+        port,
+        end,
+    } in ends {
+        slots.push(Slot {
+            from,
+            to,
+            port,
+            stage: Stage::Unused { end },
+        })?;
+    }
+    Ok(slots)
+}
+
+// Notes of so many calls, none of which has a session.
+fn no_notes(alloc: Global, count: usize) -> Result<Vec<Option<CallNote>>, AllocError>
+    ensures { IfOk result (λ notes. notes.items ≡ replicate count None) }
+{
+    let mut notes = Vec::new(alloc);
+    for _call in 0..count {
+        notes.push(None)?;
+    }
+    Ok(notes)
+}
+
+// The end at this place, where there is one and it is unused.
+fn find_unused(index: &Index, slots: &[Slot], from: u32, to: u32, port: u32) -> Option<usize>
+    requires indexed { IsIndexOf (places slots.now) index.now }
+    requires retire { Each (λ s. CanRetire s.stage) slots.now }
+    ensures found { IfSome result (λ at. IsUsedAt (frames slots.now) at (Payload from to port) ForNothing) }
+    ensures there { is_some result ≡ has_place (Payload from to port) (unused_in (frames slots.now)) }
+{
+    let at = end_at(index, from, to, port)?;
+    if slots[at].is_unused() {
+        Some(at)
+    } else {
+        None
+    }
+}

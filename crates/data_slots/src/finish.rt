@@ -1,0 +1,125 @@
+//! What comes back of ends that are done with.
+ghost use Rattle.std.specs.Prelude.{◌≡◌, ◌≢◌, ◌≤◌, [], ℕ, Some, IsSome, false, IfOk, length, map, slice_get, vec_capacity};
+ghost use Rattle.qrexec_frame.specs.Streams.{Each};
+ghost use Rattle.task_duties.specs.GivenEnds.{all_retired};
+ghost use Rattle.data_slots.specs.Slots.{held_at};
+ghost use Rattle.data_slots.specs.Stages.{CanRetire, IsStage, is_session};
+ghost use Rattle.data_slots.specs.Whole.{frames, held_in};
+ghost use Rattle.data_slots.specs.Finished.{AreReported, AreCalls, AreServings, KeepsServings, HasCall, KeepsOthers, call_at, served_at};
+
+use crate::done::CallOver;
+use crate::note::{CallNote, ServedNote};
+use crate::report::Report;
+use crate::room::push_within;
+use crate::slot::Slot;
+use std::alloc::{AllocError, Global};
+use task_duties::{RetiredEnd, ServedDone};
+
+/// Retires all ends, whatever they are used for, into a list that has room for them.
+pub(crate) fn give_up_all(slots: Vec<Slot>, mut retired: Vec<RetiredEnd>) -> Vec<RetiredEnd>
+    requires retire { Each (λ s. CanRetire s.stage) slots.items }
+    requires empty { retired.items ≡ [] }
+    requires room { length slots.items ≤ vec_capacity retired }
+    ensures held { map held_at (all_retired result.items) ≡ held_in slots.entry.items }
+    ensures honest { Each (λ e. e.view.turned ≡ false) (all_retired result.items) }
+{
+    for slot in slots {
+        push_within(&mut retired, slot.give_up());
+    }
+    retired
+}
+
+/// Retires all ends, of which no session is open, and says what their sessions came to. Both lists have
+/// room for them.
+pub(crate) fn finish_all(
+    slots: Vec<Slot>,
+    mut retired: Vec<RetiredEnd>,
+    reports: &mut Vec<Report>,
+) -> Vec<RetiredEnd>
+    requires retire { Each (λ s. CanRetire s.stage) slots.items }
+    requires closed { Each (λ s. is_session s.stage ≡ false) slots.items }
+    requires empty { (retired.items ≡ []) × (reports.old.items ≡ []) }
+    requires room { (length slots.items ≤ vec_capacity retired) × (length slots.items ≤ vec_capacity reports.old) }
+    ensures held { map held_at (all_retired result.items) ≡ held_in slots.entry.items }
+    ensures honest { Each (λ e. e.view.turned ≡ false) (all_retired result.items) }
+    ensures reported { (version : ℕ) → Each (λ s. IsStage version s.stage) slots.entry.items → AreReported version (frames slots.entry.items) (all_retired result.items) reports.new.items }
+{
+    for slot in slots {
+        let (end, report) = slot.finish();
+        push_within(&mut retired, end);
+        push_within(reports, report);
+    }
+    retired
+}
+
+/// What all sessions came to: the agent's own calls by their numbers, and what was served in the order in
+/// which it was begun.
+pub(crate) fn session_ends(
+    alloc: Global,
+    calls: &[Option<CallNote>],
+    served: &[ServedNote],
+    reports: &mut [Report],
+) -> Result<(Vec<Option<CallOver>>, Vec<ServedDone>), AllocError>
+    requires calls { AreCalls reports.old calls.now }
+    requires served { AreServings reports.old served.now }
+    ensures calls { IfOk result (λ done. done.0.items ≡ map (call_at reports.old) calls.now) }
+    ensures served { IfOk result (λ done. map Some done.1.items ≡ map (served_at reports.old) served.now) }
+{
+    let calls = call_ends(alloc, calls, reports)?;
+    let served = served_ends(alloc, served, reports)?;
+    Ok((calls, served))
+}
+
+// What the agent's own calls came to, by their numbers.
+fn call_ends(
+    alloc: Global,
+    calls: &[Option<CallNote>],
+    reports: &mut [Report],
+) -> Result<Vec<Option<CallOver>>, AllocError>
+    requires { AreCalls reports.old calls.now }
+    ensures ends { IfOk result (λ done. done.items ≡ map (call_at reports.old) calls.now) }
+    ensures others { KeepsServings reports.old reports.new }
+{
+    let mut done = Vec::new(alloc);
+    for note in calls {
+        done.push(call_end(note, reports))?;
+    }
+    Ok(done)
+}
+
+// What was served came to, in the order in which it was begun.
+fn served_ends(
+    alloc: Global,
+    served: &[ServedNote],
+    reports: &mut [Report],
+) -> Result<Vec<ServedDone>, AllocError>
+    requires { AreServings reports.old served.now }
+    ensures { IfOk result (λ done. map Some done.items ≡ map (served_at reports.old) served.now) }
+{
+    let mut done = Vec::new(alloc);
+    for note in served {
+        done.push(served_end(note, reports))?;
+    }
+    Ok(done)
+}
+
+// What a call came to, where it has a session.
+fn call_end(note: &Option<CallNote>, reports: &mut [Report]) -> Option<CallOver>
+    requires { HasCall reports.old note.now }
+    ensures end { result ≡ call_at reports.old note.now }
+    ensures others { KeepsOthers note.now reports.old reports.new }
+{
+    match note {
+        Some(note) => Some(reports[note.at].take_call()),
+        None => None,
+    }
+}
+
+// What a served session came to.
+fn served_end(note: &ServedNote, reports: &mut [Report]) -> ServedDone
+    requires { IsSome (served_at reports.old note.now) }
+    ensures end { served_at reports.old note.now ≡ Some result }
+    ensures others { (at : ℕ) → at ≢ note.now.at → slice_get reports.new at ≡ slice_get reports.old at }
+{
+    reports[note.at].take_served()
+}

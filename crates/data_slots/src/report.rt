@@ -1,0 +1,41 @@
+//! What an end reports once it is retired.
+ghost use Rattle.std.specs.Prelude.{◌≡◌};
+
+use crate::done::CallOver;
+use std::mem;
+use task_duties::ServedDone;
+
+/// What the session of an end came to, where it had one.
+#[derive(Drop)]
+pub(crate) enum Report {
+    Nothing,
+    Call { number: usize, over: CallOver },
+    Serving { number: usize, done: ServedDone },
+}
+
+impl Report {
+    ghost use Rattle.std.specs.Prelude.{Some, IsSome};
+    ghost use Rattle.data_slots.specs.Reports.{call_in, served_in};
+
+    /// Takes out what a call came to.
+    pub(crate) fn take_call(&mut self) -> CallOver
+        requires { IsSome (call_in self.old) }
+        ensures { call_in self.old ≡ Some result }
+    {
+        match mem::replace(self, Report::Nothing) {
+            Report::Call { over, .. } => over,
+            _ => unreachable!(),
+        }
+    }
+
+    /// Takes out what a served session came to.
+    pub(crate) fn take_served(&mut self) -> ServedDone
+        requires { IsSome (served_in self.old) }
+        ensures { served_in self.old ≡ Some result }
+    {
+        match mem::replace(self, Report::Nothing) {
+            Report::Serving { done, .. } => done,
+            _ => unreachable!(),
+        }
+    }
+}

@@ -1,0 +1,186 @@
+//! All data ends of one agent.
+ghost use Rattle.std.specs.Prelude.{◌≡◌, ◌+◌, ◌<◌, ◌≤◌, ◌↔◌, ◌++◌, ◌∷◌, [], true, false, IsTrue, Some, None, IfOk, OnOk, OnErr, length, map, replicate, slice_get, slice_set};
+ghost use Rattle.qrexec_frame.specs.Streams.{Each};
+ghost use Rattle.task_duties.specs.declared.place.PagePlace.TheVariants.{Payload};
+ghost use Rattle.task_duties.specs.Places.{has_place, without};
+ghost use Rattle.task_duties.specs.Pairwise.{EachPair};
+ghost use Rattle.task_duties.specs.TaskOwes.{places_in};
+ghost use Rattle.task_duties.specs.GivenEnds.{all_given, all_retired};
+
+use crate::done::{DataDone, SessionOver};
+use crate::ends::Ends;
+use service_gate::Builtin;
+use std::alloc::Global;
+use std::marker::Model;
+use std::snapshot::Snapshot;
+use task_duties::{DataEnd, RetiredEnd};
+use vchan_io::Memory;
+
+/// All data ends of an agent, in the order in which they were given.
+///
+/// A turn costs what is open, and an end is found by its place without a search. After want of memory
+/// in a turn the ends can only be given up.
+#[derive(Drop)]
+pub struct DataSlots<'p> {
+    ends: Ends<'p>,
+    // Room for all ends once they are retired, so that giving up takes no memory.
+    retired: Vec<RetiredEnd>,
+    // Whether memory didn't suffice for a turn.
+    spent: Snapshot<bool>,
+}
+
+impl<'p> Model for DataSlots<'p> {
+    ghost use Rattle.std.specs.Prelude.{◌≡◌, ◌≤◌, false, [], length, vec_capacity};
+    ghost use Rattle.qrexec_frame.specs.Streams.{Each};
+    ghost use Rattle.data_slots.specs.Slots.{SlotsState};
+    ghost use Rattle.data_slots.specs.Stages.{CanRetire};
+    ghost use Rattle.data_slots.specs.Whole.{IsWhole, state_of};
+
+    ghost Value = { SlotsState };
+
+    ghost view = { λ s. state_of s.ends s.spent.value };
+
+    ghost invariant = { λ s. Each (λ x. CanRetire x.stage) s.ends.slots.items
+        × (s.retired.items ≡ []) × (length s.ends.slots.items ≤ vec_capacity s.retired)
+        × (s.spent.value ≡ false → IsWhole s.ends) };
+}
+
+impl<'p> DataSlots<'p> {
+    ghost use Rattle.data_slots.specs.Slots.{held_at, IsGiven, AreApart};
+    ghost use Rattle.data_slots.specs.Done.{ReportsCalled, ReportsServes, TellsMore};
+
+    /// The data ends of an agent of this domain and version, 2 or 3, which has so many calls of its
+    /// own. All ends are unused.
+    ///
+    /// Want of memory drops the ends.
+    pub fn new(
+        alloc: Global,
+        domain: u32,
+        version: u32,
+        ends: Vec<DataEnd<'p>>,
+        calls: usize,
+    ) -> Result<DataSlots<'p>, Memory>
+        requires version { (2 ≤ version) × (version ≤ 3) }
+        requires given { Each (IsGiven domain) (all_given ends.items) }
+        requires apart { AreApart (places_in (all_given ends.items)) }
+        ensures { IfOk result (λ s. s ≡ record {
+          domain = domain;
+          version = version;
+          held = map held_at (all_given ends.entry.items);
+          unused = places_in (all_given ends.entry.items);
+          called = replicate calls None;
+          served = [];
+          open_count = 0;
+          spent = false;
+        }) }
+    {
+        let room = ends.len();
+        let ends = Ends::new(alloc, domain, version, ends, calls)?;
+        let mut retired = Vec::new(alloc);
+        retired.reserve(room)?;
+        Ok(DataSlots {
+            ends,
+            retired,
+            spent: Snapshot::of(&false),
+        })
+    }
+
+    /// Whether there is an unused end for a call of the agent's own to this domain at this port.
+    pub fn can_call(&self, to: u32, port: u32) -> bool
+        requires whole { self.now.spent ≡ false }
+        ensures { result ≡ has_place (Payload self.now.domain to port) self.now.unused }
+    {
+        self.ends.is_unused(self.ends.domain, to, port)
+    }
+
+    /// Whether there is an unused end for a call of this domain to the agent at this port.
+    pub fn can_serve(&self, from: u32, port: u32) -> bool
+        requires whole { self.now.spent ≡ false }
+        ensures { result ≡ has_place (Payload from self.now.domain port) self.now.unused }
+    {
+        self.ends.is_unused(from, self.ends.domain, port)
+    }
+
+    /// Opens the unused end for the agent's own call of this number, with this input.
+    ///
+    /// Want of memory drops the input and changes nothing else.
+    pub fn call(&mut self, number: usize, to: u32, port: u32, input: Vec<u8>) -> Result<(), Memory>
+        requires whole { self.old.spent ≡ false }
+        requires number { slice_get self.old.called number ≡ Some None }
+        requires unused { has_place (Payload self.old.domain to port) self.old.unused ≡ true }
+        ensures ok { OnOk result (self.new ≡ record self.old {
+          unused = without (Payload self.old.domain to port) self.old.unused;
+          called = slice_set self.old.called number (Some (record { to = to; port = port; input = input.items }));
+          open_count = self.old.open_count + 1;
+        }) }
+        ensures err { OnErr result (self.new ≡ self.old) }
+    {
+        self.ends.call(number, to, port, input)
+    }
+
+    /// Opens the unused end for a call of this domain, which is served by this service.
+    ///
+    /// Want of memory changes nothing.
+    pub fn serve(&mut self, from: u32, port: u32, service: Builtin) -> Result<(), Memory>
+        requires whole { self.old.spent ≡ false }
+        requires unused { has_place (Payload from self.old.domain port) self.old.unused ≡ true }
+        ensures ok { OnOk result (self.new ≡ record self.old {
+          unused = without (Payload from self.old.domain port) self.old.unused;
+          served = self.old.served ++ record { from = from; port = port; service = service } ∷ [];
+          open_count = self.old.open_count + 1;
+        }) }
+        ensures err { OnErr result (self.new ≡ self.old) }
+    {
+        self.ends.serve(from, port, service)
+    }
+
+    /// One turn of each open session. Those that are over now are put behind `over`.
+    ///
+    /// After want of memory the ends can only be given up.
+    pub fn turn(&mut self, scratch: &mut [u8], over: &mut Vec<SessionOver>) -> Result<(), Memory>
+        requires whole { self.old.spent ≡ false }
+        requires some { 0 < length scratch.old }
+        ensures ok { OnOk result (self.new ≡ record self.old { open_count = self.new.open_count }) }
+        ensures count { OnOk result (self.new.open_count + length over.new.items ≡ self.old.open_count + length over.old.items) }
+        ensures told { OnOk result (TellsMore self.old over.old.items over.new.items) }
+        ensures held { (self.new.held ≡ self.old.held) × (self.new.domain ≡ self.old.domain) × (self.new.version ≡ self.old.version) }
+        ensures long { length scratch.new ≡ length scratch.old }
+    {
+        let turned = self.ends.turn(scratch, over);
+        self.spent = Snapshot::of(&turned.is_err());
+        turned
+    }
+
+    /// Whether no session is open.
+    pub fn is_idle(&self) -> bool
+        ensures { IsTrue result ↔ (self.now.open_count ≡ 0) }
+    {
+        self.ends.busy.is_empty()
+    }
+
+    /// Retires the ends that were never used, and says what came of the others, of which no session is
+    /// open. The ends come back in the order in which they were given.
+    ///
+    /// Want of memory drops all ends, which are retired then.
+    pub fn finish(self) -> Result<DataDone, Memory>
+        requires whole { self.spent ≡ false }
+        requires idle { self.open_count ≡ 0 }
+        ensures held { IfOk result (λ done. map held_at (all_retired done.ends.items) ≡ self.entry.held) }
+        ensures honest { IfOk result (λ done. Each (λ e. e.view.turned ≡ false) (all_retired done.ends.items)) }
+        ensures calls { IfOk result (λ done. EachPair (ReportsCalled self.entry.domain self.entry.version (all_retired done.ends.items)) self.entry.called done.calls.items) }
+        ensures served { IfOk result (λ done. EachPair (ReportsServes self.entry.domain self.entry.version (all_retired done.ends.items)) self.entry.served done.served.items) }
+    {
+        let DataSlots { ends, retired, .. } = self;
+        ends.finish(retired)
+    }
+
+    /// Retires all ends, whatever they are used for, and gives them back in the order in which they
+    /// were given. It takes no memory.
+    pub fn give_up(self) -> Vec<RetiredEnd>
+        ensures held { map held_at (all_retired result.items) ≡ self.entry.held }
+        ensures honest { Each (λ e. e.view.turned ≡ false) (all_retired result.items) }
+    {
+        let DataSlots { ends, retired, .. } = self;
+        ends.give_up(retired)
+    }
+}

@@ -1,0 +1,152 @@
+-- A task whose acts are all done owes the trails of its ends.
+use Rattle.std.proofs.Common.{◌≡◌, ℕ, Bool, true, false, List, [], ◌∷◌, ◌++◌, Option, None, length, map, take, if◌then◌else◌, refl, sym, subst, ap, ◌∙◌, arith}
+use Rattle.std.specs.List.{flat_map}
+use Rattle.std.specs.Option.{option_and_then}
+use Rattle.std.proofs.lemmas.List.{append-nil}
+use Rattle.std.proofs.lemmas.Option.{slice_get_past}
+use Rattle.std.proofs.Math.Seq.{take-length}
+use Rattle.ring_words.specs.declared.page.Role.{Role}
+use Rattle.ring_words.specs.declared.page.Role.TheVariants.{Server}
+use Rattle.vchan_protocol.specs.declared.op.PastEvent.{PastEvent}
+use Rattle.vchan_protocol.specs.Table.Ends.{written_ring, prod_word}
+use Rattle.end_view.specs.EndView.{EndView, hostile_trail}
+use Rattle.vchan_rule.specs.Seated.{view, last_view}
+use Rattle.qrexec_frame.specs.Streams.{Each}
+use Rattle.scenario_file.specs.declared.acts.Act.{Act}
+use Rattle.task_duties.specs.declared.place.PagePlace.{PagePlace}
+use Rattle.task_duties.specs.declared.place.PagePlace.TheVariants.{Control, Payload}
+use Rattle.task_duties.specs.declared.ends.RetiredEnd.{RetiredEnd}
+use Rattle.task_duties.specs.Pairwise.{EachPair}
+use Rattle.task_duties.specs.Places.{is_place}
+use Rattle.task_duties.specs.TaskOwes.{EndAt, IsSameEnd, AreEnds}
+use Rattle.task_duties.specs.GivenEnds.{retired_at, all_retired}
+use Rattle.task_duties.specs.Hostile.Given.{HostilePlan}
+use Rattle.task_duties.specs.Hostile.Stores.{loaded, stores_of, role_at}
+use Rattle.task_duties.specs.Hostile.Trail.{words_of, first_voice, retiring, IsTrail}
+use Rattle.hostile_task.specs.declared.domain.HostileDomain.{HostileDomain}
+use Rattle.hostile_task.specs.declared.page.TurnedPage.{TurnedPage}
+use Rattle.hostile_task.specs.declared.pages.Pages.{Pages}
+use Rattle.hostile_task.specs.declared.progress.Progress.{Progress}
+use Rattle.hostile_task.specs.declared.task.HostileTurn.{HostileTurn}
+use Rattle.hostile_task.specs.declared.task.HostileTurn.TheVariants as turn
+use Rattle.hostile_task.specs.Plan.{plan_of, AreApart}
+use Rattle.hostile_task.specs.Pages.{IsRetiredOf, given_of, given_in, places_in}
+use Rattle.hostile_task.specs.UnderWay.{IsTrailSoFar, IsPart, words_at, ActsDone, IsPageSoFar, IsUnderWay}
+use Rattle.hostile_task.specs.Finishing.{Finishes}
+use Rattle.hostile_task.specs.Turns.{Pays}
+use Rattle.hostile_task.proofs.PageLaws.{along_trail, along_role, along_turned}
+use Rattle.hostile_task.proofs.DrawLaws.{is_place-same}
+use Rattle.hostile_task.proofs.TrailLaws.{all_acts}
+
+-- ---- lists in step
+
+each_of_pairs : {A B : Type 0} (R : A → B → Type 0) (P : A → Type 0) (Q : B → Type 0) (xs : List A) (ys : List B) → ((x : A) (y : B) → R x y → P x → Q y) → EachPair R xs ys → Each P xs → Each Q ys
+each_of_pairs R P Q [] [] gives pairs all = tt
+each_of_pairs R P Q [] (y ∷ ys) gives pairs all = absurd pairs
+each_of_pairs R P Q (x ∷ xs) [] gives pairs all = absurd pairs
+each_of_pairs R P Q (x ∷ xs) (y ∷ ys) gives pairs all = (gives x y pairs.0 all.0, each_of_pairs R P Q xs ys gives pairs.1 all.1)
+
+pairs_of_pairs : {A B C D : Type 0} (R : A → B → Type 0) (P : A → Type 0) (S : C → D → Type 0) (f : A → C) (g : B → D) (xs : List A) (ys : List B) → ((x : A) (y : B) → R x y → P x → S (f x) (g y)) → EachPair R xs ys → Each P xs → EachPair S (map f xs) (map g ys)
+pairs_of_pairs R P S f g [] [] gives pairs all = tt
+pairs_of_pairs R P S f g [] (y ∷ ys) gives pairs all = absurd pairs
+pairs_of_pairs R P S f g (x ∷ xs) [] gives pairs all = absurd pairs
+pairs_of_pairs R P S f g (x ∷ xs) (y ∷ ys) gives pairs all = (gives x y pairs.0 all.0, pairs_of_pairs R P S f g xs ys gives pairs.1 all.1)
+
+each_mapped : {A B : Type 0} (Q : B → Type 0) (f : A → B) (xs : List A) → Each (λ x. Q (f x)) xs → Each Q (map f xs)
+each_mapped Q f [] all = tt
+each_mapped Q f (x ∷ xs) all = (all.0, each_mapped Q f xs all.1)
+
+map-pairs : {A B C : Type 0} (R : A → B → Type 0) (f : A → C) (g : B → C) (xs : List A) (ys : List B) → ((x : A) (y : B) → R x y → g y ≡ f x) → EachPair R xs ys → map g ys ≡ map f xs
+map-pairs R f g [] [] same pairs = refl
+map-pairs R f g [] (y ∷ ys) same pairs = absurd pairs
+map-pairs R f g (x ∷ xs) [] same pairs = absurd pairs
+map-pairs R f g (x ∷ xs) (y ∷ ys) same pairs = λ i. same x y pairs.0 i ∷ map-pairs R f g xs ys same pairs.1 i
+
+-- ---- the end at a place
+
+end_at : EndView → List EndAt → PagePlace → EndView
+end_at none [] place = none
+end_at none (e ∷ ends) place = if is_place e.place place then e.view else end_at none ends place
+
+are_at : (none : EndView) (ends : List EndAt) → AreApart (map (λ e. e.place) ends) → AreEnds (end_at none ends) ends
+unfolding end_at
+are_at none [] apart = tt
+are_at none (e ∷ ends) apart =
+    (ap (λ (test : Bool). if test then e.view else end_at none ends e.place) (sym (is_place-same e.place)), later ends apart.0 (are_at none ends apart.1))
+  where
+    later : (others : List EndAt) → Each (λ q. is_place e.place q ≡ false) (map (λ o. o.place) others) → Each (λ o. o.view ≡ end_at none ends o.place) others
+        → Each (λ o. o.view ≡ (if is_place e.place o.place then e.view else end_at none ends o.place)) others
+    later [] differ are = tt
+    later (o ∷ others) differ are =
+        (are.0 ∙ ap (λ (test : Bool). if test then e.view else end_at none ends o.place) (sym differ.0), later others differ.1 are.1)
+
+-- ---- one page
+
+past_all : (acts : List Act) (n : ℕ) → n ≡ length acts → take n acts ≡ acts
+past_all acts n is = ap (λ (k : ℕ). take k acts) is ∙ take-length acts
+
+trail_whole : (plan : HostilePlan) (p : Progress) (place : PagePlace) (trail : List PastEvent) (role : Role) → p.acts ≡ length plan.acts → role ≡ role_at plan.domain place → IsTrailSoFar plan place p trail → IsTrail plan place (trail ++ retiring role)
+trail_whole plan p (Control d) trail role all role_is t =
+    let none : words_at plan p.acts ≡ None = ap (λ (a : Option Act). option_and_then words_of a) (slice_get_past plan.acts p.acts (omega (arith, all))) in
+    let part : t.part ≡ [] = (subst (λ (w : Option (List ℕ)). IsPart w t.voice p t.part) none t.under_way).0 in (
+      t.value,
+      t.done,
+      all_acts plan (Control d) plan.acts (first_voice plan t.value) t.voice t.done (subst (λ (acts : List Act). ActsDone plan (Control d) acts (first_voice plan t.value) t.voice t.done) (past_all plan.acts p.acts all) t.acts),
+      (λ i. t.trail_is i ++ retiring (role_is i)) ∙ ap (λ (events : List PastEvent). loaded (prod_word (written_ring Server)) t.value ∷ (events ++ retiring Server)) (ap (λ (events : List PastEvent). t.done ++ events) part ∙ append-nil t.done),
+    )
+trail_whole plan p (Payload from to port) trail role all role_is t =
+    λ i. (t ∙ ap (λ (acts : List Act). flat_map (stores_of plan (Payload from to port)) acts) (past_all plan.acts p.acts all)) i ++ retiring (role_is i)
+
+page_turned : (plan : HostilePlan) (p : Progress) (page : TurnedPage) (r : RetiredEnd) → IsRetiredOf page r → IsPageSoFar plan p page → r.retired.side.turned ≡ true
+page_turned plan p page r retired so_far = ap (λ s. s.turned) retired.side ∙ along_turned page.end.side (retiring page.end.side.role) ∙ so_far.turned
+
+page_done : (plan : HostilePlan) (p : Progress) (page : TurnedPage) (r : RetiredEnd) → p.acts ≡ length plan.acts → IsRetiredOf page r → IsPageSoFar plan p page → IsTrail plan r.place (last_view r.retired).trail
+page_done plan p page r all retired so_far =
+    let trail : hostile_trail r.retired.side.turned r.retired.side.trail ≡ page.end.side.trail ++ retiring page.end.side.role =
+    ap (λ (test : Bool). hostile_trail test r.retired.side.trail) (page_turned plan p page r retired so_far)
+    ∙ ap (λ s. s.trail) retired.side ∙ along_trail page.end.side (retiring page.end.side.role) in
+    subst (λ (t : List PastEvent). IsTrail plan r.place t) (sym trail)
+    (subst (λ (place : PagePlace). IsTrail plan place (page.end.side.trail ++ retiring page.end.side.role)) (sym retired.place)
+    (trail_whole plan p page.place page.end.side.trail page.end.side.role all so_far.role so_far.trail))
+
+page_same : (plan : HostilePlan) (p : Progress) (page : TurnedPage) (r : RetiredEnd) → IsRetiredOf page r → IsPageSoFar plan p page → IsSameEnd (given_of page) (retired_at r)
+page_same plan p page r retired so_far = record {
+  place = retired.place;
+  page = retired.page ∙ so_far.same;
+  role = ap (λ s. s.role) retired.side ∙ along_role page.end.side (retiring page.end.side.role) ∙ so_far.role ∙ sym so_far.same_role;
+}
+
+-- ---- the whole task
+
+pub done_pays : (domain : HostileDomain) (pages : Pages) (p : Progress) (spelled : List ℕ) (result : HostileTurn) → IsUnderWay domain pages p spelled → p.acts ≡ length domain.acts → Finishes domain.number pages result
+    → Pays (record { plan = plan_of domain (places_in pages); ends = given_in pages }) result
+done_pays domain pages p spelled (turn.Again task) way all finishes = absurd finishes
+done_pays domain pages p spelled turn.NoMemory way all finishes = tt
+done_pays domain pages p spelled (turn.Done done) way all finishes = (
+  end_at (view pages.control.given.value) ends,
+  finishes.0,
+  record {
+    same = pairs_of_pairs IsRetiredOf (IsPageSoFar plan p) IsSameEnd given_of retired_at every done.ends.items (λ page r retired so_far. page_same plan p page r retired so_far) finishes.1 way.so_far;
+    are = are_at (view pages.control.given.value) ends (subst (λ (ps : List PagePlace). AreApart ps) (sym places) way.apart);
+    turned_are = each_mapped (λ e. e.view.turned ≡ true) retired_at done.ends.items
+        (each_of_pairs IsRetiredOf (IsPageSoFar plan p) (λ r. r.retired.side.turned ≡ true) every done.ends.items (λ page r retired so_far. page_turned plan p page r retired so_far) finishes.1 way.so_far);
+  },
+  each_mapped (λ e. IsTrail plan e.place e.view.trail) retired_at done.ends.items
+      (each_of_pairs IsRetiredOf (IsPageSoFar plan p) (λ r. IsTrail plan r.place (last_view r.retired).trail) every done.ends.items (λ page r retired so_far. page_done plan p page r all retired so_far) finishes.1 way.so_far),
+)
+  where
+    plan : HostilePlan
+    plan = plan_of domain (places_in pages)
+
+    every : List TurnedPage
+    every = pages.control ∷ pages.payload.items
+
+    ends : List EndAt
+    ends = all_retired done.ends.items
+
+    map_places : (rs : List RetiredEnd) → map (λ e. e.place) (all_retired rs) ≡ map (λ r. r.place) rs
+    map_places [] = refl
+    map_places (r ∷ rs) = ap (λ (ps : List PagePlace). r.place ∷ ps) (map_places rs)
+
+    places : map (λ e. e.place) ends ≡ places_in pages
+    places = map_places done.ends.items ∙ map-pairs IsRetiredOf (λ q. q.place) (λ r. r.place) every done.ends.items (λ page r retired. retired.place) finishes.1

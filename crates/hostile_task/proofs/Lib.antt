@@ -1,0 +1,9 @@
+mod ListLaws
+mod PageLaws
+mod DrawLaws
+mod SayLaws
+mod SpellLaws
+mod TrailLaws
+mod WayLaws
+mod DoneLaws
+mod StartLaws

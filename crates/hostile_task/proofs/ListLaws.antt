@@ -1,0 +1,79 @@
+-- Lists that are changed in place, and lists in step.
+use Rattle.std.proofs.Common.{◌≡◌, ℕ, ◌+◌, ◌<◌, ◌≤◌, suc, zero, List, [], ◌∷◌, ◌++◌, length, take, drop, map, slice_index_or, slice_set, refl, sym, subst, ap, ◌∙◌, arith, add-one}
+use Rattle.std.proofs.Math.Seq.{take-append_seam}
+use Rattle.qrexec_frame.specs.Streams.{Each}
+use Rattle.task_duties.specs.Pairwise.{EachPair}
+
+-- f of the first few elements, and the others as they are
+abbrev pub map_first : {A : Type 0} → (A → A) → ℕ → List A → List A
+map_first f zero xs = xs
+map_first f (suc n) [] = []
+map_first f (suc n) (x ∷ xs) = f x ∷ map_first f n xs
+
+pub map_first-here : {A : Type 0} (f : A → A) (i : ℕ) (xs : List A) (d : A) → slice_index_or (map_first f i xs) i d ≡ slice_index_or xs i d
+map_first-here f zero xs d = refl
+map_first-here f (suc n) [] d = refl
+map_first-here f (suc n) (x ∷ xs) d = map_first-here f n xs d
+
+pub set-map_first : {A : Type 0} (f : A → A) (i : ℕ) (xs : List A) (d : A) → i < length xs → slice_set (map_first f i xs) i (f (slice_index_or xs i d)) ≡ map_first f (suc i) xs
+set-map_first f i [] d less = absurd (omega arith)
+set-map_first f zero (x ∷ xs) d less = refl
+set-map_first {A} f (suc n) (x ∷ xs) d less = ap (λ (ys : List A). f x ∷ ys) (set-map_first f n xs d (omega arith))
+
+pub map_first-all : {A : Type 0} (f : A → A) (i : ℕ) (xs : List A) → length xs ≤ i → map_first f i xs ≡ map f xs
+map_first-all f zero [] within = refl
+map_first-all f zero (x ∷ xs) within = absurd (omega arith)
+map_first-all f (suc n) [] within = refl
+map_first-all {A} f (suc n) (x ∷ xs) within = ap (λ (ys : List A). f x ∷ ys) (map_first-all f n xs (omega arith))
+
+pub length-map_first : {A : Type 0} (f : A → A) (i : ℕ) (xs : List A) → length (map_first f i xs) ≡ length xs
+length-map_first f zero xs = refl
+length-map_first f (suc n) [] = refl
+length-map_first f (suc n) (x ∷ xs) = ap (λ (k : ℕ). suc k) (length-map_first f n xs)
+
+-- one element more is changed
+pub map_more : {A : Type 0} (f : A → A) (i : ℕ) (xs items : List A) (d new : A) → items ≡ map_first f i xs → i < length items → new ≡ f (slice_index_or items i d) → slice_set items i new ≡ map_first f (i + 1) xs
+map_more {A} f i xs items d new are less is =
+    let few : i < length xs = omega (arith, length-map_first f i xs, ap length are) in
+    let at : slice_index_or items i d ≡ slice_index_or xs i d = ap (λ (ys : List A). slice_index_or ys i d) are ∙ map_first-here f i xs d in
+    (λ k. slice_set (are k) i ((is ∙ ap f at) k)) ∙ set-map_first f i xs d few ∙ ap (λ (n : ℕ). map_first f n xs) (sym (add-one i))
+
+-- ---- each element
+
+pub each_at : {A : Type 0} (P : A → Type 0) (xs : List A) (i : ℕ) (d : A) → Each P xs → i < length xs → P (slice_index_or xs i d)
+each_at P [] i d all less = absurd (omega arith)
+each_at P (x ∷ xs) zero d all less = all.0
+each_at P (x ∷ xs) (suc n) d all less = each_at P xs n d all.1 (omega arith)
+
+pub each_map : {A B : Type 0} (P : A → Type 0) (Q : B → Type 0) (f : A → B) (xs : List A) → ((x : A) → P x → Q (f x)) → Each P xs → Each Q (map f xs)
+each_map P Q f [] gives all = tt
+each_map P Q f (x ∷ xs) gives all = (gives x all.0, each_map P Q f xs gives all.1)
+
+pub each_gives : {A : Type 0} (P Q : A → Type 0) (xs : List A) → ((x : A) → P x → Q x) → Each P xs → Each Q xs
+each_gives P Q [] gives all = tt
+each_gives P Q (x ∷ xs) gives all = (gives x all.0, each_gives P Q xs gives all.1)
+
+pub each_both : {A : Type 0} (P Q R : A → Type 0) (xs : List A) → ((x : A) → P x → Q x → R x) → Each P xs → Each Q xs → Each R xs
+each_both P Q R [] gives ps qs = tt
+each_both P Q R (x ∷ xs) gives ps qs = (gives x ps.0 qs.0, each_both P Q R xs gives ps.1 qs.1)
+
+pub map-each : {A B : Type 0} (f g : A → B) (xs : List A) → Each (λ x. f x ≡ g x) xs → map f xs ≡ map g xs
+map-each f g [] all = refl
+map-each f g (x ∷ xs) all = λ i. all.0 i ∷ map-each f g xs all.1 i
+
+pub map-map : {A B C : Type 0} (f : A → B) (g : B → C) (xs : List A) → map g (map f xs) ≡ map (λ x. g (f x)) xs
+map-map f g [] = refl
+map-map {A} {B} {C} f g (x ∷ xs) = ap (λ (ys : List C). g (f x) ∷ ys) (map-map f g xs)
+
+-- ---- lists in step
+
+-- one pair more
+pub pairs_push : {A B : Type 0} (R : A → B → Type 0) (xs : List A) (ys : List B) (x : A) (y : B) → EachPair R xs ys → R x y → EachPair R (xs ++ x ∷ []) (ys ++ y ∷ [])
+pairs_push R [] [] x y all one = (one, tt)
+pairs_push R [] (b ∷ bs) x y all one = absurd all
+pairs_push R (a ∷ others) [] x y all one = absurd all
+pairs_push R (a ∷ others) (b ∷ bs) x y all one = (all.0, pairs_push R others bs x y all.1 one)
+
+-- what was written through a vector's elements is what it has
+pub written_back : {A : Type 0} (n : ℕ) (items old : List A) → length items ≡ n → take n (items ++ drop (length items) old) ≡ items
+written_back {A} n items old is = subst (λ (k : ℕ). take k (items ++ drop (length items) old) ≡ items) is (take-append_seam items (drop (length items) old))

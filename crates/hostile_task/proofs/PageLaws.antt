@@ -1,0 +1,77 @@
+-- Pages after some events of their hostile user.
+use Rattle.std.proofs.Common.{◌≡◌, List, [], ◌∷◌, ◌++◌, map, refl, sym, ap, ◌∙◌, append_assoc}
+use Rattle.std.proofs.lemmas.List.{append-nil}
+use Rattle.vchan_protocol.specs.declared.op.PastEvent.{PastEvent}
+use Rattle.vchan_protocol.specs.declared.side.Side.{Side}
+use Rattle.vchan_protocol.specs.Hostile.Turned.{strays}
+use Rattle.hostile_seat.specs.Hostile.{strays_along}
+use Rattle.task_duties.specs.declared.place.PagePlace.{PagePlace}
+use Rattle.task_duties.specs.TaskOwes.{EndAt}
+use Rattle.hostile_task.specs.declared.page.TurnedPage.{TurnedPage}
+use Rattle.hostile_task.specs.declared.pages.Pages.{Pages}
+use Rattle.hostile_task.specs.Pages.{after_events, AreAfter, AreSamePages, given_of}
+use Rattle.hostile_task.proofs.ListLaws.{map-map}
+
+-- ---- one end
+
+pub along_append : (s : Side) (first more : List PastEvent) → strays_along (strays_along s first) more ≡ strays_along s (first ++ more)
+along_append s [] more = refl
+along_append s (event ∷ events) more = along_append (strays s event.op event.taken) events more
+
+pub along_trail : (s : Side) (events : List PastEvent) → (strays_along s events).trail ≡ s.trail ++ events
+along_trail s [] = sym (append-nil s.trail)
+along_trail s (event ∷ events) = along_trail (strays s event.op event.taken) events ∙ append_assoc s.trail (event ∷ []) events
+
+pub along_role : (s : Side) (events : List PastEvent) → (strays_along s events).role ≡ s.role
+along_role s [] = refl
+along_role s (event ∷ events) = along_role (strays s event.op event.taken) events
+
+pub along_orders : (s : Side) (events : List PastEvent) → (strays_along s events).orders ≡ s.orders
+along_orders s [] = refl
+along_orders s (event ∷ events) = along_orders (strays s event.op event.taken) events
+
+pub along_turned : (s : Side) (events : List PastEvent) → (strays_along s events).turned ≡ s.turned
+along_turned s [] = refl
+along_turned s (event ∷ events) = along_turned (strays s event.op event.taken) events
+
+-- ---- all pages
+
+after_then : (p : TurnedPage) (first more : List PastEvent) → after_events (after_events p first) more ≡ after_events p (first ++ more)
+after_then p first more = λ i. record p { end = record p.end { side = along_append p.end.side first more i } }
+
+-- some events, and then some more
+pub are_after_then : (first more : PagePlace → List PastEvent) (old between new : Pages) → AreAfter first old between → AreAfter more between new → AreAfter (λ place. first place ++ more place) old new
+are_after_then first more old between new before behind = record {
+  control = behind.control ∙ ap (λ (p : TurnedPage). after_events p (more p.place)) before.control ∙ after_then old.control (first old.control.place) (more old.control.place);
+  payload =
+      behind.payload ∙ ap (λ (ps : List TurnedPage). map (λ p. after_events p (more p.place)) ps) before.payload
+      ∙ map-map (λ p. after_events p (first p.place)) (λ p. after_events p (more p.place)) old.payload.items
+      ∙ all old.payload.items;
+}
+  where
+    all : (pages : List TurnedPage) → map (λ p. after_events (after_events p (first p.place)) (more p.place)) pages ≡ map (λ p. after_events p (first p.place ++ more p.place)) pages
+    all [] = refl
+    all (p ∷ pages) = λ i. after_then p (first p.place) (more p.place) i ∷ all pages i
+
+-- no event
+pub are_after_none : (pages : Pages) → AreAfter (λ place. []) pages pages
+are_after_none pages = record { control = refl; payload = all pages.payload.items }
+  where
+    all : (ps : List TurnedPage) → ps ≡ map (λ p. after_events p []) ps
+    all [] = refl
+    all (p ∷ ps) = λ i. p ∷ all ps i
+
+-- the pages stay where they are, and as they were given
+pub are_same_after : (events : PagePlace → List PastEvent) (old new : Pages) → AreAfter events old new → AreSamePages old new
+are_same_after events old new are = record {
+  places = (λ i. (are.control i).place ∷ map (λ p. p.place) (are.payload i)) ∙ ap (λ (ps : List PagePlace). old.control.place ∷ ps) (places old.payload.items);
+  given = (λ i. given_of (are.control i) ∷ map given_of (are.payload i)) ∙ ap (λ (ps : List EndAt). given_of old.control ∷ ps) (given old.payload.items);
+}
+  where
+    places : (ps : List TurnedPage) → map (λ p. p.place) (map (λ p. after_events p (events p.place)) ps) ≡ map (λ p. p.place) ps
+    places [] = refl
+    places (p ∷ ps) = ap (λ (qs : List PagePlace). p.place ∷ qs) (places ps)
+
+    given : (ps : List TurnedPage) → map given_of (map (λ p. after_events p (events p.place)) ps) ≡ map given_of ps
+    given [] = refl
+    given (p ∷ ps) = ap (λ (qs : List EndAt). given_of p ∷ qs) (given ps)

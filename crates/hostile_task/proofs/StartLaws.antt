@@ -1,0 +1,131 @@
+-- A task that begins: its ends are turned over, and nothing is done.
+use Rattle.std.proofs.Common.{◌≡◌, ℕ, false, List, [], ◌∷◌, ◌++◌, map, slice_get, refl, sym, subst, ap, ◌∙◌, arith}
+use Rattle.ring_words.specs.declared.page.WordName.TheVariants.{RightProd}
+use Rattle.vchan_protocol.specs.declared.op.Op.TheVariants.{Load}
+use Rattle.vchan_protocol.specs.declared.op.PastEvent.{PastEvent}
+use Rattle.vchan_protocol.specs.Table.Ends.{low32}
+use Rattle.vchan_protocol.specs.Hostile.Turned.{strays}
+use Rattle.vchan_rule.specs.Seated.{SeatedEnd, SeatedSide, view}
+use Rattle.qrexec_frame.specs.Streams.{Each}
+use Rattle.task_duties.specs.declared.place.PagePlace.{PagePlace}
+use Rattle.task_duties.specs.declared.place.PagePlace.TheVariants.{Control, Payload}
+use Rattle.task_duties.specs.declared.ends.DataEnd.{DataEnd}
+use Rattle.task_duties.specs.Pairwise.{EachPair}
+use Rattle.task_duties.specs.Places.{is_place}
+use Rattle.task_duties.specs.TaskOwes.{all_ends, places_in}
+use Rattle.task_duties.specs.GivenEnds.{all_given}
+use Rattle.task_duties.specs.Hostile.Given.{HostilePlan}
+use Rattle.ring_words.specs.declared.page.Role.TheVariants.{Server}
+use Rattle.task_duties.specs.Hostile.Stores.{role_at, orders_at}
+use Rattle.task_duties.specs.Hostile.Trail.{first_voice}
+use Rattle.hostile_task.specs.declared.domain.HostileDomain.{HostileDomain}
+use Rattle.hostile_task.specs.declared.page.TurnedPage.{TurnedPage}
+use Rattle.hostile_task.specs.declared.pages.Pages.{Pages}
+use Rattle.hostile_task.specs.declared.progress.Progress.{Progress}
+use Rattle.hostile_task.specs.Plan.{plan_of, AreApart, IsControlOf, IsDataOf, AreDataOf}
+use Rattle.hostile_task.specs.Pages as pages
+use Rattle.hostile_task.specs.Pages.{IsTurnedOver, IsDataTurnedOver, given_of, given_in}
+use Rattle.hostile_task.specs.UnderWay.{words_at, IsPageSoFar, IsControl, IsPayload, IsUnderWay, IsTrailSoFar}
+use Rattle.hostile_task.proofs.TrailLaws.{begins}
+use Rattle.hostile_task.proofs.WayLaws.{not_begun, with_control}
+
+-- the progress of a task that has read this index
+abbrev pub first_progress : ℕ → Progress
+first_progress own = record { acts = 0; turns = 0; said = 0; own = own }
+
+-- the control page, once its producer index was loaded
+start_control : (domain : HostileDomain) (plan : HostilePlan) (e : SeatedEnd) (page : TurnedPage) (end : SeatedSide) (value own : ℕ) → plan.domain ≡ domain.number → plan.control ≡ domain.control → IsTurnedOver (Control domain.number) e page → IsControlOf domain e
+    → end.page ≡ page.end.page → end.side ≡ strays page.end.side (Load RightProd) value → own ≡ low32 value → IsPageSoFar plan (first_progress own) (record page { end = end })
+start_control domain plan e page end value own number orders over control same side index = record {
+  same = same ∙ over.page ∙ ap (λ (s : SeatedEnd). s.page) (sym over.given_is);
+  same_role = ap (λ (s : SeatedEnd). s.side.role) over.given_is ∙ control.role ∙ sym (role page.place over.place_is);
+  role = ap (λ s. s.role) side ∙ over.role ∙ control.role ∙ sym (role page.place over.place_is);
+  orders = ap (λ s. s.orders) side ∙ over.orders ∙ control.orders ∙ sym orders ∙ sym (order page.place over.place_is);
+  turned = ap (λ s. s.turned) side ∙ over.turned;
+  trail = subst (λ (place : PagePlace). IsTrailSoFar plan place (first_progress own) end.side.trail) (sym over.place_is) (record {
+    value = value;
+    done = [];
+    part = [];
+    voice = first_voice plan value;
+    orders = refl;
+    acts = (refl, refl);
+    under_way = begins (words_at plan 0) (first_voice plan value) (first_progress own) index refl refl;
+    trail_is = ap (λ s. s.trail) side ∙ ap (λ (events : List PastEvent). events ++ record { op = Load RightProd; taken = value } ∷ []) over.trail;
+  });
+}
+  where
+    role : (place : PagePlace) → place ≡ Control domain.number → role_at plan.domain place ≡ Server
+    role place is = ap (λ (p : PagePlace). role_at plan.domain p) is
+
+    order : (place : PagePlace) → place ≡ Control domain.number → orders_at plan place ≡ plan.control
+    order place is = ap (λ (p : PagePlace). orders_at plan p) is
+
+-- a data page
+start_payload : (domain : HostileDomain) (plan : HostilePlan) (own : ℕ) (d : DataEnd) (page : TurnedPage) → plan.domain ≡ domain.number → plan.payload ≡ domain.payload → IsDataTurnedOver d page → IsDataOf domain d → IsPageSoFar plan (first_progress own) page
+start_payload domain plan own d page number orders over fits =
+    let place = Payload d.from d.to d.port in
+    let role : role_at plan.domain page.place ≡ role_at domain.number place = λ i. role_at (number i) (over.place_is i) in
+    record {
+      same = over.page ∙ ap (λ (s : SeatedEnd). s.page) (sym over.given_is);
+      same_role = ap (λ (s : SeatedEnd). s.side.role) over.given_is ∙ fits.role ∙ sym role;
+      role = over.role ∙ fits.role ∙ sym role;
+      orders = over.orders ∙ fits.orders ∙ sym orders ∙ ap (λ (p : PagePlace). orders_at plan p) (sym over.place_is);
+      turned = over.turned;
+      trail = subst (λ (p : PagePlace). IsTrailSoFar plan p (first_progress own) page.end.side.trail) (sym over.place_is) over.trail;
+    }
+
+-- ---- where the pages lie, and as they were given
+
+places_are : (ends : List DataEnd) (ps : List TurnedPage) → EachPair IsDataTurnedOver ends ps → map (λ p. p.place) ps ≡ places_in (all_given ends)
+places_are [] [] pairs = refl
+places_are [] (p ∷ ps) pairs = absurd pairs
+places_are (d ∷ ends) [] pairs = absurd pairs
+places_are (d ∷ ends) (p ∷ ps) pairs = λ i. pairs.0.place_is i ∷ places_are ends ps pairs.1 i
+
+given_are : (ends : List DataEnd) (ps : List TurnedPage) → EachPair IsDataTurnedOver ends ps → map given_of ps ≡ all_given ends
+given_are [] [] pairs = refl
+given_are [] (p ∷ ps) pairs = absurd pairs
+given_are (d ∷ ends) [] pairs = absurd pairs
+given_are (d ∷ ends) (p ∷ ps) pairs = λ i. record { place = pairs.0.place_is i; view = view (pairs.0.given_is i) } ∷ given_are ends ps pairs.1 i
+
+payloads : (ends : List DataEnd) (ps : List TurnedPage) → EachPair IsDataTurnedOver ends ps → Each (λ p. IsPayload p.place) ps
+payloads [] [] pairs = tt
+payloads [] (p ∷ ps) pairs = absurd pairs
+payloads (d ∷ ends) [] pairs = absurd pairs
+payloads (d ∷ ends) (p ∷ ps) pairs = (subst IsPayload (sym pairs.0.place_is) tt, payloads ends ps pairs.1)
+
+pages_so_far : (domain : HostileDomain) (plan : HostilePlan) (own : ℕ) (ends : List DataEnd) (ps : List TurnedPage) → plan.domain ≡ domain.number → plan.payload ≡ domain.payload → EachPair IsDataTurnedOver ends ps → AreDataOf domain ends → Each (IsPageSoFar plan (first_progress own)) ps
+pages_so_far domain plan own [] [] number orders pairs fits = tt
+pages_so_far domain plan own [] (p ∷ ps) number orders pairs fits = absurd pairs
+pages_so_far domain plan own (d ∷ ends) [] number orders pairs fits = absurd pairs
+pages_so_far domain plan own (d ∷ ends) (p ∷ ps) number orders pairs fits = (start_payload domain plan own d p number orders pairs.0 fits.0, pages_so_far domain plan own ends ps number orders pairs.1 fits.1)
+
+-- a control page lies at no data page's place
+apart_from_control : (d : ℕ) (ends : List DataEnd) → Each (λ q. is_place (Control d) q ≡ false) (places_in (all_given ends))
+apart_from_control d [] = tt
+apart_from_control d (e ∷ ends) = (refl, apart_from_control d ends)
+
+-- ---- the whole task
+
+pub start_places : (domain : HostileDomain) (e : SeatedEnd) (ends : List DataEnd) (ps : Pages) → IsTurnedOver (Control domain.number) e ps.control → EachPair IsDataTurnedOver ends ps.payload.items
+    → pages.places_in ps ≡ Control domain.number ∷ places_in (all_given ends)
+start_places domain e ends ps control payload = λ i. control.place_is i ∷ places_are ends ps.payload.items payload i
+
+pub start_given : (domain : HostileDomain) (e : SeatedEnd) (ends : List DataEnd) (ps : Pages) → IsTurnedOver (Control domain.number) e ps.control → EachPair IsDataTurnedOver ends ps.payload.items
+    → given_in ps ≡ all_ends domain.number (view e) (all_given ends)
+start_given domain e ends ps control payload = λ i. record { place = control.place_is i; view = view (control.given_is i) } ∷ given_are ends ps.payload.items payload i
+
+pub start_way : (domain : HostileDomain) (e : SeatedEnd) (ends : List DataEnd) (ps : Pages) (end : SeatedSide) (value own : ℕ) (spelled : List ℕ) → IsTurnedOver (Control domain.number) e ps.control → EachPair IsDataTurnedOver ends ps.payload.items
+    → IsControlOf domain e → AreDataOf domain ends → AreApart (places_in (all_given ends)) → end.page ≡ ps.control.end.page → end.side ≡ strays ps.control.end.side (Load RightProd) value → own ≡ low32 value
+    → IsUnderWay domain (with_control ps end) (first_progress own) spelled
+start_way domain e ends ps end value own spelled control payload control_fits fits apart same side index =
+    let plan = plan_of domain (pages.places_in ps) in
+    record {
+      acts = omega arith;
+      begun = not_begun (slice_get domain.acts 0) (first_progress own) spelled refl;
+      nothing_said = λ _. refl;
+      control = subst IsControl (sym control.place_is) tt;
+      payload = payloads ends ps.payload.items payload;
+      apart = subst (λ (places : List PagePlace). AreApart places) (sym (start_places domain e ends ps control payload)) (apart_from_control domain.number ends, apart);
+      so_far = (start_control domain plan e ps.control end value own refl refl control control_fits same side index, pages_so_far domain plan own ends ps.payload.items refl refl payload fits);
+    }

@@ -1,0 +1,91 @@
+-- Each act keeps what is known of all pages.
+use Rattle.std.proofs.Common.{◌≡◌, ℕ, ◌+◌, ◌<◌, List, false, nat_le, refl, sym, subst, ap, ◌∙◌, arith}
+use Rattle.std.proofs.lemmas.Bool.Decides.{nat_tests}
+use Rattle.vchan_protocol.specs.declared.op.PastEvent.{PastEvent}
+use Rattle.scenario_file.specs.declared.acts.Act.{Act}
+use Rattle.scenario_file.specs.declared.acts.Act.TheVariants.{Poke, Scribble, Signal, Rest}
+use Rattle.task_duties.specs.declared.place.PagePlace.{PagePlace}
+use Rattle.task_duties.specs.Hostile.Stores.{stores_of, role_at}
+use Rattle.task_duties.specs.Hostile.Saying.{Voice}
+use Rattle.hostile_task.specs.declared.progress.Progress.{Progress}
+use Rattle.hostile_task.specs.Plan.{plan_of}
+use Rattle.hostile_task.specs.Pages.{places_in, AreAfter}
+use Rattle.hostile_task.specs.Saying.{after_turn, held_words, SaysSoFar, SaysOn}
+use Rattle.hostile_task.specs.UnderWay.{IsUnderWay, IsPageSoFar}
+use Rattle.hostile_task.proofs.ListLaws.{each_gives}
+use Rattle.hostile_task.proofs.PageLaws.{are_same_after}
+use Rattle.hostile_task.proofs.WayLaws.{way_stores, way_rests, way_says, with_control, act_at, says_some}
+use Rattle.hostile_task.proofs.carry_out.carry_out.Goals as goal
+
+pub returns-in-Poke-clause-way : goal.returns-in-Poke-clause-way
+returns-in-Poke-clause-way c =
+    let act : Act = Poke c.in-Poke.page c.in-Poke.word c.in-Poke.value in
+    let stores = λ (place : PagePlace). stores_of (plan_of c.args.domain.now (places_in c.args.pages.now)) place act in
+    let after : AreAfter stores c.args.pages.now c.poke.new.self = c.poke.ensures in
+    let at = act_at c.args.domain.now.acts c.list.result.now c.args.progress.now.acts c.index-list-progress.result act c.list.ensures.list c.requires.left c.index-list-progress.is c.in-Poke.is in
+    way_stores c.args.domain.now act c.args.pages.now c.poke.new.self c.args.progress.now c.end_turn.new.self c.args.spelled.now.items c.requires.way at c.requires.left refl after c.end_turn.ensures
+
+pub returns-in-Poke-clause-same : goal.returns-in-Poke-clause-same
+returns-in-Poke-clause-same c =
+    let act : Act = Poke c.in-Poke.page c.in-Poke.word c.in-Poke.value in
+    let stores = λ (place : PagePlace). stores_of (plan_of c.args.domain.now (places_in c.args.pages.now)) place act in
+    let after : AreAfter stores c.args.pages.now c.poke.new.self = c.poke.ensures in
+    are_same_after stores c.args.pages.now c.poke.new.self after
+
+pub returns-in-Scribble-clause-way : goal.returns-in-Scribble-clause-way
+returns-in-Scribble-clause-way c =
+    let act : Act = Scribble c.in-Scribble.seed c.in-Scribble.count in
+    let stores = λ (place : PagePlace). stores_of (plan_of c.args.domain.now (places_in c.args.pages.now)) place act in
+    let after : AreAfter stores c.args.pages.now c.scribble.new.self = c.scribble.ensures (plan_of c.args.domain.now (places_in c.args.pages.now)) refl in
+    let at = act_at c.args.domain.now.acts c.list.result.now c.args.progress.now.acts c.index-list-progress.result act c.list.ensures.list c.requires.left c.index-list-progress.is c.in-Scribble.is in
+    way_stores c.args.domain.now act c.args.pages.now c.scribble.new.self c.args.progress.now c.end_turn-in-Scribble.new.self c.args.spelled.now.items c.requires.way at c.requires.left refl after c.end_turn-in-Scribble.ensures
+
+pub returns-in-Scribble-clause-same : goal.returns-in-Scribble-clause-same
+returns-in-Scribble-clause-same c =
+    let act : Act = Scribble c.in-Scribble.seed c.in-Scribble.count in
+    let stores = λ (place : PagePlace). stores_of (plan_of c.args.domain.now (places_in c.args.pages.now)) place act in
+    let after : AreAfter stores c.args.pages.now c.scribble.new.self = c.scribble.ensures (plan_of c.args.domain.now (places_in c.args.pages.now)) refl in
+    are_same_after stores c.args.pages.now c.scribble.new.self after
+
+pub returns-in-Signal-clause-way : goal.returns-in-Signal-clause-way
+returns-in-Signal-clause-way c =
+    let act : Act = Signal in
+    let stores = λ (place : PagePlace). stores_of (plan_of c.args.domain.now (places_in c.args.pages.now)) place act in
+    let after : AreAfter stores c.args.pages.now c.signal.new.self = c.signal.ensures c.args.domain.now.number (
+      c.requires.way.so_far.0.role,
+      each_gives (IsPageSoFar (plan_of c.args.domain.now (places_in c.args.pages.now)) c.args.progress.now) (λ p. p.end.side.role ≡ role_at c.args.domain.now.number p.place) c.args.pages.now.payload.items (λ p so_far. so_far.role) c.requires.way.so_far.1,
+    ) in
+    let at = act_at c.args.domain.now.acts c.list.result.now c.args.progress.now.acts c.index-list-progress.result act c.list.ensures.list c.requires.left c.index-list-progress.is c.in-Signal.is in
+    way_stores c.args.domain.now act c.args.pages.now c.signal.new.self c.args.progress.now c.end_turn-in-Signal.new.self c.args.spelled.now.items c.requires.way at c.requires.left refl after c.end_turn-in-Signal.ensures
+
+pub returns-in-Signal-clause-same : goal.returns-in-Signal-clause-same
+returns-in-Signal-clause-same c =
+    let act : Act = Signal in
+    let stores = λ (place : PagePlace). stores_of (plan_of c.args.domain.now (places_in c.args.pages.now)) place act in
+    let after : AreAfter stores c.args.pages.now c.signal.new.self = c.signal.ensures c.args.domain.now.number (
+      c.requires.way.so_far.0.role,
+      each_gives (IsPageSoFar (plan_of c.args.domain.now (places_in c.args.pages.now)) c.args.progress.now) (λ p. p.end.side.role ≡ role_at c.args.domain.now.number p.place) c.args.pages.now.payload.items (λ p so_far. so_far.role) c.requires.way.so_far.1,
+    ) in
+    are_same_after stores c.args.pages.now c.signal.new.self after
+
+pub returns-in-Rest-clause-way : goal.returns-in-Rest-clause-way
+returns-in-Rest-clause-way c =
+    let act : Act = Rest c.in-Rest.turns in
+    let p : Progress = c.args.progress.now in
+    let at = act_at c.args.domain.now.acts c.list.result.now p.acts c.index-list-progress.result act c.list.ensures.list c.requires.left c.index-list-progress.is c.in-Rest.is in
+    let left : nat_le c.in-Rest.turns (p.turns + 1) ≡ false → p.turns + 1 < c.in-Rest.turns = λ is. grind (arith, nat_tests, is) in
+    way_rests c.args.domain.now c.in-Rest.turns c.args.pages.now p c.end_turn-in-Rest.new.self (nat_le c.in-Rest.turns (p.turns + 1)) c.args.spelled.now.items c.requires.way at c.requires.left left
+    (c.end_turn-in-Rest.ensures ∙ ap (λ (q : Progress). after_turn (nat_le c.in-Rest.turns q.turns) q) c.rest.ensures)
+
+pub returns-in_ok-prepare-in_default-clause-way : goal.returns-in_ok-prepare-in_default-clause-way
+returns-in_ok-prepare-in_default-clause-way c =
+    let act : Act = c.index-list-progress.result in
+    let pages = c.args.pages.now in
+    let spelled = c.prepare.new.spelled.items in
+    let at = act_at c.args.domain.now.acts c.list.result.now c.args.progress.now.acts act act c.list.ensures.list c.requires.left c.index-list-progress.is refl in
+    let words = says_some act c.in_default.not-Poke c.in_default.not-Scribble c.in_default.not-Signal c.in_default.not-Rest in
+    let held : c.held_words.result.now ≡ held_words act spelled = c.held_words.ensures ∙ ap (λ (bs : List ℕ). held_words act bs) c.deref.ensures.value in
+    let Turn : List ℕ → Type 0 = λ bs. (v : Voice) (events : List PastEvent) → v.orders ≡ pages.control.end.side.orders → SaysSoFar v bs c.args.progress.now events → SaysOn v bs events c.say-over.result c.say-over.new.progress pages.control.end c.say-over.new.control in
+    subst (λ (q : Progress). IsUnderWay c.args.domain.now (with_control pages c.say-over.new.control) q spelled) (sym c.end_turn-in_default.ensures)
+    (way_says c.args.domain.now act words.0 pages c.say-over.new.control c.args.progress.now c.say-over.new.progress c.say-over.result c.args.spelled.now.items spelled c.requires.way at c.requires.left words.1
+    c.in_ok-prepare-in_default.ensures.ready (subst Turn held c.say-over.ensures.says) c.say-over.ensures.acts c.say-over.ensures.turns)

@@ -1,0 +1,22 @@
+-- A task begins with its ends turned over.
+use Rattle.std.proofs.Common.{◌%◌, List, refl, sym, subst, ap}
+use Rattle.task_duties.specs.declared.place.PagePlace.{PagePlace}
+use Rattle.hostile_task.specs.declared.progress.Progress.{Progress}
+use Rattle.hostile_task.specs.Plan.{plan_of}
+use Rattle.hostile_task.specs.UnderWay.{IsUnderWay}
+use Rattle.hostile_task.proofs.WayLaws.{with_control}
+use Rattle.hostile_task.proofs.StartLaws.{start_way, start_places, start_given}
+use Rattle.hostile_task.proofs.task.HostileTask.new.Goals as goal
+
+pub invariant_of-result : goal.invariant_of-result
+invariant_of-result c =
+    subst (λ (p : Progress). IsUnderWay c.args.domain (with_control c.in_ok-pages.pages c.load.new.self) p c.new.result.items) (sym c.start.ensures)
+    (start_way c.args.domain c.args.control c.args.payload.items c.in_ok-pages.pages c.load.new.self c.load.result (c.load.result % 4294967296) c.new.result.items
+    c.in_ok-pages.ensures.control c.in_ok-pages.ensures.payload c.requires.control c.requires.payload c.requires.apart c.load.ensures.page c.load.ensures.side refl)
+
+pub returns-clause-plan : goal.returns-clause-plan
+returns-clause-plan c =
+    ap (λ (places : List PagePlace). plan_of c.args.domain places) (start_places c.args.domain c.args.control c.args.payload.items c.in_ok-pages.pages c.in_ok-pages.ensures.control c.in_ok-pages.ensures.payload)
+
+pub returns-clause-ends : goal.returns-clause-ends
+returns-clause-ends c = start_given c.args.domain c.args.control c.args.payload.items c.in_ok-pages.pages c.in_ok-pages.ensures.control c.in_ok-pages.ensures.payload

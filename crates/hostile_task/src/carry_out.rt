@@ -1,0 +1,61 @@
+//! One turn of the act under way.
+ghost use Rattle.std.specs.Prelude.{◌≡◌, ◌<◌, ◌+◌, length};
+ghost use Rattle.hostile_task.specs.UnderWay.{IsUnderWay};
+ghost use Rattle.hostile_task.specs.Pages.{AreSamePages};
+
+use crate::domain::HostileDomain;
+use crate::pages::Pages;
+use crate::progress::Progress;
+use crate::say::say;
+use crate::spell::{held_words, prepare};
+use scenario_file::Act;
+use std::alloc::Global;
+use vchan_io::Memory;
+
+/// Carries out one turn of the next act. A scribble is one turn: its stores are drawn one by one, and
+/// nothing waits in between.
+///
+/// Want of memory comes only where a trigger, a greeting or a termination is spelled out; no event was
+/// made then.
+pub fn carry_out(
+    alloc: Global,
+    domain: &HostileDomain,
+    pages: &mut Pages<'_>,
+    progress: &mut Progress,
+    spelled: &mut Vec<u8>,
+) -> Result<(), Memory>
+    requires way { IsUnderWay domain.now pages.old progress.old spelled.old.items }
+    requires left { progress.old.acts < length domain.now.acts }
+    ensures way { IsUnderWay domain.now pages.new progress.new spelled.new.items }
+    ensures same { AreSamePages pages.old pages.new }
+{
+    let act = &domain.acts.list()[progress.acts];
+    match act {
+        Act::Poke { page, word, value } => {
+            pages.poke(domain, page, *word, *value);
+            progress.end_turn(true);
+            Ok(())
+        }
+        Act::Scribble { seed, count } => {
+            pages.scribble(*seed, *count);
+            progress.end_turn(true);
+            Ok(())
+        }
+        Act::Signal => {
+            pages.signal();
+            progress.end_turn(true);
+            Ok(())
+        }
+        Act::Rest { turns } => {
+            progress.rest();
+            progress.end_turn(progress.turns >= *turns);
+            Ok(())
+        }
+        _ => {
+            prepare(alloc, act, progress.turns, spelled)?;
+            let over = say(&mut pages.control.end, progress, held_words(act, spelled));
+            progress.end_turn(over);
+            Ok(())
+        }
+    }
+}

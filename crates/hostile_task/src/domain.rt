@@ -1,0 +1,39 @@
+//! What a hostile domain is, beside its ends.
+ghost use Rattle.std.specs.Prelude.{◌≡◌, []};
+
+use qrexec_frame::Text;
+use ring_words::Orders;
+use scenario_file::Acts;
+
+/// A hostile domain.
+#[derive(Drop)]
+pub struct HostileDomain {
+    /// Its number, from 1 on.
+    pub number: u32,
+    /// The names of all domains, the first domain's standing first.
+    pub names: Vec<Text>,
+    /// What it does.
+    pub acts: Acts,
+    /// The orders of a control page.
+    pub control: Orders,
+    /// The orders of a data page.
+    pub payload: Orders,
+}
+
+impl HostileDomain {
+    ghost use Rattle.task_duties.specs.Hostile.Stores.{name_of};
+    ghost use Rattle.hostile_task.specs.Plan.{plan_of};
+
+    /// The name of a domain, empty where there is no such domain.
+    pub(crate) fn name_of(&self, number: u32) -> &[u8]
+        ensures { result.now ≡ name_of (plan_of self.now []) number }
+    {
+        if number == 0 {
+            return b"".as_slice();
+        }
+        match self.names.get(number as usize - 1) {
+            Some(name) => name.bytes(),
+            None => b"".as_slice(),
+        }
+    }
+}

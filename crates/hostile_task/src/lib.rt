@@ -1,0 +1,19 @@
+//! The task of a hostile domain: it carries out a list of acts on the pages of the domain, and then
+//! retires all its ends.
+//!
+//! It serves a run, which plays such domains against honest ones. The acts are this project's own.
+#![tactic(auto)]
+
+mod carry_out;
+mod domain;
+mod page;
+mod pages;
+mod progress;
+mod say;
+mod spell;
+mod task;
+#[cfg(test)]
+mod tests;
+
+pub use domain::HostileDomain;
+pub use task::{HostileDone, HostileTask, HostileTurn};

@@ -1,0 +1,103 @@
+//! A page of a hostile domain.
+ghost use Rattle.std.specs.Prelude.{◌≡◌, ◌∷◌, [], ◌++◌};
+ghost use Rattle.vchan_protocol.specs.Table.Ends.{peer_pending};
+
+use crate::domain::HostileDomain;
+use hostile_seat::{Hostile, turn};
+use ring_words::WordName;
+use scenario_file::ActPage;
+use std::snapshot::Snapshot;
+use task_duties::{DataEnd, PagePlace, RetiredEnd};
+use vchan_rule::End;
+
+/// A page, whose end the domain has.
+#[derive(Drop)]
+pub struct TurnedPage<'p> {
+    pub place: PagePlace,
+    /// The end as it was given, for clauses alone.
+    pub given: Snapshot<End<'p>>,
+    pub end: Hostile<'p>,
+}
+
+impl<'p> TurnedPage<'p> {
+    ghost use Rattle.task_duties.specs.Hostile.Stores.{orders_at, poked, stored, is_named};
+    ghost use Rattle.hostile_task.specs.Plan.{plan_of};
+    ghost use Rattle.hostile_task.specs.Pages.{after_events, IsTurnedOver, IsDataTurnedOver, IsRetiredOf};
+
+    /// Turns an end over to the domain.
+    pub fn turn(place: PagePlace, end: End<'p>) -> TurnedPage<'p>
+        ensures { IsTurnedOver place end.entry result }
+    {
+        let given = Snapshot::of(&end);
+        TurnedPage {
+            place,
+            given,
+            end: turn(end),
+        }
+    }
+
+    /// The same of a data end.
+    pub fn of_data(given: DataEnd<'p>) -> TurnedPage<'p>
+        ensures { IsDataTurnedOver given.entry result }
+    {
+        let DataEnd {
+            from,
+            to,
+            port,
+            end,
+        } = given;
+        TurnedPage::turn(PagePlace::Payload { from, to, port }, end)
+    }
+
+    /// Stores a value to a word, where an act that names it means this page, and the word is one that a
+    /// hostile user reaches.
+    pub fn poke(&mut self, domain: &HostileDomain, page: &ActPage, word: WordName, value: u64)
+        requires { self.old.end.side.orders ≡ orders_at (plan_of domain.now []) self.old.place }
+        ensures { self.new ≡ after_events self.old (poked (plan_of domain.now []) self.old.place page.now word value) }
+    {
+        if self.is_named(domain, page) && self.end.may(word) {
+            self.end.store(word, value);
+        }
+    }
+
+    // Whether an act that names a page so means this one.
+    fn is_named(&self, domain: &HostileDomain, page: &ActPage) -> bool
+        ensures { result ≡ is_named (plan_of domain.now []) page.now self.now.place }
+    {
+        match page {
+            ActPage::Control => match self.place {
+                PagePlace::Control { .. } => true,
+                PagePlace::Payload { .. } => false,
+            },
+            ActPage::Payload { peer, port } => match self.place {
+                PagePlace::Control { .. } => false,
+                PagePlace::Payload {
+                    from,
+                    to,
+                    port: own,
+                } => {
+                    let other = if from == domain.number { to } else { from };
+                    own == *port && peer.bytes() == domain.name_of(other)
+                }
+            },
+        }
+    }
+
+    /// Signals the end's peer.
+    pub fn signal(&mut self)
+        ensures { self.new ≡ after_events self.old (stored (peer_pending self.old.end.side.role) 1 ∷ []) }
+    {
+        self.end.signal();
+    }
+
+    /// Retires the end.
+    pub fn retire(self) -> RetiredEnd
+        ensures { IsRetiredOf self.entry result }
+    {
+        let TurnedPage { place, end, .. } = self;
+        RetiredEnd {
+            place,
+            retired: end.retire(),
+        }
+    }
+}

@@ -1,0 +1,133 @@
+//! The task of a hostile domain.
+ghost use Rattle.std.specs.Prelude.{◌≡◌, ◌∷◌, IfOk};
+
+use crate::carry_out::carry_out;
+use crate::domain::HostileDomain;
+use crate::pages::Pages;
+use crate::progress::Progress;
+use ring_words::WordName;
+use std::alloc::Global;
+use std::marker::Model;
+use task_duties::{DataEnd, PagePlace, RetiredEnd};
+use vchan_io::Memory;
+use vchan_rule::End;
+
+/// A hostile domain that carries out its acts. What contracts see of it never changes: what it was
+/// given.
+#[derive(Drop)]
+pub struct HostileTask<'p> {
+    alloc: Global,
+    domain: HostileDomain,
+    pages: Pages<'p>,
+    progress: Progress,
+    // What the act under way says, kept for its room.
+    spelled: Vec<u8>,
+}
+
+impl<'p> Model for HostileTask<'p> {
+    ghost use Rattle.hostile_task.specs.Plan.{HostileGiven, plan_of};
+    ghost use Rattle.hostile_task.specs.Pages.{places_in, given_in};
+    ghost use Rattle.hostile_task.specs.UnderWay.{IsUnderWay};
+
+    ghost Value = { HostileGiven };
+
+    ghost view = { λ t. record { plan = plan_of t.domain (places_in t.pages); ends = given_in t.pages } };
+
+    ghost invariant = { λ t. IsUnderWay t.domain t.pages t.progress t.spelled.items };
+}
+
+/// What a turn of such a task gives.
+pub enum HostileTurn<'p> {
+    /// The task wants another turn.
+    Again(HostileTask<'p>),
+    /// All acts are done.
+    Done(HostileDone),
+    /// Memory ran out. All ends have retired.
+    NoMemory,
+}
+
+/// A hostile domain that has done all its acts.
+#[derive(Drop)]
+pub struct HostileDone {
+    /// The number of the domain.
+    pub domain: u32,
+    /// Its ends, in the order in which they were given, that of the control page first.
+    pub ends: Vec<RetiredEnd>,
+}
+
+ghost use Rattle.hostile_task.specs.Finishing.{Finishes};
+
+impl<'p> HostileTask<'p> {
+    ghost use Rattle.vchan_rule.specs.Seated.{view};
+    ghost use Rattle.task_duties.specs.declared.place.PagePlace.TheVariants.{Control};
+    ghost use Rattle.task_duties.specs.TaskOwes.{all_ends, places_in};
+    ghost use Rattle.task_duties.specs.GivenEnds.{all_given};
+    ghost use Rattle.hostile_task.specs.Plan.{plan_of, AreApart, IsControlOf, AreDataOf};
+    ghost use Rattle.hostile_task.specs.Turns.{Pays};
+
+    /// The task of a domain with these ends. They are turned over at once, and the producer index of the
+    /// control page is read.
+    ///
+    /// After want of memory all that it took is dropped, the ends unretired.
+    pub fn new(
+        alloc: Global,
+        domain: HostileDomain,
+        control: End<'p>,
+        payload: Vec<DataEnd<'p>>,
+    ) -> Result<HostileTask<'p>, Memory>
+        requires control { IsControlOf domain control }
+        requires payload { AreDataOf domain payload.items }
+        requires apart { AreApart (places_in (all_given payload.items)) }
+        ensures plan { IfOk result (λ task. task.plan ≡ plan_of domain (Control domain.number ∷ places_in (all_given payload.entry.items))) }
+        ensures ends { IfOk result (λ task. task.ends ≡ all_ends domain.number (view control.entry) (all_given payload.entry.items)) }
+    {
+        let mut pages = Pages::turn(alloc, domain.number, control, payload)?;
+        let own = (pages.control.end.load(WordName::RightProd) % 4_294_967_296) as u32;
+        Ok(HostileTask {
+            alloc,
+            domain,
+            pages,
+            progress: Progress::start(own),
+            spelled: Vec::new(alloc),
+        })
+    }
+
+    /// One turn: of the next act, and after the last one the ends are retired.
+    pub fn turn(self) -> HostileTurn<'p>
+        ensures { Pays self.entry result }
+    {
+        let HostileTask {
+            alloc,
+            domain,
+            mut pages,
+            mut progress,
+            mut spelled,
+        } = self;
+        if progress.acts == domain.acts.list().len() {
+            return finish(alloc, domain.number, pages);
+        }
+        match carry_out(alloc, &domain, &mut pages, &mut progress, &mut spelled) {
+            Ok(()) => HostileTurn::Again(HostileTask {
+                alloc,
+                domain,
+                pages,
+                progress,
+                spelled,
+            }),
+            Err(Memory) => {
+                pages.give_up();
+                HostileTurn::NoMemory
+            }
+        }
+    }
+}
+
+// Retires all ends.
+fn finish<'p>(alloc: Global, domain: u32, pages: Pages<'p>) -> HostileTurn<'p>
+    ensures { Finishes domain pages.entry result }
+{
+    match pages.retire(alloc) {
+        Ok(ends) => HostileTurn::Done(HostileDone { domain, ends }),
+        Err(Memory) => HostileTurn::NoMemory,
+    }
+}

@@ -1,0 +1,68 @@
+use Rattle.std.proofs.Common.{◌≡◌, ◌∙◌, ◌∷◌, [], sym, ap, subst, arith, map}
+use Rattle.task_duties.specs.GivenEnds.{all_retired, retired_at}
+use Rattle.run_pages.specs.Pages.{page_at}
+use Rattle.run_pages.specs.Settling.{AreSettledBy, IsSettling}
+use Rattle.std.proofs.lemmas.Grind.{common_steps}
+use Rattle.run_pages.proofs.DealLaws.{map-length}
+use Rattle.std.proofs.lemmas.List.{map-append}
+use Rattle.run_pages.proofs.SettleLaws.{GaveBoth, IsLastPage, gave-both, last-page, settles-all, settles-first, settles-on}
+use Rattle.run_pages.proofs.lay.RunPages.settle.Goals as goal
+
+pub loop-page-init : goal.loop-page-init
+loop-page-init c =
+    let hands = map (λ h. all_retired h.items) c.args.hands.items in
+    let first = settles-first c.args.scenario.now c.args.self hands c.requires.laid (map-length (λ h. all_retired h.items) c.args.hands.items ∙ c.requires.all) c.requires.back in
+    subst (λ left. IsSettling c.args.scenario.now (map page_at c.self.inside.pages.items) c.args.self (map (λ h. all_retired h.items) left) hands c.in_ok-settled.settled.items) (sym c.as_mut_slice-left.ensures.value)
+    (subst (λ pages. IsSettling c.args.scenario.now pages c.args.self hands hands c.in_ok-settled.settled.items) (sym c.self.view_is)
+    (subst (λ settled. IsSettling c.args.scenario.now c.args.self c.args.self hands hands settled) (sym c.in_ok-settled.ensures.items) first))
+
+-- the page that is taken is the last
+last : (c : goal.After-take_ends-arg-1) → IsLastPage (map page_at c.pop.new.self.items) (page_at c.in-Some.page) (map (λ h. all_retired h.items) c.loop-page.left)
+last c =
+    last-page c.args.scenario.now (map page_at c.loop-page.pages.items) c.args.self (map page_at c.pop.new.self.items) (page_at c.in-Some.page) (map (λ h. all_retired h.items) c.loop-page.left)
+    (map (λ h. all_retired h.items) c.args.hands.items) c.loop-page.settled.items
+    (ap (map page_at) c.in-Some.ensures.items ∙ map-append page_at c.pop.new.self.items (c.in-Some.page ∷ [])) c.loop-page.invariant
+
+pub take_ends-server-requires-clause-apart : goal.take_ends-server-requires-clause-apart
+take_ends-server-requires-clause-apart c = (last c).apart
+
+pub take_ends-server-requires-clause-server : goal.take_ends-server-requires-clause-server
+take_ends-server-requires-clause-server c = let e = (last c).server in (e.rest, e.end, e.at)
+
+pub take_ends-server-requires-clause-client : goal.take_ends-server-requires-clause-client
+take_ends-server-requires-clause-client c = let e = (last c).client in (e.rest, e.end, e.at)
+
+-- what the two tasks gave up
+gave : (c : goal.After-settled-in-Some-1) → GaveBoth (page_at c.in-Some.page) (retired_at c.take_ends-server.result.0) (retired_at c.take_ends-server.result.1)
+    (map (λ h. all_retired h.items) c.loop-page.left) c.take_ends-server.ensures.0
+gave c =
+    let before = map page_at c.pop.new.self.items in
+    let hands = map (λ h. all_retired h.items) c.loop-page.left in
+    let last = last-page c.args.scenario.now (map page_at c.loop-page.pages.items) c.args.self before (page_at c.in-Some.page) hands (map (λ h. all_retired h.items) c.args.hands.items) c.loop-page.settled.items
+    (ap (map page_at) c.in-Some.ensures.items ∙ map-append page_at c.pop.new.self.items (c.in-Some.page ∷ [])) c.loop-page.invariant in
+    gave-both before (page_at c.in-Some.page) (retired_at c.take_ends-server.result.0) (retired_at c.take_ends-server.result.1) hands (map (λ h. all_retired h.items) c.take_ends-server.new.hands) last c.take_ends-server.ensures
+
+pub settle_page-requires-clause-server : goal.settle_page-requires-clause-server
+settle_page-requires-clause-server c = (gave c).server_gave.same
+
+pub settle_page-requires-clause-client : goal.settle_page-requires-clause-client
+settle_page-requires-clause-client c = (gave c).client_gave.same
+
+pub loop-page-preserved : goal.loop-page-preserved
+loop-page-preserved c =
+    let hands' = map (λ h. all_retired h.items) c.take_ends-server.new.hands in
+    let first = map (λ h. all_retired h.items) c.args.hands.items in
+    let e = c.settle_page.ensures in
+    subst (λ settled. IsSettling c.args.scenario.now (map page_at c.pop.new.self.items) c.args.self hands' first settled) (sym c.in_ok-push.ensures.items)
+    (settles-on c.args.scenario.now (map page_at c.loop-page.pages.items) c.args.self (map page_at c.pop.new.self.items) (page_at c.in-Some.page)
+    (retired_at c.take_ends-server.result.0) (retired_at c.take_ends-server.result.1) c.settle_page.result (map (λ h. all_retired h.items) c.loop-page.left) hands' first c.loop-page.settled.items
+    (ap (map page_at) c.in-Some.ensures.items ∙ map-append page_at c.pop.new.self.items (c.in-Some.page ∷ [])) c.loop-page.invariant c.take_ends-server.ensures
+    (record { place = e.place; orders = e.orders; server_is = e.ends.0; client_is = e.ends.1; settled = e.settled }))
+
+pub returns : goal.returns
+returns c =
+    let left : c.loop-page.pages.items ≡ [] = grind (arith, common_steps, c.pop.ensures.cases, c.pop.ensures.variant, c.in_default.not-Some) in
+    let first = map (λ h. all_retired h.items) c.args.hands.items in
+    let inv = subst (λ pages. IsSettling c.args.scenario.now (map page_at pages) c.args.self (map (λ h. all_retired h.items) c.loop-page.left) first c.loop-page.settled.items) left c.loop-page.invariant in
+    subst (AreSettledBy c.args.scenario.now c.args.self first) (sym c.reverse.ensures.items)
+    (settles-all c.args.scenario.now c.args.self (map (λ h. all_retired h.items) c.loop-page.left) first c.loop-page.settled.items inv)

@@ -1,0 +1,108 @@
+//! The texts of worked reports.
+use crate::{CallLine, CallResult, MixedOutcome, Report, ServedLine, report_text, summary_text};
+use qrexec_frame::{Bytes, Text};
+use scenario_file::{LineCause, LineResult, Scenario, generate, honest_lines};
+use std::alloc::Global;
+use std::test::Fail;
+use vchan_io::Memory;
+
+// The report of a scenario without hostile domains, told by its services alone: it has no pages.
+fn report_of(alloc: Global, scenario: &Scenario) -> Result<Report, Memory> {
+    let mut calls = Vec::new(alloc);
+    for line in honest_lines(alloc, scenario)? {
+        let result = match line.result {
+            LineResult::Refused { cause } => CallResult::Refused { cause },
+            LineResult::Done {
+                code,
+                stdout,
+                stderr,
+            } => CallResult::Done {
+                code,
+                stdout,
+                stderr,
+                page: 0,
+            },
+        };
+        calls.push(CallLine {
+            number: line.number,
+            from: line.from,
+            to: line.to,
+            service: line.service,
+            result,
+        })?;
+    }
+    Ok(Report {
+        calls,
+        served: Vec::new(alloc),
+        pages: Vec::new(alloc),
+    })
+}
+
+fn bytes_of(alloc: Global, text: &[u8]) -> Result<Bytes, Fail> {
+    Ok(Bytes::of(Vec::from_slice(alloc, text)?))
+}
+
+// The line of a call from `work` to `vault`.
+fn call_line(alloc: Global, number: u32, outcome: CallResult) -> Result<CallLine, Fail> {
+    Ok(CallLine {
+        number,
+        from: Text::of(alloc, b"work")?,
+        to: Text::of(alloc, b"vault")?,
+        service: Text::of(alloc, b"upper")?,
+        result: outcome,
+    })
+}
+
+#[test]
+fn generated_calls_have_the_worked_sums(rt: HostRuntime) -> Result<(), Fail> {
+    let alloc = rt.alloc();
+    let scenario = generate(alloc, 7, 2)?;
+    let report = report_of(alloc, &scenario)?;
+    let summary = summary_text(alloc, &scenario, &report)?;
+    let wanted = b"calls 2\ndone 2\nstdin 1641\nstdout 517\nstderr 513\ncodes 0\n";
+    assert!(rt; summary.as_slice() == wanted.as_slice());
+    Ok(())
+}
+
+#[test]
+fn each_kind_of_line_has_its_text(rt: HostRuntime) -> Result<(), Fail> {
+    let alloc = rt.alloc();
+    let done = CallResult::Done {
+        code: -1,
+        stdout: bytes_of(alloc, b"OK")?,
+        stderr: bytes_of(alloc, b"")?,
+        page: 3,
+    };
+    let refused = CallResult::Refused {
+        cause: LineCause::SameDomain,
+    };
+    let mixed = CallResult::Mixed {
+        outcome: MixedOutcome::Done { code: 7 },
+        got: bytes_of(alloc, b"\x00\xff")?,
+    };
+    let mut calls = Vec::new(alloc);
+    calls.push(call_line(alloc, 1, done)?)?;
+    calls.push(call_line(alloc, 20, refused)?)?;
+    calls.push(call_line(alloc, 300, mixed)?)?;
+    let mut served = Vec::new(alloc);
+    served.push(ServedLine {
+        from: Text::of(alloc, b"evil")?,
+        to: Text::of(alloc, b"work")?,
+        port: 514,
+        outcome: MixedOutcome::Gone,
+        got: bytes_of(alloc, b"")?,
+    })?;
+    let report = Report {
+        calls,
+        served,
+        pages: Vec::new(alloc),
+    };
+    let wanted = "call 1 work vault upper done -1 4f4b -\n\
+        call 20 work vault upper refused same-domain\n\
+        call 300 work vault upper mixed done:7 00ff\n\
+        served evil work 514 gone -\n\
+        calls 3\n";
+    let text = report_text(alloc, &report)?;
+    assert!(rt; text.as_slice() == wanted.as_bytes());
+    Ok(())
+}

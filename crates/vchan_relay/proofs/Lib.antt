@@ -1,0 +1,2 @@
+pub mod HopLaws
+pub mod RelayLaws
