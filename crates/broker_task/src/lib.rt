@@ -1,9 +1,9 @@
-//! The task of the broker of calls: it reads the control channels of all domains, lets calls through,
-//! and says to each domain what was decided.
+//! Parts of the task of the broker of calls: what it keeps for each domain, how what a domain has said is
+//! decided, and how what follows is put where it waits to be said.
 //!
-//! It serves whoever runs the broker beside the agents of the domains. In Qubes OS `qrexec-daemon` and
-//! `qrexec-policy-daemon` do this, one `qrexec-daemon` for each domain; docs/TASKS.md says what is
-//! theirs and what is this project's own.
+//! In Qubes OS `qrexec-daemon` and `qrexec-policy-daemon` do this, one `qrexec-daemon` for each domain;
+//! docs/TASKS.md says what is theirs and what is this project's own. The task that takes turns over these
+//! parts isn't there yet, so nothing here is public.
 #![tactic(auto)]
 
 mod daemon;
