@@ -75,12 +75,12 @@ read-other journal e d domain is apart = read-more journal e d ∙ ap (λ b. rea
 
 -- ---- what was read, by another state of the same port
 
-read-port : (x y : Daemon) (events : List Event) → y.port ≡ x.port → y.domain ≡ x.domain → HasRead x events → HasRead y events
+pub read-port : (x y : Daemon) (events : List Event) → y.port ≡ x.port → y.domain ≡ x.domain → HasRead x events → HasRead y events
 read-port x y events port domain h =
     read-still x y events domain (ap (λ (q : PortState). (view q.end).got) port) (ap (λ (q : PortState). is_shut (view q.end).state) port) (ap (λ (q : PortState). q.fault) port)
     (λ heard g. subst (λ (q : PortState). HasHeard q heard) (sym port) g) h
 
-reads-port : (x y : Daemon) (events : List Event) → y.port ≡ x.port → y.domain ≡ x.domain → ReadsOn x events → ReadsOn y events
+pub reads-port : (x y : Daemon) (events : List Event) → y.port ≡ x.port → y.domain ≡ x.domain → ReadsOn x events → ReadsOn y events
 reads-port x y events port domain h = record {
   heard = h.heard;
   hears_them = subst (λ (q : PortState). HasHeard q h.heard) (sym port) h.hears_them;
@@ -121,7 +121,7 @@ left-at [] i x at = absurd (omega (arith, at.within))
 left-at (y ∷ ds) zero x at = ap (λ (z : Daemon). length z.port.decoder.left) (sym at.is)
 left-at (y ∷ ds) (suc i) x at = left-at ds i x (record { within = omega (arith, at.within); is = at.is })
 
-item-at : (ds : List Daemon) (i : ℕ) → i < length ds → (z : Daemon) × IsAt ds i z
+pub item-at : (ds : List Daemon) (i : ℕ) → i < length ds → (z : Daemon) × IsAt ds i z
 item-at [] i less = absurd (omega (arith, less))
 item-at (x ∷ ds) zero less = (x, record { within = omega arith; is = refl })
 item-at (x ∷ ds) (suc i) less = let z = item-at ds i (omega (arith, less)) in (z.0, record { within = omega (arith, z.1.within); is = z.1.is })

@@ -6,3 +6,4 @@ pub mod ReplyLaws
 pub mod PostingLaws
 pub mod HearingSteps
 pub mod SendingSteps
+pub mod ReleaseSteps

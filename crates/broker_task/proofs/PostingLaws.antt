@@ -155,7 +155,7 @@ posted-more hub journal said e room d x y p h =
       dropped = none-dropped d journal e room ∙ h.dropped ∙ sym gone;
     }
 
-line-same : (d : ℕ) (x y : Daemon) → y.port ≡ x.port → y.domain ≡ x.domain → IsLine d x → IsLine d y
+pub line-same : (d : ℕ) (x y : Daemon) → y.port ≡ x.port → y.domain ≡ x.domain → IsLine d x → IsLine d y
 line-same d x y port domain h = record {
   number = domain ∙ h.number;
   talker = ap (λ (q : PortState). q.talker) port ∙ h.talker;

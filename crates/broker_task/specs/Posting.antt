@@ -1,6 +1,6 @@
 -- The outboxes of all domains beside the broker's journal: what was said, what waits, and what was given up.
 -- Source: this project's own.
-use Rattle.std.specs.Prelude.{◌≡◌, ◌≢◌, ◌⊎◌, ℕ, ◌+◌, ◌≤◌, Bool, true, false, List, [], ◌∷◌, ◌++◌, length, Contains, IsPermutation, if◌then◌else◌}
+use Rattle.std.specs.Prelude.{◌≡◌, ◌≢◌, ◌⊎◌, ℕ, zero, suc, ◌+◌, ◌≤◌, Bool, true, false, List, [], ◌∷◌, ◌++◌, length, Contains, IsPermutation, if◌then◌else◌}
 use Rattle.qrexec_frame.specs.declared.message.Message.{Message}
 use Rattle.qrexec_frame.specs.declared.message.Message.TheVariants.{Exec, Connect}
 use Rattle.qrexec_frame.specs.Streams.{Each}
@@ -12,8 +12,9 @@ use Rattle.task_duties.specs.Broker.Outbox.{outbox, puts, answered, is_answer, r
 use Rattle.broker_task.specs.declared.letter.Letter.{Letter}
 use Rattle.broker_task.specs.declared.daemon.Daemon.{Daemon}
 use Rattle.broker_task.specs.Letters.{IsAt, messages_in}
-use Rattle.broker_task.specs.Lines.{is_gone, IsLine, ReadsOn, HasRead, HasReadAll}
-use Rattle.broker_task.specs.Replies.{IsFit}
+use Rattle.vchan_rule.specs.Seated.{IsOpen}
+use Rattle.broker_task.specs.Lines.{end_of, is_gone, IsLine, ReadsOn, HasRead, HasReadAll}
+use Rattle.broker_task.specs.Replies.{IsFit, NamesDomain}
 
 -- ---- all domains in turn
 
@@ -110,3 +111,30 @@ pub record IsHearing (domain : ℕ) (journal : List Entry) (ds : List Daemon) : 
 pub record HasHeardOut (domain : ℕ) (journal : List Entry) (ds : List Daemon) : Type 0 where
   pub others : EachAt (λ d x. d ≢ domain → HasRead x (read_from journal d)) ds
   pub own : EachAt (λ d x. d ≡ domain → HasReadAll x (read_from journal d)) ds
+
+-- ---- between two turns
+
+-- what was read of each domain was decided
+abbrev pub HaveRead : List Entry → List Daemon → Type 0
+HaveRead journal ds = EachAt (λ d x. HasRead x (read_from journal d)) ds
+
+-- all ends are between two calls, and so can be retired
+abbrev pub AreIdle : List Daemon → Type 0
+AreIdle ds = EachAt (λ d x. (end_of x).idle ≡ true) ds
+
+-- how many letters wait for the domain at this place
+abbrev pub waiting_in : List Daemon → ℕ → ℕ
+waiting_in [] i = 0
+waiting_in (x ∷ ds) zero = length x.outbox.letters.items
+waiting_in (x ∷ ds) (suc i) = waiting_in ds i
+
+-- ---- one domain that is said to
+
+pub record IsSending (hub : Domains) (domain : ℕ) (journal : List Entry) (ds : List Daemon) : Type 0 where
+  pub posting : IsPosting hub journal ds
+  pub read : HaveRead journal ds
+  pub opened : EachAt (λ d x. d ≡ domain → IsOpen x.port.end) ds
+
+-- this message has gone to the domain
+abbrev pub HasGone : Domains → ℕ → List Entry → List Daemon → Message → Type 0
+HasGone hub domain journal ds m = (p : IsSending hub domain journal ds) × Contains (p.posting.said domain) m × NamesDomain hub m

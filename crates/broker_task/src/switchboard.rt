@@ -1,5 +1,5 @@
 //! The broker with all its domains.
-ghost use Rattle.std.specs.Prelude.{◌≡◌, ◌≢◌, ℕ, ◌+◌, ◌-◌, ◌<◌, ◌≤◌, ◌++◌, ◌∷◌, List, [], length, true, false, OnOk, IfOk};
+ghost use Rattle.std.specs.Prelude.{◌≡◌, ◌≢◌, ℕ, ◌+◌, ◌-◌, ◌<◌, ◌≤◌, ◌++◌, ◌∷◌, List, [], length, true, false, Ok, OnOk, IfOk};
 ghost use Rattle.call_broker.specs.declared.decision.Entry.{Entry as Kept};
 ghost use Rattle.call_broker.specs.declared.event.Event.{Event as Told};
 ghost use Rattle.call_broker.specs.declared.decision.Decision.{Decision as Decided};
@@ -8,14 +8,15 @@ ghost use Rattle.task_duties.specs.Broker.Outbox.{is_from};
 ghost use Rattle.broker_task.specs.declared.daemon.Daemon.{Daemon as Attended};
 ghost use Rattle.broker_task.specs.Letters.{IsAt};
 ghost use Rattle.broker_task.specs.Replies.{IsReplyTo, IsWithin, AreFit, HasShortNames};
-ghost use Rattle.broker_task.specs.Posting.{EachMoves, Posts, SamePort, IsPosting, IsHearing, HasHeardOut};
-ghost use Rattle.broker_task.specs.Lines.{HasRoom};
+ghost use Rattle.broker_task.specs.Posting.{EachMoves, Posts, SamePort, IsPosting, IsHearing, HasHeardOut, IsSending, HasGone, AreIdle, waiting_in};
+ghost use Rattle.broker_task.specs.Lines.{HasRoom, IsSameDaemon};
 ghost use Rattle.call_broker.specs.Pair.{decision};
 ghost use Rattle.call_broker.specs.Journal.{events};
 
 use crate::daemon::Daemon;
 use crate::reply::{Reply, reply_to};
 use call_broker::{Broker, Event};
+use qrexec_frame::Message;
 use vchan_io::Memory;
 
 /// The broker with what it has for each domain, in the order of their numbers.
@@ -42,6 +43,58 @@ impl<'p> Switchboard<'p> {
             self.decide(domain, event)?;
         }
         Ok(())
+    }
+
+    // Says to a domain what waits for it, as far as it may go and has room.
+    fn send(&mut self, domain: u32) -> Result<(), Memory>
+        requires number { is_domain self.old.broker.hub domain ≡ true }
+        requires sending { IsSending self.old.broker.hub domain self.old.broker.journal self.old.daemons.items }
+        ensures broker { self.new.broker ≡ self.old.broker }
+        ensures idle { AreIdle self.new.daemons.items }
+        ensures sending { OnOk result (IsSending self.new.broker.hub domain self.new.broker.journal self.new.daemons.items) }
+        ensures same { OnOk result (EachMoves (λ d. IsSameDaemon) self.old.daemons.items self.new.daemons.items) }
+    {
+        'letters: while self.send_one(domain)? {}
+        Ok(())
+    }
+
+    // Says one message to a domain. It answers whether one has gone.
+    fn send_one(&mut self, domain: u32) -> Result<bool, Memory>
+        requires number { is_domain self.old.broker.hub domain ≡ true }
+        requires sending { IsSending self.old.broker.hub domain self.old.broker.journal self.old.daemons.items }
+        ensures broker { self.new.broker ≡ self.old.broker }
+        ensures idle { AreIdle self.new.daemons.items }
+        ensures sending { OnOk result (IsSending self.new.broker.hub domain self.new.broker.journal self.new.daemons.items) }
+        ensures same { OnOk result (EachMoves (λ d. IsSameDaemon) self.old.daemons.items self.new.daemons.items) }
+        ensures fewer { result ≡ Ok true → waiting_in self.new.daemons.items (domain - 1) < waiting_in self.old.daemons.items (domain - 1) }
+    {
+        match self.daemons[domain as usize - 1].send()? {
+            Some(message) => {
+                self.let_go(domain, &message);
+                Ok(true)
+            }
+            None => Ok(false),
+        }
+    }
+
+    // Where an Exec has gone to a domain, the Connect of its call may go.
+    fn let_go(&mut self, domain: u32, gone: &Message)
+        requires { HasGone self.old.broker.hub domain self.old.broker.journal self.old.daemons.items gone.now }
+        ensures broker { self.new.broker ≡ self.old.broker }
+        ensures sending { IsSending self.old.broker.hub domain self.old.broker.journal self.new.daemons.items }
+        ensures same { EachMoves (λ d. IsSameDaemon) self.old.daemons.items self.new.daemons.items }
+        ensures waiting { (i : ℕ) → i < length self.old.daemons.items → waiting_in self.new.daemons.items i ≡ waiting_in self.old.daemons.items i }
+    {
+        match gone {
+            Message::Exec {
+                domain: caller,
+                port,
+                ..
+            } => self.daemons[*caller as usize - 1]
+                .outbox
+                .release_call(domain, *port),
+            _ => {}
+        }
     }
 
     // Decides an event of a domain, and puts what follows into the outboxes.
