@@ -1,0 +1,146 @@
+-- What was read from a domain and said to it, through the calls of its port.
+use Rattle.std.proofs.Common.{◌≡◌, ℕ, ◌≤◌, List, [], ◌∷◌, ◌++◌, length, refl, sym, ap, ◌∙◌, subst, arith, Option, Some, None, true, false, Bool}
+use Rattle.std.specs.Prelude.{filter_map, IsSome, ◌==◌}
+use Rattle.std.proofs.lemmas.Bool.Decides.{nat_tests}
+use Rattle.std.proofs.lemmas.List.Elements.{filter_map-append}
+use Rattle.qrexec_frame.specs.declared.message.Message.{Message}
+use Rattle.qrexec_frame.specs.declared.message.Message.TheVariants.{Hello, Exec, JustExec, Connect, Refused, Terminated, Trigger3, Trigger, Stdin, Stdout, Stderr, ExitCode}
+use Rattle.qrexec_frame.specs.Messages.{IsSpellable}
+use Rattle.qrexec_frame.specs.Texts.{FitsText}
+use Rattle.qrexec_frame.specs.Streams.{Each}
+use Rattle.vchan_rule.specs.Seated.{SeatedEnd, view}
+use Rattle.end_view.specs.EndView.{EndView}
+use Rattle.vchan_packet.specs.Packet.{sent_to}
+use Rattle.vchan_packet.specs.declared.SendAnswer.{SendAnswer}
+use Rattle.vchan_packet.specs.declared.SendAnswer.TheVariants.{Sent, NoRoom, PeerClosed}
+use Rattle.call_broker.specs.declared.event.Event.{Event}
+use Rattle.control_port.specs.declared.talk.Talker.{Talker}
+use Rattle.control_port.specs.declared.talk.Talker.TheVariants.{Broker}
+use Rattle.control_port.specs.Talking.{may_say, may_hear}
+use Rattle.control_port.specs.Port.{PortState, SentWhole, HasSaid, HasHeard, HasHeardAll, Hands, OnlyHears, OnlySends}
+use Rattle.task_duties.specs.Hearing.{to_broker, hears}
+use Rattle.task_duties.specs.Broker.Outbox.{event_of, is_from}
+use Rattle.task_duties.specs.Broker.Owes.{broker_version}
+use Rattle.broker_task.specs.declared.daemon.Daemon.{Daemon}
+use Rattle.broker_task.specs.Lines.{end_of, is_shut, is_gone, ReadsOn, HasRead, HasReadAll, HandsOut, HasRoom}
+
+-- ---- what a port has said stands while it hears
+
+pub said-hearing : (old new : PortState) (said : List Message) → OnlyHears old new → HasSaid old said → HasSaid new said
+said-hearing old new said only h = record {
+  each = subst (λ (t : Talker). Each (λ m. (may_say t m ≡ true) × IsSpellable m) said) (sym only.1) h.each;
+  whole =
+      let by_end = subst (λ (e : SeatedEnd). SentWhole old.greeted old.own said (view e).sent) (sym only.0) h.whole in
+      let by_own = subst (λ o. SentWhole old.greeted o said (view new.end).sent) (sym only.2) by_end in
+      subst (λ g. SentWhole g new.own said (view new.end).sent) (sym only.3) by_own;
+}
+
+-- ---- the event that a message is
+
+IsFromIf : ℕ → Option Event → Type 0
+IsFromIf d None = Unit {0}
+IsFromIf d (Some e) = is_from d e ≡ true
+
+pub event-from : (d : ℕ) (m : Message) (e : Event) → Some e ≡ event_of d m → is_from d e ≡ true
+unfolding IsFromIf
+event-from d (Trigger3 t i s) e is = let self : (d == d) ≡ true = grind (arith, nat_tests) in subst (IsFromIf d) (sym is) self
+event-from d (Trigger t i s) e is = let self : (d == d) ≡ true = grind (arith, nat_tests) in subst (IsFromIf d) (sym is) self
+event-from d (Terminated o p) e is = let self : (d == d) ≡ true = grind (arith, nat_tests) in subst (IsFromIf d) (sym is) self
+event-from d (Hello v) e is = cc
+event-from d (Exec x p l) e is = cc
+event-from d (JustExec x p l) e is = cc
+event-from d (Connect x p i) e is = cc
+event-from d (Refused i) e is = cc
+event-from d (Stdin b) e is = cc
+event-from d (Stdout b) e is = cc
+event-from d (Stderr b) e is = cc
+event-from d (ExitCode c) e is = cc
+
+HasRoomIf : Option Event → Type 0
+HasRoomIf None = Unit {0}
+HasRoomIf (Some e) = HasRoom e
+
+wider : (a b : ℕ) (text : List ℕ) → a ≤ b → FitsText a text → FitsText b text
+wider a b text less fits = record { within = omega (arith, fits.within, less); no_nul = fits.no_nul }
+
+pub event-room : (d : ℕ) (m : Message) (e : Event) → Some e ≡ event_of d m → IsSpellable m → HasRoom e
+unfolding HasRoomIf
+event-room d (Trigger3 t i s) e is fits = subst HasRoomIf (sym is) (fits.0.1, fits.0.2)
+event-room d (Trigger t i s) e is fits = subst HasRoomIf (sym is) (fits.0.1, wider 63 65439 s (omega arith) fits.0.2)
+event-room d (Terminated o p) e is fits = subst HasRoomIf (sym is) tt
+event-room d (Hello v) e is fits = cc
+event-room d (Exec x p l) e is fits = cc
+event-room d (JustExec x p l) e is fits = cc
+event-room d (Connect x p i) e is fits = cc
+event-room d (Refused i) e is fits = cc
+event-room d (Stdin b) e is fits = cc
+event-room d (Stdout b) e is fits = cc
+event-room d (Stderr b) e is fits = cc
+event-room d (ExitCode c) e is fits = cc
+
+-- ---- what is handed out
+
+filter_map-more : {A B : Type 0} (f : A → Option B) (xs : List A) (x : A) (y : B) → Some y ≡ f x → filter_map f xs ++ y ∷ [] ≡ filter_map f (xs ++ x ∷ [])
+filter_map-more {A} {B} f xs x y is = sym (filter_map-append f xs (x ∷ []) ∙ ap (λ r. filter_map f xs ++ r) (one (f x) is))
+  where
+    one : (o : Option B) → Some y ≡ f x → filter_map f (x ∷ []) ≡ y ∷ []
+    one o is' = rw (← is') refl
+
+pub hands-event : (old new : Daemon) (events : List Event) (m : Message) (e : Event) → new.domain ≡ old.domain → ReadsOn old events → ((heard : List Message) → HasHeard old.port heard → Hands new.port heard (Some m))
+    → Some e ≡ event_of old.domain m → IsSpellable m → HandsOut new events (Some e)
+hands-event old new events m e same reads hands is fits =
+    let h = hands reads.heard reads.hears_them in
+    let is_new : Some e ≡ event_of new.domain m = is ∙ ap (λ d. event_of d m) (sym same) in (
+      record {
+        heard = reads.heard ++ m ∷ [];
+        hears_them = h.0;
+        are = ap (λ es. es ++ e ∷ []) (reads.are ∙ ap (λ d. filter_map (event_of d) reads.heard) (sym same)) ∙ filter_map-more (event_of new.domain) reads.heard m e is_new;
+        fine = h.3;
+      },
+      event-from new.domain m e is_new,
+      event-room new.domain m e is_new fits,
+    )
+
+pub hands-none : (old new : Daemon) (events : List Event) → new.domain ≡ old.domain → new.port.talker ≡ Broker → new.port.own ≡ broker_version → ReadsOn old events → ((heard : List Message) → HasHeard old.port heard → Hands new.port heard None)
+    → HandsOut new events None
+hands-none old new events same talker own reads hands =
+    let h = hands reads.heard reads.hears_them in
+    let are : events ≡ filter_map (event_of new.domain) reads.heard = reads.are ∙ ap (λ d. filter_map (event_of d) reads.heard) (sym same) in
+    record {
+      all =
+          ap (λ (o : ℕ). filter_map (event_of new.domain) (hears o to_broker (view new.port.end).got).messages) (sym own)
+          ∙ ap (λ (t : Talker). filter_map (event_of new.domain) (hears new.port.own (may_hear t) (view new.port.end).got).messages) (sym talker)
+          ∙ ap (λ r. filter_map (event_of new.domain) r.messages) h.0 ∙ sym are;
+      on = λ none. record { heard = reads.heard; hears_them = h.1 none; are = are; fine = none };
+    }
+
+-- ---- what was read stands while a port sends
+
+pub read-still : (old new : Daemon) (events : List Event) → new.domain ≡ old.domain → (end_of new).got ≡ (end_of old).got → is_gone new ≡ is_gone old → new.port.fault ≡ old.port.fault
+    → ((heard : List Message) → HasHeard old.port heard → HasHeard new.port heard) → HasRead old events → HasRead new events
+read-still old new events domain got gone fault hears_on h = record {
+  all = ap (λ (d : ℕ). filter_map (event_of d) (hears broker_version to_broker (end_of new).got).messages) domain ∙ ap (λ (g : List ℕ). filter_map (event_of old.domain) (hears broker_version to_broker g).messages) got ∙ h.all;
+  on = λ up. let o = h.on (sym gone ∙ up) in record {
+    heard = o.heard;
+    hears_them = hears_on o.heard o.hears_them;
+    are = o.are ∙ ap (λ d. filter_map (event_of d) o.heard) (sym domain);
+    fine = fault ∙ o.fine;
+  };
+}
+
+pub sent-got : (e : EndView) (answer : SendAnswer) (payload : List ℕ) → (sent_to e answer payload).got ≡ e.got
+sent-got e Sent payload = refl
+sent-got e (NoRoom prod cons) payload = refl
+sent-got e PeerClosed payload = refl
+
+pub sent-state : (e : EndView) (answer : SendAnswer) (payload : List ℕ) → (sent_to e answer payload).state ≡ e.state
+sent-state e Sent payload = refl
+sent-state e (NoRoom prod cons) payload = refl
+sent-state e PeerClosed payload = refl
+
+-- a port that has sent, or has found no room
+pub read-sending : (old new : Daemon) (events : List Event) (answer : SendAnswer) (payload : List ℕ) → new.domain ≡ old.domain → OnlySends old.port new.port → end_of new ≡ sent_to (end_of old) answer payload
+    → ((heard : List Message) → HasHeard old.port heard → HasHeard new.port heard) → HasRead old events → HasRead new events
+read-sending old new events answer payload domain only is hears_on h =
+    read-still old new events domain (ap (λ (e : EndView). e.got) is ∙ sent-got (end_of old) answer payload) (ap (λ (e : EndView). is_shut e.state) is ∙ ap is_shut (sent-state (end_of old) answer payload))
+    (ap (λ (p : PortState). p.fault) only) hears_on h

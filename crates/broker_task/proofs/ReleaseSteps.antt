@@ -1,0 +1,218 @@
+-- The Connects that may go behind a message that has gone.
+use Rattle.std.proofs.Common.{◌≡◌, ◌≢◌, ℕ, ◌+◌, ◌-◌, ◌<◌, ◌≤◌, Bool, true, false, List, [], ◌∷◌, ◌++◌, length, map, get_or, refl, sym, ap, ◌∙◌, subst, arith, suc, zero, Option, Some, None, ◌⊎◌, inl, inr}
+use Rattle.std.specs.Prelude.{◌==◌, ◌&&◌, Contains, IsPermutation, if◌then◌else◌}
+use Rattle.std.proofs.Math.ListN.{set}
+use Rattle.std.specs.List.{remove}
+use Rattle.std.proofs.lemmas.List.{length-set, get_or-set_same, length-map}
+use Rattle.std.proofs.lemmas.Bool.Decides.{nat_tests}
+use Rattle.qrexec_frame.specs.declared.message.Message.{Message}
+use Rattle.qrexec_frame.specs.declared.message.Message.TheVariants.{Hello, Exec, JustExec, Connect, Refused, Terminated, Trigger3, Trigger, Stdin, Stdout, Stderr, ExitCode}
+use Rattle.qrexec_frame.specs.Streams.{Each}
+use Rattle.call_broker.specs.declared.decision.Entry.{Entry}
+use Rattle.call_broker.specs.declared.event.Event.{Event}
+use Rattle.vchan_rule.specs.Seated.{SeatedEnd, view, IsOpen}
+use Rattle.control_port.specs.Port.{PortState, HasSaid, HasHeard}
+use Rattle.call_broker.specs.Domains.{Domains}
+use Rattle.call_broker.proofs.OpenLaws.{both}
+use Rattle.task_duties.specs.Broker.Outbox.{outbox, read_from}
+use Rattle.broker_task.specs.declared.letter.Letter.{Letter}
+use Rattle.broker_task.specs.declared.daemon.Daemon.{Daemon}
+use Rattle.broker_task.specs.Letters.{IsAt, messages_in, connects, is_meant, released}
+use Rattle.broker_task.specs.Lines.{end_of, is_shut, is_gone, first_view, IsLine, HasRead, SendsOne, IsSameDaemon}
+use Rattle.broker_task.specs.Posting.{EachAt, EachMoves, MayGo, IsLetter, HasPosted, IsPosting, HaveRead, IsSending, MovesPort, AreIdle, waiting_in}
+use Rattle.broker_task.proofs.PostLaws.{moves-one, moves-then, each-moved, same-number}
+use Rattle.broker_task.proofs.PostingLaws.{line-same}
+use Rattle.broker_task.proofs.HearingSteps.{posting-next, read-port, item-at}
+use Rattle.broker_task.proofs.SendingSteps.{Sends, Alone, each-alone, moves-alone, is-up}
+
+abbrev let_go_if : Bool → Letter → Letter
+let_go_if b l = if b then record l { held = false } else l
+
+-- a release moves no message
+released-message : (t : ℕ) (meant : Option ℕ) (l : Letter) → (released t meant l).message ≡ l.message
+released-message t meant l = by_test (connects t meant l.message)
+  where
+    by_test : (b : Bool) → (let_go_if b l).message ≡ l.message
+    by_test true = refl
+    by_test false = refl
+
+pub released-messages : (t : ℕ) (meant : Option ℕ) (letters : List Letter) → messages_in (map (released t meant) letters) ≡ messages_in letters
+released-messages t meant [] = refl
+released-messages t meant (l ∷ letters) = ap (λ m. m ∷ messages_in (map (released t meant) letters)) (released-message t meant l) ∙ ap (λ r. l.message ∷ r) (released-messages t meant letters)
+
+-- and lets go only what may
+letter-released : (hub : Domains) (journal : List Entry) (said : ℕ → List Message) (d t : ℕ) (meant : Option ℕ) (l : Letter) → ((m : Message) → connects t meant m ≡ true → MayGo journal said d m)
+    → IsLetter hub journal said d l → IsLetter hub journal said d (released t meant l)
+letter-released hub journal said d t meant l go is = by_test (connects t meant l.message) refl
+  where
+    by_test : (b : Bool) → connects t meant l.message ≡ b → IsLetter hub journal said d (let_go_if b l)
+    by_test true h = record { fits = is.fits; may = λ free. go l.message h }
+    by_test false h = is
+
+pub letters-released : (hub : Domains) (journal : List Entry) (said : ℕ → List Message) (d t : ℕ) (meant : Option ℕ) (letters : List Letter) → ((m : Message) → connects t meant m ≡ true → MayGo journal said d m)
+    → Each (IsLetter hub journal said d) letters → Each (IsLetter hub journal said d) (map (released t meant) letters)
+letters-released hub journal said d t meant [] go each = tt
+letters-released hub journal said d t meant (l ∷ letters) go each = (letter-released hub journal said d t meant l go each.0, letters-released hub journal said d t meant letters go each.1)
+
+-- the Connect of a call may go once its Exec was said
+pub goes-after-exec : (journal : List Entry) (said : ℕ → List Message) (f t port : ℕ) (line : List ℕ) → Contains (said t) (Exec f port line) → (m : Message) → connects t (Some port) m ≡ true → MayGo journal said f m
+goes-after-exec journal said f t port line there (Connect to q ident) h =
+    let tests = both (to == t) (q == port) h in
+    let same_port : port ≡ q = sym (same-number q port tests.1) in
+    let same_to : t ≡ to = sym (same-number to t tests.0) in
+    inr (line, subst (λ (k : ℕ). Contains (said k) (Exec f q line)) same_to (subst (λ (k : ℕ). Contains (said t) (Exec f k line)) same_port there))
+goes-after-exec journal said f t port line there (Hello v) h = tt
+goes-after-exec journal said f t port line there (Exec x p l) h = tt
+goes-after-exec journal said f t port line there (JustExec x p l) h = tt
+goes-after-exec journal said f t port line there (Refused i) h = tt
+goes-after-exec journal said f t port line there (Terminated x p) h = tt
+goes-after-exec journal said f t port line there (Trigger3 x i s) h = tt
+goes-after-exec journal said f t port line there (Trigger x i s) h = tt
+goes-after-exec journal said f t port line there (Stdin b) h = tt
+goes-after-exec journal said f t port line there (Stdout b) h = tt
+goes-after-exec journal said f t port line there (Stderr b) h = tt
+goes-after-exec journal said f t port line there (ExitCode c) h = tt
+
+-- the letters of a domain after a release
+pub posted-released : (hub : Domains) (journal : List Entry) (said : ℕ → List Message) (d t : ℕ) (meant : Option ℕ) (x : Daemon) (letters : List Letter) → ((m : Message) → connects t meant m ≡ true → MayGo journal said d m)
+    → letters ≡ map (released t meant) x.outbox.letters.items → HasPosted hub journal said d x → Each (IsLetter hub journal said d) letters × (messages_in letters ≡ messages_in x.outbox.letters.items)
+posted-released hub journal said d t meant x letters go is h =
+    (
+      subst (λ (l : List Letter). Each (IsLetter hub journal said d) l) (sym is) (letters-released hub journal said d t meant x.outbox.letters.items go h.letters),
+      ap (λ (l : List Letter). messages_in l) is ∙ released-messages t meant x.outbox.letters.items,
+    )
+
+-- only some letters of a domain may go now
+pub record LetsGo (t : ℕ) (meant : Option ℕ) (x y : Daemon) : Type 0 where
+  pub port : y.port ≡ x.port
+  pub domain : y.domain ≡ x.domain
+  pub awaited : y.awaited ≡ x.awaited
+  pub counted : y.answered ≡ x.answered
+  pub letters : y.outbox.letters.items ≡ map (released t meant) x.outbox.letters.items
+
+pub posted-let-go : (hub : Domains) (journal : List Entry) (said : ℕ → List Message) (d t : ℕ) (meant : Option ℕ) (x y : Daemon) → ((m : Message) → connects t meant m ≡ true → MayGo journal said d m)
+    → LetsGo t meant x y → HasPosted hub journal said d x → HasPosted hub journal said d y
+posted-let-go hub journal said d t meant x y go lets h =
+    let gone : is_gone y ≡ is_gone x = ap (λ (q : PortState). is_shut (view q.end).state) lets.port in
+    let after = posted-released hub journal said d t meant x y.outbox.letters.items go lets.letters h in
+    record {
+      says = subst (λ (q : PortState). HasSaid q (said d)) (sym lets.port) h.says;
+      lost = h.lost;
+      kept = subst (λ w. IsPermutation (said d ++ (w ++ h.lost)) (outbox hub journal d)) (sym after.1) h.kept;
+      none_lost = λ up. h.none_lost (sym gone ∙ up);
+      letters = after.0;
+      went = h.went;
+      counted = lets.counted ∙ h.counted;
+      dropped = h.dropped ∙ sym gone;
+    }
+
+pub same-let-go : (t : ℕ) (meant : Option ℕ) (x y : Daemon) → LetsGo t meant x y → IsSameDaemon x y
+same-let-go t meant x y lets = record { domain = lets.domain; awaited = lets.awaited; given = ap (λ (q : PortState). first_view (view q.end)) lets.port }
+
+pub sending-released : (hub : Domains) (journal : List Entry) (domain f t port : ℕ) (line : List ℕ) (old new : List Daemon) → EachMoves (Alone f (LetsGo t (Some port))) old new → (p : IsSending hub domain journal old)
+    → Contains (p.posting.said t) (Exec f port line) → IsSending hub domain journal new
+sending-released hub journal domain f t port line old new moves p there = record {
+  posting = record {
+    count = moves.count ∙ p.posting.count;
+    decided = p.posting.decided;
+    numbered = p.posting.numbered;
+    lines = each-alone f (LetsGo t (Some port)) IsLine IsLine old new moves (λ d x y same lets line. line-same d x y lets.port lets.domain line) (λ d x apart line. line) p.posting.lines;
+    said = p.posting.said;
+    posted =
+        each-alone f (LetsGo t (Some port)) (HasPosted hub journal p.posting.said) (HasPosted hub journal p.posting.said) old new moves
+        (λ d x y same lets h.
+        posted-let-go hub journal p.posting.said d t (Some port) x y (subst (λ (k : ℕ). (m : Message) → connects t (Some port) m ≡ true → MayGo journal p.posting.said k m) (sym same) (goes-after-exec journal p.posting.said f t port line there))
+        lets h)
+        (λ d x apart h. h) p.posting.posted;
+  };
+  read =
+      each-alone f (LetsGo t (Some port)) (λ d x. HasRead x (read_from journal d)) (λ d x. HasRead x (read_from journal d)) old new moves
+      (λ d x y same lets h. read-port x y (read_from journal d) lets.port lets.domain h) (λ d x apart h. h) p.read;
+  opened =
+      each-alone f (LetsGo t (Some port)) (λ d x. d ≡ domain → IsOpen x.port.end) (λ d x. d ≡ domain → IsOpen x.port.end) old new moves
+      (λ d x y same lets h here. subst (λ (q : PortState). IsOpen q.end) (sym lets.port) (h here)) (λ d x apart h. h) p.opened;
+}
+
+-- ---- how many wait
+
+pub waiting-at : (ds : List Daemon) (i : ℕ) (x : Daemon) → IsAt ds i x → waiting_in ds i ≡ length x.outbox.letters.items
+waiting-at [] i x at = absurd (omega (arith, at.within))
+waiting-at (y ∷ ds) zero x at = ap (λ (z : Daemon). length z.outbox.letters.items) (sym at.is)
+waiting-at (y ∷ ds) (suc i) x at = waiting-at ds i x (record { within = omega (arith, at.within); is = at.is })
+
+pub fewer-out : (letters : List Letter) (at : ℕ) (l : Letter) → IsAt letters at l → length (remove letters at) < length letters
+fewer-out [] at l there = absurd (omega (arith, there.within))
+fewer-out (x ∷ letters) zero l there = omega arith
+fewer-out (x ∷ letters) (suc at) l there = omega (arith, fewer-out letters at l (record { within = omega (arith, there.within); is = there.is }))
+
+-- one letter fewer waits for the domain that was said to
+pub waiting-sent : (hub : Domains) (journal : List Entry) (domain : ℕ) (m : Message) (ds : List Daemon) (i : ℕ) (x y : Daemon) → IsAt ds i x → Sends m x y → IsSending hub domain journal ds → waiting_in (set ds i y) i < waiting_in ds i
+waiting-sent hub journal domain m ds i x y there s p =
+    let h = p.posting.posted i x there in
+    let one = s.sends (p.posting.said (i + 1)) h.says in
+    let here : IsAt (set ds i y) i y = record { within = omega (arith, there.within, length-set ds i y); is = sym (get_or-set_same ds i y y there.within) } in
+    let rest : length y.outbox.letters.items ≡ length (remove x.outbox.letters.items one.0) = ap (λ (l : List Letter). length l) one.5 in
+    let less = fewer-out x.outbox.letters.items one.0 one.1 one.2 in
+    omega (arith, waiting-at (set ds i y) i y here, waiting-at ds i x there, rest, less)
+
+-- a release leaves as many
+pub waiting-released : (t : ℕ) (meant : Option ℕ) (f : ℕ) (old new : List Daemon) (i : ℕ) → i < length old → EachMoves (Alone f (LetsGo t meant)) old new → waiting_in new i ≡ waiting_in old i
+waiting-released t meant f old new i less moves =
+    let z = item-at new i (omega (arith, less, moves.count)) in
+    let m = moves.each i z.0 z.1 in
+    waiting-at new i z.0 z.1 ∙ by_test m.0 z.0 m.2 (i + 1 == f) refl ∙ sym (waiting-at old i m.0 m.1)
+  where
+    by_test : (x y : Daemon) → Alone f (LetsGo t meant) (i + 1) x y → (b : Bool) → (i + 1 == f) ≡ b → length y.outbox.letters.items ≡ length x.outbox.letters.items
+    by_test x y m true is =
+        let same : i + 1 ≡ f = same-number (i + 1) f is in
+        let moved : length (map (released t meant) x.outbox.letters.items) ≡ length x.outbox.letters.items = simp length-map in
+        ap (λ (l : List Letter). length l) (m.0 same).letters ∙ moved
+    by_test x y m false is = let apart : i + 1 ≢ f = λ same. grind (arith, nat_tests, is, same) in ap (λ (z : Daemon). length z.outbox.letters.items) (m.1 apart)
+
+-- ---- nothing has gone
+
+pub sending-moves : (hub : Domains) (journal : List Entry) (domain : ℕ) (ds : List Daemon) (i : ℕ) (x y : Daemon) → IsAt ds i x → i + 1 ≡ domain → ((said : List Message) → HasSaid x.port said → SendsOne x y said None)
+    → IsSameDaemon x y → y.answered ≡ x.answered → IsLine y.domain y → IsOpen y.port.end → ((events : List Event) → HasRead x events → HasRead y events) → IsSending hub domain journal ds → IsSending hub domain journal (set ds i y)
+sending-moves hub journal domain ds i x y there number sends same counted line opens read p =
+    let h = p.posting.posted i x there in
+    let moves : MovesPort (i + 1) x y = record {
+      domain = same.domain;
+      awaited = same.awaited;
+      outbox = (sends (p.posting.said (i + 1)) h.says).0;
+      counted = counted;
+      gone = is-up y opens ∙ sym (is-up x (p.opened i x there number));
+      line = λ l. subst (λ n. IsLine n y) (same.domain ∙ l.number) line;
+      said = λ said s. (sends said s).1;
+    } in
+    let alone = moves-alone domain (λ a b. (a ≡ x) × (b ≡ y)) ds i x y there number (refl, refl) in
+    record {
+      posting = posting-next hub journal ds i x y there moves p.posting;
+      read =
+          each-alone domain (λ a b. (a ≡ x) × (b ≡ y)) (λ d a. HasRead a (read_from journal d)) (λ d a. HasRead a (read_from journal d)) ds (set ds i y) alone
+          (λ d a b here is q. subst (λ (z : Daemon). HasRead z (read_from journal d)) (sym is.1) (read (read_from journal d) (subst (λ (z : Daemon). HasRead z (read_from journal d)) is.0 q))) (λ d a apart q. q) p.read;
+      opened =
+          each-alone domain (λ a b. (a ≡ x) × (b ≡ y)) (λ d a. d ≡ domain → IsOpen a.port.end) (λ d a. d ≡ domain → IsOpen a.port.end) ds (set ds i y) alone
+          (λ d a b here is q now. subst (λ (z : Daemon). IsOpen z.port.end) (sym is.1) opens) (λ d a apart q. q) p.opened;
+    }
+
+-- ---- the ends
+
+pub idle-posting : (hub : Domains) (journal : List Entry) (ds : List Daemon) → IsPosting hub journal ds → AreIdle ds
+idle-posting hub journal ds p = λ i x at. (p.lines i x at).idle
+
+pub idle-one : (ds : List Daemon) (i : ℕ) (x y : Daemon) → IsAt ds i x → (end_of y).idle ≡ true → AreIdle ds → AreIdle (set ds i y)
+idle-one ds i x y there idle all =
+    each-moved (λ d a. (end_of a).idle ≡ true) (λ d a. (end_of a).idle ≡ true) (λ d a b. (end_of a).idle ≡ true → (end_of b).idle ≡ true) ds (set ds i y)
+    (moves-one (λ d a b. (end_of a).idle ≡ true → (end_of b).idle ≡ true) ds i x y there (λ h. idle) (λ d z apart h. h)) (λ d a b m h. m h) all
+
+pub same-daemon : (x : Daemon) → IsSameDaemon x x
+same-daemon x = record { domain = refl; awaited = refl; given = refl }
+
+pub same-then : (x y z : Daemon) → IsSameDaemon x y → IsSameDaemon y z → IsSameDaemon x z
+same-then x y z a b = record { domain = b.domain ∙ a.domain; awaited = b.awaited ∙ a.awaited; given = b.given ∙ a.given }
+
+pub same-one : (ds : List Daemon) (i : ℕ) (x y : Daemon) → IsAt ds i x → IsSameDaemon x y → EachMoves (λ d. IsSameDaemon) ds (set ds i y)
+same-one ds i x y there same = moves-one (λ d. IsSameDaemon) ds i x y there same (λ d z apart. same-daemon z)
+
+pub same-moves : (a b c : List Daemon) → EachMoves (λ d. IsSameDaemon) a b → EachMoves (λ d. IsSameDaemon) b c → EachMoves (λ d. IsSameDaemon) a c
+same-moves a b c first second = moves-then (λ d. IsSameDaemon) (λ d. IsSameDaemon) (λ d. IsSameDaemon) a b c first second (λ d x y z p q. same-then x y z p q)

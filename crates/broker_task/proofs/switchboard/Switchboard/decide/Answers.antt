@@ -1,0 +1,49 @@
+use Rattle.std.proofs.Common.{◌≡◌, ◌∙◌, ◌-◌, ap, sym, subst, length, get_or, List, [], ◌∷◌, ◌++◌, arith, take, drop}
+use Rattle.call_broker.specs.declared.decision.Entry.{Entry}
+use Rattle.call_broker.specs.Brokered.{Brokered}
+use Rattle.call_broker.specs.Journal.{events}
+use Rattle.call_broker.specs.Domains.{Domains, count_of}
+use Rattle.broker_task.specs.declared.daemon.Daemon.{Daemon}
+use Rattle.broker_task.specs.Replies.{IsReplyTo, IsWithin, AreFit}
+use Rattle.broker_task.specs.Posting.{EachMoves, Posts, IsPosting}
+use Rattle.broker_task.proofs.PostLaws.{on-ok}
+use Rattle.broker_task.proofs.ReplyLaws.{within-reply, last-entry, written-back, numbered-from}
+use Rattle.broker_task.proofs.PostingLaws.{posting-more}
+use Rattle.broker_task.proofs.switchboard.Switchboard.decide.Goals as goal
+
+pub post-requires-clause-target : goal.post-requires-clause-target
+post-requires-clause-target c =
+    let old = c.args.self.now.broker in
+    let e : Entry = record { event = c.args.event; decision = c.in_ok-decision.decision } in
+    let kept = c.in_ok-decision.ensures.kept in
+    let after = c.journal-journal.result.now in
+    let journal_is : after ≡ old.journal ++ e ∷ [] = c.journal-journal.ensures.entries ∙ ap (λ (b : Brokered). b.journal) kept in
+    let last = last-entry old.journal e c.index-journal-journal.result (length after) (ap length journal_is)
+    (c.index-journal-journal.is ∙ ap (λ (l : List Entry). get_or l (length after - 1) c.index-journal-journal.result) journal_is) in
+    let reply = subst (λ (x : Entry). IsReplyTo c.event.new.self.hub x.event c.in_ok-decision.decision c.in_ok-reply.reply) (sym c.index-journal-journal.is ∙ last) c.in_ok-reply.ensures.reply in
+    let reply_old = subst (λ (b : Brokered). IsReplyTo b.hub c.args.event c.in_ok-decision.decision c.in_ok-reply.reply) kept reply in
+    let within = within-reply old.hub (events old.journal) c.args.event c.in_ok-decision.decision c.in_ok-reply.reply c.in_ok-decision.ensures.decided reply_old in
+    subst (λ n. IsWithin n c.in_ok-reply.reply) (sym c.requires.posting.count ∙ ap (λ (l : List Daemon). length l) (sym c.as_mut_slice.ensures.value)) within
+
+pub returns-clause-posting : goal.returns-clause-posting
+returns-clause-posting c =
+    let old = c.args.self.now.broker in
+    let ds = c.args.self.now.daemons.items in
+    let new = c.post.new.daemons in
+    let e : Entry = record { event = c.args.event; decision = c.in_ok-decision.decision } in
+    let kept = c.in_ok-decision.ensures.kept in
+    let after = c.journal-journal.result.now in
+    let journal_is : after ≡ old.journal ++ e ∷ [] = c.journal-journal.ensures.entries ∙ ap (λ (b : Brokered). b.journal) kept in
+    let last = last-entry old.journal e c.index-journal-journal.result (length after) (ap length journal_is)
+    (c.index-journal-journal.is ∙ ap (λ (l : List Entry). get_or l (length after - 1) c.index-journal-journal.result) journal_is) in
+    let reply = subst (λ (x : Entry). IsReplyTo c.event.new.self.hub x.event c.in_ok-decision.decision c.in_ok-reply.reply) (sym c.index-journal-journal.is ∙ last) c.in_ok-reply.ensures.reply in
+    let numbered = numbered-from old.hub c.args.from c.args.event c.requires.own c.requires.sender c.requires.room in
+    on-ok c.post.result (c.post.ensures.posts c.event.new.self.hub c.args.event c.in_ok-decision.decision c.requires.own reply c.in_ok-reply.ensures.fits)
+    (λ moved.
+    let moves : EachMoves (Posts old.hub e) ds new =
+    subst (λ (b : Brokered). EachMoves (Posts b.hub e) ds new) kept
+    (subst (λ (l : List Daemon). EachMoves (Posts c.event.new.self.hub e) l new) c.as_mut_slice.ensures.value moved) in
+    let back = written-back new ds c.args.self.now.daemons.len moves.count (omega (arith, c.args.self.now.daemons.ok.0)) in
+    let done = posting-more old.hub old.journal ds new c.args.event c.in_ok-decision.decision c.requires.posting moves c.in_ok-decision.ensures.decided numbered c.requires.room in
+    subst (λ (b : Brokered). IsPosting b.hub b.journal (take c.args.self.now.daemons.len (new ++ drop (length new) ds))) (sym kept)
+    (subst (λ (l : List Daemon). IsPosting old.hub (old.journal ++ e ∷ []) l) (sym back) done))

@@ -1,0 +1,62 @@
+use Rattle.std.proofs.Common.{◌≡◌, ◌∙◌, ◌-◌, ◌+◌, ap, sym, subst, List, [], ◌∷◌, ◌++◌, Option, Some, None, length, true}
+use Rattle.std.specs.Prelude.{IfSome}
+use Rattle.call_broker.specs.declared.event.Event.{Event}
+use Rattle.call_broker.specs.declared.decision.Entry.{Entry}
+use Rattle.call_broker.specs.Domains.{Domains, is_domain}
+use Rattle.call_broker.specs.Pair.{decision}
+use Rattle.call_broker.specs.Journal.{events}
+use Rattle.control_port.specs.Port.{HasFewerLeft}
+use Rattle.broker_task.specs.Letters.{IsAt}
+use Rattle.broker_task.specs.Lines.{HandsOut}
+use Rattle.broker_task.specs.Posting.{IsHearing}
+use Rattle.broker_task.proofs.HearingSteps.{place-of-domain, next-moves, posting-next, own-event, hearing-next, left-falls, heard-out}
+use Rattle.broker_task.proofs.switchboard.Switchboard.hear.Goals as goal
+
+pub decide-requires-clause-posting : goal.decide-requires-clause-posting
+decide-requires-clause-posting c =
+    let inv = c.loop-event.invariant in
+    let there_is = subst (λ (h : Domains). is_domain h c.args.domain ≡ true) (sym inv.hub) c.requires.number in
+    let place = place-of-domain c.loop-event.self.broker.hub c.loop-event.self.daemons.items c.args.domain there_is inv.posting.count in
+    let there : IsAt c.loop-event.self.daemons.items (c.args.domain - 1) c.index_mut.result.now = record { within = place.0; is = c.index_mut.ensures.value } in
+    posting-next _ _ c.loop-event.self.daemons.items (c.args.domain - 1) c.index_mut.result.now c.next.new.self there
+    (next-moves (c.args.domain - 1 + 1) c.index_mut.result.now c.next.new.self c.next.ensures.port c.next.ensures.end c.next.ensures.line (λ said h. c.next.ensures.said said h)) inv.posting
+
+pub returns-clause-posting : goal.returns-clause-posting
+returns-clause-posting c =
+    let inv = c.loop-event.invariant in
+    let there_is = subst (λ (h : Domains). is_domain h c.args.domain ≡ true) (sym inv.hub) c.requires.number in
+    let place = place-of-domain c.loop-event.self.broker.hub c.loop-event.self.daemons.items c.args.domain there_is inv.posting.count in
+    let there : IsAt c.loop-event.self.daemons.items (c.args.domain - 1) c.index_mut.result.now = record { within = place.0; is = c.index_mut.ensures.value } in
+    posting-next _ _ c.loop-event.self.daemons.items (c.args.domain - 1) c.index_mut.result.now c.next.new.self there
+    (next-moves (c.args.domain - 1 + 1) c.index_mut.result.now c.next.new.self c.next.ensures.port c.next.ensures.end c.next.ensures.line (λ said h. c.next.ensures.said said h)) inv.posting
+
+pub loop-event-smaller : goal.loop-event-smaller
+loop-event-smaller c =
+    let inv = c.loop-event.invariant in
+    let there_is = subst (λ (h : Domains). is_domain h c.args.domain ≡ true) (sym inv.hub) c.requires.number in
+    let place = place-of-domain c.loop-event.self.broker.hub c.loop-event.self.daemons.items c.args.domain there_is inv.posting.count in
+    let there : IsAt c.loop-event.self.daemons.items (c.args.domain - 1) c.index_mut.result.now = record { within = place.0; is = c.index_mut.ensures.value } in
+    let fewer = subst (λ (o : Option Event). IfSome o (λ e. HasFewerLeft c.index_mut.result.now.port c.next.new.self.port)) c.in-Some.is c.in_ok-event.ensures.fewer in
+    left-falls c.loop-event.self.daemons.items c.decide.new.self.daemons.items (c.args.domain - 1) c.index_mut.result.now c.next.new.self there fewer c.decide.ensures.ports
+
+pub loop-event-preserved : goal.loop-event-preserved
+loop-event-preserved c =
+    let inv = c.loop-event.invariant in
+    let b = c.loop-event.self.broker in
+    let x = c.index_mut.result.now in
+    let y = c.next.new.self in
+    let i = c.args.domain - 1 in
+    let there_is = subst (λ (h : Domains). is_domain h c.args.domain ≡ true) (sym inv.hub) c.requires.number in
+    let place = place-of-domain c.loop-event.self.broker.hub c.loop-event.self.daemons.items c.args.domain there_is inv.posting.count in
+    let there : IsAt c.loop-event.self.daemons.items i x = record { within = place.0; is = c.index_mut.ensures.value } in
+    let e : Entry = record { event = c.in-Some.event; decision = decision b.hub (events b.journal) c.in-Some.event } in
+    let moves = next-moves (i + 1) x y c.next.ensures.port c.next.ensures.end c.next.ensures.line (λ said h. c.next.ensures.said said h) in
+    let own = own-event c.args.domain b.journal c.loop-event.self.daemons.items i x y c.in-Some.event there place.1 inv.hearing moves.domain (inv.posting.lines i x there).number
+    (λ es reads. subst (λ o. HandsOut y es o) c.in-Some.is (c.in_ok-event.ensures.hands es reads)) in
+    record {
+      hub = c.decide.ensures.hub ∙ inv.hub;
+      posting = c.in_ok-decide.ensures.posting;
+      hearing = subst (λ (j : List Entry). IsHearing c.args.domain j c.decide.new.self.daemons.items) (sym c.in_ok-decide.ensures.entry)
+          (hearing-next c.args.domain b.journal e c.loop-event.self.daemons.items c.decide.new.self.daemons.items i x y there place.1 own.0
+          (λ es reads. subst (λ o. HandsOut y es o) c.in-Some.is (c.in_ok-event.ensures.hands es reads)) c.decide.ensures.ports inv.hearing);
+    }

@@ -1,0 +1,55 @@
+use Rattle.std.proofs.Common.{◌≡◌, ◌-◌, ◌+◌, ◌<◌, refl, sym, subst, length, true, Some}
+use Rattle.call_broker.specs.Domains.{is_domain}
+use Rattle.qrexec_frame.specs.declared.message.Message.{Message}
+use Rattle.qrexec_frame.specs.declared.message.Message.TheVariants.{Exec}
+use Rattle.broker_task.specs.Letters.{IsAt}
+use Rattle.broker_task.specs.Lines.{IsSameDaemon}
+use Rattle.broker_task.specs.Posting.{HasGone}
+use Rattle.broker_task.proofs.HearingSteps.{place-of-domain}
+use Rattle.broker_task.proofs.PostLaws.{moves-none, moves-as}
+use Rattle.broker_task.proofs.SendingSteps.{Alone, moves-alone}
+use Rattle.broker_task.proofs.ReleaseSteps.{LetsGo, sending-released, same-one, same-let-go, same-daemon, waiting-released}
+use Rattle.broker_task.proofs.switchboard.Switchboard.let_go.Goals as goal
+
+pub returns-in-Exec-clause-sending : goal.returns-in-Exec-clause-sending
+returns-in-Exec-clause-sending c =
+    let hub = c.args.self.now.broker.hub in
+    let journal = c.args.self.now.broker.journal in
+    let ds = c.args.self.now.daemons.items in
+    let f = c.in-Exec.caller in
+    let gone = subst (λ (m : Message). HasGone hub c.args.domain journal ds m) c.in-Exec.is c.requires in
+    let place = place-of-domain hub ds f gone.2 gone.0.posting.count in
+    let x = c.index_mut.result.now in
+    let there : IsAt ds (f - 1) x = record { within = place.0; is = c.index_mut.ensures.value } in
+    let lets : LetsGo c.args.domain (Some c.in-Exec.port) x (record x { outbox = c.release_call.new.self }) = record { port = refl; domain = refl; awaited = refl; counted = refl; letters = c.release_call.ensures } in
+    sending-released hub journal c.args.domain f c.args.domain c.in-Exec.port c.in-Exec.line ds _ (moves-alone f (LetsGo c.args.domain (Some c.in-Exec.port)) ds (f - 1) x _ there place.1 lets) gone.0 gone.1
+
+pub returns-in-Exec-clause-same : goal.returns-in-Exec-clause-same
+returns-in-Exec-clause-same c =
+    let hub = c.args.self.now.broker.hub in
+    let ds = c.args.self.now.daemons.items in
+    let f = c.in-Exec.caller in
+    let gone = subst (λ (m : Message). HasGone hub c.args.domain c.args.self.now.broker.journal ds m) c.in-Exec.is c.requires in
+    let place = place-of-domain hub ds f gone.2 gone.0.posting.count in
+    let x = c.index_mut.result.now in
+    let there : IsAt ds (f - 1) x = record { within = place.0; is = c.index_mut.ensures.value } in
+    let lets : LetsGo c.args.domain (Some c.in-Exec.port) x (record x { outbox = c.release_call.new.self }) = record { port = refl; domain = refl; awaited = refl; counted = refl; letters = c.release_call.ensures } in
+    same-one ds (f - 1) x (record x { outbox = c.release_call.new.self }) there (same-let-go c.args.domain (Some c.in-Exec.port) x _ lets)
+
+pub returns-in-Exec-clause-waiting : goal.returns-in-Exec-clause-waiting
+returns-in-Exec-clause-waiting c = λ i less.
+    let hub = c.args.self.now.broker.hub in
+    let ds = c.args.self.now.daemons.items in
+    let f = c.in-Exec.caller in
+    let gone = subst (λ (m : Message). HasGone hub c.args.domain c.args.self.now.broker.journal ds m) c.in-Exec.is c.requires in
+    let place = place-of-domain hub ds f gone.2 gone.0.posting.count in
+    let x = c.index_mut.result.now in
+    let there : IsAt ds (f - 1) x = record { within = place.0; is = c.index_mut.ensures.value } in
+    let lets : LetsGo c.args.domain (Some c.in-Exec.port) x (record x { outbox = c.release_call.new.self }) = record { port = refl; domain = refl; awaited = refl; counted = refl; letters = c.release_call.ensures } in
+    waiting-released c.args.domain (Some c.in-Exec.port) f ds _ i less (moves-alone f (LetsGo c.args.domain (Some c.in-Exec.port)) ds (f - 1) x _ there place.1 lets)
+
+pub returns-in_default-clause-sending : goal.returns-in_default-clause-sending
+returns-in_default-clause-sending c = c.requires.0
+
+pub returns-in_default-clause-same : goal.returns-in_default-clause-same
+returns-in_default-clause-same c = moves-none (λ d. IsSameDaemon) c.args.self.now.daemons.items (λ d x. same-daemon x)

@@ -1,0 +1,82 @@
+use Rattle.std.proofs.Common.{◌≡◌, ◌∙◌, ◌-◌, ◌+◌, ◌<◌, ap, sym, subst, List, length, arith, true, Option, Some, None}
+use Rattle.std.proofs.Math.ListN.{set}
+use Rattle.std.proofs.lemmas.List.{length-set}
+use Rattle.call_broker.specs.Brokered.{Brokered}
+use Rattle.broker_task.specs.Letters.{IsAt}
+use Rattle.broker_task.specs.Lines.{SendsOne}
+use Rattle.broker_task.specs.Posting.{IsSending, waiting_in}
+use Rattle.broker_task.proofs.HearingSteps.{place-of-domain}
+use Rattle.broker_task.proofs.SendingSteps.{Sends, gone-one}
+use Rattle.broker_task.proofs.ReleaseSteps.{sending-moves, waiting-sent, same-one, same-moves, idle-posting, idle-one}
+use Rattle.broker_task.proofs.switchboard.Switchboard.send_one.Goals as goal
+
+pub let_go-requires : goal.let_go-requires
+let_go-requires c =
+    let p = c.requires.sending in
+    let x = c.index_mut.result.now in
+    let y = c.send.new.self in
+    let place = place-of-domain c.args.self.now.broker.hub c.args.self.now.daemons.items c.args.domain c.requires.number p.posting.count in
+    let there : IsAt c.args.self.now.daemons.items (c.args.domain - 1) x = record { within = place.0; is = c.index_mut.ensures.value } in
+    let sends : Sends c.in-Some.message x y = record {
+      sends = λ said h. subst (λ o. SendsOne x y said o) c.in-Some.is (c.in_ok-message.ensures.sends said h);
+      same = c.in_ok-message.ensures.same.0;
+      counted = c.in_ok-message.ensures.same.1;
+      line = c.in_ok-message.ensures.line;
+      up = p.opened (c.args.domain - 1) x there place.1;
+      opened = c.in_ok-message.ensures.«open»;
+      read = λ events h. c.in_ok-message.ensures.read events h;
+    } in
+    gone-one c.args.self.now.broker.hub c.args.self.now.broker.journal c.args.domain c.in-Some.message c.args.self.now.daemons.items (c.args.domain - 1) x y there place.1 sends p
+
+pub returns-in-Some-clause-idle : goal.returns-in-Some-clause-idle
+returns-in-Some-clause-idle c = idle-posting c.args.self.now.broker.hub c.args.self.now.broker.journal c.let_go.new.self.daemons.items c.let_go.ensures.sending.posting
+
+pub returns-in-Some-clause-sending : goal.returns-in-Some-clause-sending
+returns-in-Some-clause-sending c =
+    subst (λ (b : Brokered). IsSending b.hub c.args.domain b.journal c.let_go.new.self.daemons.items) (sym c.let_go.ensures.broker) c.let_go.ensures.sending
+
+pub returns-in-Some-clause-same : goal.returns-in-Some-clause-same
+returns-in-Some-clause-same c =
+    let place = place-of-domain c.args.self.now.broker.hub c.args.self.now.daemons.items c.args.domain c.requires.number c.requires.sending.posting.count in
+    let there : IsAt c.args.self.now.daemons.items (c.args.domain - 1) c.index_mut.result.now = record { within = place.0; is = c.index_mut.ensures.value } in
+    same-moves c.args.self.now.daemons.items (set c.args.self.now.daemons.items (c.args.domain - 1) c.send.new.self) c.let_go.new.self.daemons.items
+    (same-one c.args.self.now.daemons.items (c.args.domain - 1) c.index_mut.result.now c.send.new.self there c.in_ok-message.ensures.same.0) c.let_go.ensures.same
+
+pub returns-in-Some-clause-fewer : goal.returns-in-Some-clause-fewer
+returns-in-Some-clause-fewer c = λ went.
+    let p = c.requires.sending in
+    let ds = c.args.self.now.daemons.items in
+    let i = c.args.domain - 1 in
+    let x = c.index_mut.result.now in
+    let y = c.send.new.self in
+    let place = place-of-domain c.args.self.now.broker.hub ds c.args.domain c.requires.number p.posting.count in
+    let there : IsAt ds i x = record { within = place.0; is = c.index_mut.ensures.value } in
+    let sends : Sends c.in-Some.message x y = record {
+      sends = λ said h. subst (λ o. SendsOne x y said o) c.in-Some.is (c.in_ok-message.ensures.sends said h);
+      same = c.in_ok-message.ensures.same.0;
+      counted = c.in_ok-message.ensures.same.1;
+      line = c.in_ok-message.ensures.line;
+      up = p.opened i x there place.1;
+      opened = c.in_ok-message.ensures.«open»;
+      read = λ events h. c.in_ok-message.ensures.read events h;
+    } in
+    let less = waiting-sent c.args.self.now.broker.hub c.args.self.now.broker.journal c.args.domain c.in-Some.message ds i x y there sends p in
+    let after = c.let_go.ensures.waiting i (omega (arith, place.0, length-set ds i y)) in
+    subst (λ n. n < waiting_in ds i) (sym after) less
+
+pub returns-in-None-clause-sending : goal.returns-in-None-clause-sending
+returns-in-None-clause-sending c =
+    let p = c.requires.sending in
+    let x = c.index_mut.result.now in
+    let y = c.send.new.self in
+    let place = place-of-domain c.args.self.now.broker.hub c.args.self.now.daemons.items c.args.domain c.requires.number p.posting.count in
+    let there : IsAt c.args.self.now.daemons.items (c.args.domain - 1) x = record { within = place.0; is = c.index_mut.ensures.value } in
+    sending-moves c.args.self.now.broker.hub c.args.self.now.broker.journal c.args.domain c.args.self.now.daemons.items (c.args.domain - 1) x y there place.1
+    (λ said h. subst (λ o. SendsOne x y said o) c.in-None.is (c.in_ok-message.ensures.sends said h)) c.in_ok-message.ensures.same.0 c.in_ok-message.ensures.same.1 c.in_ok-message.ensures.line c.in_ok-message.ensures.«open»
+    (λ events h. c.in_ok-message.ensures.read events h) p
+
+pub returns-in-None-clause-same : goal.returns-in-None-clause-same
+returns-in-None-clause-same c =
+    let place = place-of-domain c.args.self.now.broker.hub c.args.self.now.daemons.items c.args.domain c.requires.number c.requires.sending.posting.count in
+    let there : IsAt c.args.self.now.daemons.items (c.args.domain - 1) c.index_mut.result.now = record { within = place.0; is = c.index_mut.ensures.value } in
+    same-one c.args.self.now.daemons.items (c.args.domain - 1) c.index_mut.result.now c.send.new.self there c.in_ok-message.ensures.same.0

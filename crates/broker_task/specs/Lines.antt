@@ -1,0 +1,114 @@
+-- One domain at the task of the broker: its port, what was read by it, and what was said.
+-- Source: this project's own.
+use Rattle.std.specs.Prelude.{◌≡◌, ◌⊎◌, ℕ, ◌<◌, ◌≤◌, Bool, true, false, List, [], ◌∷◌, ◌++◌, length, filter_map, Option, Some, None, IsSome}
+use Rattle.std.specs.List.{remove}
+use Rattle.ring_words.specs.declared.page.Role.TheVariants.{Client}
+use Rattle.vchan_protocol.specs.declared.call.EndState.{EndState}
+use Rattle.vchan_protocol.specs.declared.call.EndState.TheVariants.{Fresh, Open, Shut}
+use Rattle.vchan_rule.specs.Seated.{view}
+use Rattle.end_view.specs.EndView.{EndView, state_at_first}
+use Rattle.qrexec_frame.specs.declared.message.Message.{Message}
+use Rattle.qrexec_frame.specs.Messages.{IsSpellable}
+use Rattle.qrexec_frame.specs.Texts.{FitsText}
+use Rattle.call_broker.specs.declared.event.Event.{Event}
+use Rattle.call_broker.specs.declared.event.Event.TheVariants.{Trigger, Terminated, Dropped}
+use Rattle.control_port.specs.declared.talk.Talker.TheVariants.{Broker}
+use Rattle.control_port.specs.Port.{HasSaid, HasHeard}
+use Rattle.task_duties.specs.Hearing.{to_agent, to_broker, hears}
+use Rattle.task_duties.specs.Broker.Outbox.{event_of, is_from}
+use Rattle.task_duties.specs.Broker.Owes.{broker_version}
+use Rattle.broker_task.specs.declared.letter.Letter.{Letter}
+use Rattle.broker_task.specs.declared.daemon.Daemon.{Daemon}
+use Rattle.broker_task.specs.Letters.{IsAt}
+
+-- ---- its end
+
+abbrev pub end_of : Daemon → EndView
+end_of x = view x.port.end
+
+abbrev pub is_shut : EndState → Bool
+is_shut Fresh = false
+is_shut Open = false
+is_shut Shut = true
+
+-- its end was retired, as the domain was dropped
+abbrev pub is_gone : Daemon → Bool
+is_gone x = is_shut (end_of x).state
+
+-- an end as it was given, by what it is now
+abbrev pub first_view : EndView → EndView
+first_view e = record e { state = state_at_first e.role; idle = true; sent = []; got = []; saw = false; ended = None; drained = false; misled = false; retired = false }
+
+-- a domain may be dropped: its end found its peer shut or gone, or was refused, or what the domain said is wrong
+abbrev pub MayDrop : EndView → Type 0
+MayDrop e = (e.saw ≡ true) ⊎ (e.misled ≡ true) ⊎ IsSome (hears broker_version to_broker e.got).fault
+
+-- the port of the domain of this number
+pub record IsLine (d : ℕ) (x : Daemon) : Type 0 where
+  pub number : x.domain ≡ d
+  pub talker : x.port.talker ≡ Broker
+  pub own : x.port.own ≡ broker_version
+  pub idle : (end_of x).idle ≡ true
+  pub client : (end_of x).role ≡ Client
+  pub honest : (end_of x).turned ≡ false
+  pub retired : is_gone x ≡ true → (end_of x).retired ≡ true
+  pub cause : is_gone x ≡ true → MayDrop (end_of x)
+
+-- ---- what was read
+
+-- the events that the bytes got say, up to what is wrong
+abbrev pub events_got : Daemon → List Event
+events_got x = filter_map (event_of x.domain) (hears broker_version to_broker (end_of x).got).messages
+
+-- these events were handed out, and nothing was wrong
+pub record ReadsOn (x : Daemon) (events : List Event) : Type 0 where
+  pub heard : List Message
+  pub hears_them : HasHeard x.port heard
+  pub are : events ≡ filter_map (event_of x.domain) heard
+  pub fine : x.port.fault ≡ None
+
+-- all that the bytes got say was handed out, and is these events
+pub record HasReadAll (x : Daemon) (events : List Event) : Type 0 where
+  pub all : events_got x ≡ events
+  pub on : x.port.fault ≡ None → ReadsOn x events
+
+-- the same, between two turns: of a domain that wasn't dropped nothing is wrong
+pub record HasRead (x : Daemon) (events : List Event) : Type 0 where
+  pub all : events_got x ≡ events
+  pub on : is_gone x ≡ false → ReadsOn x events
+
+-- the texts of an event have room in the messages that answer it
+abbrev pub HasRoom : Event → Type 0
+HasRoom (Trigger from target service ident) = FitsText 31 ident × FitsText 65439 service
+HasRoom (Terminated from other port) = Unit {0}
+HasRoom (Dropped domain) = ⊥
+
+-- one event more was handed out, or all were
+abbrev pub HandsOut : Daemon → List Event → Option Event → Type 0
+HandsOut x events (Some event) = ReadsOn x (events ++ event ∷ []) × (is_from x.domain event ≡ true) × HasRoom event
+HandsOut x events None = HasReadAll x events
+
+-- ---- what was said
+
+-- a message that the broker may say, and that has a spelling
+abbrev pub IsReply : Message → Type 0
+IsReply m = (to_agent m ≡ true) × IsSpellable m
+
+-- a message of its letters has gone, or none
+abbrev pub SendsOne : Daemon → Daemon → List Message → Option Message → Type 0
+SendsOne old new said (Some m) =
+    (at : ℕ) × (l : Letter) × IsAt old.outbox.letters.items at l × (l.held ≡ false) × (m ≡ l.message) × (new.outbox.letters.items ≡ remove old.outbox.letters.items at)
+    × HasSaid new.port (said ++ m ∷ [])
+SendsOne old new said None = (new.outbox.letters.items ≡ old.outbox.letters.items) × HasSaid new.port said
+
+-- ---- what stays
+
+-- another state of the same domain: its number, its awaited calls and its end as it was given are the same
+pub record IsSameDaemon (old new : Daemon) : Type 0 where
+  pub domain : new.domain ≡ old.domain
+  pub awaited : new.awaited ≡ old.awaited
+  pub given : first_view (end_of new) ≡ first_view (end_of old)
+
+-- only its port has changed
+abbrev pub OnlyPort : Daemon → Daemon → Type 0
+OnlyPort old new = new ≡ record old { port = new.port }

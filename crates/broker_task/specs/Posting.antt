@@ -1,0 +1,140 @@
+-- The outboxes of all domains beside the broker's journal: what was said, what waits, and what was given up.
+-- Source: this project's own.
+use Rattle.std.specs.Prelude.{◌≡◌, ◌≢◌, ◌⊎◌, ℕ, zero, suc, ◌+◌, ◌≤◌, Bool, true, false, List, [], ◌∷◌, ◌++◌, length, Contains, IsPermutation, if◌then◌else◌}
+use Rattle.qrexec_frame.specs.declared.message.Message.{Message}
+use Rattle.qrexec_frame.specs.declared.message.Message.TheVariants.{Exec, Connect}
+use Rattle.qrexec_frame.specs.Streams.{Each}
+use Rattle.control_port.specs.Port.{HasSaid}
+use Rattle.call_broker.specs.declared.decision.Entry.{Entry}
+use Rattle.call_broker.specs.Domains.{Domains, is_domain, count_of}
+use Rattle.call_broker.specs.Journal.{IsJournal, AreNumbered, is_dropped}
+use Rattle.task_duties.specs.Broker.Outbox.{outbox, puts, answered, is_answer, read_from}
+use Rattle.broker_task.specs.declared.letter.Letter.{Letter}
+use Rattle.broker_task.specs.declared.daemon.Daemon.{Daemon}
+use Rattle.broker_task.specs.Letters.{IsAt, messages_in}
+use Rattle.vchan_rule.specs.Seated.{IsOpen}
+use Rattle.broker_task.specs.Lines.{end_of, is_gone, IsLine, ReadsOn, HasRead, HasReadAll}
+use Rattle.broker_task.specs.Replies.{IsFit, NamesDomain}
+
+-- ---- all domains in turn
+
+-- each domain has P, by its number
+abbrev pub EachAt : (ℕ → Daemon → Type 0) → List Daemon → Type 0
+EachAt P ds = (i : ℕ) (x : Daemon) → IsAt ds i x → P (i + 1) x
+
+-- each domain was this and is that
+pub record EachMoves (R : ℕ → Daemon → Daemon → Type 0) (old new : List Daemon) : Type 0 where
+  pub count : length new ≡ length old
+  pub each : (i : ℕ) (y : Daemon) → IsAt new i y → (x : Daemon) × IsAt old i x × R (i + 1) x y
+
+-- its port is as it was
+abbrev pub SamePort : ℕ → Daemon → Daemon → Type 0
+SamePort d x y = (y.port ≡ x.port) × (y.domain ≡ x.domain) × (y.awaited ≡ x.awaited)
+
+-- ---- what may go
+
+-- a Connect may go once the Exec of its call was said to its target, or the target was dropped
+abbrev pub MayGo : List Entry → (ℕ → List Message) → ℕ → Message → Type 0
+MayGo journal said f (Connect t port ident) = (is_dropped journal t ≡ true) ⊎ ((line : List ℕ) × Contains (said t) (Exec f port line))
+MayGo journal said f m = Unit {0}
+
+-- a letter for a domain is a reply, and may go where it isn't held
+pub record IsLetter (hub : Domains) (journal : List Entry) (said : ℕ → List Message) (d : ℕ) (l : Letter) : Type 0 where
+  pub fits : IsFit hub l.message
+  pub may : l.held ≡ false → MayGo journal said d l.message
+
+-- ---- the outbox of a domain
+
+-- what the journal puts there was said, waits, or was given up as the domain was dropped; and as many of its triggers were answered
+pub record HasPosted (hub : Domains) (journal : List Entry) (said : ℕ → List Message) (d : ℕ) (x : Daemon) : Type 0 where
+  pub says : HasSaid x.port (said d)
+  pub lost : List Message
+  pub kept : IsPermutation (said d ++ (messages_in x.outbox.letters.items ++ lost)) (outbox hub journal d)
+  pub none_lost : is_gone x ≡ false → lost ≡ []
+  pub letters : Each (IsLetter hub journal said d) x.outbox.letters.items
+  pub went : Each (MayGo journal said d) (said d)
+  pub counted : x.answered ≡ answered journal d
+  pub dropped : is_dropped journal d ≡ is_gone x
+
+-- the task beside its journal
+pub record IsPosting (hub : Domains) (journal : List Entry) (ds : List Daemon) : Type 0 where
+  pub count : length ds ≡ count_of hub
+  pub decided : IsJournal hub journal
+  pub numbered : AreNumbered hub journal
+  pub lines : EachAt IsLine ds
+  pub said : ℕ → List Message
+  pub posted : EachAt (HasPosted hub journal said) ds
+
+-- ---- one entry more
+
+-- a letter that isn't held is no Connect
+abbrev pub IsFree : Message → Type 0
+IsFree (Connect t port ident) = ⊥
+IsFree m = Unit {0}
+
+-- one more if so
+abbrev pub one_if : Bool → ℕ
+one_if true = 1
+one_if false = 0
+
+-- the letters of an entry were put behind those of a domain
+pub record Posts (hub : Domains) (e : Entry) (d : ℕ) (x y : Daemon) : Type 0 where
+  pub domain : y.domain ≡ x.domain
+  pub port : y.port ≡ x.port
+  pub awaited : y.awaited ≡ x.awaited
+  pub more : List Letter
+  pub letters : y.outbox.letters.items ≡ x.outbox.letters.items ++ more
+  pub are : messages_in more ≡ puts hub d e.event e.decision
+  pub replies : Each (λ l. IsFit hub l.message) more
+  pub free : Each (λ l. l.held ≡ false → IsFree l.message) more
+  pub counted : y.answered ≡ x.answered + one_if (is_answer d e.event e.decision)
+
+-- ---- a port that moves
+
+-- only its port has moved, and it stands for what was said as it did
+pub record MovesPort (d : ℕ) (x y : Daemon) : Type 0 where
+  pub domain : y.domain ≡ x.domain
+  pub awaited : y.awaited ≡ x.awaited
+  pub outbox : y.outbox.letters.items ≡ x.outbox.letters.items
+  pub counted : y.answered ≡ x.answered
+  pub gone : is_gone y ≡ is_gone x
+  pub line : IsLine d x → IsLine d y
+  pub said : (said : List Message) → HasSaid x.port said → HasSaid y.port said
+
+-- ---- what was read, while one domain is heard
+
+pub record IsHearing (domain : ℕ) (journal : List Entry) (ds : List Daemon) : Type 0 where
+  pub others : EachAt (λ d x. d ≢ domain → HasRead x (read_from journal d)) ds
+  pub own : EachAt (λ d x. d ≡ domain → ReadsOn x (read_from journal d)) ds
+
+-- and once all that it has said was heard
+pub record HasHeardOut (domain : ℕ) (journal : List Entry) (ds : List Daemon) : Type 0 where
+  pub others : EachAt (λ d x. d ≢ domain → HasRead x (read_from journal d)) ds
+  pub own : EachAt (λ d x. d ≡ domain → HasReadAll x (read_from journal d)) ds
+
+-- ---- between two turns
+
+-- what was read of each domain was decided
+abbrev pub HaveRead : List Entry → List Daemon → Type 0
+HaveRead journal ds = EachAt (λ d x. HasRead x (read_from journal d)) ds
+
+-- all ends are between two calls, and so can be retired
+abbrev pub AreIdle : List Daemon → Type 0
+AreIdle ds = EachAt (λ d x. (end_of x).idle ≡ true) ds
+
+-- how many letters wait for the domain at this place
+abbrev pub waiting_in : List Daemon → ℕ → ℕ
+waiting_in [] i = 0
+waiting_in (x ∷ ds) zero = length x.outbox.letters.items
+waiting_in (x ∷ ds) (suc i) = waiting_in ds i
+
+-- ---- one domain that is said to
+
+pub record IsSending (hub : Domains) (domain : ℕ) (journal : List Entry) (ds : List Daemon) : Type 0 where
+  pub posting : IsPosting hub journal ds
+  pub read : HaveRead journal ds
+  pub opened : EachAt (λ d x. d ≡ domain → IsOpen x.port.end) ds
+
+-- this message has gone to the domain
+abbrev pub HasGone : Domains → ℕ → List Entry → List Daemon → Message → Type 0
+HasGone hub domain journal ds m = (p : IsSending hub domain journal ds) × Contains (p.posting.said domain) m × NamesDomain hub m

@@ -1,0 +1,226 @@
+//! One domain at the broker.
+ghost use Rattle.std.specs.Prelude.{◌≡◌, ℕ, ◌+◌, ◌<◌, ◌++◌, ◌∷◌, List, [], false, true, None, Some, Ok, OnOk, IfOk, IfSome, length};
+ghost use Rattle.ring_words.specs.declared.page.Role.TheVariants.{Client};
+ghost use Rattle.vchan_rule.specs.Seated.{view, IsOpen};
+ghost use Rattle.end_view.specs.EndView.{IsUnused};
+ghost use Rattle.qrexec_frame.specs.declared.message.Message.{Message as Said};
+ghost use Rattle.qrexec_frame.specs.Messages.{IsSpellable};
+ghost use Rattle.qrexec_frame.specs.Streams.{Each};
+ghost use Rattle.call_broker.specs.declared.event.Event.{Event as Told};
+ghost use Rattle.control_port.specs.Port.{HasSaid, HasFewerLeft};
+ghost use Rattle.control_port.specs.declared.talk.Talker.TheVariants.{Broker};
+ghost use Rattle.task_duties.specs.Hearing.{to_agent, to_broker};
+ghost use Rattle.task_duties.specs.Broker.Outbox.{event_of};
+ghost use Rattle.broker_task.specs.Lines.{end_of, is_gone, first_view, MayDrop, IsLine, ReadsOn, HasRead, HandsOut, SendsOne, IsReply, IsSameDaemon, OnlyPort, events_got};
+
+use crate::outbox::Outbox;
+use call_broker::Event;
+use control_port::{ControlPort, Talker};
+use qrexec_frame::Message;
+use std::alloc::Global;
+use vchan_core::EndState;
+use vchan_io::Memory;
+use vchan_lifecycle::DrainAnswer;
+use vchan_packet::SendAnswer;
+use vchan_rule::End;
+
+/// The version of the broker, which it announces to each domain.
+const VERSION: u32 = 3;
+
+/// What the broker has for one domain: the work of a `qrexec-daemon`.
+#[derive(Drop)]
+pub(crate) struct Daemon<'p> {
+    pub(crate) domain: u32,
+    pub(crate) port: ControlPort<'p>,
+    pub(crate) outbox: Outbox,
+    // How many calls of the domain are awaited, and how many of its triggers were answered.
+    pub(crate) awaited: u32,
+    pub(crate) answered: usize,
+}
+
+impl<'p> Daemon<'p> {
+    pub(crate) fn new(alloc: Global, domain: u32, control: End<'p>, awaited: u32) -> Daemon<'p>
+        requires unused { IsUnused (view control) }
+        requires client { (view control).role ≡ Client }
+        ensures line { IsLine domain result }
+        ensures up { is_gone result ≡ false }
+        ensures read { HasRead result [] }
+        ensures said { HasSaid result.port [] }
+        ensures outbox { result.outbox.letters.items ≡ [] }
+        ensures counts { (result.awaited ≡ awaited) × (result.answered ≡ 0) }
+        ensures given { first_view (end_of result) ≡ view control.entry }
+    {
+        Daemon {
+            domain,
+            port: ControlPort::new(alloc, control, Talker::Broker, VERSION),
+            outbox: Outbox::new(alloc),
+            awaited,
+            answered: 0,
+        }
+    }
+
+    /// Whether the domain was dropped, and its end retired.
+    pub(crate) fn is_gone(&self) -> bool
+        ensures { result ≡ is_gone self.now }
+    {
+        match self.port.state() {
+            EndState::Fresh | EndState::Open => false,
+            EndState::Shut => true,
+        }
+    }
+
+    /// Takes what has come, after the connect of the first turn. While the outbox is full it only asks
+    /// whether the domain is gone. It answers whether the domain is still there.
+    pub(crate) fn listen(&mut self, buf: &mut [u8]) -> Result<bool, Memory>
+        requires line { IsLine self.old.domain self.old }
+        requires up { is_gone self.old ≡ false }
+        requires some { 0 < length buf.old }
+        ensures port { OnlyPort self.old self.new }
+        ensures long { length buf.new ≡ length buf.old }
+        ensures idle { (end_of self.new).idle ≡ true }
+        ensures line { OnOk result (IsLine self.new.domain self.new) }
+        ensures up { OnOk result (is_gone self.new ≡ false) }
+        ensures open { result ≡ Ok true → IsOpen self.new.port.end }
+        ensures cause { result ≡ Ok false → MayDrop (end_of self.new) }
+        ensures said { (said : List Said) → HasSaid self.old.port said → OnOk result (HasSaid self.new.port said) }
+        ensures read { (events : List Told) → ReadsOn self.old events → OnOk result (ReadsOn self.new events) }
+        ensures same { OnOk result (IsSameDaemon self.old self.new) }
+    {
+        if self.port.state() == EndState::Fresh && self.port.connect().is_err() {
+            return Ok(false);
+        }
+        if self.outbox.is_full() {
+            return Ok(!self.port.peer_gone());
+        }
+        match self.port.drain(buf)? {
+            DrainAnswer::More { .. } | DrainAnswer::NotYet { .. } => Ok(true),
+            DrainAnswer::AllRead | DrainAnswer::PeerGone { .. } => Ok(false),
+        }
+    }
+
+    /// Hands out the next event that the domain has said. `None` comes where none is left of what was
+    /// taken, and where something is wrong with it.
+    pub(crate) fn next(&mut self) -> Result<Option<Event>, Memory>
+        requires line { IsLine self.old.domain self.old }
+        requires fine { self.old.port.fault ≡ None }
+        ensures port { OnlyPort self.old self.new }
+        ensures end { self.new.port.end ≡ self.old.port.end }
+        ensures line { IsLine self.new.domain self.new }
+        ensures hands { (events : List Told) → ReadsOn self.old events → IfOk result (λ event. HandsOut self.new events event) }
+        ensures said { (said : List Said) → HasSaid self.old.port said → HasSaid self.new.port said }
+        ensures fewer { IfOk result (λ event. IfSome event (λ e. HasFewerLeft self.old.port self.new.port)) }
+    {
+        match self.port.next()? {
+            Some(message) => Ok(Some(event_of(self.domain, message))),
+            None => Ok(None),
+        }
+    }
+
+    /// Says the first of its messages that isn't held, where it has room; the own greeting goes before all,
+    /// once that of the domain was read. It gives the message back that has gone.
+    pub(crate) fn send(&mut self) -> Result<Option<Message>, Memory>
+        requires line { IsLine self.old.domain self.old }
+        requires open { IsOpen self.old.port.end }
+        requires letters { Each (λ l. IsReply l.message) self.old.outbox.letters.items }
+        ensures same { OnOk result (IsSameDaemon self.old self.new × (self.new.answered ≡ self.old.answered)) }
+        ensures idle { (end_of self.new).idle ≡ true }
+        ensures line { OnOk result (IsLine self.new.domain self.new) }
+        ensures open { OnOk result (IsOpen self.new.port.end) }
+        ensures sends { (said : List Said) → HasSaid self.old.port said → IfOk result (λ gone. SendsOne self.old self.new said gone) }
+        ensures read { (events : List Told) → HasRead self.old events → OnOk result (HasRead self.new events) }
+    {
+        if !self.greet()? {
+            return Ok(None);
+        }
+        let Some(at) = self.outbox.first_ready() else {
+            return Ok(None);
+        };
+        if self.port.say(self.outbox.message(at))? != SendAnswer::Sent {
+            return Ok(None);
+        }
+        Ok(Some(self.outbox.take(at)))
+    }
+
+    // Says the own greeting, once that of the domain was read. It answers whether it has gone.
+    fn greet(&mut self) -> Result<bool, Memory>
+        requires line { IsLine self.old.domain self.old }
+        requires open { IsOpen self.old.port.end }
+        ensures port { OnlyPort self.old self.new }
+        ensures same { OnOk result (IsSameDaemon self.old self.new) }
+        ensures idle { (end_of self.new).idle ≡ true }
+        ensures line { OnOk result (IsLine self.new.domain self.new) }
+        ensures open { IsOpen self.new.port.end }
+        ensures greeted { result ≡ Ok true → self.new.port.greeted ≡ true }
+        ensures said { (said : List Said) → HasSaid self.old.port said → OnOk result (HasSaid self.new.port said) }
+        ensures read { (events : List Told) → HasRead self.old events → OnOk result (HasRead self.new events) }
+    {
+        if self.port.greeted() {
+            return Ok(true);
+        }
+        if self.port.version().is_none() {
+            return Ok(false);
+        }
+        Ok(self.port.greet()? == SendAnswer::Sent)
+    }
+
+    /// Puts the answer to one of its triggers behind its other messages.
+    pub(crate) fn answer(&mut self, answer: Message, held: bool) -> Result<(), Memory>
+        requires { self.old.answered < usize.MAX }
+        ensures port { self.new.port ≡ self.old.port }
+        ensures same { (self.new.domain ≡ self.old.domain) × (self.new.awaited ≡ self.old.awaited) }
+        ensures put { OnOk result (self.new.outbox.letters.items ≡ self.old.outbox.letters.items ++ record { message = answer; held = held } ∷ []) }
+        ensures counted { OnOk result (self.new.answered ≡ self.old.answered + 1) }
+    {
+        self.outbox.put(answer, held)?;
+        self.answered += 1;
+        Ok(())
+    }
+
+    /// Retires the end of a domain that is dropped, and gives up what waits for it.
+    pub(crate) fn hang_up(&mut self)
+        requires line { IsLine self.old.domain self.old }
+        requires cause { MayDrop (end_of self.old) }
+        ensures gone { is_gone self.new ≡ true }
+        ensures line { IsLine self.new.domain self.new }
+        ensures said { (said : List Said) → HasSaid self.old.port said → HasSaid self.new.port said }
+        ensures got { events_got self.new ≡ events_got self.old }
+        ensures outbox { self.new.outbox.letters.items ≡ [] }
+        ensures same { IsSameDaemon self.old self.new × (self.new.answered ≡ self.old.answered) }
+    {
+        self.port.hang_up();
+        self.outbox.clear();
+    }
+}
+
+// The event that a message of a domain is.
+fn event_of(domain: u32, message: Message) -> Event
+    requires { to_broker message ≡ true }
+    ensures { Some result ≡ event_of domain message }
+{
+    match message {
+        Message::Trigger3 {
+            target,
+            ident,
+            service,
+        }
+        | Message::Trigger {
+            target,
+            ident,
+            service,
+        } => Event::Trigger {
+            from: domain,
+            target,
+            service,
+            ident,
+        },
+        Message::Terminated {
+            domain: other,
+            port,
+        } => Event::Terminated {
+            from: domain,
+            other,
+            port,
+        },
+        _ => unreachable!(),
+    }
+}

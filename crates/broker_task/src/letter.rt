@@ -1,0 +1,10 @@
+//! A message for a domain.
+use qrexec_frame::Message;
+
+/// A message that waits for room on a control channel.
+#[derive(Drop)]
+pub(crate) struct Letter {
+    pub(crate) message: Message,
+    // It waits for another message to go first.
+    pub(crate) held: bool,
+}
