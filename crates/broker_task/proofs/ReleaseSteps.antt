@@ -76,11 +76,10 @@ goes-after-exec journal said f t port line there (ExitCode c) h = tt
 -- the letters of a domain after a release
 pub posted-released : (hub : Domains) (journal : List Entry) (said : ℕ → List Message) (d t : ℕ) (meant : Option ℕ) (x : Daemon) (letters : List Letter) → ((m : Message) → connects t meant m ≡ true → MayGo journal said d m)
     → letters ≡ map (released t meant) x.outbox.letters.items → HasPosted hub journal said d x → Each (IsLetter hub journal said d) letters × (messages_in letters ≡ messages_in x.outbox.letters.items)
-posted-released hub journal said d t meant x letters go is h =
-    (
-      subst (λ (l : List Letter). Each (IsLetter hub journal said d) l) (sym is) (letters-released hub journal said d t meant x.outbox.letters.items go h.letters),
-      ap (λ (l : List Letter). messages_in l) is ∙ released-messages t meant x.outbox.letters.items,
-    )
+posted-released hub journal said d t meant x letters go is h = (
+  subst (λ (l : List Letter). Each (IsLetter hub journal said d) l) (sym is) (letters-released hub journal said d t meant x.outbox.letters.items go h.letters),
+  ap (λ (l : List Letter). messages_in l) is ∙ released-messages t meant x.outbox.letters.items,
+)
 
 -- only some letters of a domain may go now
 pub record LetsGo (t : ℕ) (meant : Option ℕ) (x y : Daemon) : Type 0 where
