@@ -9,6 +9,7 @@
 
 pub mod laws;
 mod pause;
+mod piping;
 mod reading;
 mod receiving;
 mod ring;
@@ -16,6 +17,7 @@ mod sending;
 mod wait;
 mod writing;
 
+pub use piping::pipe;
 pub use reading::{BlockRead, read};
 pub use receiving::{BlockRecv, recv};
 pub use ring::fits_ring;
