@@ -86,10 +86,6 @@ answered_call ident answer c =
 abbrev pub after_answer : QueueState → List ℕ → Answer → QueueState
 after_answer q ident answer = record { calls = map (answered_call ident answer) q.calls; next = q.next }
 
--- after the session at a domain and a port was told to have ended: the call is open no more, where that was its session
-abbrev pub ended_call : ℕ → ℕ → Queued → Queued
-ended_call domain port c = record c { is_open = (if is_at domain port c.answer then false else c.is_open) }
-
 -- ---- what is asked of the calls
 
 -- no element comes twice

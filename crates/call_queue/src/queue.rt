@@ -7,7 +7,7 @@ ghost use Rattle.qrexec_frame.specs.declared.message.Message.{Message as Said};
 ghost use Rattle.qrexec_frame.specs.declared.message.Message.TheVariants.{Terminated};
 ghost use Rattle.task_duties.specs.Agent.Saying.{is_refusal};
 ghost use Rattle.task_duties.specs.Agent.Answers.{IsRefused, At, waits_as};
-ghost use Rattle.call_queue.specs.Queue.{Queued, asked_as, asked_by, answer_of, fresh, IsDue, HasToSay, after_trigger, after_answer, ended_call, FitsTrigger, AreDifferent, IsWaitingAt, IsConnectedAt};
+ghost use Rattle.call_queue.specs.Queue.{Queued, asked_as, asked_by, answer_of, fresh, IsDue, HasToSay, after_trigger, after_answer, FitsTrigger, AreDifferent, IsWaitingAt, IsConnectedAt};
 ghost use Rattle.call_queue.specs.Asking.{Asks};
 
 use crate::call::{CallAnswer, QueuedCall};
@@ -99,7 +99,7 @@ impl CallQueue {
         Ok(Some(trigger_of(alloc, &call.plan, version)?))
     }
 
-    /// Told that the trigger that was next has gone.
+    /// Told that the trigger has gone that [`CallQueue::front`] gave.
     pub fn triggered(&mut self)
         requires { (c : Queued) × IsDue self.old c }
         ensures is { (c : Queued) → IsDue self.old c → self.new ≡ after_trigger self.old c }
@@ -143,8 +143,8 @@ impl CallQueue {
         count_out(call, &mut self.counts);
     }
 
-    /// Told that the call at this place, which waits, is let through to a domain and a port. Its input is
-    /// handed out, for its session.
+    /// Told that the call at this place, which waits, is let through to a domain and a port;
+    /// [`CallQueue::waiting`] finds the place. Its input is handed out, for its session.
     pub fn connected(&mut self, alloc: Global, place: usize, to: u32, port: u32) -> Bytes
         requires { (ident : List ℕ) × IsWaitingAt self.old place ident }
         ensures is { (ident : List ℕ) → IsWaitingAt self.old place ident → self.new ≡ after_answer self.old ident (At to port) }

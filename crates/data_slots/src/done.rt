@@ -10,7 +10,7 @@ pub struct SessionOver {
     pub domain: u32,
     /// Its port.
     pub port: u32,
-    /// The number of the call, where it is one of the agent's own.
+    /// Which of the agent's own calls it is, counted from 0, where it is one of these.
     pub number: Option<usize>,
 }
 

@@ -67,7 +67,7 @@ pub(crate) enum Stage<'p> {
         service: Snapshot<Builtin>,
         ended: ServingEnd,
     },
-    /// Its end is just put to another use. No call leaves a slot so.
+    /// Its end is being put to another use. No call leaves a slot so.
     Taken,
 }
 

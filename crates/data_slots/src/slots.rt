@@ -50,9 +50,10 @@ impl<'p> DataSlots<'p> {
     ghost use Rattle.data_slots.specs.Done.{ReportsCalled, ReportsServes, TellsMore};
 
     /// The data ends of an agent of this domain and version, 2 or 3, which has so many calls of its
-    /// own. All ends are unused.
+    /// own. All ends are unused, each is a server's where the domain calls and a client's where it is
+    /// called, and no two lie at one place.
     ///
-    /// Want of memory drops the ends.
+    /// Want of memory drops the ends, unretired.
     pub fn new(
         alloc: Global,
         domain: u32,
@@ -101,7 +102,8 @@ impl<'p> DataSlots<'p> {
         self.ends.is_unused(from, self.ends.domain, port)
     }
 
-    /// Opens the unused end for the agent's own call of this number, with this input.
+    /// Opens the unused end at this place, where [`DataSlots::can_call`] is true, for the agent's own call
+    /// that stands here in the order of its calls, with this input.
     ///
     /// Want of memory drops the input and changes nothing else.
     pub fn call(&mut self, number: usize, to: u32, port: u32, input: Vec<u8>) -> Result<(), Memory>
@@ -118,7 +120,8 @@ impl<'p> DataSlots<'p> {
         self.ends.call(number, to, port, input)
     }
 
-    /// Opens the unused end for a call of this domain, which is served by this service.
+    /// Opens the unused end at this place, where [`DataSlots::can_serve`] is true, for a call of this
+    /// domain, which is served by this service.
     ///
     /// Want of memory changes nothing.
     pub fn serve(&mut self, from: u32, port: u32, service: Builtin) -> Result<(), Memory>
@@ -136,7 +139,7 @@ impl<'p> DataSlots<'p> {
 
     /// One turn of each open session. Those that are over now are put behind `over`.
     ///
-    /// After want of memory the ends can only be given up.
+    /// After want of memory the ends can only be given up, and nothing is said of `over`.
     pub fn turn(&mut self, scratch: &mut [u8], over: &mut Vec<SessionOver>) -> Result<(), Memory>
         requires whole { self.old.spent ≡ false }
         requires some { 0 < length scratch.old }

@@ -32,7 +32,7 @@ IsReady act spelled = AreWords (words_of act) (held_words act spelled)
 abbrev pub voice_at : Voice → Progress → Voice
 voice_at v p = record v { own = p.own }
 
--- the turns so far of saying these bytes made these events, and this is left of them; before each turn some were
+-- the turns so far of saying these bytes made these events, and left what is not said yet; some were left before each of these turns
 pub record SaysSoFar (before : Voice) (bytes : List ℕ) (p : Progress) (events : List PastEvent) : Type 0 where
   pub loads : List ℕ
   pub turns : length loads ≡ p.turns

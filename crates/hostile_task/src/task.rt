@@ -12,8 +12,8 @@ use task_duties::{DataEnd, PagePlace, RetiredEnd};
 use vchan_io::Memory;
 use vchan_rule::End;
 
-/// A hostile domain that carries out its acts. What contracts see of it never changes: what it was
-/// given.
+/// A hostile domain that carries out its acts. Contracts see of it what it was given, which no turn
+/// changes.
 #[derive(Drop)]
 pub struct HostileTask<'p> {
     alloc: Global,
