@@ -1,6 +1,6 @@
 -- What an answer makes of the calls and of their sessions.
-use Rattle.std.proofs.Common.{◌≡◌, ℕ, zero, suc, List, [], ◌∷◌, ◌++◌, refl, ap, sym, ◌∙◌, Some, None, Option, subst, inl, inr}
-use Rattle.std.specs.Prelude.{Bool, true, false, map, slice_get, slice_set, if◌then◌else◌, ◌&&◌, ◌||◌, bytes_eq}
+use Rattle.std.proofs.Common.{◌≡◌, ℕ, zero, suc, List, [], ◌∷◌, ◌++◌, refl, ap, sym, ◌∙◌, Some, None, subst}
+use Rattle.std.specs.Prelude.{Bool, true, false, map, slice_get, slice_set, if◌then◌else◌, ◌||◌, bytes_eq}
 use Rattle.std.specs.List.{list_any}
 use Rattle.std.proofs.lemmas.Slice.Eq.{bytes_eq-Decides}
 use Rattle.qrexec_frame.specs.declared.message.Message.{Message}
@@ -9,13 +9,11 @@ use Rattle.scenario_file.specs.declared.scenario.CallPlan.{CallPlan}
 use Rattle.task_duties.specs.Words.{ident_of}
 use Rattle.task_duties.specs.Agent.Answers.{Answer, Waits, IsRefused, At, Asked, Answers, waits, waits_as, answered, takes, takes_all}
 use Rattle.task_duties.specs.Agent.Saying.{is_refusal}
-use Rattle.call_queue.specs.Queue.{Queued, QueueState, asked_as, asked_by, answered_call, after_answer, AreDifferent, IsWaitingAt}
+use Rattle.call_queue.specs.Queue.{Queued, QueueState, asked_as, asked_by, answered_call, AreDifferent}
 use Rattle.call_queue.proofs.Places.{map-get, each-at}
-use Rattle.data_slots.specs.Slots.{Called}
 use Rattle.agent_task.specs.declared.given.Given.{Given}
 use Rattle.agent_task.specs.Standing.{called_by, called_of, AreCallsOf}
 use Rattle.agent_task.proofs.ListLaws.{and-parts}
-use Rattle.agent_task.proofs.SpeakLaws.{given_answer}
 
 -- one message after others
 pub takes-last : (d : ℕ) (ms : List Message) (m : Message) (a : Answers) → takes_all d a (ms ++ m ∷ []) ≡ takes d (takes_all d a ms) m

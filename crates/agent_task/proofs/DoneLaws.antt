@@ -7,7 +7,7 @@ use Rattle.qrexec_frame.specs.declared.message.Message.{Message}
 use Rattle.qrexec_frame.specs.declared.message.Message.TheVariants.{Hello}
 use Rattle.qrexec_frame.specs.Messages.{written, IsSpellable}
 use Rattle.qrexec_frame.specs.Streams.{Each, IsPrefixOf}
-use Rattle.vchan_rule.specs.Seated.{SeatedEnd, SeatedSide, view, last_view}
+use Rattle.vchan_rule.specs.Seated.{SeatedSide, view, last_view}
 use Rattle.vchan_rule.specs.Ends.{IsSameEnd as IsSameSeat}
 use Rattle.end_view.specs.EndView.{EndView}
 use Rattle.service_gate.specs.Owing.{builtin_owes}
@@ -21,8 +21,8 @@ use Rattle.task_duties.specs.declared.ends.RetiredEnd.{RetiredEnd}
 use Rattle.task_duties.specs.Pairwise.{EachPair}
 use Rattle.task_duties.specs.Places.{is_place}
 use Rattle.task_duties.specs.Hearing.{to_agent, to_broker, IsSaid, Heard, hears}
-use Rattle.task_duties.specs.TaskOwes.{EndAt, IsSameEnd, AreEnds, EndsOwed, places_in}
-use Rattle.task_duties.specs.GivenEnds.{retired_at, all_retired, all_given}
+use Rattle.task_duties.specs.TaskOwes.{EndAt, AreEnds, EndsOwed, places_in}
+use Rattle.task_duties.specs.GivenEnds.{all_retired, all_given}
 use Rattle.task_duties.specs.Agent.Given.{AgentPlan}
 use Rattle.task_duties.specs.Agent.Answers.{Answer, Waits, IsRefused, At, Asked, Served, Answers, answers, answer_in}
 use Rattle.task_duties.specs.Agent.Saying.{asking, asking_of, IsOfVersion, KeepsTo, IsTold}
@@ -30,14 +30,14 @@ use Rattle.task_duties.specs.Agent.Sessions.{CallerOwes, IsService, ServingOwes}
 use Rattle.task_duties.specs.declared.done.CallDone.{CallDone}
 use Rattle.task_duties.specs.Agent.Owes.{AgentOwes, ReportsAnswer, ReportsCall, ReportsServed, ControlOver, heard_by, answers_of}
 use Rattle.task_duties.proofs.ServedLaw.{same-place}
-use Rattle.control_port.specs.Port.{PortState, HasSaid, HasHeardAll, SentWhole}
+use Rattle.control_port.specs.Port.{PortState, HasSaid, SentWhole}
 use Rattle.control_port.specs.Talking.{may_say, may_hear}
 use Rattle.control_port.specs.declared.talk.Talker.{Talker}
 use Rattle.control_port.specs.declared.talk.Talker.TheVariants.{Agent as OfAgent}
 use Rattle.call_queue.specs.Queue.{Queued, QueueState, asked_as, asked_by}
 use Rattle.call_queue.proofs.AskingLaws.{asks-in-order, asks-within}
-use Rattle.data_slots.specs.Slots.{Called, Serves, SlotsState, Held, held_at, AreApart}
-use Rattle.data_slots.specs.Done.{HasEnd, ReportsCalled, ReportsServes}
+use Rattle.data_slots.specs.Slots.{Called, Serves, Held, held_at, AreApart}
+use Rattle.data_slots.specs.Done.{ReportsCalled, ReportsServes}
 use Rattle.data_slots.specs.declared.done.CallOver.{CallOver}
 use Rattle.data_slots.proofs.AgentLaws.{same-ends, end-there}
 use Rattle.agent_task.specs.declared.agent.Agent.{Agent}
@@ -45,7 +45,7 @@ use Rattle.agent_task.specs.declared.given.Given.{Given}
 use Rattle.agent_task.specs.declared.task.AgentDone.{AgentDone}
 use Rattle.agent_task.specs.Given.{data_ends, plan_of, ends_of}
 use Rattle.agent_task.specs.Standing.{Stands, IsServedBy, called_by, called_of}
-use Rattle.agent_task.specs.Ending.{heard_at, IsOver}
+use Rattle.agent_task.specs.Ending.{IsOver}
 use Rattle.agent_task.specs.Finishing.{call_end_of, call_done_of, call_dones}
 use Rattle.agent_task.specs.Owing.{IsOwed}
 

@@ -1,6 +1,6 @@
 -- The version that was agreed on is that of the bytes that came, so it stays.
 use Rattle.std.proofs.Common.{◌≡◌, ℕ, List, [], ◌∷◌, ◌++◌, length, refl, ap, sym, ◌∙◌, Some, None, Option, subst}
-use Rattle.std.specs.Prelude.{Bool, IsSome, Ok}
+use Rattle.std.specs.Prelude.{Bool, Ok}
 use Rattle.qrexec_frame.specs.declared.channel.Channel.TheVariants.{Control}
 use Rattle.qrexec_frame.specs.declared.message.Message.{Message}
 use Rattle.qrexec_frame.specs.Grammar.{Fault}
@@ -10,7 +10,7 @@ use Rattle.qrexec_frame.proofs.DecodingLaws.{stands-reading}
 use Rattle.qrexec_hello.specs.Greeting.{greeting}
 use Rattle.vchan_rule.specs.Seated.{view}
 use Rattle.task_duties.specs.Hearing.{hears_on, hears}
-use Rattle.control_port.specs.Port.{PortState, HasHeard, HasHeardAll, HearsSoFar, Nothing, Greeted, OnlyHears, Hands}
+use Rattle.control_port.specs.Port.{PortState, HasHeard, HearsSoFar, Nothing, Greeted, OnlyHears, Hands}
 use Rattle.control_port.specs.Talking.{may_hear}
 use Rattle.agent_task.specs.Ending.{heard_at}
 

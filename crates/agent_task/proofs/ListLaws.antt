@@ -1,5 +1,5 @@
 -- Elements of lists, and places.
-use Rattle.std.proofs.Common.{◌≡◌, ℕ, suc, zero, List, [], ◌∷◌, ◌++◌, length, map, refl, ap, sym, ◌∙◌, arith, Some, None, Option, subst, inl, inr}
+use Rattle.std.proofs.Common.{◌≡◌, List, [], ◌∷◌, ◌++◌, map, refl, inl, inr}
 use Rattle.std.specs.Prelude.{Bool, true, false, ◌&&◌, Result, Ok, Err, OnOk}
 use Rattle.qrexec_frame.specs.Streams.{Each}
 use Rattle.task_duties.specs.Pairwise.{SomeOf}

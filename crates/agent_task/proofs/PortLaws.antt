@@ -1,6 +1,6 @@
 -- An agent whose port alone has moved.
-use Rattle.std.proofs.Common.{◌≡◌, ℕ, List, [], ◌∷◌, ◌++◌, refl, ap, sym, ◌∙◌, Some, None, Option, subst}
-use Rattle.std.specs.Prelude.{Bool, true, false, IsSome}
+use Rattle.std.proofs.Common.{◌≡◌, ℕ, List, [], refl, ap, sym, ◌∙◌, Some, None, Option, subst}
+use Rattle.std.specs.Prelude.{Bool, true}
 use Rattle.qrexec_frame.specs.declared.message.Message.{Message}
 use Rattle.qrexec_frame.specs.Messages.{IsSpellable}
 use Rattle.qrexec_frame.specs.Streams.{Each}
@@ -18,10 +18,9 @@ use Rattle.end_view.specs.EndView.{EndView}
 use Rattle.task_duties.specs.Agent.Saying.{IsOfVersion}
 use Rattle.control_port.specs.Port.{PortState, HasSaid, HasHeard, SentWhole, OnlyHears, Hands}
 use Rattle.control_port.specs.Talking.{may_say}
-use Rattle.agent_control.specs.Speaking.{Speaks}
 use Rattle.agent_task.specs.declared.agent.Agent.{Agent}
-use Rattle.agent_task.specs.Standing.{Stands, IsPortOf, IsSound, IsHearing, Awaits, HasHeardOut, IsUp}
-use Rattle.agent_task.specs.Ending.{IsDrained, HasEnded, end_by}
+use Rattle.agent_task.specs.Standing.{Stands, IsHearing, Awaits, HasHeardOut, IsUp}
+use Rattle.agent_task.specs.Ending.{HasEnded, end_by}
 use Rattle.agent_task.proofs.HeardLaws.{KeepsVersion, kept-at-next, kept-at-end}
 
 abbrev pub with_port : Agent → PortState → Agent

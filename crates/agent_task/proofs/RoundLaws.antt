@@ -1,26 +1,25 @@
 -- A round of an agent: what it says, and how its control channel comes to its end.
-use Rattle.std.proofs.Common.{◌≡◌, ℕ, List, [], ◌∷◌, ◌++◌, refl, ap, sym, ◌∙◌, Some, None, Option, subst}
-use Rattle.std.specs.Prelude.{Bool, true, false, map}
+use Rattle.std.proofs.Common.{◌≡◌, List, ◌++◌, refl, ap, sym, ◌∙◌, Some, None, Option, subst}
+use Rattle.std.specs.Prelude.{map}
 use Rattle.qrexec_frame.specs.declared.message.Message.{Message}
 use Rattle.qrexec_data.specs.declared.fault.SessionFault.{SessionFault}
-use Rattle.vchan_rule.specs.Seated.{SeatedEnd, view, IsOpen}
+use Rattle.vchan_rule.specs.Seated.{view}
 use Rattle.vchan_rule.specs.Ends.{IsSameEnd}
 use Rattle.vchan_lifecycle.specs.Lifecycle.{retired_view}
 use Rattle.vchan_lifecycle.specs.declared.DrainAnswer.{DrainAnswer}
-use Rattle.vchan_lifecycle.specs.declared.DrainAnswer.TheVariants as drain
 use Rattle.end_view.specs.EndView.{EndView}
 use Rattle.task_duties.specs.declared.done.ControlEnd.{ControlEnd}
 use Rattle.task_duties.specs.declared.done.ControlEnd.TheVariants.{Drained, Gone, Fault}
 use Rattle.task_duties.specs.Hearing.{Heard, hears}
 use Rattle.task_duties.specs.Agent.Owes.{ControlOver}
 use Rattle.task_duties.specs.Words.{ident_of}
-use Rattle.call_queue.specs.Queue.{asked_by, AreDifferent}
-use Rattle.control_port.specs.Port.{PortState, HasSaid, HasHeard, HasHeardAll, OnlySends}
+use Rattle.call_queue.specs.Queue.{AreDifferent}
+use Rattle.control_port.specs.Port.{PortState, HasSaid, HasHeardAll, OnlySends}
 use Rattle.control_port.specs.Talking.{may_hear}
 use Rattle.agent_control.specs.declared.control.AgentControl.{AgentControl}
-use Rattle.agent_control.specs.Speaking.{SaysMore, Speaks}
+use Rattle.agent_control.specs.Speaking.{SaysMore}
 use Rattle.agent_task.specs.declared.agent.Agent.{Agent}
-use Rattle.agent_task.specs.Standing.{Stands, IsSound, IsHearing, HasHeardOut, IsUp}
+use Rattle.agent_task.specs.Standing.{HasHeardOut, IsUp}
 use Rattle.agent_task.specs.Ending.{HasEnded, end_by, over_by, IsDrained, heard_at, IsOver, IsRunning, RunsAs}
 use Rattle.agent_task.proofs.PortLaws.{with_port, PortKeeps, port-stands, same-end-then}
 

@@ -1,6 +1,6 @@
 -- What a turn of its sessions makes of an agent.
-use Rattle.std.proofs.Common.{◌≡◌, ℕ, ◌<◌, List, [], ◌∷◌, ◌++◌, length, refl, ap, sym, ◌∙◌, Some, None, Option, subst, inl, inr}
-use Rattle.std.specs.Prelude.{Bool, true, false, map, slice_get, ◌==◌, ◌&&◌, is_some}
+use Rattle.std.proofs.Common.{◌≡◌, ℕ, List, [], ◌∷◌, ◌++◌, refl, ap, sym, ◌∙◌, Some, None, Option, subst, inl, inr}
+use Rattle.std.specs.Prelude.{true, false, map, slice_get, ◌==◌, ◌&&◌, is_some}
 use Rattle.std.proofs.Common.{arith}
 use Rattle.std.proofs.lemmas.Bool.Decides.{nat_tests}
 use Rattle.qrexec_frame.specs.declared.message.Message.{Message}
@@ -16,9 +16,9 @@ use Rattle.data_slots.specs.Slots.{Called, Serves, SlotsState}
 use Rattle.data_slots.specs.Done.{IsBegun, IsToldOver, TellsMore}
 use Rattle.data_slots.specs.declared.done.SessionOver.{SessionOver}
 use Rattle.agent_control.specs.declared.control.SessionEnd.{SessionEnd}
-use Rattle.agent_control.specs.Speaking.{MayTell, IsTellable, HasCall, CanSpeak, SaysMore}
+use Rattle.agent_control.specs.Speaking.{MayTell, IsTellable, HasCall, CanSpeak}
 use Rattle.agent_task.specs.declared.agent.Agent.{Agent}
-use Rattle.agent_task.specs.Standing.{Stands, AreSlotsOf, AreAnswers, AreAskedFor, IsSound, IsHearing, IsUp, OnlyTells, called_by, called_of, end_of}
+use Rattle.agent_task.specs.Standing.{Stands, AreAskedFor, IsUp, OnlyTells, called_by, called_of, end_of}
 use Rattle.agent_task.specs.Ending.{IsOver, IsRunning, RunsAs}
 use Rattle.agent_task.proofs.ListLaws.{each-mapped, each-to}
 use Rattle.agent_task.proofs.RoundLaws.{running-up, up-running}

@@ -1,11 +1,10 @@
 -- An agent that was just made.
-use Rattle.std.proofs.Common.{◌≡◌, ℕ, zero, suc, List, [], ◌∷◌, length, refl, ap, sym, ◌∙◌, Some, None, Option, subst}
-use Rattle.std.specs.Prelude.{Bool, true, false, map, replicate}
+use Rattle.std.proofs.Common.{◌≡◌, ℕ, List, [], ◌∷◌, length, refl, ap, sym, ◌∙◌, None, Option, subst}
+use Rattle.std.specs.Prelude.{false, map, replicate}
 use Rattle.qrexec_frame.specs.Streams.{Each}
 use Rattle.vchan_rule.specs.Seated.{SeatedEnd, view, IsOpen}
-use Rattle.ring_words.specs.declared.page.Role.{Role}
 use Rattle.ring_words.specs.declared.page.Role.TheVariants.{Server}
-use Rattle.end_view.specs.EndView.{EndView, IsUnused, state_at_first}
+use Rattle.end_view.specs.EndView.{IsUnused, state_at_first}
 use Rattle.scenario_file.specs.declared.scenario.CallPlan.{CallPlan}
 use Rattle.task_duties.specs.declared.ends.DataEnd.{DataEnd}
 use Rattle.task_duties.specs.GivenEnds.{all_given}
@@ -19,7 +18,7 @@ use Rattle.call_queue.specs.Asking.{Asks}
 use Rattle.data_slots.specs.Slots.{Called, SlotsState, held_at, AreApart}
 use Rattle.agent_control.specs.Speaking.{IsTellable}
 use Rattle.agent_task.specs.declared.agent.Agent.{Agent}
-use Rattle.agent_task.specs.Given.{data_ends, plan_of}
+use Rattle.agent_task.specs.Given.{data_ends}
 use Rattle.task_duties.specs.Pairwise.{EachPair}
 use Rattle.agent_task.specs.Standing.{called_of, IsServedBy, AreAskedFor}
 use Rattle.agent_task.specs.Ending.{IsRunning}

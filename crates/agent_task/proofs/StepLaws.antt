@@ -1,8 +1,7 @@
 -- What an agent makes of one message more.
-use Rattle.std.proofs.Common.{◌≡◌, ℕ, ◌+◌, List, [], ◌∷◌, ◌++◌, refl, ap, sym, ◌∙◌, Some, None, Option, subst, inl, inr}
-use Rattle.std.specs.Prelude.{Bool, true, false, map, slice_get, slice_set, if◌then◌else◌, ◌&&◌}
+use Rattle.std.proofs.Common.{◌≡◌, ℕ, ◌+◌, List, [], ◌∷◌, ◌++◌, refl, ap, sym, ◌∙◌, Some, None, Option, subst}
+use Rattle.std.specs.Prelude.{Bool, true, false, map, slice_get, slice_set, ◌&&◌}
 use Rattle.std.specs.List.{list_any}
-use Rattle.service_gate.specs.Owing.{builtin_owes}
 use Rattle.service_gate.specs.declared.builtin.Builtin.{Builtin}
 use Rattle.qrexec_frame.specs.declared.message.Message.{Message}
 use Rattle.qrexec_frame.specs.declared.message.Message.TheVariants as m
@@ -11,9 +10,8 @@ use Rattle.task_duties.specs.declared.place.PagePlace.TheVariants.{Payload}
 use Rattle.task_duties.specs.Pairwise.{EachPair, SomeOf}
 use Rattle.task_duties.specs.Places.{has_place, without}
 use Rattle.task_duties.specs.Words.{service_of_line}
-use Rattle.task_duties.specs.Agent.Answers.{Answer, IsRefused, At, Asked, Served, Answers, waits_as, answered, serves, takes, answers, nothing_heard}
+use Rattle.task_duties.specs.Agent.Answers.{IsRefused, At, Served, Answers, waits_as, answered, serves, takes, answers, nothing_heard}
 use Rattle.task_duties.specs.Agent.Saying.{AsksToServe}
-use Rattle.task_duties.specs.Agent.Sessions.{IsService}
 use Rattle.call_queue.specs.Queue.{Queued, QueueState, asked_as, asked_by, after_answer, IsWaitingAt}
 use Rattle.call_queue.specs.Asking.{Asks}
 use Rattle.call_queue.proofs.Places.{map-get}
@@ -23,7 +21,7 @@ use Rattle.agent_control.specs.Speaking.{IsTellable, Speaks}
 use Rattle.agent_task.specs.declared.agent.Agent.{Agent}
 use Rattle.agent_task.specs.Given.{plan_of}
 use Rattle.agent_task.specs.Lines.{IsNamed}
-use Rattle.agent_task.specs.Standing.{Stands, AreAnswers, AreCallsOf, AreSlotsOf, AreAskedFor, IsServedBy, IsSound, IsHearing, Awaits, OnlyTells, called_of}
+use Rattle.agent_task.specs.Standing.{Stands, AreAnswers, AreCallsOf, AreSlotsOf, AreAskedFor, IsServedBy, IsHearing, Awaits, OnlyTells, called_of}
 use Rattle.agent_task.proofs.ListLaws.{each-to, some-more, some-last, and-right-false}
 use Rattle.agent_task.proofs.SpeakLaws.{hears-more, answers-more, tells-more}
 use Rattle.agent_task.proofs.AnswerLaws.{takes-last, asked-answered, still-calls, called-refused, called-answered, some-waits, waits-none}

@@ -1,4 +1,4 @@
-use Rattle.std.proofs.Common.{refl, sym, ◌∙◌, ap, subst}
+use Rattle.std.proofs.Common.{refl}
 use Rattle.task_duties.specs.GivenEnds.{all_retired}
 use Rattle.agent_task.proofs.DoneLaws.{done-owes, calls-long}
 use Rattle.agent_task.proofs.agent.Agent.finish.Goals as goal

@@ -1,5 +1,4 @@
 use Rattle.std.proofs.Common.{refl, subst}
-use Rattle.qrexec_frame.specs.declared.message.Message.TheVariants.{JustExec}
 use Rattle.agent_task.specs.Standing.{Awaits}
 use Rattle.agent_task.proofs.ListLaws.{on-ok}
 use Rattle.agent_task.proofs.StepLaws.{just_exec-unserved, passes-other}

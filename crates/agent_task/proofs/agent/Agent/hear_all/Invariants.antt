@@ -1,5 +1,4 @@
-use Rattle.std.proofs.Common.{◌≡◌, ℕ, length}
-use Rattle.vchan_rule.specs.Seated.{SeatedEnd}
+use Rattle.std.proofs.Common.{◌≡◌, length}
 use Rattle.agent_task.specs.Standing.{IsHearing, IsSameAgent}
 use Rattle.agent_task.proofs.agent.Agent.hear_all.Given as goal
 

@@ -1,5 +1,4 @@
 use Rattle.agent_task.proofs.RoundLaws.{says-up}
-use Rattle.agent_task.proofs.ListLaws.{on-ok}
 use Rattle.agent_task.proofs.agent.Agent.say.Goals as goal
 
 pub returns-in_ok-say_on-clause-up : goal.returns-in_ok-say_on-clause-up

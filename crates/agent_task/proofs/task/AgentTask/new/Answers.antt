@@ -1,4 +1,4 @@
-use Rattle.std.proofs.Common.{◌∙◌, ap, refl, None, arith, ◌<◌, length}
+use Rattle.std.proofs.Common.{ap, refl, None, arith}
 use Rattle.agent_task.proofs.StartLaws.{starts-with}
 use Rattle.agent_task.proofs.task.AgentTask.new.Goals as goal
 
