@@ -15,5 +15,7 @@ mod round;
 mod settled;
 mod switchboard;
 mod task;
+#[cfg(test)]
+mod tests;
 
 pub use task::{BrokerDone, BrokerTask, BrokerTurn};

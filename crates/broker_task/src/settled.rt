@@ -1,5 +1,5 @@
 //! Whether all that the task waits for has come.
-ghost use Rattle.std.specs.Prelude.{◌≡◌, ◌+◌, ◌≤◌, ℕ, length, true};
+ghost use Rattle.std.specs.Prelude.{◌+◌, ◌≤◌, ◌↔◌, IsTrue, length};
 ghost use Rattle.task_duties.specs.Places.{numbers};
 ghost use Rattle.task_duties.specs.Broker.Outbox.{live_calls};
 ghost use Rattle.broker_task.specs.Lines.{IsLine};
@@ -14,7 +14,7 @@ impl<'p> Switchboard<'p> {
     /// some were awaited, all messages have gone.
     pub(crate) fn is_settled(&self) -> bool
         requires { EachAt IsLine self.now.daemons.items }
-        ensures { result ≡ true → EachAt (IsSettled self.now.broker.hub self.now.broker.journal (length self.now.daemons.items)) self.now.daemons.items }
+        ensures { IsTrue result ↔ EachAt (IsSettled self.now.broker.hub self.now.broker.journal (length self.now.daemons.items)) self.now.daemons.items }
     {
         for daemon in &self.daemons {
             if !self.is_domain_settled(daemon) {
@@ -27,7 +27,7 @@ impl<'p> Switchboard<'p> {
     // The same of one domain.
     fn is_domain_settled(&self, daemon: &Daemon<'p>) -> bool
         requires { EachAt IsLine self.now.daemons.items }
-        ensures { result ≡ true → IsSettled self.now.broker.hub self.now.broker.journal (length self.now.daemons.items) daemon.now.domain daemon.now }
+        ensures { IsTrue result ↔ IsSettled self.now.broker.hub self.now.broker.journal (length self.now.daemons.items) daemon.now.domain daemon.now }
     {
         if daemon.is_gone() {
             return true;
@@ -41,7 +41,7 @@ impl<'p> Switchboard<'p> {
     // Whether the awaited calls of a domain were answered and are over.
     fn are_over(&self, daemon: &Daemon<'p>) -> bool
         requires { EachAt IsLine self.now.daemons.items }
-        ensures { result ≡ true → daemon.now.awaited + live_calls self.now.broker.hub self.now.broker.journal (numbers 1 1 (length self.now.daemons.items)) daemon.now.domain ≤ daemon.now.answered }
+        ensures { IsTrue result ↔ daemon.now.awaited + live_calls self.now.broker.hub self.now.broker.journal (numbers 1 1 (length self.now.daemons.items)) daemon.now.domain ≤ daemon.now.answered }
     {
         let mut over = daemon.answered;
         for other in &self.daemons {

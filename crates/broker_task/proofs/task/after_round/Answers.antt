@@ -5,4 +5,4 @@ pub finish-requires : goal.finish-requires
 finish-requires c = lines-list c.args.switchboard.daemons.items c.requires.ready.posting.lines
 
 pub returns-then-is_settled : goal.returns-then-is_settled
-returns-then-is_settled c = done-pays c.args.switchboard c.finish.result c.requires.ready (c.is_settled.ensures c.if-is_settled.true) c.finish.ensures
+returns-then-is_settled c = done-pays c.args.switchboard c.finish.result c.requires.ready (c.is_settled.ensures.0 c.if-is_settled.true) c.finish.ensures
