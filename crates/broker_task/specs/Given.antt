@@ -20,8 +20,8 @@ pub record BrokerGiven : Type 0 where
   pub ends : List EndAt
 
 -- the same, as what a task was given
-abbrev pub is_given : BrokerGiven → TaskGiven
-is_given given = Broker given.hub given.awaited given.ends
+abbrev pub task_given : BrokerGiven → TaskGiven
+task_given given = Broker given.hub given.awaited given.ends
 
 -- what was given, by what it is now
 abbrev pub given_of : Switchboard → BrokerGiven

@@ -66,7 +66,7 @@ impl<'p> BrokerTask<'p> {
     ghost use Rattle.vchan_rule.specs.Seated.{view};
     ghost use Rattle.task_duties.specs.TaskOwes.{broker_given};
     ghost use Rattle.broker_task.specs.Replies.{HasShortNames};
-    ghost use Rattle.broker_task.specs.Given.{IsNewClient, is_given};
+    ghost use Rattle.broker_task.specs.Given.{IsNewClient, task_given};
 
     /// The task of a broker that has decided nothing yet. `awaited` has how many calls of each domain are
     /// awaited, and `controls` the broker's end of each domain's control page, those of the first domain
@@ -85,7 +85,7 @@ impl<'p> BrokerTask<'p> {
         requires awaited { length awaited.items ≡ count_of broker.hub }
         requires controls { length controls.items ≡ count_of broker.hub }
         requires unused { Each IsNewClient controls.items }
-        ensures { IfOk result (λ task. is_given task ≡ broker_given broker.hub awaited.items (map view controls.entry.items)) }
+        ensures { IfOk result (λ task. task_given task ≡ broker_given broker.hub awaited.items (map view controls.entry.items)) }
     {
         let buf = vec![in alloc; 0u8; CHUNK]?;
         let daemons = daemons_of(alloc, awaited.as_slice(), controls)?;
