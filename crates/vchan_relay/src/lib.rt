@@ -4,11 +4,21 @@
 //! relay is this project's own.
 #![tactic(auto)]
 
+mod deal;
+mod draining;
+mod hop;
 pub mod laws;
+mod lay;
+mod reader;
 mod relay;
+mod run;
+mod settle;
+mod task;
 mod turn;
+mod writer;
 
 pub use relay::{Relay, RelayRefused};
+pub use run::{Relayed, relay_run};
 pub use turn::RelayTurn;
 
 #[cfg(test)]
