@@ -1,7 +1,8 @@
 //! A relay: it reads the near channel and writes what it got to the far one.
 //!
-//! It serves whoever passes a stream through a domain that stands between two others. The form of a
-//! relay is this project's own.
+//! It serves whoever passes a stream through a domain that stands between two others, or through a
+//! row of such domains, whose relays run as tasks of a pool. The form of a relay is this project's
+//! own.
 #![tactic(auto)]
 
 mod deal;
