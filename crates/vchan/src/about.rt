@@ -53,7 +53,7 @@ pub fn tell<K: Sink, E: Sink>(text: &[u8], out: &mut K, err: &mut E) -> Status
         Ok(()) => Status::Done,
         Err(WriteFault) => Status::WriteFault,
     };
-    let _ = report(status, err);
+    let _ = report(&status, err);
     status
 }
 
