@@ -37,14 +37,7 @@ fn main(rt: HostRuntime) -> ExitCode {
     let status = match arguments(&rt, rt.alloc()) {
         Some(arguments) => {
             let words = command_words(arguments.as_slice());
-            Some(carry_out(
-                &rt,
-                rt.alloc(),
-                words,
-                &mut source,
-                &mut out,
-                &mut err,
-            ))
+            Some(carry_out(&rt, rt.alloc(), words, &mut source, &mut out, &mut err))
         }
         None => None,
     };
