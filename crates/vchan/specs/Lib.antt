@@ -3,4 +3,5 @@ pub mod Command
 pub mod EndOfRun
 pub mod Prints
 pub mod Status
+pub mod Sums
 pub mod Top

@@ -18,6 +18,7 @@ use Rattle.vchan.specs.declared.status.Status.{Status}
 use Rattle.vchan.specs.declared.status.Status.TheVariants.{BadInput, OutOfMemory}
 use Rattle.vchan.specs.declared.status.Bad.{Bad}
 use Rattle.vchan.specs.declared.status.Bad.TheVariants as bad
+use Rattle.vchan.specs.Sums.{sums_of}
 
 -- `run` prints a report that is lawful for the scenario that the input is
 pub record PrintsReport (input text : List ℕ) (report : Report) : Type 0 where
@@ -26,12 +27,13 @@ pub record PrintsReport (input text : List ℕ) (report : Report) : Type 0 where
   pub lawful : IsLawful scenario report
   pub prints : text ≡ text_of report
 
--- `load` prints the sums of a report that is lawful for the generated scenario
+-- `load` prints the sums of a report that is lawful for the generated scenario; they are those that the services and the names alone give
 pub record PrintsSums (number calls : ℕ) (text : List ℕ) (report : Report) : Type 0 where
   pub scenario : Scenario
   pub made : written scenario ≡ generated number calls
   pub lawful : IsLawful scenario report
   pub prints : text ≡ summary_of scenario.calls report
+  pub alone : text ≡ sums_of (generated number calls)
 
 -- what a command prints for an input, and the report that goes with it. `step` prints the text of the script that the input is;
 -- where the script's lines are whole calls, the lists of what was sent and got tell their part of it. `decode` prints the text

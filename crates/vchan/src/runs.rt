@@ -36,7 +36,8 @@ pub(crate) fn run_text<G: Gate, R: Threads + Wait + Sync>(
 }
 
 /// Generates the scenario of a number and runs it with 4 workers. The answer is the text of the sums
-/// of its report, and the report, which is lawful whatever the order of all steps. The error is want of
+/// of its report, and the report, which is lawful whatever the order of all steps. The text is the same
+/// at each run: its numbers are those that the services and the names alone give. The error is want of
 /// memory.
 pub fn load_text<R: Threads + Wait + Sync>(
     rt: &R,
