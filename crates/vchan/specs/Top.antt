@@ -1,5 +1,5 @@
 -- What a run of the program does, by its status.
-use Rattle.std.specs.Prelude.{◌≡◌, ℕ, ◌<◌, ◌↔◌, Bool, true, false, List, [], length, Option, Some, None}
+use Rattle.std.specs.Prelude.{◌≡◌, ℕ, ◌<◌, ◌↔◌, true, false, List, [], length, Option, Some, None}
 use Rattle.std.specs.Io.KnownBytes.{IsAtEnd}
 use Rattle.vchan_io.specs.Counts.{Rose}
 use Rattle.vchan_io.specs.Streams.{Takes, Appends, AppendsProperPrefix}
@@ -8,7 +8,7 @@ use Rattle.vchan.specs.declared.command.Command.{Command}
 use Rattle.vchan.specs.declared.status.Status.{Status}
 use Rattle.vchan.specs.declared.status.Bad.{Bad}
 use Rattle.vchan.specs.declared.status.Status.TheVariants.{Done, BadWords, ReadFault, TooLong, BadInput, WriteFault, OutOfMemory}
-use Rattle.vchan.specs.Command.{command_of, reads_input, words_read}
+use Rattle.vchan.specs.Command.{command_of, words_read}
 use Rattle.vchan.specs.EndOfRun.{EndOfRun}
 use Rattle.vchan.specs.Prints.{Prints, IsBadFor}
 
