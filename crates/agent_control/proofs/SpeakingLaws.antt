@@ -18,6 +18,7 @@ use Rattle.call_queue.specs.Queue.{Queued, QueueState, asked_as, asked_by, IsDue
 use Rattle.call_queue.specs.Asking.{Asks}
 use Rattle.call_queue.proofs.Places.{map-got, map-set-same, get-within}
 use Rattle.call_queue.proofs.AskingLaws.{asks-stranger}
+use Rattle.control_port.specs.Port.{PortState}
 use Rattle.agent_control.specs.declared.control.AgentControl.{AgentControl}
 use Rattle.agent_control.specs.declared.control.SessionEnd.{SessionEnd}
 use Rattle.agent_control.specs.Speaking.{MayTell, IsTellable, HasCall, Speaks, CanSpeak, SaysMore, Tells, Says, end_of, end_told}
@@ -46,6 +47,7 @@ still old new w heard said s h = record {
 pub says-nothing : (old new : AgentControl) (w : Message) → IsSameEnd old.port.end new.port.end → Says old new w false → SaysMore old new
 says-nothing old new w end s = record {
   end = end;
+  port = s.port;
   can = s.can;
   asked = ap asked_by s.queue;
   heard = s.heard;
@@ -57,6 +59,7 @@ says-nothing old new w end s = record {
 pub tells-nothing : (old new : AgentControl) (e : SessionEnd) (w : Message) → IsSameEnd old.port.end new.port.end → Says old new w false → Tells old new e false
 tells-nothing old new e w end s = record {
   end = end;
+  port = s.port;
   can = s.can;
   asked = ap asked_by s.queue;
   heard = s.heard;
@@ -65,11 +68,12 @@ tells-nothing old new e w end s = record {
 }
 
 pub says-same : (c : AgentControl) → CanSpeak c → SaysMore c c
-says-same c can = record { end = (refl, refl, refl, refl); can = can; asked = refl; heard = λ heard h. h; told = []; unsaid = refl; speaks = λ heard said h. ([], subst (λ l. Speaks c heard l) (sym (append-nil said)) h, refl) }
+says-same c can = record { end = (refl, refl, refl, refl); port = (refl, refl); can = can; asked = refl; heard = λ heard h. h; told = []; unsaid = refl; speaks = λ heard said h. ([], subst (λ l. Speaks c heard l) (sym (append-nil said)) h, refl) }
 
 pub says-then : (a b c : AgentControl) → SaysMore a b → SaysMore b c → SaysMore a c
 says-then a b c p q = record {
   end = (q.end.0 ∙ p.end.0, q.end.1 ∙ p.end.1, q.end.2 ∙ p.end.2, q.end.3 ∙ p.end.3);
+  port = (q.port.0 ∙ ap (λ (x : PortState). record x { end = c.port.end }) p.port.0, q.port.1 ∙ p.port.1);
   can = q.can;
   asked = q.asked ∙ p.asked;
   heard = λ heard h. q.heard heard (p.heard heard h);
@@ -115,6 +119,7 @@ goes old mid queue w heard said s asked asks version told h =
 pub tells-other : (old mid : AgentControl) (e : SessionEnd) → e.call ≡ None → IsSameEnd old.port.end mid.port.end → Says old mid (m.Terminated e.domain e.port) true → Tells old mid e true
 tells-other old mid e none end s = record {
   end = end;
+  port = s.port;
   can = s.can;
   asked = ap asked_by s.queue;
   heard = s.heard;
@@ -132,6 +137,7 @@ tells-own old mid queue e place own within end s is asks =
     let same : asked_by queue ≡ asked_by mid.queue = ap asked_by (is at.0 at.1) ∙ map-set-same asked_as mid.queue.calls place at.0 (record at.0 { is_open = false }) at.1 refl in
     record {
       end = end;
+      port = s.port;
       can = with-queue mid queue same s.can;
       asked = same ∙ ap asked_by s.queue;
       heard = s.heard;
@@ -182,6 +188,7 @@ says-trigger old mid queue version w v end s says is asks =
     let of_version : IsOfVersion mid.port.version w = subst (λ o. IsOfVersion o w) (sym (s.version ∙ v)) (subst (λ x. IsOfVersion (Some version) x) (sym now.2) (is-of-version version now.0.call)) in
     record {
       end = end;
+      port = s.port;
       can = with-queue mid queue same s.can;
       asked = same ∙ ap asked_by s.queue;
       heard = s.heard;
@@ -203,6 +210,7 @@ tells-first old mid new e rest t first rest_is new_is =
     let was : old.unsaid.items ≡ e ∷ rest = ap (λ u. u.items) (sym t.unsaid) ∙ first in
     subst (λ x. SaysMore old x) (sym new_is) (record {
       end = t.end;
+      port = t.port;
       can = record {
         is_open = t.can.is_open;
         talker = t.can.talker;
@@ -234,6 +242,7 @@ tells-first old mid new e rest t first rest_is new_is =
 pub tells-not : (old mid : AgentControl) (e : SessionEnd) (rest : List SessionEnd) → Tells old mid e false → old.unsaid.items ≡ e ∷ rest → SaysMore old mid
 tells-not old mid e rest t first = record {
   end = t.end;
+  port = t.port;
   can = t.can;
   asked = t.asked;
   heard = t.heard;

@@ -4,12 +4,12 @@ use Rattle.std.specs.Prelude.{◌≡◌, ℕ, ◌<◌, Bool, true, false, List, 
 use Rattle.qrexec_frame.specs.declared.message.Message.{Message}
 use Rattle.qrexec_frame.specs.declared.message.Message.TheVariants.{Terminated}
 use Rattle.qrexec_frame.specs.Streams.{Each}
-use Rattle.vchan_rule.specs.Seated.{IsOpen}
+use Rattle.vchan_rule.specs.Seated.{view, IsOpen}
 use Rattle.vchan_rule.specs.Ends.{IsSameEnd}
 use Rattle.task_duties.specs.Pairwise.{SomeOf}
 use Rattle.task_duties.specs.Agent.Answers.{Asked}
 use Rattle.task_duties.specs.Agent.Saying.{is_at, IsOfVersion, IsTold, AsksToServe}
-use Rattle.control_port.specs.Port.{PortState, HasSaid, HasHeard}
+use Rattle.control_port.specs.Port.{PortState, HasSaid, HasHeard, OnlySends}
 use Rattle.control_port.specs.declared.talk.Talker.TheVariants.{Agent}
 use Rattle.call_queue.specs.Queue.{asked_by}
 use Rattle.call_queue.specs.Asking.{Asks}
@@ -55,9 +55,14 @@ end_told message = None
 abbrev pub end_of : SessionEnd → ℕ × ℕ
 end_of e = (e.domain, e.port)
 
+-- of a port only the end moved, by no drain
+abbrev pub OnlyTalks : PortState → PortState → Type 0
+OnlyTalks old new = OnlySends old new × ((view new.end).ended ≡ (view old.end).ended)
+
 -- the agent said more, and nothing else changed: the first ends of sessions were told, just these and in their order, and the others are unsaid still
 pub record SaysMore (old new : AgentControl) : Type 0 where
   pub end : IsSameEnd old.port.end new.port.end
+  pub port : OnlyTalks old.port new.port
   pub can : CanSpeak new
   pub asked : asked_by new.queue ≡ asked_by old.queue
   pub heard : (heard : List Message) → HasHeard old.port heard → HasHeard new.port heard
@@ -68,6 +73,7 @@ pub record SaysMore (old new : AgentControl) : Type 0 where
 -- an end of a session was told, or had no room; it isn't taken out of those unsaid
 pub record Tells (old new : AgentControl) (e : SessionEnd) (gone : Bool) : Type 0 where
   pub end : IsSameEnd old.port.end new.port.end
+  pub port : OnlyTalks old.port new.port
   pub can : CanSpeak new
   pub asked : asked_by new.queue ≡ asked_by old.queue
   pub heard : (heard : List Message) → HasHeard old.port heard → HasHeard new.port heard
@@ -82,6 +88,7 @@ HasSaidOne p said m false = HasSaid p said
 
 -- one message was said or had no room: only the end of the port moved
 pub record Says (old new : AgentControl) (m : Message) (gone : Bool) : Type 0 where
+  pub port : OnlyTalks old.port new.port
   pub can : CanSpeak new
   pub heard : (heard : List Message) → HasHeard old.port heard → HasHeard new.port heard
   pub said_is : (said : List Message) → HasSaid old.port said → HasSaidOne new.port said m gone

@@ -1,7 +1,7 @@
 -- A domain that is heard, event by event.
-use Rattle.std.proofs.Common.{◌≡◌, ◌≢◌, ℕ, ◌+◌, ◌-◌, ◌≤◌, Option, Some, None, Bool, true, false, List, [], ◌∷◌, ◌++◌, length, map, refl, sym, ap, ◌∙◌, subst, arith, suc, zero, ◌<◌}
+use Rattle.std.proofs.Common.{◌≡◌, ◌≢◌, ℕ, ◌+◌, ◌-◌, ◌≤◌, Some, None, Bool, true, false, List, [], ◌∷◌, ◌++◌, length, refl, sym, ap, ◌∙◌, subst, arith, suc, zero, ◌<◌}
 use Rattle.std.proofs.Math.ListN.{set}
-use Rattle.std.specs.Prelude.{nat_le, ◌==◌, filter, filter_map, IsPermutation, if◌then◌else◌}
+use Rattle.std.specs.Prelude.{nat_le, filter_map, IsPermutation, if◌then◌else◌}
 use Rattle.qrexec_frame.specs.declared.message.Message.{Message}
 use Rattle.std.proofs.lemmas.List.{append-nil, get_or-set_same, length-set}
 use Rattle.std.proofs.lemmas.Bool.Decides.{nat_tests}
@@ -12,7 +12,6 @@ use Rattle.call_broker.specs.declared.decision.Entry.{Entry}
 use Rattle.call_broker.specs.Domains.{Domains, is_domain, count_of}
 use Rattle.call_broker.proofs.OpenLaws.{both}
 use Rattle.call_broker.specs.Journal.{events}
-use Rattle.call_broker.proofs.BrokerLaws.{events-push}
 use Rattle.vchan_rule.specs.Seated.{SeatedEnd, view}
 use Rattle.control_port.specs.Port.{PortState, HasSaid, HasHeard, HasFewerLeft}
 use Rattle.task_duties.specs.Broker.Outbox.{outbox, read_from, is_from, event_of}
@@ -21,8 +20,8 @@ use Rattle.broker_task.specs.declared.letter.Letter.{Letter}
 use Rattle.broker_task.specs.Letters.{IsAt, messages_in}
 use Rattle.broker_task.specs.Lines.{is_shut, IsLine, ReadsOn, HasRead, HasReadAll, HandsOut, HasRoom, OnlyPort}
 use Rattle.broker_task.proofs.LineLaws.{read-still}
-use Rattle.broker_task.specs.Posting.{EachAt, EachMoves, SamePort, MovesPort, HasPosted, IsLetter, IsPosting, IsHearing, HasHeardOut}
-use Rattle.broker_task.proofs.PostLaws.{each-moved, moves-one, same-number}
+use Rattle.broker_task.specs.Posting.{EachAt, EachMoves, SamePort, SameEnd, MovesPort, HasPosted, IsLetter, IsPosting, IsHearing, HasHeardOut}
+use Rattle.broker_task.proofs.PostLaws.{each-moved, moves-one, moves-as, moves-then, same-number}
 
 -- ---- what was said and waits, while ports move
 
@@ -53,7 +52,7 @@ posting-port hub journal old new moves h = record {
 
 -- ---- what was read, through one entry more
 
-read-more : (journal : List Entry) (e : Entry) (d : ℕ) → read_from (journal ++ e ∷ []) d ≡ read_from journal d ++ (if is_from d e.event then e.event ∷ [] else [])
+pub read-more : (journal : List Entry) (e : Entry) (d : ℕ) → read_from (journal ++ e ∷ []) d ≡ read_from journal d ++ (if is_from d e.event then e.event ∷ [] else [])
 read-more [] e d = refl
 read-more (x ∷ journal) e d = by_test (is_from d x.event) refl (read-more journal e d)
   where
@@ -191,3 +190,20 @@ heard-out domain journal ds i x y there number hands h =
       own = each-moved (λ d a. d ≡ domain → ReadsOn a (read_from journal d)) (λ d a. d ≡ domain → HasReadAll a (read_from journal d)) R ds (set ds i y) moves
           (λ d a b m q same. m.1 same (read_from journal d) (q same)) h.own;
     }
+
+-- ---- the ends, while one domain is heard
+
+pub ends-none : (ds : List Daemon) → EachMoves SameEnd ds ds
+ends-none ds = record { count = refl; each = λ i x at. (x, at, (refl, refl, refl)) }
+
+pub ends-then : (a b c : List Daemon) → EachMoves SameEnd a b → EachMoves SameEnd b c → EachMoves SameEnd a c
+ends-then a b c first second = moves-then SameEnd SameEnd SameEnd a b c first second (λ d x y z p q. (q.0 ∙ p.0, q.1 ∙ p.1, q.2 ∙ p.2))
+
+pub ends-next : (before ds : List Daemon) (i : ℕ) (x y : Daemon) → EachMoves SameEnd before ds → IsAt ds i x → OnlyPort x y → y.port.end ≡ x.port.end → EachMoves SameEnd before (set ds i y)
+ends-next before ds i x y so_far there only end =
+    ends-then before ds (set ds i y) so_far
+    (moves-one SameEnd ds i x y there (end, ap (λ (z : Daemon). z.domain) only, ap (λ (z : Daemon). z.awaited) only) (λ d z apart. (refl, refl, refl)))
+
+pub ends-decided : (before ds new : List Daemon) → EachMoves SameEnd before ds → EachMoves SamePort ds new → EachMoves SameEnd before new
+ends-decided before ds new so_far ports =
+    ends-then before ds new so_far (moves-as SamePort SameEnd ds new ports (λ d x y m. (ap (λ (q : PortState). q.end) m.0, m.1, m.2)))

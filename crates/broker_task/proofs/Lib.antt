@@ -7,3 +7,8 @@ pub mod PostingLaws
 pub mod HearingSteps
 pub mod SendingSteps
 pub mod ReleaseSteps
+pub mod DropSteps
+pub mod RoundSteps
+pub mod SettledLaws
+pub mod StartLaws
+pub mod DoneLaws

@@ -1,6 +1,6 @@
 -- What was read from a domain and said to it, through the calls of its port.
-use Rattle.std.proofs.Common.{◌≡◌, ℕ, ◌≤◌, List, [], ◌∷◌, ◌++◌, length, refl, sym, ap, ◌∙◌, subst, arith, Option, Some, None, true, false, Bool}
-use Rattle.std.specs.Prelude.{filter_map, IsSome, ◌==◌}
+use Rattle.std.proofs.Common.{◌≡◌, ℕ, ◌≤◌, List, [], ◌∷◌, ◌++◌, refl, sym, ap, ◌∙◌, subst, arith, Option, Some, None, true}
+use Rattle.std.specs.Prelude.{filter_map, ◌==◌}
 use Rattle.std.proofs.lemmas.Bool.Decides.{nat_tests}
 use Rattle.std.proofs.lemmas.List.Elements.{filter_map-append}
 use Rattle.qrexec_frame.specs.declared.message.Message.{Message}
@@ -17,12 +17,12 @@ use Rattle.call_broker.specs.declared.event.Event.{Event}
 use Rattle.control_port.specs.declared.talk.Talker.{Talker}
 use Rattle.control_port.specs.declared.talk.Talker.TheVariants.{Broker}
 use Rattle.control_port.specs.Talking.{may_say, may_hear}
-use Rattle.control_port.specs.Port.{PortState, SentWhole, HasSaid, HasHeard, HasHeardAll, Hands, OnlyHears, OnlySends}
+use Rattle.control_port.specs.Port.{PortState, SentWhole, HasSaid, HasHeard, Hands, OnlyHears, OnlySends}
 use Rattle.task_duties.specs.Hearing.{to_broker, hears}
 use Rattle.task_duties.specs.Broker.Outbox.{event_of, is_from}
 use Rattle.task_duties.specs.Broker.Owes.{broker_version}
 use Rattle.broker_task.specs.declared.daemon.Daemon.{Daemon}
-use Rattle.broker_task.specs.Lines.{end_of, is_shut, is_gone, ReadsOn, HasRead, HasReadAll, HandsOut, HasRoom}
+use Rattle.broker_task.specs.Lines.{end_of, is_shut, is_gone, ReadsOn, HasRead, HandsOut, HasRoom}
 
 -- ---- what a port has said stands while it hears
 
@@ -111,6 +111,10 @@ hands-none old new events same talker own reads hands =
           ap (λ (o : ℕ). filter_map (event_of new.domain) (hears o to_broker (view new.port.end).got).messages) (sym own)
           ∙ ap (λ (t : Talker). filter_map (event_of new.domain) (hears new.port.own (may_hear t) (view new.port.end).got).messages) (sym talker)
           ∙ ap (λ r. filter_map (event_of new.domain) r.messages) h.0 ∙ sym are;
+      faulty =
+          ap (λ (o : ℕ). (hears o to_broker (view new.port.end).got).fault) (sym own)
+          ∙ ap (λ (t : Talker). (hears new.port.own (may_hear t) (view new.port.end).got).fault) (sym talker)
+          ∙ ap (λ r. r.fault) h.0;
       on = λ none. record { heard = reads.heard; hears_them = h.1 none; are = are; fine = none };
     }
 

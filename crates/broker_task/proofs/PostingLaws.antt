@@ -1,7 +1,6 @@
 -- The outboxes beside a journal, through one entry more.
-use Rattle.std.proofs.Common.{◌≡◌, ℕ, ◌+◌, ◌≤◌, Bool, true, false, List, [], ◌∷◌, ◌++◌, length, map, refl, sym, ap, ◌∙◌, subst, arith, append_assoc, ◌⊎◌, inl, inr}
-use Rattle.std.specs.Prelude.{◌||◌, ◌==◌, Contains, IsPermutation, count_by, cond, if◌then◌else◌}
-use Rattle.std.specs.List.{flat_map, list_any}
+use Rattle.std.proofs.Common.{◌≡◌, ℕ, ◌+◌, Bool, true, false, List, [], ◌∷◌, ◌++◌, refl, sym, ap, ◌∙◌, subst, append_assoc, inl, inr}
+use Rattle.std.specs.Prelude.{◌||◌, Contains, IsPermutation, count_by, cond}
 use Rattle.std.proofs.lemmas.List.Folds.{list_any-append}
 use Rattle.std.proofs.lemmas.List.Sums.{sum_by-append, sum_by-cons}
 use Rattle.std.proofs.lemmas.List.{append-nil}
@@ -25,7 +24,7 @@ use Rattle.broker_task.specs.declared.daemon.Daemon.{Daemon}
 use Rattle.broker_task.specs.Letters.{messages_in}
 use Rattle.broker_task.specs.Lines.{is_shut, is_gone, MayDrop, IsLine, HasRoom}
 use Rattle.broker_task.specs.Replies.{IsFit}
-use Rattle.broker_task.specs.Posting.{EachAt, EachMoves, MayGo, IsLetter, HasPosted, IsPosting, IsFree, Posts, one_if}
+use Rattle.broker_task.specs.Posting.{EachMoves, MayGo, IsLetter, HasPosted, IsPosting, IsFree, Posts, one_if}
 use Rattle.broker_task.proofs.PostLaws.{each-moved}
 
 -- ---- lists
@@ -58,7 +57,7 @@ put-behind said waits lost all more kept =
 
 -- ---- an entry more
 
-outbox-more : (hub : Domains) (d : ℕ) (journal : List Entry) (e : Entry) → outbox hub (journal ++ e ∷ []) d ≡ outbox hub journal d ++ puts hub d e.event e.decision
+pub outbox-more : (hub : Domains) (d : ℕ) (journal : List Entry) (e : Entry) → outbox hub (journal ++ e ∷ []) d ≡ outbox hub journal d ++ puts hub d e.event e.decision
 outbox-more hub d [] e = append-nil (puts hub d e.event e.decision)
 outbox-more hub d (x ∷ journal) e =
     ap (λ r. puts hub d x.event x.decision ++ r) (outbox-more hub d journal e) ∙ sym (append_assoc (puts hub d x.event x.decision) (outbox hub journal d) (puts hub d e.event e.decision))
@@ -70,10 +69,10 @@ count-more {A} p xs x = sum_by-append (λ (y : A). cond (p y) 1 0) xs (x ∷ [])
     one true = refl
     one false = refl
 
-answered-more : (d : ℕ) (journal : List Entry) (e : Entry) → answered (journal ++ e ∷ []) d ≡ answered journal d + one_if (is_answer d e.event e.decision)
+pub answered-more : (d : ℕ) (journal : List Entry) (e : Entry) → answered (journal ++ e ∷ []) d ≡ answered journal d + one_if (is_answer d e.event e.decision)
 answered-more d journal e = count-more (λ (x : Entry). is_answer d x.event x.decision) journal e
 
-dropped-more : (d : ℕ) (journal : List Entry) (e : Entry) → is_dropped (journal ++ e ∷ []) d ≡ (is_dropped journal d || drops d e.event)
+pub dropped-more : (d : ℕ) (journal : List Entry) (e : Entry) → is_dropped (journal ++ e ∷ []) d ≡ (is_dropped journal d || drops d e.event)
 dropped-more d journal e = list_any-append (λ (x : Entry). drops d x.event) journal (e ∷ []) ∙ ap (λ b. is_dropped journal d || b) (alone (drops d e.event))
   where
     alone : (b : Bool) → (b || false) ≡ b

@@ -1,6 +1,6 @@
 -- The Connects that may go behind a message that has gone.
-use Rattle.std.proofs.Common.{◌≡◌, ◌≢◌, ℕ, ◌+◌, ◌-◌, ◌<◌, ◌≤◌, Bool, true, false, List, [], ◌∷◌, ◌++◌, length, map, get_or, refl, sym, ap, ◌∙◌, subst, arith, suc, zero, Option, Some, None, ◌⊎◌, inl, inr}
-use Rattle.std.specs.Prelude.{◌==◌, ◌&&◌, Contains, IsPermutation, if◌then◌else◌}
+use Rattle.std.proofs.Common.{◌≡◌, ◌≢◌, ℕ, ◌+◌, ◌<◌, Bool, true, false, List, [], ◌∷◌, ◌++◌, length, map, refl, sym, ap, ◌∙◌, subst, arith, suc, zero, Option, Some, None, inr}
+use Rattle.std.specs.Prelude.{◌==◌, Contains, IsPermutation, if◌then◌else◌}
 use Rattle.std.proofs.Math.ListN.{set}
 use Rattle.std.specs.List.{remove}
 use Rattle.std.proofs.lemmas.List.{length-set, get_or-set_same, length-map}
@@ -10,16 +10,16 @@ use Rattle.qrexec_frame.specs.declared.message.Message.TheVariants.{Hello, Exec,
 use Rattle.qrexec_frame.specs.Streams.{Each}
 use Rattle.call_broker.specs.declared.decision.Entry.{Entry}
 use Rattle.call_broker.specs.declared.event.Event.{Event}
-use Rattle.vchan_rule.specs.Seated.{SeatedEnd, view, IsOpen}
-use Rattle.control_port.specs.Port.{PortState, HasSaid, HasHeard}
+use Rattle.vchan_rule.specs.Seated.{view, IsOpen}
+use Rattle.control_port.specs.Port.{PortState, HasSaid}
 use Rattle.call_broker.specs.Domains.{Domains}
 use Rattle.call_broker.proofs.OpenLaws.{both}
 use Rattle.task_duties.specs.Broker.Outbox.{outbox, read_from}
 use Rattle.broker_task.specs.declared.letter.Letter.{Letter}
 use Rattle.broker_task.specs.declared.daemon.Daemon.{Daemon}
-use Rattle.broker_task.specs.Letters.{IsAt, messages_in, connects, is_meant, released}
+use Rattle.broker_task.specs.Letters.{IsAt, messages_in, connects, released}
 use Rattle.broker_task.specs.Lines.{end_of, is_shut, is_gone, first_view, IsLine, HasRead, SendsOne, IsSameDaemon}
-use Rattle.broker_task.specs.Posting.{EachAt, EachMoves, MayGo, IsLetter, HasPosted, IsPosting, HaveRead, IsSending, MovesPort, AreIdle, waiting_in}
+use Rattle.broker_task.specs.Posting.{EachMoves, LetsGo, MayGo, IsLetter, HasPosted, IsPosting, IsSending, MovesPort, AreIdle, waiting_in}
 use Rattle.broker_task.proofs.PostLaws.{moves-one, moves-then, each-moved, same-number}
 use Rattle.broker_task.proofs.PostingLaws.{line-same}
 use Rattle.broker_task.proofs.HearingSteps.{posting-next, read-port, item-at}
@@ -80,14 +80,6 @@ posted-released hub journal said d t meant x letters go is h = (
   subst (λ (l : List Letter). Each (IsLetter hub journal said d) l) (sym is) (letters-released hub journal said d t meant x.outbox.letters.items go h.letters),
   ap (λ (l : List Letter). messages_in l) is ∙ released-messages t meant x.outbox.letters.items,
 )
-
--- only some letters of a domain may go now
-pub record LetsGo (t : ℕ) (meant : Option ℕ) (x y : Daemon) : Type 0 where
-  pub port : y.port ≡ x.port
-  pub domain : y.domain ≡ x.domain
-  pub awaited : y.awaited ≡ x.awaited
-  pub counted : y.answered ≡ x.answered
-  pub letters : y.outbox.letters.items ≡ map (released t meant) x.outbox.letters.items
 
 pub posted-let-go : (hub : Domains) (journal : List Entry) (said : ℕ → List Message) (d t : ℕ) (meant : Option ℕ) (x y : Daemon) → ((m : Message) → connects t meant m ≡ true → MayGo journal said d m)
     → LetsGo t meant x y → HasPosted hub journal said d x → HasPosted hub journal said d y

@@ -1,11 +1,10 @@
 -- A message that has gone, and the Connects that may go behind it.
-use Rattle.std.proofs.Common.{◌≡◌, ◌≢◌, ℕ, ◌+◌, ◌<◌, Bool, true, false, List, [], ◌∷◌, ◌++◌, length, map, get_or, refl, sym, ap, ◌∙◌, subst, arith, suc, zero, append_assoc, Option, Some, None, ◌⊎◌, inl, inr}
+use Rattle.std.proofs.Common.{◌≡◌, ◌≢◌, ℕ, ◌+◌, Bool, true, false, List, [], ◌∷◌, ◌++◌, refl, sym, ap, ◌∙◌, subst, arith, suc, zero, append_assoc, Some}
 use Rattle.std.specs.Prelude.{◌==◌, Contains, IsPermutation, if◌then◌else◌}
 use Rattle.std.specs.List.{remove}
 use Rattle.std.proofs.Math.ListN.{set}
 use Rattle.std.proofs.lemmas.List.Sorted.{IsPermutation-refl, IsPermutation-sym, IsPermutation-trans, IsPermutation-cons, IsPermutation-append_left, IsPermutation-append_right, IsPermutation-middle}
 use Rattle.qrexec_frame.specs.declared.message.Message.{Message}
-use Rattle.qrexec_frame.specs.declared.message.Message.TheVariants.{Exec, Connect}
 use Rattle.qrexec_frame.specs.Streams.{Each}
 use Rattle.call_broker.specs.declared.decision.Entry.{Entry}
 use Rattle.call_broker.specs.Domains.{Domains}
@@ -14,17 +13,16 @@ use Rattle.broker_task.specs.declared.letter.Letter.{Letter}
 use Rattle.broker_task.specs.declared.daemon.Daemon.{Daemon}
 use Rattle.std.proofs.lemmas.List.Elements.{Contains-append_left, Contains-append_right}
 use Rattle.std.proofs.lemmas.Bool.Decides.{nat_tests}
-use Rattle.vchan_rule.specs.Seated.{SeatedEnd, view, IsOpen}
-use Rattle.control_port.specs.Port.{PortState, HasSaid, HasHeard}
+use Rattle.vchan_rule.specs.Seated.{IsOpen}
+use Rattle.control_port.specs.Port.{HasSaid}
 use Rattle.call_broker.specs.declared.event.Event.{Event}
-use Rattle.task_duties.specs.Broker.Outbox.{read_from, event_of}
-use Rattle.broker_task.specs.Letters.{IsAt, messages_in, connects, is_meant, released}
-use Rattle.broker_task.specs.Lines.{end_of, is_shut, is_gone, first_view, IsLine, HasRead, ReadsOn, SendsOne, IsSameDaemon, OnlyPort}
+use Rattle.task_duties.specs.Broker.Outbox.{read_from}
+use Rattle.broker_task.specs.Letters.{IsAt, messages_in}
+use Rattle.broker_task.specs.Lines.{is_shut, is_gone, IsLine, HasRead, SendsOne, IsSameDaemon}
 use Rattle.broker_task.specs.Replies.{IsFit, NamesDomain}
-use Rattle.broker_task.specs.Posting.{EachAt, EachMoves, MayGo, IsLetter, HasPosted, IsPosting, HaveRead, IsSending, HasGone, MovesPort, AreIdle, waiting_in}
-use Rattle.broker_task.proofs.PostLaws.{moves-one, moves-then, each-moved, same-number}
-use Rattle.broker_task.proofs.PostingLaws.{each-as, each-append, may-go-on, line-same}
-use Rattle.broker_task.proofs.HearingSteps.{posting-port, read-port}
+use Rattle.broker_task.specs.Posting.{EachAt, EachMoves, MayGo, IsLetter, HasPosted, IsSending, HasGone}
+use Rattle.broker_task.proofs.PostLaws.{moves-one, each-moved, same-number}
+use Rattle.broker_task.proofs.PostingLaws.{each-as, each-append, may-go-on}
 
 -- the messages without one of them are the others
 pub taken-out : (letters : List Letter) (at : ℕ) (l : Letter) → IsAt letters at l → IsPermutation (messages_in letters) (l.message ∷ messages_in (remove letters at))

@@ -1,6 +1,6 @@
 -- One domain at the task of the broker: its port, what was read by it, and what was said.
 -- Source: this project's own.
-use Rattle.std.specs.Prelude.{◌≡◌, ◌⊎◌, ℕ, ◌<◌, ◌≤◌, Bool, true, false, List, [], ◌∷◌, ◌++◌, length, filter_map, Option, Some, None, IsSome}
+use Rattle.std.specs.Prelude.{◌≡◌, ◌⊎◌, ℕ, Bool, true, false, List, [], ◌∷◌, ◌++◌, filter_map, Option, Some, None, IsSome}
 use Rattle.std.specs.List.{remove}
 use Rattle.ring_words.specs.declared.page.Role.TheVariants.{Client}
 use Rattle.vchan_protocol.specs.declared.call.EndState.{EndState}
@@ -67,9 +67,10 @@ pub record ReadsOn (x : Daemon) (events : List Event) : Type 0 where
   pub are : events ≡ filter_map (event_of x.domain) heard
   pub fine : x.port.fault ≡ None
 
--- all that the bytes got say was handed out, and is these events
+-- all that the bytes got say was handed out, up to what is wrong, and is these events
 pub record HasReadAll (x : Daemon) (events : List Event) : Type 0 where
   pub all : events_got x ≡ events
+  pub faulty : (hears broker_version to_broker (end_of x).got).fault ≡ x.port.fault
   pub on : x.port.fault ≡ None → ReadsOn x events
 
 -- the same, between two turns: of a domain that wasn't dropped nothing is wrong

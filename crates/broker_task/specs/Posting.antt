@@ -1,17 +1,17 @@
 -- The outboxes of all domains beside the broker's journal: what was said, what waits, and what was given up.
 -- Source: this project's own.
-use Rattle.std.specs.Prelude.{◌≡◌, ◌≢◌, ◌⊎◌, ℕ, zero, suc, ◌+◌, ◌≤◌, Bool, true, false, List, [], ◌∷◌, ◌++◌, length, Contains, IsPermutation, if◌then◌else◌}
+use Rattle.std.specs.Prelude.{◌≡◌, ◌≢◌, ◌⊎◌, ℕ, zero, suc, ◌+◌, Bool, true, false, List, [], ◌∷◌, ◌++◌, length, Contains, IsPermutation, Option, map}
 use Rattle.qrexec_frame.specs.declared.message.Message.{Message}
 use Rattle.qrexec_frame.specs.declared.message.Message.TheVariants.{Exec, Connect}
 use Rattle.qrexec_frame.specs.Streams.{Each}
 use Rattle.control_port.specs.Port.{HasSaid}
 use Rattle.call_broker.specs.declared.decision.Entry.{Entry}
-use Rattle.call_broker.specs.Domains.{Domains, is_domain, count_of}
+use Rattle.call_broker.specs.Domains.{Domains, count_of}
 use Rattle.call_broker.specs.Journal.{IsJournal, AreNumbered, is_dropped}
 use Rattle.task_duties.specs.Broker.Outbox.{outbox, puts, answered, is_answer, read_from}
 use Rattle.broker_task.specs.declared.letter.Letter.{Letter}
 use Rattle.broker_task.specs.declared.daemon.Daemon.{Daemon}
-use Rattle.broker_task.specs.Letters.{IsAt, messages_in}
+use Rattle.broker_task.specs.Letters.{IsAt, messages_in, released}
 use Rattle.vchan_rule.specs.Seated.{IsOpen}
 use Rattle.broker_task.specs.Lines.{end_of, is_gone, IsLine, ReadsOn, HasRead, HasReadAll}
 use Rattle.broker_task.specs.Replies.{IsFit, NamesDomain}
@@ -30,6 +30,18 @@ pub record EachMoves (R : ℕ → Daemon → Daemon → Type 0) (old new : List 
 -- its port is as it was
 abbrev pub SamePort : ℕ → Daemon → Daemon → Type 0
 SamePort d x y = (y.port ≡ x.port) × (y.domain ≡ x.domain) × (y.awaited ≡ x.awaited)
+
+-- its end is as it was
+abbrev pub SameEnd : ℕ → Daemon → Daemon → Type 0
+SameEnd d x y = (y.port.end ≡ x.port.end) × (y.domain ≡ x.domain) × (y.awaited ≡ x.awaited)
+
+-- only some of its letters may go now: the Connects to this target, at this port or at any
+pub record LetsGo (t : ℕ) (meant : Option ℕ) (x y : Daemon) : Type 0 where
+  pub port : y.port ≡ x.port
+  pub domain : y.domain ≡ x.domain
+  pub awaited : y.awaited ≡ x.awaited
+  pub counted : y.answered ≡ x.answered
+  pub letters : y.outbox.letters.items ≡ map (released t meant) x.outbox.letters.items
 
 -- ---- what may go
 

@@ -1,5 +1,5 @@
 //! One domain at the broker.
-ghost use Rattle.std.specs.Prelude.{◌≡◌, ℕ, ◌+◌, ◌<◌, ◌++◌, ◌∷◌, List, [], false, true, None, Some, Ok, OnOk, IfOk, IfSome, length};
+ghost use Rattle.std.specs.Prelude.{◌≡◌, ℕ, ◌+◌, ◌<◌, ◌≤◌, ◌++◌, ◌∷◌, List, [], false, true, None, Some, Ok, OnOk, IfOk, IfSome, length, is_none, ◌↔◌, IsTrue};
 ghost use Rattle.ring_words.specs.declared.page.Role.TheVariants.{Client};
 ghost use Rattle.vchan_rule.specs.Seated.{view, IsOpen};
 ghost use Rattle.end_view.specs.EndView.{IsUnused};
@@ -18,6 +18,7 @@ use call_broker::Event;
 use control_port::{ControlPort, Talker};
 use qrexec_frame::Message;
 use std::alloc::Global;
+use task_duties::{PagePlace, RetiredEnd};
 use vchan_core::EndState;
 use vchan_io::Memory;
 use vchan_lifecycle::DrainAnswer;
@@ -69,6 +70,13 @@ impl<'p> Daemon<'p> {
         }
     }
 
+    /// Whether nothing is wrong with what was handed out.
+    pub(crate) fn is_fine(&self) -> bool
+        ensures { result ≡ is_none self.now.port.fault }
+    {
+        self.port.fault().is_none()
+    }
+
     /// Takes what has come, after the connect of the first turn. While the outbox is full it only asks
     /// whether the domain is gone. It answers whether the domain is still there.
     pub(crate) fn listen(&mut self, buf: &mut [u8]) -> Result<bool, Memory>
@@ -82,6 +90,7 @@ impl<'p> Daemon<'p> {
         ensures up { OnOk result (is_gone self.new ≡ false) }
         ensures open { result ≡ Ok true → IsOpen self.new.port.end }
         ensures cause { result ≡ Ok false → MayDrop (end_of self.new) }
+        ensures full { 64 ≤ length self.old.outbox.letters.items → (end_of self.new).got ≡ (end_of self.old).got }
         ensures said { (said : List Said) → HasSaid self.old.port said → OnOk result (HasSaid self.new.port said) }
         ensures read { (events : List Told) → ReadsOn self.old events → OnOk result (ReadsOn self.new events) }
         ensures same { OnOk result (IsSameDaemon self.old self.new) }
@@ -189,6 +198,41 @@ impl<'p> Daemon<'p> {
     {
         self.port.hang_up();
         self.outbox.clear();
+    }
+}
+
+impl<'p> Daemon<'p> {
+    ghost use Rattle.broker_task.specs.Given.{IsRetiredOf};
+
+    /// Whether all messages have gone, where calls of the domain are awaited.
+    pub(crate) fn has_said_all(&self) -> bool
+        ensures { IsTrue result ↔ (0 < self.now.awaited → self.now.outbox.letters.items ≡ []) }
+    {
+        self.awaited == 0 || self.outbox.is_empty()
+    }
+
+    /// Gives its end back, which retires where that wasn't done as the domain was dropped.
+    pub(crate) fn retire(self) -> RetiredEnd
+        requires { IsLine self.domain self }
+        ensures { IsRetiredOf self.entry result }
+    {
+        let gone = self.is_gone();
+        let Daemon { domain, port, .. } = self;
+        let place = PagePlace::Control { domain };
+        if gone {
+            let retired = port.rest();
+            return RetiredEnd { place, retired };
+        }
+        let retired = port.retire();
+        RetiredEnd { place, retired }
+    }
+
+    /// Retires its end, and drops it.
+    pub(crate) fn give_up(self)
+        requires { (end_of self).idle ≡ true }
+    {
+        let Daemon { port, .. } = self;
+        let _ = port.retire();
     }
 }
 

@@ -1,13 +1,21 @@
-//! Parts of the task of the broker of calls: what it keeps for each domain, how what a domain has said is
-//! decided, and how what follows is put where it waits, and is said.
+//! The task of the broker of calls: it reads what all domains say, decides each call that they trigger,
+//! and lets those through that it accepts.
 //!
-//! In Qubes OS `qrexec-daemon` and `qrexec-policy-daemon` do this, one `qrexec-daemon` for each domain;
-//! docs/TASKS.md says what is theirs and what is this project's own. The task that takes turns over these
-//! parts isn't there yet, so nothing here is public.
+//! It serves a run, which plays such domains against each other. In Qubes OS `qrexec-daemon` and
+//! `qrexec-policy-daemon` do this, one `qrexec-daemon` for each domain; docs/TASKS.md says what is theirs
+//! and what is this project's own.
 #![tactic(auto)]
 
 mod daemon;
+mod ends;
 mod letter;
 mod outbox;
 mod reply;
+mod round;
+mod settled;
 mod switchboard;
+mod task;
+#[cfg(test)]
+mod tests;
+
+pub use task::{BrokerDone, BrokerTask, BrokerTurn};

@@ -1,5 +1,5 @@
 //! The outbox of a domain.
-ghost use Rattle.std.specs.Prelude.{◌≡◌, ◌<◌, ◌++◌, ◌∷◌, [], false, true, map, length, OnOk, IfSome, Some, None};
+ghost use Rattle.std.specs.Prelude.{◌≡◌, ◌<◌, ◌≤◌, ◌↔◌, IsTrue, ◌++◌, ◌∷◌, [], false, true, map, length, OnOk, IfSome, Some, None};
 ghost use Rattle.std.specs.List.{remove};
 ghost use Rattle.broker_task.specs.Letters.{IsAt, released, connects, is_meant};
 ghost use Rattle.broker_task.specs.declared.letter.Letter.{Letter as Put};
@@ -30,17 +30,16 @@ impl Outbox {
     }
 
     pub(crate) fn is_empty(&self) -> bool
-        ensures { result ≡ true → self.now.letters.items ≡ [] }
+        ensures { IsTrue result ↔ (self.now.letters.items ≡ []) }
     {
         self.letters.is_empty()
     }
 
-    pub(crate) fn is_full(&self) -> bool {
+    /// Whether so many messages wait that the domain isn't read.
+    pub(crate) fn is_full(&self) -> bool
+        ensures { IsTrue result ↔ FULL ≤ length self.now.letters.items }
+    {
         self.letters.len() >= FULL
-    }
-
-    pub(crate) fn len(&self) -> usize {
-        self.letters.len()
     }
 
     /// Puts a message behind the others, which may go now or is held.

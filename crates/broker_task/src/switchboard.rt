@@ -8,7 +8,7 @@ ghost use Rattle.task_duties.specs.Broker.Outbox.{is_from};
 ghost use Rattle.broker_task.specs.declared.daemon.Daemon.{Daemon as Attended};
 ghost use Rattle.broker_task.specs.Letters.{IsAt};
 ghost use Rattle.broker_task.specs.Replies.{IsReplyTo, IsWithin, AreFit, HasShortNames};
-ghost use Rattle.broker_task.specs.Posting.{EachMoves, Posts, SamePort, IsPosting, IsHearing, HasHeardOut, IsSending, HasGone, AreIdle, waiting_in};
+ghost use Rattle.broker_task.specs.Posting.{EachMoves, Posts, SamePort, IsPosting, IsHearing, HasHeardOut, SameEnd, IsSending, HasGone, AreIdle, waiting_in};
 ghost use Rattle.broker_task.specs.Lines.{HasRoom, IsSameDaemon};
 ghost use Rattle.call_broker.specs.Pair.{decision};
 ghost use Rattle.call_broker.specs.Journal.{events};
@@ -22,15 +22,13 @@ use vchan_io::Memory;
 /// The broker with what it has for each domain, in the order of their numbers.
 #[derive(Drop)]
 pub(crate) struct Switchboard<'p> {
-    broker: Broker,
-    daemons: Vec<Daemon<'p>>,
-    // What is read of a control channel at once.
-    buf: Vec<u8>,
+    pub(crate) broker: Broker,
+    pub(crate) daemons: Vec<Daemon<'p>>,
 }
 
 impl<'p> Switchboard<'p> {
     // Decides all that a domain has said, as far as it was taken.
-    fn hear(&mut self, domain: u32) -> Result<(), Memory>
+    pub(crate) fn hear(&mut self, domain: u32) -> Result<(), Memory>
         requires posting { IsPosting self.old.broker.hub self.old.broker.journal self.old.daemons.items }
         requires names { HasShortNames self.old.broker.hub }
         requires number { is_domain self.old.broker.hub domain ≡ true }
@@ -38,6 +36,7 @@ impl<'p> Switchboard<'p> {
         ensures hub { self.new.broker.hub ≡ self.old.broker.hub }
         ensures posting { OnOk result (IsPosting self.new.broker.hub self.new.broker.journal self.new.daemons.items) }
         ensures heard { OnOk result (HasHeardOut domain self.new.broker.journal self.new.daemons.items) }
+        ensures ends { EachMoves SameEnd self.old.daemons.items self.new.daemons.items }
     {
         while let Some(event) = self.daemons[domain as usize - 1].next()? {
             self.decide(domain, event)?;
@@ -46,7 +45,7 @@ impl<'p> Switchboard<'p> {
     }
 
     // Says to a domain what waits for it, as far as it may go and has room.
-    fn send(&mut self, domain: u32) -> Result<(), Memory>
+    pub(crate) fn send(&mut self, domain: u32) -> Result<(), Memory>
         requires number { is_domain self.old.broker.hub domain ≡ true }
         requires sending { IsSending self.old.broker.hub domain self.old.broker.journal self.old.daemons.items }
         ensures broker { self.new.broker ≡ self.old.broker }
@@ -106,11 +105,10 @@ impl<'p> Switchboard<'p> {
         requires room { HasRoom event }
         ensures ports { EachMoves SamePort self.old.daemons.items self.new.daemons.items }
         ensures hub { self.new.broker.hub ≡ self.old.broker.hub }
-        ensures buf { self.new.buf ≡ self.old.buf }
         ensures entry { OnOk result (self.new.broker.journal ≡ self.old.broker.journal ++ record { event = event; decision = decision self.old.broker.hub (events self.old.broker.journal) event } ∷ []) }
         ensures posting { OnOk result (IsPosting self.new.broker.hub self.new.broker.journal self.new.daemons.items) }
     {
-        let alloc = *self.buf.allocator();
+        let alloc = *self.daemons.allocator();
         let decision = self.broker.event(event)?;
         let journal = self.broker.journal();
         let event = &journal[journal.len() - 1].event;

@@ -14,7 +14,7 @@ use Rattle.call_broker.specs.Domains.{place_of}
 use Rattle.task_duties.specs.Pairwise.{EachPair}
 use Rattle.task_duties.specs.Words.{ident_of}
 use Rattle.call_queue.specs.declared.call.QueuedCall.{QueuedCall}
-use Rattle.call_queue.specs.Queue.{fresh, answer_of, open_idents, AreDifferent, FitsTrigger}
+use Rattle.call_queue.specs.Queue.{fresh, asked_as, answer_of, open_idents, AreDifferent, FitsTrigger}
 use Rattle.call_queue.specs.Index.{place_in, IsIndex}
 use Rattle.call_queue.specs.Inside.{queued, all_queued, idents, targets, IsFaithful, IsCounted, AreKept, IsFresh}
 
@@ -44,6 +44,14 @@ others-apart c (d ∷ calls) small all apart = ((λ e. apart.0 (one-number c.num
 pub idents-apart : (calls : List CallPlan) → Each IsSmall calls → AreDifferent (map (λ x. x.number) calls) → AreDifferent (map (λ x. ident_of x.number) calls)
 idents-apart [] small apart = tt
 idents-apart (c ∷ calls) small apart = (others-apart c calls small.0 small.1 apart.0, idents-apart calls small.1 apart.1)
+
+-- so do those of calls that nothing was heard of
+pub fresh-apart : (calls : List CallPlan) → Each IsSmall calls → AreDifferent (map (λ x. x.number) calls) → AreDifferent (map (λ a. ident_of a.call.number) (map asked_as (map fresh calls)))
+fresh-apart calls small apart = subst (λ l. AreDifferent l) (sym (same calls)) (idents-apart calls small apart)
+  where
+    same : (calls : List CallPlan) → map (λ a. ident_of a.call.number) (map asked_as (map fresh calls)) ≡ map (λ x. ident_of x.number) calls
+    same [] = refl
+    same (c ∷ calls) = ap (λ r. ident_of c.number ∷ r) (same calls)
 
 -- ---- calls as they are given
 

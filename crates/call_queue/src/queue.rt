@@ -5,6 +5,7 @@ ghost use Rattle.qrexec_frame.specs.Messages.{IsSpellable};
 ghost use Rattle.qrexec_frame.specs.Streams.{Each};
 ghost use Rattle.qrexec_frame.specs.declared.message.Message.{Message as Said};
 ghost use Rattle.qrexec_frame.specs.declared.message.Message.TheVariants.{Terminated};
+ghost use Rattle.task_duties.specs.Words.{ident_of};
 ghost use Rattle.task_duties.specs.Agent.Saying.{is_refusal};
 ghost use Rattle.task_duties.specs.Agent.Answers.{IsRefused, At, waits_as};
 ghost use Rattle.call_queue.specs.Queue.{Queued, asked_as, asked_by, answer_of, fresh, IsDue, HasToSay, after_trigger, after_answer, FitsTrigger, AreDifferent, IsWaitingAt, IsConnectedAt};
@@ -61,6 +62,7 @@ impl CallQueue {
         requires short { Each FitsTrigger calls.items }
         ensures new { IfOk result (λ q. q ≡ record { calls = map fresh calls.items; next = 0 }) }
         ensures asks { IfOk result (λ q. Asks q []) }
+        ensures apart { IfOk result (λ q. AreDifferent (map (λ a. ident_of a.call.number) (asked_by q))) }
     {
         let idents = idents_of(alloc, &calls)?;
         let by_ident = index_of(alloc, &idents)?;

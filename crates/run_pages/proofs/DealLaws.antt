@@ -19,7 +19,9 @@ use Rattle.task_duties.specs.declared.place.PagePlace.TheVariants.{Control, Payl
 use Rattle.ring_words.specs.declared.page.Role.TheVariants.{Server, Client}
 use Rattle.run_laws.specs.Laid.{server_of, client_of}
 use Rattle.run_pages.specs.declared.deal.Hand.{Hand}
-use Rattle.run_pages.specs.Pages.{PageAt, new_end, end_on, new_ends}
+use Rattle.scenario_file.specs.Scenario.{Plan as Scenario}
+use Rattle.run_laws.specs.Results.{orders_of}
+use Rattle.run_pages.specs.Pages.{IsLaidFor, PageAt, new_end, end_on, new_ends}
 use Rattle.run_pages.specs.Dealt.{hand_ends, HandsDealt, ControlsDealt, AreDealt, AddsHand, Gives}
 use Rattle.run_pages.proofs.ListLaws.{get-set}
 
@@ -63,6 +65,10 @@ attached-view e seat p role is page side idle =
     ap (λ t. view_of t (is_none e.machine.phase) e.side) page
     ∙ ap (λ b. view_of p.page.table b e.side) (none-true e.machine.phase idle)
     ∙ ap (λ s. view_of p.page.table true s) (side ∙ ap (λ x. new_side x.role p.page.orders p.page.start (state_at_first x.role)) is)
+
+-- it has the orders of its page
+pub attached-orders : (s : Scenario) (e : SeatedEnd) (seat : SeatView) (p : PageAt) → IsLaidFor s p → e.side ≡ new_side seat.role p.page.orders p.page.start (state_at_first seat.role) → e.side.orders ≡ orders_of s p.place
+attached-orders s e seat p laid side = ap (λ x. x.orders) side ∙ laid.orders
 
 -- ---- the ends of one page more
 

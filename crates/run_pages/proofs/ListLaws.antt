@@ -1,5 +1,5 @@
 -- Elements of lists that grow by one, or change at one place.
-use Rattle.std.proofs.Common.{◌≡◌, ◌≢◌, ◌⊎◌, inl, inr, ℕ, zero, suc, List, [], ◌∷◌, ◌++◌, length, set, refl, ap, arith, Some, None}
+use Rattle.std.proofs.Common.{◌≡◌, ◌≢◌, ◌⊎◌, inl, inr, ℕ, zero, suc, List, [], ◌∷◌, ◌++◌, ◌<◌, length, get_or, set, refl, ap, subst, arith, Some, None}
 use Rattle.std.specs.Prelude.{slice_get}
 use Rattle.qrexec_frame.specs.Streams.{Each}
 use Rattle.task_duties.specs.Pairwise.{EachPair}
@@ -67,3 +67,20 @@ last-pair R (a ∷ xs) x (y ∷ ys) e = up (last-pair R xs x ys e.1)
   where
     up : LastPair R xs x ys → LastPair R (a ∷ xs) x (y ∷ ys)
     up l = record { rest = y ∷ l.rest; last = l.last; is = ap (λ m. y ∷ m) l.is; pairs = (e.0, l.pairs); pair = l.pair }
+
+-- what holds of each element holds of the one at a place
+pub each-here : {A : Type 0} (P : A → Type 0) (xs : List A) (k : ℕ) (x : A) → k < length xs → get_or xs k x ≡ x → Each P xs → P x
+each-here P [] k x within here each = absurd (omega (arith, within))
+each-here P (y ∷ xs) zero x within here each = subst P here each.0
+each-here P (y ∷ xs) (suc k) x within here each = each-here P xs k x (omega (arith, within)) here each.1
+
+-- and still of each once one is another of which it holds
+pub each-set : {A : Type 0} (P : A → Type 0) (xs : List A) (k : ℕ) (y : A) → Each P xs → P y → Each P (set xs k y)
+each-set P [] k y each holds = tt
+each-set P (x ∷ xs) zero y each holds = (holds, each.1)
+each-set P (x ∷ xs) (suc k) y each holds = (each.0, each-set P xs k y each.1 holds)
+
+pub each-get : {A : Type 0} (P : A → Type 0) (xs : List A) (k : ℕ) (x : A) → Each P xs → slice_get xs k ≡ Some x → P x
+each-get P [] k x each is = absurd (let e : None ≡ Some x = is in cc)
+each-get P (y ∷ xs) zero x each is = subst P (let e : Some y ≡ Some x = is in cc) each.0
+each-get P (y ∷ xs) (suc k) x each is = each-get P xs k x each.1 is

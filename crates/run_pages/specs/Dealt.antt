@@ -2,6 +2,8 @@
 -- Source: this project's own.
 use Rattle.std.specs.Prelude.{◌≡◌, ◌≢◌, ◌⊎◌, ℕ, suc, ◌+◌, ◌<◌, ◌≤◌, ◌==◌, List, [], ◌∷◌, ◌++◌, length, map, slice_get, Some, if◌then◌else◌}
 use Rattle.vchan_rule.specs.Seated.{SeatedEnd, view}
+use Rattle.qrexec_frame.specs.Streams.{Each}
+use Rattle.scenario_file.specs.Scenario.{Plan as Scenario}
 use Rattle.task_duties.specs.declared.place.PagePlace.{PagePlace}
 use Rattle.task_duties.specs.declared.place.PagePlace.TheVariants.{Control, Payload}
 use Rattle.task_duties.specs.TaskOwes.{EndAt, all_ends, broker_ends}
@@ -23,6 +25,14 @@ ControlsDealt pages controls = broker_ends 1 (map view controls) ≡ new_ends pa
 -- the hands are those of the domains from 1 on, and each has the new ends of its domain
 abbrev pub HandsDealt : List PageAt → List Hand → Type 0
 HandsDealt pages hands = (k : ℕ) (hand : Hand) → slice_get hands k ≡ Some hand → hand_ends (k + 1) hand ≡ new_ends pages (k + 1)
+
+-- the ends of a hand have the orders of a control page and of a data page
+pub record HasOrders (s : Scenario) (hand : Hand) : Type 0 where
+  pub of_control : hand.control.side.orders ≡ s.control
+  pub of_payload : Each (λ e. e.end.side.orders ≡ s.payload) hand.payload.items
+
+abbrev pub HaveOrders : Scenario → List Hand → Type 0
+HaveOrders s hands = Each (HasOrders s) hands
 
 -- ---- in which order
 

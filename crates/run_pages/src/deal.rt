@@ -1,8 +1,9 @@
 //! Dealing the ends of the pages to the tasks of a run.
 ghost use Rattle.std.specs.Prelude.{◌≡◌, ◌≤◌, ◌++◌, ◌∷◌, [], List, length, IfOk, OnOk};
 ghost use Rattle.task_duties.specs.GivenEnds.{given_at};
-ghost use Rattle.run_pages.specs.Dealt.{AddsHand, AreDealt, ControlsDealt, Follows, Gives, HandsDealt, hands_after};
-ghost use Rattle.run_pages.specs.Pages.{AreLaid, AreSeatsOf, HasSeats, PageAt, page_at};
+ghost use Rattle.run_pages.specs.Dealt.{AddsHand, AreDealt, ControlsDealt, Follows, Gives, HandsDealt, HaveOrders, hands_after};
+ghost use Rattle.scenario_file.specs.Scenario.{Plan};
+ghost use Rattle.run_pages.specs.Pages.{AreLaid, AreSeatsOf, HasSeats, IsLaidFor, PageAt, page_at};
 
 use crate::lay::{LaidPage, PageSeats, RunPages};
 use scenario_file::Scenario;
@@ -42,6 +43,7 @@ impl RunPages {
         requires seats { HasSeats self.now seats.items }
         ensures controls { IfOk result (λ d. ControlsDealt self.now d.controls.items) }
         ensures hands { IfOk result (λ d. HandsDealt self.now d.hands.items) }
+        ensures orders { IfOk result (λ d. HaveOrders scenario.now d.hands.items) }
         ensures all { IfOk result (λ d. length d.hands.items ≡ length scenario.now.domains) }
         ensures as_many { IfOk result (λ d. length d.controls.items ≡ length scenario.now.domains) }
     {
@@ -71,6 +73,7 @@ impl<'p> Dealt<'p> {
         ensures dealt { (pages : List PageAt) → AreDealt pages self.old.controls.items self.old.hands.items
             → OnOk result (AreDealt (pages ++ page_at page.now ∷ []) self.new.controls.items self.new.hands.items) }
         ensures count { OnOk result (length self.new.hands.items ≡ hands_after page.now.place (length self.old.hands.items)) }
+        ensures orders { (s : Plan) → IsLaidFor s (page_at page.now) → HaveOrders s self.old.hands.items → OnOk result (HaveOrders s self.new.hands.items) }
     {
         let server = page.page.attach(seats.server);
         let client = page.page.attach(seats.client);
@@ -112,6 +115,7 @@ impl<'p> Dealt<'p> {
     ) -> Result<(), AllocError>
         ensures controls { OnOk result (self.new.controls.items ≡ self.old.controls.items ++ client.entry ∷ []) }
         ensures hands { OnOk result (AddsHand server.entry self.old.hands.items self.new.hands.items) }
+        ensures orders { (s : Plan) → server.entry.side.orders ≡ s.control → HaveOrders s self.old.hands.items → OnOk result (HaveOrders s self.new.hands.items) }
     {
         let payload = Vec::new(alloc);
         self.controls.push(client)?;
@@ -127,6 +131,7 @@ impl<'p> Dealt<'p> {
         requires { (1 ≤ number) × (number ≤ length self.old.hands.items) }
         ensures gives { OnOk result (Gives number (given_at end.entry) self.old.hands.items self.new.hands.items) }
         ensures same { self.new.controls ≡ self.old.controls }
+        ensures orders { (s : Plan) → end.entry.end.side.orders ≡ s.payload → HaveOrders s self.old.hands.items → OnOk result (HaveOrders s self.new.hands.items) }
     {
         self.hands[number as usize - 1].payload.push(end)?;
         Ok(())

@@ -1,10 +1,11 @@
 -- The words that the program takes.
-use Rattle.std.specs.Prelude.{ℕ, List, [], ◌∷◌, Option, Some, None, codes, bytes_eq, if◌then◌else◌}
-use Rattle.std.specs.Option.{option_map}
+use Rattle.std.specs.Prelude.{ℕ, ◌≤◌, nat_le, Bool, true, false, List, [], ◌∷◌, Option, Some, None, codes, bytes_eq, if◌then◌else◌}
+use Rattle.std.specs.Option.{option_map, option_and_then}
+use Rattle.script_words.specs.Numbers.{number_of}
 use Rattle.qrexec_frame.specs.declared.channel.Channel.{Channel}
 use Rattle.qrexec_frame.specs.declared.channel.Channel.TheVariants.{Control, Data}
 use Rattle.vchan.specs.declared.command.Command.{Command}
-use Rattle.vchan.specs.declared.command.Command.TheVariants.{Step, Decode}
+use Rattle.vchan.specs.declared.command.Command.TheVariants.{Step, Decode, Run, Load}
 
 -- the kind of channel that a word names
 abbrev pub channel_of : List ℕ → Option Channel
@@ -13,8 +14,41 @@ channel_of word =
     else if bytes_eq word (codes "data") then Some Data
     else None
 
--- the command of these words: `step`, alone; `decode control`; `decode data`
+-- the number that a word is, from the least to the most that is allowed
+abbrev pub number_within : ℕ → ℕ → List ℕ → Option ℕ
+number_within least most word = option_and_then (λ number. if nat_le least number then Some number else None) (number_of most word)
+
+-- a run with 1 to 16 workers
+abbrev pub run_of : List ℕ → Option Command
+run_of workers = option_map Run (number_within 1 16 workers)
+
+-- a load from a number of 16 bits, of 1 to 2,000 calls
+abbrev pub load_of : List ℕ → List ℕ → Option Command
+load_of number calls =
+    option_and_then (λ seed. option_map (Load seed) (number_within 1 2000 calls)) (number_within 0 65535 number)
+
+-- the command of these words: `step`, alone; `decode control`; `decode data`; `run W`; `load N C`
 abbrev pub command_of : List (List ℕ) → Option Command
 command_of (word ∷ []) = if bytes_eq word (codes "step") then Some Step else None
-command_of (word ∷ channel ∷ []) = if bytes_eq word (codes "decode") then option_map Decode (channel_of channel) else None
+command_of (word ∷ argument ∷ []) =
+    if bytes_eq word (codes "decode") then option_map Decode (channel_of argument)
+    else if bytes_eq word (codes "run") then run_of argument
+    else None
+command_of (word ∷ number ∷ calls ∷ []) = if bytes_eq word (codes "load") then load_of number calls else None
 command_of _ = None
+
+-- the numbers of a command keep the limits
+abbrev pub KeepsLimits : Command → Type 0
+KeepsLimits (Run workers) = (1 ≤ workers) × (workers ≤ 16)
+KeepsLimits (Load number calls) = (number ≤ 65535) × (1 ≤ calls) × (calls ≤ 2000)
+KeepsLimits command = Unit {0}
+
+-- every command but `load` reads its input
+abbrev pub reads_input : Command → Bool
+reads_input (Load number calls) = false
+reads_input command = true
+
+-- whether these words make the program read
+abbrev pub words_read : Option Command → Bool
+words_read None = false
+words_read (Some command) = reads_input command

@@ -1,4 +1,7 @@
 pub mod About
 pub mod Command
+pub mod EndOfRun
+pub mod Prints
 pub mod Status
+pub mod Sums
 pub mod Top

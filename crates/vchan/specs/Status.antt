@@ -4,10 +4,12 @@ use Rattle.step_script.specs.declared.error.ScriptKind.{ScriptKind}
 use Rattle.step_script.specs.declared.error.ScriptKind.TheVariants as script
 use Rattle.stream_text.specs.declared.error.DecodeKind.{DecodeKind}
 use Rattle.stream_text.specs.declared.error.DecodeKind.TheVariants as decode
+use Rattle.scenario_file.specs.declared.error.ScenarioKind.{ScenarioKind}
+use Rattle.scenario_file.specs.KindWords.{fault_line}
 use Rattle.vchan.specs.declared.status.Status.{Status}
 use Rattle.vchan.specs.declared.status.Status.TheVariants.{Done, BadWords, ReadFault, TooLong, BadInput, WriteFault, OutOfMemory}
 use Rattle.vchan.specs.declared.status.Bad.{Bad}
-use Rattle.vchan.specs.declared.status.Bad.TheVariants.{Script, Decode}
+use Rattle.vchan.specs.declared.status.Bad.TheVariants.{Script, Decode, Scenario}
 
 -- the number of a status
 abbrev pub code_of : Status → ℕ
@@ -15,7 +17,7 @@ code_of Done = 0
 code_of BadWords = 2
 code_of ReadFault = 3
 code_of TooLong = 4
-code_of (BadInput bad) = 5
+code_of (BadInput wrong) = 5
 code_of WriteFault = 6
 code_of OutOfMemory = 7
 
@@ -44,10 +46,15 @@ decode_word decode.TooManyBytes = codes "too-many-bytes"
 abbrev pub bad_line : ℕ → List ℕ → List ℕ
 bad_line line word = codes "vchan: line " ++ decimal line ++ codes ": " ++ word ++ codes "\n"
 
+-- the line that the program prints of a bad place of a scenario file
+abbrev pub bad_place : ScenarioKind → List ℕ → List ℕ
+bad_place kind path = codes "vchan: " ++ fault_line kind path ++ codes "\n"
+
 -- the line that the program prints of a bad input
 abbrev pub bad_input : Bad → List ℕ
 bad_input (Script line kind) = bad_line line (script_word kind)
 bad_input (Decode line kind) = bad_line line (decode_word kind)
+bad_input (Scenario kind path) = bad_place kind path
 
 -- the line that the program prints with a status, with its line feed; none where all went well
 abbrev pub status_line : Status → List ℕ
@@ -55,6 +62,6 @@ status_line Done = []
 status_line BadWords = codes "vchan: bad words\n"
 status_line ReadFault = codes "vchan: read fault\n"
 status_line TooLong = codes "vchan: input too long\n"
-status_line (BadInput bad) = bad_input bad
+status_line (BadInput wrong) = bad_input wrong
 status_line WriteFault = codes "vchan: write fault\n"
 status_line OutOfMemory = codes "vchan: out of memory\n"

@@ -53,7 +53,7 @@ pub fn tell<K: Sink, E: Sink>(text: &[u8], out: &mut K, err: &mut E) -> Status
         Ok(()) => Status::Done,
         Err(WriteFault) => Status::WriteFault,
     };
-    let _ = report(status, err);
+    let _ = report(&status, err);
     status
 }
 
@@ -66,12 +66,17 @@ const HELP: &[u8] = b"usage: vchan WORDS
     decode control  reads a captured stream of a qrexec control channel, as byte
                     strings, and prints its messages
     decode data     the same of a data channel
+    run W           reads a scenario of domains and calls, runs it with W workers,
+                    1 to 16, and prints a line for each call
+    load N C        makes a scenario of C calls, 1 to 2,000, from a number N, 0 to
+                    65,535, runs it with 4 workers, and prints sums over its calls
     --help          prints this text
     --version       prints the version, and the kit that it is proved with
 
-A command reads standard input to its end, 4,194,304 bytes at most, and then
-writes its text to standard output. docs/SCRIPTS.md has the lines of a script,
-docs/DECODE.md those of a captured stream.
+A command but load, which reads nothing, reads standard input to its end,
+4,194,304 bytes at most, and then writes its text to standard output.
+docs/SCRIPTS.md has the lines of a script, docs/DECODE.md those of a captured
+stream, docs/SCENARIOS.md the keys of a scenario and what run and load print.
 
 statuses, each but 0 and 8 with a line on standard error:
 
@@ -79,8 +84,9 @@ statuses, each but 0 and 8 with a line on standard error:
     2   these words are no command's
     3   standard input could not be read to its end
     4   the input is too long
-    5   the input is no script, or no list of byte strings; the line has the
-        number of the first bad line, and what is wrong with it
+    5   the input is no script, no list of byte strings, or no scenario; the line
+        has the number of the first bad line, or the place in the scenario, and
+        what is wrong with it
     6   standard output failed
     7   out of memory
     8   a word isn't UTF-8

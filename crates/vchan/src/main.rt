@@ -7,24 +7,38 @@
 
 mod about;
 mod command;
-mod output;
+mod run_end;
+mod runs;
 mod status;
 mod top;
+mod work;
 
 pub use about::{About, about_in, tell};
 use command::command_words;
+pub use run_end::RunEnd;
+pub use run_report::Report;
+pub use runs::load_text;
+use service_gate::OpenGate;
 pub use status::{Bad, Status, exit_number};
 use std::alloc::Global;
 use std::env;
 use std::process::ExitCode;
 use std::rt::Env;
+use std::sync::Wait;
+use std::thread::Threads;
 pub use stream_text::{Channel, DecodeError, DecodeKind, decode_text};
 pub use top::{GREATEST_INPUT, top};
-use vchan_io::{StdSink, StdSource};
+use vchan_io::{Sink, Source, StdSink, StdSource};
 
 fn main(rt: HostRuntime) -> ExitCode {
+    let mut source = StdSource::new(rt.stdin());
+    let mut out = StdSink::new(rt.stdout());
+    let mut err = StdSink::new(rt.stderr());
     let status = match arguments(&rt, rt.alloc()) {
-        Some(arguments) => Some(carry_out(&rt, command_words(arguments.as_slice()))),
+        Some(arguments) => {
+            let words = command_words(arguments.as_slice());
+            Some(carry_out(&rt, rt.alloc(), words, &mut source, &mut out, &mut err))
+        }
         None => None,
     };
     ExitCode::from(exit_number(status))
@@ -36,16 +50,18 @@ fn arguments(rt: &(impl Env + AllocGlobal), alloc: Global) -> Option<Vec<String>
     env::args(rt).ok()?.collect(alloc).ok()
 }
 
-/// Does what these words say, with the real source and sinks.
-fn carry_out(rt: &HostRuntime, words: &[String]) -> Status {
-    let mut out = StdSink::new(rt.stdout());
-    let mut err = StdSink::new(rt.stderr());
+/// Does what these words say.
+fn carry_out<S: Source, K: Sink, E: Sink, R: Threads + Wait + Sync>(
+    rt: &R,
+    alloc: Global,
+    words: &[String],
+    source: &mut S,
+    out: &mut K,
+    err: &mut E,
+) -> Status {
     match about_in(words) {
-        Some(about) => tell(about.text(), &mut out, &mut err),
-        None => {
-            let mut source = StdSource::new(rt.stdin());
-            top(rt.alloc(), words, &mut source, &mut out, &mut err)
-        }
+        Some(about) => tell(about.text(), out, err),
+        None => top(rt, alloc, words, source, out, err, &OpenGate).status,
     }
 }
 

@@ -1,11 +1,12 @@
 ghost use Rattle.std.specs.Prelude.{◌≡◌};
 ghost use Rattle.vchan.specs.Status.{code_of, number_of_exit};
 
+use scenario_file::{Path, ScenarioKind};
 use step_script::ScriptKind;
 use stream_text::DecodeKind;
 
 /// How a run of the program ended.
-#[derive(Clone, Copy, Debug, PartialEq, Eq)]
+#[derive(Debug, Drop)]
 pub enum Status {
     /// The whole text was written.
     Done,
@@ -27,7 +28,7 @@ pub enum Status {
 }
 
 /// What is wrong with an input.
-#[derive(Clone, Copy, Debug, PartialEq, Eq)]
+#[derive(Debug, Drop)]
 pub enum Bad {
     /// It is no script.
     Script {
@@ -43,12 +44,19 @@ pub enum Bad {
         /// What is wrong with that line.
         kind: DecodeKind,
     },
+    /// It is no scenario.
+    Scenario {
+        /// What the first check that fails found.
+        kind: ScenarioKind,
+        /// The path of what that check looked at, as `call[2].service`.
+        at: Path,
+    },
 }
 
 impl Status {
     /// The number that the program ends with.
-    pub fn code(self) -> u8
-        ensures { result ≡ code_of self }
+    pub fn code(&self) -> u8
+        ensures { result ≡ code_of self.now }
     {
         match self {
             Status::Done => 0,

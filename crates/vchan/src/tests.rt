@@ -1,11 +1,13 @@
 use super::*;
+use service_gate::Gate;
 use std::alloc::AllocError;
 use std::test::Fail;
-use step_script::ScriptKind;
 use vchan_io::{MemSink, MemSource, Memory};
 
 mod decodes;
+mod scenarios;
 mod steps;
+mod whole_runs;
 
 /// At most so many bytes a call, and the numbers of the calls that fail.
 #[derive(Drop)]
@@ -26,6 +28,7 @@ const OPENING: &[u8] = b"open 10 11\n";
 #[derive(Drop)]
 struct Outcome {
     status: Status,
+    report: Option<Report>,
     out: MemSink,
     err: MemSink,
 }
@@ -43,13 +46,28 @@ fn sink(alloc: Global, stream: &Stream) -> Result<MemSink, Memory> {
     MemSink::new(alloc, 1 << 16, stream.most.max(1), fails)
 }
 
-fn run_over_memory(
+fn run_over_memory<R: Threads + Wait + Sync>(
+    rt: &R,
     alloc: Global,
     words: &[&str],
     input: Vec<u8>,
     reads: &Stream,
     writes: &Stream,
     says: &Stream,
+) -> Result<Outcome, Fail> {
+    run_through(rt, alloc, words, input, reads, writes, says, &OpenGate)
+}
+
+/// The same, where the workers pass this gate.
+fn run_through<G: Gate, R: Threads + Wait + Sync>(
+    rt: &R,
+    alloc: Global,
+    words: &[&str],
+    input: Vec<u8>,
+    reads: &Stream,
+    writes: &Stream,
+    says: &Stream,
+    gate: &G,
 ) -> Result<Outcome, Fail> {
     let words = words_of(alloc, words)?;
     let mut source = MemSource::new(
@@ -59,18 +77,42 @@ fn run_over_memory(
     );
     let mut out = sink(alloc, writes)?;
     let mut err = sink(alloc, says)?;
-    let status = top(alloc, words.as_slice(), &mut source, &mut out, &mut err);
-    Ok(Outcome { status, out, err })
+    let RunEnd { status, report, .. } = top(
+        rt,
+        alloc,
+        words.as_slice(),
+        &mut source,
+        &mut out,
+        &mut err,
+        gate,
+    );
+    Ok(Outcome {
+        status,
+        report,
+        out,
+        err,
+    })
 }
 
 #[test]
 fn words_of_no_command_are_bad(rt: HostRuntime) -> Result<(), Fail> {
-    let rows: [&[&str]; 10] = [
+    let rows: [&[&str]; 21] = [
         &[],
         &["step", "x"],
+        &["run"],
+        &["run", "1", "1"],
         &["run", "0"],
         &["run", "17"],
         &["run", "01"],
+        &["run", "4294967297"],
+        &["load"],
+        &["load", "7"],
+        &["load", "7", "200", "4"],
+        &["load", "65536", "1"],
+        &["load", "07", "1"],
+        &["load", "7", "0"],
+        &["load", "7", "2001"],
+        &["load", "7", "-1"],
         &["Step"],
         &["decode"],
         &["decode", "Data"],
@@ -79,9 +121,9 @@ fn words_of_no_command_are_bad(rt: HostRuntime) -> Result<(), Fail> {
     ];
     for words in rows {
         let input = Vec::from_slice(rt.alloc(), OPENING)?;
-        let ran = run_over_memory(rt.alloc(), words, input, &WHOLE, &WHOLE, &WHOLE)?;
-        assert_eq!(rt; ran.status, Status::BadWords);
+        let ran = run_over_memory(&rt, rt.alloc(), words, input, &WHOLE, &WHOLE, &WHOLE)?;
         assert_eq!(rt; ran.status.code(), 2);
+        assert!(rt; ran.report.is_none());
         assert!(rt; ran.out.bytes().is_empty());
         assert!(rt; ran.err.bytes() == b"vchan: bad words\n".as_slice());
     }
@@ -90,53 +132,29 @@ fn words_of_no_command_are_bad(rt: HostRuntime) -> Result<(), Fail> {
 
 #[test]
 fn inputs_that_are_no_script_are_bad(rt: HostRuntime) -> Result<(), Fail> {
-    let rows: [(&[u8], u32, ScriptKind, &[u8]); 6] = [
-        (
-            b"",
-            1,
-            ScriptKind::BadHeader,
-            b"vchan: line 1: bad-header\n",
-        ),
-        (
-            b"open 10 10\n",
-            1,
-            ScriptKind::BadOrders,
-            b"vchan: line 1: bad-orders\n",
-        ),
+    let rows: [(&[u8], &[u8]); 6] = [
+        (b"", b"vchan: line 1: bad-header\n"),
+        (b"open 10 10\n", b"vchan: line 1: bad-orders\n"),
         (
             b"open 10 11\nclient write 616\n",
-            2,
-            ScriptKind::BadHex,
             b"vchan: line 2: bad-hex\n",
         ),
         (
             b"open 10 11\n\nserver red 1\n",
-            3,
-            ScriptKind::BadLine,
             b"vchan: line 3: bad-line\n",
         ),
         (
             b"open 10 11\nclient write 61\nserver read 01\n",
-            3,
-            ScriptKind::BadNumber,
             b"vchan: line 3: bad-number\n",
         ),
         (
             b"open 10 11\nserver connect\n",
-            2,
-            ScriptKind::BadLine,
             b"vchan: line 2: bad-line\n",
         ),
     ];
-    for (input, line, kind, said) in rows {
+    for (input, said) in rows {
         let input = Vec::from_slice(rt.alloc(), input)?;
-        let ran = run_over_memory(rt.alloc(), &["step"], input, &WHOLE, &WHOLE, &WHOLE)?;
-        assert_eq!(rt;
-            ran.status,
-            Status::BadInput {
-                bad: Bad::Script { line, kind }
-            }
-        );
+        let ran = run_over_memory(&rt, rt.alloc(), &["step"], input, &WHOLE, &WHOLE, &WHOLE)?;
         assert_eq!(rt; ran.status.code(), 5);
         assert!(rt; ran.out.bytes().is_empty());
         assert!(rt; ran.err.bytes() == said);
@@ -147,11 +165,10 @@ fn inputs_that_are_no_script_are_bad(rt: HostRuntime) -> Result<(), Fail> {
 #[test]
 fn inputs_are_bounded(rt: HostRuntime) -> Result<(), Fail> {
     let longest = vec![in rt.alloc(); b' '; GREATEST_INPUT]?;
-    let ran_longest = run_over_memory(rt.alloc(), &["step"], longest, &WHOLE, &WHOLE, &WHOLE)?;
+    let ran_longest = run_over_memory(&rt, rt.alloc(), &["step"], longest, &WHOLE, &WHOLE, &WHOLE)?;
     assert_eq!(rt; ran_longest.status.code(), 5);
     let longer = vec![in rt.alloc(); b' '; GREATEST_INPUT + 1]?;
-    let ran_longer = run_over_memory(rt.alloc(), &["step"], longer, &WHOLE, &WHOLE, &WHOLE)?;
-    assert_eq!(rt; ran_longer.status, Status::TooLong);
+    let ran_longer = run_over_memory(&rt, rt.alloc(), &["step"], longer, &WHOLE, &WHOLE, &WHOLE)?;
     assert_eq!(rt; ran_longer.status.code(), 4);
     assert!(rt; ran_longer.err.bytes() == b"vchan: input too long\n".as_slice());
     Ok(())
@@ -188,8 +205,7 @@ fn a_read_that_fails_is_a_read_fault(rt: HostRuntime) -> Result<(), Fail> {
         for fails in FAILS {
             let input = Vec::from_slice(rt.alloc(), long.input)?;
             let reads = Stream { most: 16, fails };
-            let ran = run_over_memory(rt.alloc(), long.words, input, &reads, &WHOLE, &WHOLE)?;
-            assert_eq!(rt; ran.status, Status::ReadFault);
+            let ran = run_over_memory(&rt, rt.alloc(), long.words, input, &reads, &WHOLE, &WHOLE)?;
             assert_eq!(rt; ran.status.code(), 3);
             assert!(rt; ran.out.bytes().is_empty());
             assert!(rt; ran.err.bytes() == b"vchan: read fault\n".as_slice());
@@ -206,8 +222,7 @@ fn a_write_that_fails_is_a_write_fault(rt: HostRuntime) -> Result<(), Fail> {
         for fails in FAILS {
             let input = Vec::from_slice(rt.alloc(), long.input)?;
             let writes = Stream { most: 4, fails };
-            let ran = run_over_memory(rt.alloc(), long.words, input, &WHOLE, &writes, &WHOLE)?;
-            assert_eq!(rt; ran.status, Status::WriteFault);
+            let ran = run_over_memory(&rt, rt.alloc(), long.words, input, &WHOLE, &writes, &WHOLE)?;
             assert_eq!(rt; ran.status.code(), 6);
             assert!(rt; ran.out.bytes().len() == written);
             assert!(rt; long.text.starts_with(ran.out.bytes()));
@@ -221,6 +236,7 @@ fn a_write_that_fails_is_a_write_fault(rt: HostRuntime) -> Result<(), Fail> {
 #[test]
 fn a_fault_of_the_third_sink_changes_no_status(rt: HostRuntime) -> Result<(), Fail> {
     let ran = run_over_memory(
+        &rt,
         rt.alloc(),
         &["none"],
         Vec::new(rt.alloc()),
@@ -231,7 +247,7 @@ fn a_fault_of_the_third_sink_changes_no_status(rt: HostRuntime) -> Result<(), Fa
             fails: &[1],
         },
     )?;
-    assert_eq!(rt; ran.status, Status::BadWords);
+    assert_eq!(rt; ran.status.code(), 2);
     assert!(rt; ran.err.bytes().is_empty());
     assert_eq!(rt; Status::OutOfMemory.code(), 7);
     Ok(())

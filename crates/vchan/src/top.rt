@@ -1,14 +1,21 @@
-ghost use Rattle.std.specs.Prelude.{◌≡◌, OnOk, OnErr, map, string_bytes};
+ghost use Rattle.std.specs.Prelude.{◌≡◌, ℕ, List, [], ◌+◌, ◌<◌, ◌≤◌, ◌↔◌, length, IfOk, IfSome, IsErrOf, OnOk, OnErr, map, string_bytes, true, false};
+ghost use Rattle.std.specs.Io.KnownBytes.{IsAtEnd};
 ghost use Rattle.vchan_io.specs.Counts.{Rose};
-ghost use Rattle.vchan_io.specs.Streams.{Appends};
-ghost use Rattle.vchan.specs.Status.{status_line, bad_input, bad_line, script_word, decode_word};
-ghost use Rattle.vchan.specs.Top.{IsRun};
+ghost use Rattle.vchan_io.specs.Streams.{Appends, Takes};
+ghost use Rattle.vchan.specs.Command.{reads_input};
+ghost use Rattle.vchan.specs.Status.{status_line, bad_input, bad_line, bad_place, script_word, decode_word};
+ghost use Rattle.vchan.specs.Top.{IsRun, greatest_input};
 
-use crate::command::command_in;
-use crate::output::output;
+use crate::command::{Command, command_in};
+use crate::run_end::RunEnd;
 use crate::status::{Bad, Status};
+use crate::work::{Work, do_work};
 use itoa::Buffer;
+use scenario_file::{Path, ScenarioKind};
+use service_gate::Gate;
 use std::alloc::Global;
+use std::sync::Wait;
+use std::thread::Threads;
 use step_script::ScriptKind;
 use stream_text::DecodeKind;
 use vchan_io::{ReadAllError, Sink, Source, WriteFault, read_all, write_all};
@@ -18,7 +25,11 @@ pub const GREATEST_INPUT: usize = 4_194_304;
 
 /// All that the program does: it reads its words, then its whole input, then it does its work, and
 /// writes the text, which is made whole before its first byte is written. Where it ends otherwise it
-/// says so on `err` in one line; a fault of `err` changes nothing else.
+/// says so on `err` in one line; a fault of `err` changes nothing else. For `run` the workers pass
+/// `gate`, and for all other words it isn't used.
+///
+/// With `run` and `load` the report whose text or sums are written is handed out. It is lawful for the
+/// scenario, whatever the order of all steps of its workers.
 ///
 /// # Statuses
 ///
@@ -27,50 +38,80 @@ pub const GREATEST_INPUT: usize = 4_194_304;
 /// `BadInput` exactly where the input was read to its end and has not the command's form,
 /// `WriteFault` only where the count of `out` rose, and `OutOfMemory` wherever memory is short.
 /// Nothing is written to `out` but with `Done`, and with `WriteFault` a part of the text. The source's
-/// count stays as it was but with `ReadFault`, and that of `out` but with `WriteFault`.
-pub fn top<S: Source, K: Sink, E: Sink>(
+/// count stays as it was but with `ReadFault`, and that of `out` but with `WriteFault`. With `load`
+/// nothing is taken from the source.
+pub fn top<S: Source, K: Sink, E: Sink, G: Gate, R: Threads + Wait + Sync>(
+    rt: &R,
     alloc: Global,
     words: &[String],
     source: &mut S,
     out: &mut K,
     err: &mut E,
-) -> Status
+    gate: &G,
+) -> RunEnd
     ensures run { IsRun (map string_bytes words.now) (S.left source.old) (S.left source.new) (S.faults source.old) (S.faults source.new)
         (K.held out.old) (K.held out.new) (K.faults out.old) (K.faults out.new) result }
-    ensures line { (¬ Rose (E.faults err.old) (E.faults err.new)) → Appends (E.held err.old) (E.held err.new) (status_line result) }
+    ensures line { (¬ Rose (E.faults err.old) (E.faults err.new)) → Appends (E.held err.old) (E.held err.new) (status_line result.status) }
 {
-    let status = run(alloc, words, source, out);
-    let _ = report(status, err);
-    status
+    let end = run(rt, alloc, words, source, out, gate);
+    let _ = report(&end.status, err);
+    end
 }
 
 /// Does the work, and says nothing of how it ended.
-fn run<S: Source, K: Sink>(alloc: Global, words: &[String], source: &mut S, out: &mut K) -> Status
+fn run<S: Source, K: Sink, G: Gate, R: Threads + Wait + Sync>(
+    rt: &R,
+    alloc: Global,
+    words: &[String],
+    source: &mut S,
+    out: &mut K,
+    gate: &G,
+) -> RunEnd
     ensures { IsRun (map string_bytes words.now) (S.left source.old) (S.left source.new) (S.faults source.old) (S.faults source.new)
         (K.held out.old) (K.held out.new) (K.faults out.old) (K.faults out.new) result }
 {
     let Some(command) = command_in(words) else {
-        return Status::BadWords;
+        return RunEnd::of(alloc, Status::BadWords, None);
     };
-    let input = match read_all(alloc, source, GREATEST_INPUT) {
+    let input = match read_input(alloc, command, source) {
         Ok(input) => input,
-        Err(ReadAllError::ReadFault) => return Status::ReadFault,
-        Err(ReadAllError::TooLong) => return Status::TooLong,
-        Err(ReadAllError::Memory) => return Status::OutOfMemory,
+        Err(ReadAllError::ReadFault) => return RunEnd::of(alloc, Status::ReadFault, None),
+        Err(ReadAllError::TooLong) => return RunEnd::of(alloc, Status::TooLong, None),
+        Err(ReadAllError::Memory) => return RunEnd::of(alloc, Status::OutOfMemory, None),
     };
-    let output = match output(alloc, command, input.as_slice()) {
-        Ok(output) => output,
-        Err(status) => return status,
+    let Work { text, report } = match do_work(rt, alloc, command, input.as_slice(), gate) {
+        Ok(work) => work,
+        Err(status) => return RunEnd::of(alloc, status, None),
     };
-    match write_all(out, output.as_slice()) {
-        Ok(()) => Status::Done,
-        Err(WriteFault) => Status::WriteFault,
+    match write_all(out, text.as_slice()) {
+        Ok(()) => RunEnd::of(alloc, Status::Done, report),
+        Err(WriteFault) => RunEnd::of(alloc, Status::WriteFault, report),
     }
 }
 
+/// The input of a command: the source to its end, or nothing where the command reads none.
+fn read_input<S: Source>(
+    alloc: Global,
+    command: Command,
+    source: &mut S,
+) -> Result<Vec<u8>, ReadAllError>
+    ensures end { OnOk result (reads_input command ≡ true → IsAtEnd (S.left source.new)) }
+    ensures taken { (taken : List ℕ) × Takes (S.left source.old) (S.left source.new) taken
+        × (reads_input command ≡ false → taken ≡ [])
+        × (IsErrOf result ReadAllError.TooLong ↔ (greatest_input < length taken))
+        × IfOk result (λ bytes. bytes.items ≡ taken) }
+    ensures fault { IsErrOf result ReadAllError.ReadFault → (reads_input command ≡ true) × Rose (S.faults source.old) (S.faults source.new) }
+    ensures unfaulted { (¬ IsErrOf result ReadAllError.ReadFault) → S.faults source.new ≡ S.faults source.old }
+{
+    if !command.reads_input() {
+        return Ok(Vec::new(alloc));
+    }
+    read_all(alloc, source, GREATEST_INPUT)
+}
+
 /// Says on `err` how the run ended, where it didn't end well.
-pub(crate) fn report<E: Sink>(status: Status, err: &mut E) -> Result<(), WriteFault>
-    ensures line { OnOk result (Appends (E.held err.old) (E.held err.new) (status_line status)) }
+pub(crate) fn report<E: Sink>(status: &Status, err: &mut E) -> Result<(), WriteFault>
+    ensures line { OnOk result (Appends (E.held err.old) (E.held err.new) (status_line status.now)) }
     ensures fault { OnErr result (Rose (E.faults err.old) (E.faults err.new)) }
 {
     match status {
@@ -85,13 +126,14 @@ pub(crate) fn report<E: Sink>(status: Status, err: &mut E) -> Result<(), WriteFa
 }
 
 /// Says on `err` what is wrong with the input.
-fn report_bad<E: Sink>(err: &mut E, bad: Bad) -> Result<(), WriteFault>
-    ensures line { OnOk result (Appends (E.held err.old) (E.held err.new) (bad_input bad)) }
+fn report_bad<E: Sink>(err: &mut E, bad: &Bad) -> Result<(), WriteFault>
+    ensures line { OnOk result (Appends (E.held err.old) (E.held err.new) (bad_input bad.now)) }
     ensures fault { OnErr result (Rose (E.faults err.old) (E.faults err.new)) }
 {
     match bad {
-        Bad::Script { line, kind } => report_line(err, line, script_kind(kind)),
-        Bad::Decode { line, kind } => report_line(err, line, decode_kind(kind)),
+        Bad::Script { line, kind } => report_line(err, *line, script_kind(*kind)),
+        Bad::Decode { line, kind } => report_line(err, *line, decode_kind(*kind)),
+        Bad::Scenario { kind, at } => report_place(err, *kind, at),
     }
 }
 
@@ -105,6 +147,19 @@ fn report_line<E: Sink>(err: &mut E, line: u32, kind: &[u8]) -> Result<(), Write
     write_all(err, digits.format(line).as_bytes())?;
     write_all(err, b": ")?;
     write_all(err, kind)?;
+    write_all(err, b"\n")
+}
+
+/// Says on `err` which place of a scenario file is bad. It takes no memory, so that want of memory
+/// can't hide the place.
+fn report_place<E: Sink>(err: &mut E, kind: ScenarioKind, at: &Path) -> Result<(), WriteFault>
+    ensures line { OnOk result (Appends (E.held err.old) (E.held err.new) (bad_place kind at.now)) }
+    ensures fault { OnErr result (Rose (E.faults err.old) (E.faults err.new)) }
+{
+    write_all(err, b"vchan: ")?;
+    write_all(err, at.bytes())?;
+    write_all(err, b": ")?;
+    write_all(err, kind.word())?;
     write_all(err, b"\n")
 }
 

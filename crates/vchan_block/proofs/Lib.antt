@@ -1,2 +1,3 @@
 mod RoundLaws
 pub mod WaitLaws
+mod PipeLaws

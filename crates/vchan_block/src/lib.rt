@@ -4,11 +4,13 @@
 //! It serves whoever has a thread of its own for a channel. The calls are those of libxenvchan's io.c
 //! in blocking mode: `libxenvchan_write`, `libxenvchan_read`, `libxenvchan_send` and
 //! `libxenvchan_recv`, and between their rounds `libxenvchan_wait`. Each is a list of rounds of the
-//! calls that don't wait; nothing else moves bytes.
+//! calls that don't wait; nothing else moves bytes. A pipe, which is this project's own, sends bytes
+//! from one thread to another by a write that waits.
 #![tactic(auto)]
 
 pub mod laws;
 mod pause;
+mod piping;
 mod reading;
 mod receiving;
 mod ring;
@@ -16,8 +18,12 @@ mod sending;
 mod wait;
 mod writing;
 
+pub use piping::pipe;
 pub use reading::{BlockRead, read};
 pub use receiving::{BlockRecv, recv};
 pub use ring::fits_ring;
 pub use sending::{BlockSend, send};
 pub use writing::{BlockWrite, write};
+
+#[cfg(test)]
+mod tests;

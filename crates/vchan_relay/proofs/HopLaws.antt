@@ -1,9 +1,7 @@
 -- Relays in a row.
-use Rattle.std.proofs.Common.{◌≡◌, true, List, [], ◌∷◌, ◌++◌, ℕ, sym, ap, ◌∙◌, append_assoc, append-nil}
-use Rattle.qrexec_frame.specs.Streams.{Each}
-use Rattle.end_view.specs.Settled.{Settled, IsHonestRing}
+use Rattle.std.proofs.Common.{◌≡◌, List, [], ◌∷◌, ◌++◌, ℕ, sym, ap, ◌∙◌, append_assoc, append-nil}
 use Rattle.vchan_protocol.specs.Honest.RingLaw.{IsPrefixOf}
-use Rattle.vchan_relay.specs.Hops.{Hop, AreRelayed, last_page, IsHonestLeft, RelaysKeepOrder, RelaysPassAll}
+use Rattle.vchan_relay.specs.Hops.{RelaysKeepOrder, RelaysPassAll}
 
 prefix_through : (xs ys zs : List ℕ) → IsPrefixOf xs ys → IsPrefixOf ys zs → IsPrefixOf xs zs
 prefix_through xs ys zs one two = (one.0 ++ two.0, sym (append_assoc xs one.0 two.0) ∙ ap (λ (bytes : List ℕ). bytes ++ two.0) one.1 ∙ two.1)

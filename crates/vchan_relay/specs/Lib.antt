@@ -1,3 +1,9 @@
 pub mod Relay
 pub mod Turns
 pub mod Hops
+pub mod Ended
+pub mod Given
+pub mod Laying
+pub mod Owes
+pub mod Settling
+pub mod Runs

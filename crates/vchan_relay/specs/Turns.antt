@@ -6,7 +6,6 @@ use Rattle.vchan_protocol.specs.Table.Calls.{Trace}
 use Rattle.vchan_protocol.specs.History.Core.{standing_of}
 use Rattle.end_view.specs.AfterCall.{DrainSees}
 use Rattle.vchan_rule.specs.Seated.{SeatedEnd, view}
-use Rattle.vchan_rule.specs.Ends.{IsSameEnd}
 use Rattle.vchan_lifecycle.specs.Lifecycle.{drained_to, drain_told, shut}
 use Rattle.vchan_lifecycle.specs.declared.DrainAnswer.{DrainAnswer}
 use Rattle.vchan_lifecycle.specs.declared.DrainAnswer.TheVariants.{More, NotYet as NothingYet, AllRead, PeerGone}

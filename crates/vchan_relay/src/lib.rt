@@ -1,14 +1,25 @@
 //! A relay: it reads the near channel and writes what it got to the far one.
 //!
-//! It serves whoever passes a stream through a domain that stands between two others. The form of a
-//! relay is this project's own.
+//! It serves whoever passes a stream through a domain that stands between two others, or through a
+//! row of such domains, whose relays run as tasks of a pool. The form of a relay is this project's
+//! own.
 #![tactic(auto)]
 
+mod deal;
+mod draining;
+mod hop;
 pub mod laws;
+mod lay;
+mod reader;
 mod relay;
+mod run;
+mod settle;
+mod task;
 mod turn;
+mod writer;
 
 pub use relay::{Relay, RelayRefused};
+pub use run::{Relayed, relay_run};
 pub use turn::RelayTurn;
 
 #[cfg(test)]

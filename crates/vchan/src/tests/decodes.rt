@@ -1,8 +1,9 @@
 //! What `decode` prints, and which inputs it refuses.
 use super::{Outcome, WHOLE, run_over_memory};
-use crate::{Bad, DecodeKind, Status};
 use std::alloc::Global;
+use std::sync::Wait;
 use std::test::Fail;
+use std::thread::Threads;
 
 /// A channel, pieces of its stream, and the text that they give.
 const STREAMS: [(&str, &[u8], &[u8]); 10] = [
@@ -50,15 +51,33 @@ const STREAMS: [(&str, &[u8], &[u8]); 10] = [
     ("data", b"9201000003000000FFfe", b"rest 10\n"),
 ];
 
-fn decoded(alloc: Global, channel: &str, input: Vec<u8>) -> Result<Outcome, Fail> {
-    run_over_memory(alloc, &["decode", channel], input, &WHOLE, &WHOLE, &WHOLE)
+fn decoded<R: Threads + Wait + Sync>(
+    rt: &R,
+    alloc: Global,
+    channel: &str,
+    input: Vec<u8>,
+) -> Result<Outcome, Fail> {
+    run_over_memory(
+        rt,
+        alloc,
+        &["decode", channel],
+        input,
+        &WHOLE,
+        &WHOLE,
+        &WHOLE,
+    )
 }
 
 #[test]
 fn streams_print_their_messages(rt: HostRuntime) -> Result<(), Fail> {
     for (channel, input, text) in STREAMS {
-        let ran = decoded(rt.alloc(), channel, Vec::from_slice(rt.alloc(), input)?)?;
-        assert_eq!(rt; ran.status, Status::Done);
+        let ran = decoded(
+            &rt,
+            rt.alloc(),
+            channel,
+            Vec::from_slice(rt.alloc(), input)?,
+        )?;
+        assert_eq!(rt; ran.status.code(), 0);
         assert!(rt; ran.out.bytes() == text);
         assert!(rt; ran.err.bytes().is_empty());
     }
@@ -74,59 +93,30 @@ fn a_stream_is_read_however_it_is_cut(rt: HostRuntime) -> Result<(), Fail> {
         input.extend_from_slice(pair)?;
         input.push(b'\n')?;
     }
-    let ran = decoded(rt.alloc(), channel, input)?;
+    let ran = decoded(&rt, rt.alloc(), channel, input)?;
     assert!(rt; ran.out.bytes() == text);
     Ok(())
 }
 
-/// A line that comes so many times, the number of the first bad line, and what is wrong with it.
-type Refusal = (&'static [u8], usize, u32, DecodeKind, &'static [u8]);
+/// A line that comes so many times, and what is said of the first bad line.
+type Refusal = (&'static [u8], usize, &'static [u8]);
 
 const REFUSALS: [Refusal; 4] = [
-    (
-        b"0g\n",
-        1,
-        1,
-        DecodeKind::BadHex,
-        b"vchan: line 1: bad-hex\n",
-    ),
-    (
-        b"\n#\n00 \n",
-        1,
-        3,
-        DecodeKind::BadHex,
-        b"vchan: line 3: bad-hex\n",
-    ),
-    (
-        b"00\n",
-        65_537,
-        65_537,
-        DecodeKind::TooManyLines,
-        b"vchan: line 65537: too-many-lines\n",
-    ),
-    (
-        b"00*2097152\n",
-        5,
-        5,
-        DecodeKind::TooManyBytes,
-        b"vchan: line 5: too-many-bytes\n",
-    ),
+    (b"0g\n", 1, b"vchan: line 1: bad-hex\n"),
+    (b"\n#\n00 \n", 1, b"vchan: line 3: bad-hex\n"),
+    (b"00\n", 65_537, b"vchan: line 65537: too-many-lines\n"),
+    (b"00*2097152\n", 5, b"vchan: line 5: too-many-bytes\n"),
 ];
 
 #[test]
 fn the_first_bad_line_is_refused(rt: HostRuntime) -> Result<(), Fail> {
-    for (piece, count, line, kind, said) in REFUSALS {
+    for (piece, count, said) in REFUSALS {
         let mut input = Vec::new(rt.alloc());
         for _ in 0..count {
             input.extend_from_slice(piece)?;
         }
-        let ran = decoded(rt.alloc(), "data", input)?;
-        assert_eq!(rt;
-            ran.status,
-            Status::BadInput {
-                bad: Bad::Decode { line, kind }
-            }
-        );
+        let ran = decoded(&rt, rt.alloc(), "data", input)?;
+        assert_eq!(rt; ran.status.code(), 5);
         assert!(rt; ran.out.bytes().is_empty());
         assert!(rt; ran.err.bytes() == said);
     }
@@ -141,13 +131,13 @@ fn the_limits_are_reached(rt: HostRuntime) -> Result<(), Fail> {
         lines.extend_from_slice(b"#\n")?;
     }
     lines.extend_from_slice(b"00*2097152\n")?;
-    let ran = decoded(rt.alloc(), "data", lines)?;
+    let ran = decoded(&rt, rt.alloc(), "data", lines)?;
     assert!(rt; ran.out.bytes() == b"fault unknown-type 0 0\n".as_slice());
     let bytes = Vec::from_slice(
         rt.alloc(),
         b"00*2097152\n00*2097152\n00*2097152\n00*2097152\n",
     )?;
-    let ran_bytes = decoded(rt.alloc(), "control", bytes)?;
+    let ran_bytes = decoded(&rt, rt.alloc(), "control", bytes)?;
     assert!(rt; ran_bytes.out.bytes() == b"fault unknown-type 0 0\n".as_slice());
     Ok(())
 }

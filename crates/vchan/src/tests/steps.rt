@@ -3,7 +3,9 @@ use super::{OPENING, WHOLE, run_over_memory};
 use crate::Status;
 use std::alloc::{AllocGlobal, Global};
 use std::process::Abort;
+use std::sync::Wait;
 use std::test::Fail;
+use std::thread::Threads;
 
 /// Scripts, and what they print.
 #[derive(Clone, Copy)]
@@ -158,19 +160,26 @@ const HOSTILE_ENDS: [Row; 6] = [
     },
 ];
 
-fn play_rows(rt: &(impl Abort + AllocGlobal), rows: &[Row]) -> Result<(), Fail> {
+fn play_rows<R: Abort + AllocGlobal + Threads + Wait + Sync>(
+    rt: &R,
+    rows: &[Row],
+) -> Result<(), Fail> {
     for row in rows {
         let script = row.script.as_bytes();
-        let text = printed(rt.alloc(), script)?;
+        let text = printed(rt, rt.alloc(), script)?;
         assert_eq!(rt; text.as_slice(), row.text.as_bytes(), "of {}", row.script);
     }
     Ok(())
 }
 
 /// What a script prints through `top`, with status 0 and nothing on the third sink; else nothing.
-fn printed(alloc: Global, script: &[u8]) -> Result<Vec<u8>, Fail> {
+fn printed<R: Threads + Wait + Sync>(
+    rt: &R,
+    alloc: Global,
+    script: &[u8],
+) -> Result<Vec<u8>, Fail> {
     let input = Vec::from_slice(alloc, script)?;
-    let ran = run_over_memory(alloc, &["step"], input, &WHOLE, &WHOLE, &WHOLE)?;
+    let ran = run_over_memory(rt, alloc, &["step"], input, &WHOLE, &WHOLE, &WHOLE)?;
     if !matches!(ran.status, Status::Done) || !ran.err.bytes().is_empty() {
         return Ok(Vec::new(alloc));
     }
@@ -197,7 +206,7 @@ fn honest_ends_stand_beside_hostile_ones(rt: HostRuntime) -> Result<(), Fail> {
 fn an_image_shows_the_byte_that_was_written(rt: HostRuntime) -> Result<(), Fail> {
     let mut script = Vec::from_slice(rt.alloc(), OPENING)?;
     script.extend_from_slice(b"client write 61\nimage\n")?;
-    let text = printed(rt.alloc(), script.as_slice())?;
+    let text = printed(&rt, rt.alloc(), script.as_slice())?;
     let mut wanted = Vec::from_slice(
         rt.alloc(),
         b"client wrote 1\nimage 000000000100000000000000000000000a000b0001010001",

@@ -1,4 +1,4 @@
-use Rattle.std.proofs.Common.{◌≡◌, ◌∙◌, ap, refl, sym, subst, rules, arith, true}
+use Rattle.std.proofs.Common.{◌≡◌, ◌∙◌, ap, refl, sym, subst, rules}
 use Rattle.qrexec_frame.specs.Texts.{FitsText}
 use Rattle.qrexec_frame.specs.Names.{cleaned_service}
 use Rattle.call_broker.specs.Domains.{name_of}

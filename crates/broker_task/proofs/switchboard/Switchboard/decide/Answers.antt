@@ -2,9 +2,8 @@ use Rattle.std.proofs.Common.{◌≡◌, ◌∙◌, ◌-◌, ap, sym, subst, len
 use Rattle.call_broker.specs.declared.decision.Entry.{Entry}
 use Rattle.call_broker.specs.Brokered.{Brokered}
 use Rattle.call_broker.specs.Journal.{events}
-use Rattle.call_broker.specs.Domains.{Domains, count_of}
 use Rattle.broker_task.specs.declared.daemon.Daemon.{Daemon}
-use Rattle.broker_task.specs.Replies.{IsReplyTo, IsWithin, AreFit}
+use Rattle.broker_task.specs.Replies.{IsReplyTo, IsWithin}
 use Rattle.broker_task.specs.Posting.{EachMoves, Posts, IsPosting}
 use Rattle.broker_task.proofs.PostLaws.{on-ok}
 use Rattle.broker_task.proofs.ReplyLaws.{within-reply, last-entry, written-back, numbered-from}

@@ -1,4 +1,4 @@
-use Rattle.std.proofs.Common.{◌≡◌, ◌∙◌, ◌-◌, ◌+◌, ap, sym, subst, List, [], ◌∷◌, ◌++◌, Option, Some, None, length, true}
+use Rattle.std.proofs.Common.{◌≡◌, ◌∙◌, ◌-◌, ◌+◌, refl, sym, subst, List, Option, true}
 use Rattle.std.specs.Prelude.{IfSome}
 use Rattle.call_broker.specs.declared.event.Event.{Event}
 use Rattle.call_broker.specs.declared.decision.Entry.{Entry}
@@ -9,7 +9,7 @@ use Rattle.control_port.specs.Port.{HasFewerLeft}
 use Rattle.broker_task.specs.Letters.{IsAt}
 use Rattle.broker_task.specs.Lines.{HandsOut}
 use Rattle.broker_task.specs.Posting.{IsHearing}
-use Rattle.broker_task.proofs.HearingSteps.{place-of-domain, next-moves, posting-next, own-event, hearing-next, left-falls, heard-out}
+use Rattle.broker_task.proofs.HearingSteps.{place-of-domain, next-moves, posting-next, own-event, hearing-next, left-falls, ends-none, ends-next, ends-decided}
 use Rattle.broker_task.proofs.switchboard.Switchboard.hear.Goals as goal
 
 pub decide-requires-clause-posting : goal.decide-requires-clause-posting
@@ -29,6 +29,9 @@ returns-clause-posting c =
     let there : IsAt c.loop-event.self.daemons.items (c.args.domain - 1) c.index_mut.result.now = record { within = place.0; is = c.index_mut.ensures.value } in
     posting-next _ _ c.loop-event.self.daemons.items (c.args.domain - 1) c.index_mut.result.now c.next.new.self there
     (next-moves (c.args.domain - 1 + 1) c.index_mut.result.now c.next.new.self c.next.ensures.port c.next.ensures.end c.next.ensures.line (λ said h. c.next.ensures.said said h)) inv.posting
+
+pub loop-event-init : goal.loop-event-init
+loop-event-init c = record { hub = refl; posting = c.requires.posting; hearing = c.requires.hearing; ends = ends-none c.args.self.now.daemons.items }
 
 pub loop-event-smaller : goal.loop-event-smaller
 loop-event-smaller c =
@@ -59,4 +62,30 @@ loop-event-preserved c =
       hearing = subst (λ (j : List Entry). IsHearing c.args.domain j c.decide.new.self.daemons.items) (sym c.in_ok-decide.ensures.entry)
           (hearing-next c.args.domain b.journal e c.loop-event.self.daemons.items c.decide.new.self.daemons.items i x y there place.1 own.0
           (λ es reads. subst (λ o. HandsOut y es o) c.in-Some.is (c.in_ok-event.ensures.hands es reads)) c.decide.ensures.ports inv.hearing);
+      ends = ends-decided c.args.self.now.daemons.items _ c.decide.new.self.daemons.items
+          (ends-next c.args.self.now.daemons.items c.loop-event.self.daemons.items i x y inv.ends there c.next.ensures.port c.next.ensures.end) c.decide.ensures.ports;
     }
+
+pub returns-clause-ends : goal.returns-clause-ends
+returns-clause-ends c =
+    let inv = c.loop-event.invariant in
+    let there_is = subst (λ (h : Domains). is_domain h c.args.domain ≡ true) (sym inv.hub) c.requires.number in
+    let place = place-of-domain c.loop-event.self.broker.hub c.loop-event.self.daemons.items c.args.domain there_is inv.posting.count in
+    let there : IsAt c.loop-event.self.daemons.items (c.args.domain - 1) c.index_mut.result.now = record { within = place.0; is = c.index_mut.ensures.value } in
+    ends-next c.args.self.now.daemons.items c.loop-event.self.daemons.items (c.args.domain - 1) c.index_mut.result.now c.next.new.self inv.ends there c.next.ensures.port c.next.ensures.end
+
+pub returns-in_err-event-clause-ends : goal.returns-in_err-event-clause-ends
+returns-in_err-event-clause-ends c =
+    let inv = c.loop-event.invariant in
+    let there_is = subst (λ (h : Domains). is_domain h c.args.domain ≡ true) (sym inv.hub) c.requires.number in
+    let place = place-of-domain c.loop-event.self.broker.hub c.loop-event.self.daemons.items c.args.domain there_is inv.posting.count in
+    let there : IsAt c.loop-event.self.daemons.items (c.args.domain - 1) c.index_mut.result.now = record { within = place.0; is = c.index_mut.ensures.value } in
+    ends-next c.args.self.now.daemons.items c.loop-event.self.daemons.items (c.args.domain - 1) c.index_mut.result.now c.next.new.self inv.ends there c.next.ensures.port c.next.ensures.end
+
+pub returns-in_err-decide-clause-ends : goal.returns-in_err-decide-clause-ends
+returns-in_err-decide-clause-ends c =
+    let inv = c.loop-event.invariant in
+    let there_is = subst (λ (h : Domains). is_domain h c.args.domain ≡ true) (sym inv.hub) c.requires.number in
+    let place = place-of-domain c.loop-event.self.broker.hub c.loop-event.self.daemons.items c.args.domain there_is inv.posting.count in
+    let there : IsAt c.loop-event.self.daemons.items (c.args.domain - 1) c.index_mut.result.now = record { within = place.0; is = c.index_mut.ensures.value } in
+    ends-decided c.args.self.now.daemons.items _ c.decide.new.self.daemons.items (ends-next c.args.self.now.daemons.items c.loop-event.self.daemons.items (c.args.domain - 1) c.index_mut.result.now c.next.new.self inv.ends there c.next.ensures.port c.next.ensures.end) c.decide.ensures.ports

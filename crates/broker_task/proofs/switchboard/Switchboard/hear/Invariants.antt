@@ -1,5 +1,5 @@
 use Rattle.std.proofs.Common.{◌≡◌, ◌-◌}
-use Rattle.broker_task.specs.Posting.{IsPosting, IsHearing}
+use Rattle.broker_task.specs.Posting.{EachMoves, SameEnd, IsPosting, IsHearing}
 use Rattle.broker_task.proofs.HearingSteps.{left_in}
 use Rattle.broker_task.proofs.switchboard.Switchboard.hear.Given as goal
 
@@ -8,6 +8,7 @@ invariant-loop-event l = record {
   hub : l.self.broker.hub ≡ l.fn.self.broker.hub;
   posting : IsPosting l.self.broker.hub l.self.broker.journal l.self.daemons.items;
   hearing : IsHearing l.domain l.self.broker.journal l.self.daemons.items;
+  ends : EachMoves SameEnd l.initial.self.daemons.items l.self.daemons.items;
 }
 
 abbrev pub decreases-loop-event : goal.decreases-loop-event

@@ -1,14 +1,12 @@
-use Rattle.std.proofs.Common.{◌≡◌, ◌-◌, ◌+◌, ◌<◌, refl, sym, subst, length, true, Some}
-use Rattle.call_broker.specs.Domains.{is_domain}
+use Rattle.std.proofs.Common.{◌-◌, refl, subst, Some}
 use Rattle.qrexec_frame.specs.declared.message.Message.{Message}
-use Rattle.qrexec_frame.specs.declared.message.Message.TheVariants.{Exec}
 use Rattle.broker_task.specs.Letters.{IsAt}
 use Rattle.broker_task.specs.Lines.{IsSameDaemon}
-use Rattle.broker_task.specs.Posting.{HasGone}
+use Rattle.broker_task.specs.Posting.{HasGone, LetsGo}
 use Rattle.broker_task.proofs.HearingSteps.{place-of-domain}
-use Rattle.broker_task.proofs.PostLaws.{moves-none, moves-as}
-use Rattle.broker_task.proofs.SendingSteps.{Alone, moves-alone}
-use Rattle.broker_task.proofs.ReleaseSteps.{LetsGo, sending-released, same-one, same-let-go, same-daemon, waiting-released}
+use Rattle.broker_task.proofs.PostLaws.{moves-none}
+use Rattle.broker_task.proofs.SendingSteps.{moves-alone}
+use Rattle.broker_task.proofs.ReleaseSteps.{sending-released, same-one, same-let-go, same-daemon, waiting-released}
 use Rattle.broker_task.proofs.switchboard.Switchboard.let_go.Goals as goal
 
 pub returns-in-Exec-clause-sending : goal.returns-in-Exec-clause-sending

@@ -1,6 +1,4 @@
-use Rattle.std.proofs.Common.{◌≡◌, ◌∙◌, refl, sym, subst, true}
-use Rattle.call_broker.specs.Brokered.{Brokered}
-use Rattle.call_broker.specs.Domains.{is_domain}
+use Rattle.std.proofs.Common.{◌∙◌, refl}
 use Rattle.broker_task.specs.Lines.{IsSameDaemon}
 use Rattle.broker_task.proofs.PostLaws.{moves-none}
 use Rattle.broker_task.proofs.ReleaseSteps.{same-daemon, same-moves}

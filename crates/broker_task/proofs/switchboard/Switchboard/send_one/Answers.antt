@@ -1,4 +1,4 @@
-use Rattle.std.proofs.Common.{◌≡◌, ◌∙◌, ◌-◌, ◌+◌, ◌<◌, ap, sym, subst, List, length, arith, true, Option, Some, None}
+use Rattle.std.proofs.Common.{◌-◌, ◌<◌, sym, subst, arith}
 use Rattle.std.proofs.Math.ListN.{set}
 use Rattle.std.proofs.lemmas.List.{length-set}
 use Rattle.call_broker.specs.Brokered.{Brokered}
@@ -7,7 +7,7 @@ use Rattle.broker_task.specs.Lines.{SendsOne}
 use Rattle.broker_task.specs.Posting.{IsSending, waiting_in}
 use Rattle.broker_task.proofs.HearingSteps.{place-of-domain}
 use Rattle.broker_task.proofs.SendingSteps.{Sends, gone-one}
-use Rattle.broker_task.proofs.ReleaseSteps.{sending-moves, waiting-sent, same-one, same-moves, idle-posting, idle-one}
+use Rattle.broker_task.proofs.ReleaseSteps.{sending-moves, waiting-sent, same-one, same-moves, idle-posting}
 use Rattle.broker_task.proofs.switchboard.Switchboard.send_one.Goals as goal
 
 pub let_go-requires : goal.let_go-requires

@@ -4,8 +4,9 @@ use Rattle.std.specs.Prelude.{replicate}
 use Rattle.task_duties.specs.Words.{ident_of}
 use Rattle.call_queue.specs.Index.{IsIndex}
 use Rattle.call_queue.specs.Asking.{Asks}
+use Rattle.call_queue.specs.Queue.{asked_as, AreDifferent}
 use Rattle.call_queue.proofs.AskingLaws.{asks-none}
-use Rattle.call_queue.proofs.FreshLaws.{kept-fresh, all-fresh}
+use Rattle.call_queue.proofs.FreshLaws.{kept-fresh, all-fresh, fresh-apart}
 use Rattle.call_queue.proofs.queue.CallQueue.new.Goals as goal
 
 pub invariant_of-result : goal.invariant_of-result
@@ -25,3 +26,8 @@ returns-clause-new c = ap (λ l. record { calls = l; next = 0 }) (all-fresh c.in
 pub returns-clause-asks : goal.returns-clause-asks
 returns-clause-asks c =
     subst (λ l. Asks (record { calls = l; next = 0 }) []) (sym (all-fresh c.in_ok-by_target.by_target c.args.calls.items c.in_ok-calls.calls.items c.in_ok-calls.ensures)) (asks-none c.args.calls.items)
+
+pub returns-clause-apart : goal.returns-clause-apart
+returns-clause-apart c =
+    subst (λ l. AreDifferent (map (λ a. ident_of a.call.number) (map asked_as l))) (sym (all-fresh c.in_ok-by_target.by_target c.args.calls.items c.in_ok-calls.calls.items c.in_ok-calls.ensures))
+    (fresh-apart c.args.calls.items (subst (λ l. Each (λ x. x.number < 2 ^ 32) l) c.deref.ensures.value c.in_ok-idents.ensures.small) c.requires.different)

@@ -1,9 +1,10 @@
-use Rattle.std.proofs.Common.{◌≡◌, ◌∙◌, ◌++◌, ◌∷◌, [], length, subst, sym}
+use Rattle.std.proofs.Common.{◌≡◌, ◌∙◌, ◌++◌, ◌∷◌, [], ap, length, subst, sym}
 use Rattle.ring_words.specs.declared.page.Role.TheVariants.{Server, Client}
 use Rattle.vchan_rule.specs.Seated.{view}
 use Rattle.run_pages.specs.Pages.{new_end, page_at}
 use Rattle.run_pages.specs.Dealt.{AreDealt, Follows, Gives}
-use Rattle.run_pages.proofs.DealLaws.{attached-view, control-dealt, end-at, payload-dealt}
+use Rattle.run_laws.specs.Results.{orders_of}
+use Rattle.run_pages.proofs.DealLaws.{attached-orders, attached-view, control-dealt, end-at, payload-dealt}
 use Rattle.run_pages.proofs.deal.Dealt.deal_page.Goals as goal
 
 pub returns-in_ok-deal_control-in-Control-clause-dealt : goal.returns-in_ok-deal_control-in-Control-clause-dealt
@@ -34,3 +35,15 @@ returns-in_ok-give-in-Payload-2-clause-dealt c = λ pages dealt.
     subst (λ controls. AreDealt (pages ++ p ∷ []) controls.items c.give-in-Payload.new.self.hands.items) (sym (c.in_ok-give-in-Payload-2.ensures.same ∙ c.in_ok-give-in-Payload.ensures.same))
     (payload-dealt pages c.args.self.now.controls.items hands c.give.new.self.hands.items c.give-in-Payload.new.self.hands.items p c.in-Payload.from c.in-Payload.to c.in-Payload.port
     dealt c.in-Payload.is follows.0 follows.1 follows.2 follows.3 follows.4 first second)
+
+pub returns-in_ok-deal_control-in-Control-clause-orders : goal.returns-in_ok-deal_control-in-Control-clause-orders
+returns-in_ok-deal_control-in-Control-clause-orders c = λ s laid ordered.
+    c.in_ok-deal_control-in-Control.ensures.orders s
+    (attached-orders s c.attach-server.result c.args.seats.server (page_at c.args.page.now) laid c.attach-server.ensures.side ∙ ap (orders_of s) c.in-Control.is) ordered
+
+pub returns-in_ok-give-in-Payload-2-clause-orders : goal.returns-in_ok-give-in-Payload-2-clause-orders
+returns-in_ok-give-in-Payload-2-clause-orders c = λ s laid ordered.
+    let p = page_at c.args.page.now in
+    let server = attached-orders s c.attach-server.result c.args.seats.server p laid c.attach-server.ensures.side ∙ ap (orders_of s) c.in-Payload.is in
+    let client = attached-orders s c.attach-client.result c.args.seats.client p laid c.attach-client.ensures.side ∙ ap (orders_of s) c.in-Payload.is in
+    c.in_ok-give-in-Payload-2.ensures.orders s client (c.in_ok-give-in-Payload.ensures.orders s server ordered)

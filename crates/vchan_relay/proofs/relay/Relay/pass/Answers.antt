@@ -1,14 +1,13 @@
-use Rattle.std.proofs.Common.{rules, ◌≡◌, ◌+◌, ◌-◌, ◌≤◌, ℕ, List, [], drop, length, ◌++◌, refl, sym, ap, subst, ◌∙◌, arith}
+use Rattle.std.proofs.Common.{rules, ◌≡◌, ◌+◌, ◌≤◌, ℕ, List, drop, length, ◌++◌, refl, sym, ap, subst, ◌∙◌, arith}
 use Rattle.std.specs.List.{slice_range}
 use Rattle.std.proofs.lemmas.List.{length-drop}
 use Rattle.end_view.specs.EndView.{EndView}
 use Rattle.vchan_rule.specs.Seated.{view}
 use Rattle.vchan_stream.specs.Stream.{wrote_to}
 use Rattle.vchan_stream.specs.declared.WriteAnswer.TheVariants.{Wrote, Full as NoRoom, PeerClosed}
-use Rattle.vchan_relay.specs.Relay.{RelayState, IsLawful}
-use Rattle.vchan_relay.specs.Turns.{HasTurned, wrote}
-use Rattle.vchan_relay.specs.declared.turn.RelayTurn.{RelayTurn}
-use Rattle.vchan_relay.specs.declared.turn.RelayTurn.TheVariants.{Passed, Full, FarClosed}
+use Rattle.vchan_relay.specs.Relay.{IsLawful}
+use Rattle.vchan_relay.specs.Turns.{wrote}
+use Rattle.vchan_relay.specs.declared.turn.RelayTurn.TheVariants.{FarClosed}
 use Rattle.vchan_relay.proofs.RelayLaws.{turned_at, turned_with, length_range, range_drop, passed_on, not_none, has_written}
 use Rattle.vchan_relay.proofs.relay.Relay.pass.Goals as goal
 

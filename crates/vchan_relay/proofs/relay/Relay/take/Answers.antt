@@ -1,11 +1,8 @@
-use Rattle.std.proofs.Common.{rules, ◌≡◌, ◌+◌, ◌-◌, ◌≤◌, ℕ, List, [], take, length, refl, sym, ap, subst, ◌∙◌, arith}
-use Rattle.std.specs.List.{slice_range}
+use Rattle.std.proofs.Common.{◌≡◌, ℕ, List, take, length, refl, ap, ◌∙◌}
 use Rattle.vchan_lifecycle.specs.declared.DrainAnswer.TheVariants.{More, NotYet as NothingYet, AllRead, PeerGone}
 use Rattle.std.proofs.lemmas.List.{take_at}
 use Rattle.vchan_relay.specs.Relay.{RelayState}
-use Rattle.vchan_relay.specs.Turns.{HasTurned, drained}
-use Rattle.vchan_relay.specs.declared.turn.RelayTurn.{RelayTurn}
-use Rattle.vchan_relay.specs.declared.turn.RelayTurn.TheVariants.{Took, NotYet, Ended, NearGone}
+use Rattle.vchan_relay.specs.Turns.{drained}
 use Rattle.vchan_relay.proofs.RelayLaws.{turned_at, turned_with, range_front, range_still_none, has_drained, gone_empty, gone_behind}
 use Rattle.vchan_relay.proofs.relay.Relay.take.Goals as goal
 

@@ -1,0 +1,114 @@
+-- What an answer makes of the calls and of their sessions.
+use Rattle.std.proofs.Common.{◌≡◌, ℕ, zero, suc, List, [], ◌∷◌, ◌++◌, refl, ap, sym, ◌∙◌, Some, None, subst}
+use Rattle.std.specs.Prelude.{Bool, true, false, map, slice_get, slice_set, if◌then◌else◌, ◌||◌, bytes_eq}
+use Rattle.std.specs.List.{list_any}
+use Rattle.std.proofs.lemmas.Slice.Eq.{bytes_eq-Decides}
+use Rattle.qrexec_frame.specs.declared.message.Message.{Message}
+use Rattle.qrexec_frame.specs.Streams.{Each}
+use Rattle.scenario_file.specs.declared.scenario.CallPlan.{CallPlan}
+use Rattle.task_duties.specs.Words.{ident_of}
+use Rattle.task_duties.specs.Agent.Answers.{Answer, Waits, IsRefused, At, Asked, Answers, waits, waits_as, answered, takes, takes_all}
+use Rattle.task_duties.specs.Agent.Saying.{is_refusal}
+use Rattle.call_queue.specs.Queue.{Queued, QueueState, asked_as, asked_by, answered_call, AreDifferent}
+use Rattle.call_queue.proofs.Places.{map-get, each-at}
+use Rattle.agent_task.specs.declared.given.Given.{Given}
+use Rattle.agent_task.specs.Standing.{called_by, called_of, AreCallsOf}
+use Rattle.agent_task.proofs.ListLaws.{and-parts}
+
+-- one message after others
+pub takes-last : (d : ℕ) (ms : List Message) (m : Message) (a : Answers) → takes_all d a (ms ++ m ∷ []) ≡ takes d (takes_all d a ms) m
+takes-last d [] m a = refl
+takes-last d (n ∷ ms) m a = takes-last d ms m (takes d a n)
+
+-- the calls of a queue, after an answer
+pub asked-answered : (ident : List ℕ) (answer : Answer) (calls : List Queued) → map asked_as (map (answered_call ident answer) calls) ≡ answered ident answer (map asked_as calls)
+asked-answered ident answer [] = refl
+asked-answered ident answer (c ∷ calls) = λ i. by_wait (waits_as ident (asked_as c)) i ∷ asked-answered ident answer calls i
+  where
+    by_wait : (b : Bool) → asked_as (if b then record { call = c.call; answer = answer; is_open = (if is_refusal answer then false else c.is_open) } else c) ≡ (if b then record { call = c.call; answer = answer } else asked_as c)
+    by_wait true = refl
+    by_wait false = refl
+
+calls-answered : (ident : List ℕ) (answer : Answer) (asked : List Asked) → map (λ a. a.call) (answered ident answer asked) ≡ map (λ a. a.call) asked
+calls-answered ident answer [] = refl
+calls-answered ident answer (a ∷ asked) = λ i. by_wait (waits_as ident a) i ∷ calls-answered ident answer asked i
+  where
+    by_wait : (b : Bool) → (if b then record { call = a.call; answer = answer } else a).call ≡ a.call
+    by_wait true = refl
+    by_wait false = refl
+
+idents-answered : (ident : List ℕ) (answer : Answer) (asked : List Asked) → map (λ a. ident_of a.call.number) (answered ident answer asked) ≡ map (λ a. ident_of a.call.number) asked
+idents-answered ident answer [] = refl
+idents-answered ident answer (a ∷ asked) = λ i. ident_of (by_wait (waits_as ident a) i).number ∷ idents-answered ident answer asked i
+  where
+    by_wait : (b : Bool) → (if b then record { call = a.call; answer = answer } else a).call ≡ a.call
+    by_wait true = refl
+    by_wait false = refl
+
+pub still-calls : (g : Given) (old new : QueueState) (ident : List ℕ) (answer : Answer) → asked_by new ≡ answered ident answer (asked_by old) → AreCallsOf g old → AreCallsOf g new
+still-calls g old new ident answer is h = record {
+  calls = ap (λ l. map (λ a. a.call) l) is ∙ calls-answered ident answer (asked_by old) ∙ h.calls;
+  apart = subst (λ l. AreDifferent l) (sym (ap (λ l. map (λ a. ident_of a.call.number) l) is ∙ idents-answered ident answer (asked_by old))) h.apart;
+}
+
+-- ---- the sessions of the calls
+
+pub waits-none : (call : CallPlan) (x : Answer) → waits x ≡ true → called_by call x ≡ None
+waits-none call Waits w = refl
+waits-none call IsRefused w = refl
+waits-none call (At to port) w = cc
+
+-- a refusal gives no session
+pub called-refused : (ident : List ℕ) (asked : List Asked) → map called_of (answered ident IsRefused asked) ≡ map called_of asked
+called-refused ident [] = refl
+called-refused ident (a ∷ asked) = λ i. by_wait (waits_as ident a) refl i ∷ called-refused ident asked i
+  where
+    by_wait : (b : Bool) → waits_as ident a ≡ b → called_of (if b then record { call = a.call; answer = IsRefused } else a) ≡ called_of a
+    by_wait true is = sym (waits-none a.call a.answer (and-parts _ _ is).1)
+    by_wait false is = refl
+
+other-bytes : (xs ys : List ℕ) → (xs ≡ ys → ⊥) → bytes_eq xs ys ≡ false
+other-bytes xs ys apart = by_test (bytes_eq xs ys) refl
+  where
+    by_test : (b : Bool) → bytes_eq xs ys ≡ b → bytes_eq xs ys ≡ false
+    by_test true is = absurd (apart ((bytes_eq-Decides xs ys).0 is))
+    by_test false is = is
+
+abbrev asked_ident : Asked → List ℕ
+asked_ident a = ident_of a.call.number
+
+not-answered : (ident : List ℕ) (answer : Answer) (asked : List Asked) → Each (λ i. ident ≡ i → ⊥) (map asked_ident asked) → answered ident answer asked ≡ asked
+not-answered ident answer [] apart = refl
+not-answered ident answer (a ∷ asked) apart =
+    let other : bytes_eq (asked_ident a) ident ≡ false = other-bytes (asked_ident a) ident (λ e. apart.0 (sym e)) in
+    rw other (ap (λ r. a ∷ r) (not-answered ident answer asked apart.1))
+
+named : (ident : List ℕ) (a : Asked) → waits_as ident a ≡ true → asked_ident a ≡ ident
+named ident a w = (bytes_eq-Decides (asked_ident a) ident).0 (and-parts (bytes_eq (asked_ident a) ident) (waits a.answer) w).0
+
+-- an answer with a port gives the one call of the ident a session
+pub called-answered : (ident : List ℕ) (to port : ℕ) (asked : List Asked) (place : ℕ) (a : Asked) → AreDifferent (map asked_ident asked) → slice_get asked place ≡ Some a → waits_as ident a ≡ true
+    → slice_set (map called_of asked) place (Some (record { to = to; port = port; input = a.call.stdin })) ≡ map called_of (answered ident (At to port) asked)
+called-answered ident to port [] place a apart is w = cc
+called-answered ident to port (x ∷ asked) zero a apart is w =
+    let same : x ≡ a = cc in
+    let w' : waits_as ident x ≡ true = ap (λ y. waits_as ident y) same ∙ w in
+    let rest : map called_of asked ≡ map called_of (answered ident (At to port) asked) =
+    ap (λ l. map called_of l) (sym (not-answered ident (At to port) asked (subst (λ n. Each (λ j. n ≡ j → ⊥) (map asked_ident asked)) (named ident x w') apart.0))) in
+    rw w' (ap (λ (y : Asked). Some (record { to = to; port = port; input = y.call.stdin }) ∷ map called_of asked) (sym same) ∙ ap (λ r. called_by x.call (At to port) ∷ r) rest)
+called-answered ident to port (x ∷ asked) (suc i) a apart is w =
+    let apart-x : asked_ident x ≡ ident → ⊥ = λ e. each-at (λ j. asked_ident x ≡ j → ⊥) (map asked_ident asked) i (asked_ident a) apart.0 (map-get asked_ident asked i a is) (e ∙ sym (named ident a w)) in
+    rw (other-bytes (asked_ident x) ident apart-x) (ap (λ r. called_of x ∷ r) (called-answered ident to port asked i a apart.1 is w))
+
+-- a call that waits is one that some waits as
+pub some-waits : (ident : List ℕ) (asked : List Asked) (place : ℕ) (a : Asked) → slice_get asked place ≡ Some a → waits_as ident a ≡ true → list_any (waits_as ident) asked ≡ true
+some-waits ident [] place a is w = cc
+some-waits ident (x ∷ asked) zero a is w =
+    let same : x ≡ a = cc in
+    let here : waits_as ident x ≡ true = ap (λ y. waits_as ident y) same ∙ w in
+    rw here refl
+some-waits ident (x ∷ asked) (suc i) a is w = by_test (waits_as ident x) (some-waits ident asked i a is w)
+  where
+    by_test : (b : Bool) → list_any (waits_as ident) asked ≡ true → (b || list_any (waits_as ident) asked) ≡ true
+    by_test true more = refl
+    by_test false more = more

@@ -1,0 +1,306 @@
+-- What an agent that is done owes.
+use Rattle.std.proofs.Common.{◌≡◌, ℕ, zero, suc, List, [], ◌∷◌, ◌++◌, length, drop, length-append, append_assoc, refl, ap, sym, ◌∙◌, arith, Some, None, Option, subst, inl, inr}
+use Rattle.std.specs.Prelude.{Bool, true, false, map, filter_map, slice_get, if◌then◌else◌, ◌⊎◌, ◌==◌}
+use Rattle.std.specs.List.{flat_map}
+use Rattle.std.proofs.lemmas.List.{length-map}
+use Rattle.qrexec_frame.specs.declared.message.Message.{Message}
+use Rattle.qrexec_frame.specs.declared.message.Message.TheVariants.{Hello}
+use Rattle.qrexec_frame.specs.Messages.{written, IsSpellable}
+use Rattle.qrexec_frame.specs.Streams.{Each, IsPrefixOf}
+use Rattle.vchan_rule.specs.Seated.{SeatedSide, view, last_view}
+use Rattle.vchan_rule.specs.Ends.{IsSameEnd as IsSameSeat}
+use Rattle.end_view.specs.EndView.{EndView}
+use Rattle.service_gate.specs.Owing.{builtin_owes}
+use Rattle.scenario_file.specs.declared.scenario.CallPlan.{CallPlan}
+use Rattle.task_duties.specs.declared.place.PagePlace.{PagePlace}
+use Rattle.task_duties.specs.declared.place.PagePlace.TheVariants.{Control, Payload}
+use Rattle.task_duties.specs.declared.done.ServedDone.{ServedDone}
+use Rattle.task_duties.specs.declared.done.ControlEnd.{ControlEnd}
+use Rattle.task_duties.specs.declared.ends.DataEnd.{DataEnd}
+use Rattle.task_duties.specs.declared.ends.RetiredEnd.{RetiredEnd}
+use Rattle.task_duties.specs.Pairwise.{EachPair}
+use Rattle.task_duties.specs.Places.{is_place}
+use Rattle.task_duties.specs.Hearing.{to_agent, to_broker, IsSaid, Heard, hears}
+use Rattle.task_duties.specs.TaskOwes.{EndAt, AreEnds, EndsOwed, places_in}
+use Rattle.task_duties.specs.GivenEnds.{all_retired, all_given}
+use Rattle.task_duties.specs.Agent.Given.{AgentPlan}
+use Rattle.task_duties.specs.Agent.Answers.{Answer, Waits, IsRefused, At, Asked, Served, Answers, answers, answer_in}
+use Rattle.task_duties.specs.Agent.Saying.{asking, asking_of, IsOfVersion, KeepsTo, IsTold}
+use Rattle.task_duties.specs.Agent.Sessions.{CallerOwes, IsService, ServingOwes}
+use Rattle.task_duties.specs.declared.done.CallDone.{CallDone}
+use Rattle.task_duties.specs.Agent.Owes.{AgentOwes, ReportsAnswer, ReportsCall, ReportsServed, ControlOver, heard_by, answers_of}
+use Rattle.task_duties.proofs.ServedLaw.{same-place}
+use Rattle.control_port.specs.Port.{PortState, HasSaid, SentWhole}
+use Rattle.control_port.specs.Talking.{may_say, may_hear}
+use Rattle.control_port.specs.declared.talk.Talker.{Talker}
+use Rattle.control_port.specs.declared.talk.Talker.TheVariants.{Agent as OfAgent}
+use Rattle.call_queue.specs.Queue.{Queued, QueueState, asked_as, asked_by}
+use Rattle.call_queue.proofs.AskingLaws.{asks-in-order, asks-within}
+use Rattle.data_slots.specs.Slots.{Called, Serves, Held, held_at, AreApart}
+use Rattle.data_slots.specs.Done.{ReportsCalled, ReportsServes}
+use Rattle.data_slots.specs.declared.done.CallOver.{CallOver}
+use Rattle.data_slots.proofs.AgentLaws.{same-ends, end-there}
+use Rattle.agent_task.specs.declared.agent.Agent.{Agent}
+use Rattle.agent_task.specs.declared.given.Given.{Given}
+use Rattle.agent_task.specs.declared.task.AgentDone.{AgentDone}
+use Rattle.agent_task.specs.Given.{data_ends, plan_of, ends_of}
+use Rattle.agent_task.specs.Standing.{Stands, IsServedBy, called_by, called_of}
+use Rattle.agent_task.specs.Ending.{IsOver}
+use Rattle.agent_task.specs.Finishing.{call_end_of, call_done_of, call_dones}
+use Rattle.agent_task.specs.Owing.{IsOwed}
+
+-- ---- the end at a place
+
+unfoldable end_at : EndView → List EndAt → PagePlace → EndView
+end_at none [] place = none
+end_at none (e ∷ ends) place = if is_place e.place place then e.view else end_at none ends place
+
+same-numbers : (x : ℕ) → (x == x) ≡ true
+same-numbers x = grind arith
+
+same-self : (place : PagePlace) → is_place place place ≡ true
+same-self (Control d) = same-numbers d
+same-self (Payload f t p) = rw (same-numbers f, same-numbers t, same-numbers p) refl
+
+-- no place comes twice
+abbrev Differ : List PagePlace → Type 0
+Differ [] = Unit {0}
+Differ (p ∷ places) = Each (λ q. is_place p q ≡ false) places × Differ places
+
+are_at : (none : EndView) (ends : List EndAt) → Differ (places_in ends) → AreEnds (end_at none ends) ends
+unfolding end_at
+are_at none [] apart = tt
+are_at none (e ∷ ends) apart =
+    (ap (λ (test : Bool). if test then e.view else end_at none ends e.place) (sym (same-self e.place)), later ends apart.0 (are_at none ends apart.1))
+  where
+    later : (others : List EndAt) → Each (λ q. is_place e.place q ≡ false) (places_in others) → Each (λ o. o.view ≡ end_at none ends o.place) others
+        → Each (λ o. o.view ≡ (if is_place e.place o.place then e.view else end_at none ends o.place)) others
+    later [] differ are = tt
+    later (o ∷ others) differ are =
+        (are.0 ∙ ap (λ (test : Bool). if test then e.view else end_at none ends o.place) (sym differ.0), later others differ.1 are.1)
+
+not-there : (p : PagePlace) (places : List PagePlace) → ((j : ℕ) → slice_get places j ≡ Some p → ⊥) → Each (λ q. is_place p q ≡ false) places
+not-there p [] never = tt
+not-there p (q ∷ places) never = (by_test (is_place p q) refl, not-there p places (λ j is. never (suc j) is))
+  where
+    by_test : (b : Bool) → is_place p q ≡ b → is_place p q ≡ false
+    by_test true is = absurd (never 0 (ap (λ (x : PagePlace). Some x) (sym (same-place p q is))))
+    by_test false is = is
+
+differ-places : (places : List PagePlace) → AreApart places → Differ places
+differ-places [] apart = tt
+differ-places (p ∷ places) apart =
+    (not-there p places (λ j is. let e : 0 ≡ suc j = apart 0 (suc j) p refl is in absurd (omega arith)), differ-places places (λ i j q a b. let e : suc i ≡ suc j = apart (suc i) (suc j) q a b in omega arith))
+
+no-control : (d : ℕ) (ends : List DataEnd) → Each (λ q. is_place (Control d) q ≡ false) (places_in (all_given ends))
+no-control d [] = tt
+no-control d (e ∷ ends) = (refl, no-control d ends)
+
+places-held : (ends : List EndAt) → places_in ends ≡ map (λ h. h.place) (map held_at ends)
+places-held [] = refl
+places-held (e ∷ ends) = ap (λ l. e.place ∷ l) (places-held ends)
+
+same-places : (given ends : List EndAt) → map held_at ends ≡ map held_at given → places_in ends ≡ places_in given
+same-places given ends is = places-held ends ∙ ap (λ (l : List Held). map (λ h. h.place) l) is ∙ sym (places-held given)
+
+-- ---- what it reports
+
+reports-one : (plan : AgentPlan) (end : PagePlace → EndView) (ends : List EndAt) (a : Asked) (over : Option CallOver) → AreEnds end ends → ReportsCalled plan.domain plan.version ends (called_of a) over → ReportsCall plan end a (call_done_of a over)
+reports-one plan end ends a over are h = (refl, by_answer a.call a.answer over h)
+  where
+    by_answer : (call : CallPlan) (answer : Answer) (over : Option CallOver) → ReportsCalled plan.domain plan.version ends (called_by call answer) over → ReportsAnswer plan end call answer (call_end_of answer over)
+    by_answer call Waits None h = tt
+    by_answer call Waits (Some over) h = absurd h
+    by_answer call IsRefused None h = tt
+    by_answer call IsRefused (Some over) h = absurd h
+    by_answer call (At to port) None h = absurd h
+    by_answer call (At to port) (Some over) h =
+        (h.1, h.0, end-there ends end (Payload plan.domain to port) (CallerOwes plan.version call.stdin (record { outcome = over.outcome; stdout = over.stdout; stderr = over.stderr; got = over.got })) are h.2)
+
+reports-all : (plan : AgentPlan) (end : PagePlace → EndView) (ends : List EndAt) (asked : List Asked) (over : List (Option CallOver)) → AreEnds end ends → EachPair (ReportsCalled plan.domain plan.version ends) (map called_of asked) over
+    → EachPair (ReportsCall plan end) asked (call_dones asked over)
+reports-all plan end ends [] [] are h = tt
+reports-all plan end ends [] (o ∷ over) are h = absurd h
+reports-all plan end ends (a ∷ asked) [] are h = absurd h
+reports-all plan end ends (a ∷ asked) (o ∷ over) are h = (reports-one plan end ends a o are h.0, reports-all plan end ends asked over are h.1)
+
+served-one : (plan : AgentPlan) (end : PagePlace → EndView) (ends : List EndAt) (x : Served) (s : Serves) (done : ServedDone) → AreEnds end ends → IsServedBy x s → ReportsServes plan.domain plan.version ends s done → ReportsServed plan end x done
+served-one plan end ends x s done are by h =
+    let there = end-there ends end (Payload s.from plan.domain s.port) (λ view. (name : List ℕ) → IsService name (builtin_owes s.service) → ServingOwes plan.version name done.outcome done.got view) are h.2 in
+    let owes : ServingOwes plan.version x.service done.outcome done.got (end (Payload s.from plan.domain s.port)) = there x.service by.2 in (
+      h.0 ∙ by.0,
+      h.1 ∙ by.1,
+      subst (λ (n : ℕ). ServingOwes plan.version x.service done.outcome done.got (end (Payload n plan.domain x.port))) by.0
+          (subst (λ (n : ℕ). ServingOwes plan.version x.service done.outcome done.got (end (Payload s.from plan.domain n))) by.1 owes),
+    )
+
+served-all : (plan : AgentPlan) (end : PagePlace → EndView) (ends : List EndAt) (xs : List Served) (ss : List Serves) (dones : List ServedDone) → AreEnds end ends → EachPair IsServedBy xs ss
+    → EachPair (ReportsServes plan.domain plan.version ends) ss dones → EachPair (ReportsServed plan end) xs dones
+served-all plan end ends [] [] [] are by h = tt
+served-all plan end ends [] [] (d ∷ dones) are by h = absurd h
+served-all plan end ends [] (s ∷ ss) dones are by h = absurd by
+served-all plan end ends (x ∷ xs) [] dones are by h = absurd by
+served-all plan end ends (x ∷ xs) (s ∷ ss) [] are by h = absurd h
+served-all plan end ends (x ∷ xs) (s ∷ ss) (d ∷ dones) are by h = (served-one plan end ends x s d are by.0 h.0, served-all plan end ends xs ss dones are by.1 h.1)
+
+-- ---- what it said
+
+asking-calls : (q : QueueState) → map (λ c. asking_of c.call) q.calls ≡ map asking_of (map (λ a. a.call) (asked_by q))
+asking-calls q = each q.calls
+  where
+    each : (calls : List Queued) → map (λ c. asking_of c.call) calls ≡ map asking_of (map (λ a. a.call) (map asked_as calls))
+    each [] = refl
+    each (c ∷ calls) = ap (λ l. asking_of c.call ∷ l) (each calls)
+
+said-whole : (greeted : Bool) (own : ℕ) (said : List Message) (sent : List ℕ) → SentWhole greeted own said sent → ((sent ≡ []) × (said ≡ [])) ⊎ (sent ≡ flat_map written (Hello own ∷ said))
+said-whole false own said sent h = inl h
+said-whole true own said sent h = inr h
+
+is-said : (p : PortState) (said : List Message) (own : ℕ) → p.own ≡ own → p.talker ≡ OfAgent → HasSaid p said → IsSaid own to_broker said (view p.end).sent
+is-said p said own own_is talker h = record {
+  each = subst (λ (k : Talker). Each (λ m. (may_say k m ≡ true) × IsSpellable m) said) talker h.each;
+  whole = subst (λ (o : ℕ). (((view p.end).sent ≡ []) × (said ≡ [])) ⊎ ((view p.end).sent ≡ flat_map written (Hello o ∷ said))) own_is (said-whole p.greeted p.own said (view p.end).sent h.whole);
+}
+
+-- ---- all of it
+
+-- what is left of an agent that retires its ends
+pub record IsFinished (a : Agent) (retired : SeatedSide) (ends : List RetiredEnd) (calls : List (Option CallOver)) (served : List ServedDone) : Type 0 where
+  pub control : last_view retired ≡ view a.control.port.end
+  pub control_honest : (last_view retired).turned ≡ false
+  pub held : map held_at (all_retired ends) ≡ a.slots.held
+  pub honest : Each (λ e. e.view.turned ≡ false) (all_retired ends)
+  pub calls_are : EachPair (ReportsCalled a.slots.domain a.slots.version (all_retired ends)) a.slots.called calls
+  pub served_are : EachPair (ReportsServes a.slots.domain a.slots.version (all_retired ends)) a.slots.served served
+
+pub done-owes : (how : ControlEnd) (a : Agent) (retired : SeatedSide) (ends : List RetiredEnd) (calls : List (Option CallOver)) (served : List ServedDone) (done : AgentDone) → IsOver how a → IsFinished a retired ends calls served
+    → done.domain ≡ a.given.domain → done.calls.items ≡ call_dones (asked_by a.control.queue) calls → done.served.items ≡ served → done.control ≡ how
+    → done.ends.items ≡ record { place = Control a.given.domain; retired = retired } ∷ ends → IsOwed a.given done
+done-owes how a retired ends calls served done over finished domain_is calls_is served_is control_is ends_is = (
+  end,
+  domain_is,
+  subst (λ (es : List RetiredEnd). EndsOwed false (ends_of g) (all_retired es) end) (sym ends_is) (record {
+    same = (record { place = refl; page = ap (λ (v : EndView). v.page) finished.control ∙ same.0; role = ap (λ (v : EndView). v.role) finished.control ∙ same.1 }, same-ends (data_ends g) (all_retired ends) held);
+    are = are;
+    turned_are = (finished.control_honest, finished.honest);
+  }),
+  subst (λ (cs : List CallDone). AgentOwes plan end cs done.served.items done.control) (sym calls_is)
+      (subst (λ (ss : List ServedDone). AgentOwes plan end (call_dones (asked_by a.control.queue) calls) ss done.control) (sym served_is)
+      (subst (λ (h : ControlEnd). AgentOwes plan end (call_dones (asked_by a.control.queue) calls) served h) (sym control_is) owes)),
+)
+  where
+    g : Given
+    g = a.given
+
+    plan : AgentPlan
+    plan = plan_of g
+
+    stands : Stands a over.heard over.said
+    stands = over.stands
+
+    port : PortState
+    port = a.control.port
+
+    same : IsSameSeat g.control.value port.end
+    same = stands.port.end
+
+    all : List EndAt
+    all = record { place = Control g.domain; view = last_view retired } ∷ all_retired ends
+
+    held : map held_at (all_retired ends) ≡ map held_at (data_ends g)
+    held = finished.held ∙ stands.slots.held
+
+    places : places_in (all_retired ends) ≡ places_in (data_ends g)
+    places = same-places (data_ends g) (all_retired ends) held
+
+    apart : Differ (places_in all)
+    apart = subst (λ (ps : List PagePlace). Differ (Control g.domain ∷ ps)) (sym places) (no-control g.domain g.payload.value.items, differ-places (places_in (data_ends g)) stands.slots.apart)
+
+    end : PagePlace → EndView
+    end = end_at (last_view retired) all
+
+    are : AreEnds end all
+    are = are_at (last_view retired) all apart
+
+    control : end (Control g.domain) ≡ view port.end
+    control = sym are.0 ∙ finished.control
+
+    heard_is : heard_by plan end ≡ record { version = port.version; messages = over.heard; fault = port.fault }
+    heard_is =
+        ap (λ (v : EndView). hears g.version to_agent v.got) control ∙ ap (λ (o : ℕ). hears o to_agent (view port.end).got) (sym stands.port.own)
+        ∙ ap (λ (k : Talker). hears port.own (may_hear k) (view port.end).got) (sym stands.port.talker) ∙ over.all
+
+    made : Answers
+    made = answers plan over.heard
+
+    answers_are : answers_of plan end ≡ made
+    answers_are = ap (λ (h : Heard). answers plan h.messages) heard_is
+
+    in_order : IsPrefixOf (filter_map asking over.said) (map asking_of plan.calls)
+    in_order =
+        let first = asks-in-order a.control.queue over.said stands.speaks.asks in
+        (first.0, first.1 ∙ asking-calls a.control.queue ∙ ap (λ (l : List CallPlan). map asking_of l) stands.calls.calls)
+
+    reports : EachPair (ReportsCall plan end) (answers_of plan end).asked (call_dones (asked_by a.control.queue) calls)
+    reports =
+        subst (λ (x : Answers). EachPair (ReportsCall plan end) x.asked (call_dones (asked_by a.control.queue) calls)) (sym answers_are)
+        (subst (λ (l : List Asked). EachPair (ReportsCall plan end) made.asked (call_dones l calls)) (sym stands.answers.asked)
+        (reports-all plan end (all_retired ends) made.asked calls are.1
+        (subst (λ (l : List (Option Called)). EachPair (ReportsCalled g.domain g.version (all_retired ends)) l calls) stands.answers.called
+        (subst (λ (v : ℕ). EachPair (ReportsCalled g.domain v (all_retired ends)) a.slots.called calls) stands.slots.version
+        (subst (λ (d : ℕ). EachPair (ReportsCalled d a.slots.version (all_retired ends)) a.slots.called calls) stands.slots.domain finished.calls_are)))))
+
+    serves : EachPair (ReportsServed plan end) (answers_of plan end).served served
+    serves =
+        subst (λ (x : Answers). EachPair (ReportsServed plan end) x.served served) (sym answers_are)
+        (served-all plan end (all_retired ends) made.served a.slots.served served are.1 stands.answers.served
+        (subst (λ (v : ℕ). EachPair (ReportsServes g.domain v (all_retired ends)) a.slots.served served) stands.slots.version
+        (subst (λ (d : ℕ). EachPair (ReportsServes d a.slots.version (all_retired ends)) a.slots.served served) stands.slots.domain finished.served_are)))
+
+    over_is : ControlOver (end (Control g.domain)) (heard_by plan end) how
+    over_is =
+        subst (λ (v : EndView). ControlOver v (heard_by plan end) how) (sym control)
+        (subst (λ (h : Heard). ControlOver (view port.end) h how) (over.all ∙ sym heard_is) over.how_is)
+
+    owes : AgentOwes plan end (call_dones (asked_by a.control.queue) calls) served how
+    owes = record {
+      said = over.said;
+      says = subst (λ (v : EndView). IsSaid g.version to_broker over.said v.sent) (sym control) (is-said port over.said g.version stands.port.own stands.port.talker stands.speaks.said_is);
+      in_order = in_order;
+      of_version = subst (λ (h : Heard). Each (IsOfVersion h.version) over.said) (sym heard_is) stands.speaks.of_version;
+      greeted = λ none. stands.quiet (sym (ap (λ (h : Heard). h.version) heard_is) ∙ none);
+      keeps = λ target. subst (λ (x : Answers). KeepsTo (answer_in x.asked) target [] over.said) (sym answers_are)
+          (subst (λ (l : List Asked). KeepsTo (answer_in l) target [] over.said) stands.answers.asked (asks-within a.control.queue over.said stands.speaks.asks stands.calls.apart target));
+      told = subst (λ (h : Heard). Each (IsTold (answers_of plan end).asked h.messages) over.said) (sym heard_is)
+          (subst (λ (x : Answers). Each (IsTold x.asked over.heard) over.said) (sym answers_are)
+          (subst (λ (l : List Asked). Each (IsTold l over.heard) over.said) stands.answers.asked stands.speaks.told));
+      over = over_is;
+      reports = reports;
+      serves = serves;
+    }
+
+-- ---- calls one by one
+
+drop-at : (asked : List Asked) (n : ℕ) (a : Asked) → slice_get asked n ≡ Some a → drop n asked ≡ a ∷ drop (suc n) asked
+drop-at [] n a is = cc
+drop-at (x ∷ asked) zero a is = let same : x ≡ a = cc in ap (λ (y : Asked). y ∷ asked) same
+drop-at (x ∷ asked) (suc n) a is = drop-at asked n a is
+
+pub dones-step : (asked : List Asked) (made : List CallDone) (rest : List (Option CallOver)) (over : Option CallOver) (a : Asked) (d : CallDone) (all : List CallDone) → slice_get asked (length made) ≡ Some a → d ≡ call_done_of a over
+    → made ++ call_dones (drop (length made) asked) (over ∷ rest) ≡ all → (made ++ d ∷ []) ++ call_dones (drop (length (made ++ d ∷ [])) asked) rest ≡ all
+dones-step asked made rest over a d all at d_is h =
+    let long : length (made ++ d ∷ []) ≡ suc (length made) = omega (arith, length-append made (d ∷ [])) in
+    ap (λ (n : ℕ). (made ++ d ∷ []) ++ call_dones (drop n asked) rest) long ∙ append_assoc made (d ∷ []) (call_dones (drop (suc (length made)) asked) rest)
+    ∙ ap (λ (x : CallDone). made ++ x ∷ call_dones (drop (suc (length made)) asked) rest) d_is ∙ sym (ap (λ (l : List Asked). made ++ call_dones l (over ∷ rest)) (drop-at asked (length made) a at)) ∙ h
+
+pair-length : {A B : Type 0} (R : A → B → Type 0) (xs : List A) (ys : List B) → EachPair R xs ys → length ys ≡ length xs
+pair-length R [] [] each = refl
+pair-length R [] (y ∷ ys) each = absurd each
+pair-length R (x ∷ xs) [] each = absurd each
+pair-length R (x ∷ xs) (y ∷ ys) each = ap suc (pair-length R xs ys each.1)
+
+-- each call has what came of its session
+pub calls-long : (how : ControlEnd) (a : Agent) (ends : List EndAt) (calls : List (Option CallOver)) → IsOver how a → EachPair (ReportsCalled a.slots.domain a.slots.version ends) a.slots.called calls → length calls ≡ length (asked_by a.control.queue)
+calls-long how a ends calls over each =
+    pair-length (ReportsCalled a.slots.domain a.slots.version ends) a.slots.called calls each ∙ ap (λ (l : List (Option Called)). length l) over.stands.answers.called
+    ∙ length-map (answers (plan_of a.given) over.heard).asked called_of ∙ ap (λ (l : List Asked). length l) (sym over.stands.answers.asked)

@@ -1,0 +1,10 @@
+mod ListLaws
+mod HeardLaws
+mod PortLaws
+mod SpeakLaws
+mod AnswerLaws
+mod StepLaws
+mod SessionLaws
+mod RoundLaws
+mod StartLaws
+mod DoneLaws

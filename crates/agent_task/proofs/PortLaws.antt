@@ -1,0 +1,157 @@
+-- An agent whose port alone has moved.
+use Rattle.std.proofs.Common.{◌≡◌, ℕ, List, [], refl, ap, sym, ◌∙◌, Some, None, Option, subst}
+use Rattle.std.specs.Prelude.{Bool, true}
+use Rattle.qrexec_frame.specs.declared.message.Message.{Message}
+use Rattle.qrexec_frame.specs.Messages.{IsSpellable}
+use Rattle.qrexec_frame.specs.Streams.{Each}
+use Rattle.vchan_rule.specs.Seated.{SeatedEnd, view, IsOpen}
+use Rattle.vchan_rule.specs.Ends.{IsSameEnd}
+use Rattle.vchan_packet.specs.Packet.{sent_to}
+use Rattle.vchan_packet.specs.declared.SendAnswer.{SendAnswer}
+use Rattle.vchan_packet.specs.declared.SendAnswer.TheVariants.{Sent, NoRoom, PeerClosed}
+use Rattle.vchan_lifecycle.specs.Lifecycle.{drained_to}
+use Rattle.vchan_lifecycle.specs.declared.DrainAnswer.{DrainAnswer}
+use Rattle.vchan_lifecycle.specs.declared.DrainAnswer.TheVariants as drain
+use Rattle.vchan_protocol.specs.History.Core.{first_ended}
+use Rattle.vchan_protocol.specs.declared.side.EndedBy.TheVariants as by
+use Rattle.end_view.specs.EndView.{EndView}
+use Rattle.task_duties.specs.Agent.Saying.{IsOfVersion}
+use Rattle.control_port.specs.Port.{PortState, HasSaid, HasHeard, SentWhole, OnlyHears, Hands}
+use Rattle.control_port.specs.Talking.{may_say}
+use Rattle.agent_task.specs.declared.agent.Agent.{Agent}
+use Rattle.agent_task.specs.Standing.{Stands, IsHearing, Awaits, HasHeardOut, IsUp}
+use Rattle.agent_task.specs.Ending.{HasEnded, end_by}
+use Rattle.agent_task.proofs.HeardLaws.{KeepsVersion, kept-at-next, kept-at-end}
+
+abbrev pub with_port : Agent → PortState → Agent
+with_port a port = record a { control = record a.control { port = port } }
+
+pub same-end-then : (a b c : SeatedEnd) → IsSameEnd a b → IsSameEnd b c → IsSameEnd a c
+same-end-then a b c p q = (q.0 ∙ p.0, q.1 ∙ p.1, q.2 ∙ p.2, q.3 ∙ p.3)
+
+pub same-end-is : (a b : SeatedEnd) → b ≡ a → IsSameEnd a b
+same-end-is a b is = (ap (λ e. e.page) is, ap (λ e. e.side.role) is, ap (λ e. e.side.orders) is, ap (λ e. e.start) is)
+
+-- what stays of a port: its end, version and side, and all that was said
+pub record PortKeeps (old new : PortState) (said : List Message) : Type 0 where
+  pub end : IsSameEnd old.end new.end
+  pub own : new.own ≡ old.own
+  pub talker : new.talker ≡ old.talker
+  pub version : KeepsVersion old new
+  pub said_is : HasSaid new said
+
+of-version : (said : List Message) (old new : Option ℕ) → (old ≡ None → said ≡ []) → ((v : ℕ) → old ≡ Some v → new ≡ Some v) → Each (IsOfVersion old) said → Each (IsOfVersion new) said
+of-version said None new quiet kept each = subst (λ (l : List Message). Each (IsOfVersion new) l) (sym (quiet refl)) tt
+of-version said (Some v) new quiet kept each = subst (λ (w : Option ℕ). Each (IsOfVersion w) said) (sym (kept v refl)) each
+
+still-quiet : (said : List Message) (old new : Option ℕ) → (old ≡ None → said ≡ []) → ((v : ℕ) → old ≡ Some v → new ≡ Some v) → new ≡ None → said ≡ []
+still-quiet said None new quiet kept none = quiet refl
+still-quiet said (Some v) new quiet kept none = let some : new ≡ Some v = kept v refl in cc
+
+pub port-stands : (a : Agent) (port : PortState) (heard said : List Message) → PortKeeps a.control.port port said → Stands a heard said → Stands (with_port a port) heard said
+port-stands a port heard said k s = record {
+  port = record { own = k.own ∙ s.port.own; talker = k.talker ∙ s.port.talker; end = same-end-then a.given.control.value a.control.port.end port.end s.port.end k.end };
+  calls = s.calls;
+  slots = s.slots;
+  answers = s.answers;
+  asked_for = s.asked_for;
+  speaks = record {
+    said_is = k.said_is;
+    asks = s.speaks.asks;
+    of_version = of-version said a.control.port.version port.version s.quiet k.version s.speaks.of_version;
+    told = s.speaks.told;
+    unsaid = s.speaks.unsaid;
+  };
+  quiet = still-quiet said a.control.port.version port.version s.quiet k.version;
+}
+
+kept-same : (old new : PortState) → new.version ≡ old.version → KeepsVersion old new
+kept-same old new same v is = same ∙ is
+
+-- ---- the greeting
+
+ended-sent : (e : EndView) (sent : SendAnswer) (payload : List ℕ) → (sent_to e sent payload).ended ≡ e.ended
+ended-sent e Sent payload = refl
+ended-sent e (NoRoom prod cons) payload = refl
+ended-sent e PeerClosed payload = refl
+
+pub greets-up : (a : Agent) (port : PortState) (sent : SendAnswer) (payload : List ℕ) → IsUp a → IsSameEnd a.control.port.end port.end → IsOpen port.end → view port.end ≡ sent_to (view a.control.port.end) sent payload
+    → ((said : List Message) → HasSaid a.control.port said → HasSaid port said) → ((heard : List Message) → HasHeard a.control.port heard → HasHeard port heard)
+    → (port.talker ≡ a.control.port.talker) × (port.own ≡ a.control.port.own) × (port.version ≡ a.control.port.version) × (port.fault ≡ a.control.port.fault) → IsUp (with_port a port)
+greets-up a port sent payload up end opened view_is said heard same =
+    let h = up.hearing in
+    record {
+      hearing = record {
+        heard = h.heard;
+        said = h.said;
+        stands = port-stands a port h.heard h.said (record { end = end; own = same.1; talker = same.0; version = kept-same a.control.port port same.2; said_is = said h.said h.stands.speaks.said_is }) h.stands;
+        hears = heard h.heard h.hears;
+        sound = record { fine = same.3 ∙ h.sound.fine; is_open = opened; up = h.sound.up };
+      };
+      going = ap (λ e. e.ended) view_is ∙ ended-sent (view a.control.port.end) sent payload ∙ up.going;
+    }
+
+-- ---- the drain
+
+first-drain : (e : EndView) (drained : DrainAnswer) (buf : List ℕ) (saw : Bool) → e.ended ≡ None → HasEnded (end_by drained) (drained_to e drained buf saw)
+first-drain e (drain.More count) buf saw none = none
+first-drain e (drain.NotYet prod cons) buf saw none = none
+first-drain e drain.AllRead buf saw none = (refl, ap (λ o. first_ended o (Some by.AllRead)) none)
+first-drain e (drain.PeerGone prod cons) buf saw none = (refl, ap (λ o. first_ended o (Some by.PeerGone)) none)
+
+pub drains-hearing : (a : Agent) (port : PortState) → IsUp a → IsSameEnd a.control.port.end port.end → IsOpen port.end
+    → ((said : List Message) → HasSaid a.control.port said → HasSaid port said) → ((heard : List Message) → HasHeard a.control.port heard → HasHeard port heard)
+    → (port.talker ≡ a.control.port.talker) × (port.own ≡ a.control.port.own) × (port.greeted ≡ a.control.port.greeted) × (port.version ≡ a.control.port.version) × (port.fault ≡ a.control.port.fault)
+    → IsHearing (with_port a port)
+drains-hearing a port up end opened said heard same =
+    let h = up.hearing in
+    record {
+      heard = h.heard;
+      said = h.said;
+      stands = port-stands a port h.heard h.said (record { end = end; own = same.1; talker = same.0; version = kept-same a.control.port port same.3; said_is = said h.said h.stands.speaks.said_is }) h.stands;
+      hears = heard h.heard h.hears;
+      sound = record { fine = same.4 ∙ h.sound.fine; is_open = opened; up = h.sound.up };
+    }
+
+pub drains-ended : (a : Agent) (port : PortState) (drained : DrainAnswer) (buf : List ℕ) (saw : Bool) → IsUp a → view port.end ≡ drained_to (view a.control.port.end) drained buf saw → HasEnded (end_by drained) (view port.end)
+drains-ended a port drained buf saw up view_is =
+    subst (λ (e : EndView). HasEnded (end_by drained) e) (sym view_is) (first-drain (view a.control.port.end) drained buf saw up.going)
+
+-- ---- the next message
+
+said-still : (old new : PortState) (said : List Message) → OnlyHears old new → HasSaid old said → HasSaid new said
+said-still old new said only h = record {
+  each = subst (λ k. Each (λ m. (may_say k m ≡ true) × IsSpellable m) said) (sym only.1) h.each;
+  whole = subst (λ (g : Bool). SentWhole g new.own said (view new.end).sent) (sym only.3)
+      (subst (λ (o : ℕ). SentWhole old.greeted o said (view new.end).sent) (sym only.2) (subst (λ e. SentWhole old.greeted old.own said (view e).sent) (sym only.0) h.whole));
+}
+
+hears-keeps : (old new : PortState) (said : List Message) → OnlyHears old new → KeepsVersion old new → HasSaid old said → PortKeeps old new said
+hears-keeps old new said only kept h = record { end = same-end-is old.end new.end only.0; own = only.2; talker = only.1; version = kept; said_is = said-still old new said only h }
+
+still-open : (old new : PortState) → OnlyHears old new → IsOpen old.end → IsOpen new.end
+still-open old new only opened = subst (λ e. IsOpen e) (sym only.0) opened
+
+pub handed-one : (a : Agent) (port : PortState) (m : Message) → IsHearing a → OnlyHears a.control.port port → ((heard : List Message) → HasHeard a.control.port heard → Hands port heard (Some m)) → Awaits (with_port a port) m
+handed-one a port m h only hands =
+    let one = hands h.heard h.hears in
+    record {
+      heard = h.heard;
+      said = h.said;
+      stands = port-stands a port h.heard h.said (hears-keeps a.control.port port h.said only (kept-at-next a.control.port port h.heard m h.hears only one) h.stands.speaks.said_is) h.stands;
+      hears = one.0;
+      sound = record { fine = one.3; is_open = still-open a.control.port port only h.sound.is_open; up = h.sound.up };
+    }
+
+pub handed-all : (a : Agent) (port : PortState) → IsHearing a → OnlyHears a.control.port port → ((heard : List Message) → HasHeard a.control.port heard → Hands port heard None) → HasHeardOut (with_port a port)
+handed-all a port h only hands =
+    let none = hands h.heard h.hears in
+    record {
+      heard = h.heard;
+      said = h.said;
+      stands = port-stands a port h.heard h.said (hears-keeps a.control.port port h.said only (kept-at-end a.control.port port h.heard h.hears only none) h.stands.speaks.said_is) h.stands;
+      all = none.0;
+      hears = none.1;
+      is_open = still-open a.control.port port only h.sound.is_open;
+      up = h.sound.up;
+    }

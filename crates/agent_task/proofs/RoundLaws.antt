@@ -1,0 +1,148 @@
+-- A round of an agent: what it says, and how its control channel comes to its end.
+use Rattle.std.proofs.Common.{◌≡◌, List, ◌++◌, refl, ap, sym, ◌∙◌, Some, None, Option, subst}
+use Rattle.std.specs.Prelude.{map}
+use Rattle.qrexec_frame.specs.declared.message.Message.{Message}
+use Rattle.qrexec_data.specs.declared.fault.SessionFault.{SessionFault}
+use Rattle.vchan_rule.specs.Seated.{view}
+use Rattle.vchan_rule.specs.Ends.{IsSameEnd}
+use Rattle.vchan_lifecycle.specs.Lifecycle.{retired_view}
+use Rattle.vchan_lifecycle.specs.declared.DrainAnswer.{DrainAnswer}
+use Rattle.end_view.specs.EndView.{EndView}
+use Rattle.task_duties.specs.declared.done.ControlEnd.{ControlEnd}
+use Rattle.task_duties.specs.declared.done.ControlEnd.TheVariants.{Drained, Gone, Fault}
+use Rattle.task_duties.specs.Hearing.{Heard, hears}
+use Rattle.task_duties.specs.Agent.Owes.{ControlOver}
+use Rattle.task_duties.specs.Words.{ident_of}
+use Rattle.call_queue.specs.Queue.{AreDifferent}
+use Rattle.control_port.specs.Port.{PortState, HasSaid, HasHeardAll, OnlySends}
+use Rattle.control_port.specs.Talking.{may_hear}
+use Rattle.agent_control.specs.declared.control.AgentControl.{AgentControl}
+use Rattle.agent_control.specs.Speaking.{SaysMore}
+use Rattle.agent_task.specs.declared.agent.Agent.{Agent}
+use Rattle.agent_task.specs.Standing.{HasHeardOut, IsUp}
+use Rattle.agent_task.specs.Ending.{HasEnded, end_by, over_by, IsDrained, heard_at, IsOver, IsRunning, RunsAs}
+use Rattle.agent_task.proofs.PortLaws.{with_port, PortKeeps, port-stands, same-end-then}
+
+-- ---- open or over
+
+pub running-up : (a : Agent) → IsRunning a → a.over ≡ None → IsUp a
+running-up a running none = subst (λ (o : Option ControlEnd). RunsAs o a) none running
+
+pub up-running : (a : Agent) → IsUp a → IsRunning a
+up-running a up = subst (λ (o : Option ControlEnd). RunsAs o a) (sym up.hearing.sound.up) up
+
+pub running-over : (a : Agent) (how : ControlEnd) → IsRunning a → a.over ≡ Some how → IsOver how a
+running-over a how running is = subst (λ (o : Option ControlEnd). RunsAs o a) is running
+
+pub over-running : (a : Agent) (how : ControlEnd) → IsOver how a → IsRunning a
+over-running a how over = subst (λ (o : Option ControlEnd). RunsAs o a) (sym over.over_is) over
+
+-- ---- what is said
+
+pub says-up : (a : Agent) (control : AgentControl) → IsUp a → SaysMore a.control control → IsUp (record a { control = control })
+says-up a control up more =
+    let h = up.hearing in
+    let speaks = more.speaks h.heard h.said h.stands.speaks in
+    record {
+      hearing = record {
+        heard = h.heard;
+        said = h.said ++ speaks.0;
+        stands = record {
+          port = record {
+            own = ap (λ (p : PortState). p.own) more.port.0 ∙ h.stands.port.own;
+            talker = ap (λ (p : PortState). p.talker) more.port.0 ∙ h.stands.port.talker;
+            end = same-end-then a.given.control.value a.control.port.end control.port.end h.stands.port.end more.end;
+          };
+          calls = record {
+            calls = ap (λ l. map (λ x. x.call) l) more.asked ∙ h.stands.calls.calls;
+            apart = subst (λ l. AreDifferent (map (λ x. ident_of x.call.number) l)) (sym more.asked) h.stands.calls.apart;
+          };
+          slots = h.stands.slots;
+          answers = record { asked = more.asked ∙ h.stands.answers.asked; unused = h.stands.answers.unused; called = h.stands.answers.called; served = h.stands.answers.served };
+          asked_for = h.stands.asked_for;
+          speaks = speaks.1;
+          quiet = λ none. let some : control.port.version ≡ Some more.can.version = more.can.version_is in cc;
+        };
+        hears = more.heard h.heard h.hears;
+        sound = record { fine = ap (λ (p : PortState). p.fault) more.port.0 ∙ h.sound.fine; is_open = more.can.is_open; up = h.sound.up };
+      };
+      going = more.port.1 ∙ up.going;
+    }
+
+-- ---- the end of the channel
+
+none-over : (fault : Option SessionFault) (drained : DrainAnswer) → over_by fault drained ≡ None → (fault ≡ None) × (end_by drained ≡ None)
+none-over (Some f) drained is = cc
+none-over None drained is = (refl, is)
+
+-- nothing is wrong, and the drain tells no end
+pub goes-on : (a : Agent) (drained : DrainAnswer) → HasHeardOut a → IsDrained drained a → over_by a.control.port.fault drained ≡ None → IsUp a
+goes-on a drained out ended over = going (none-over a.control.port.fault drained over)
+  where
+    going : (a.control.port.fault ≡ None) × (end_by drained ≡ None) → IsUp a
+    going (fine, none) = record {
+      hearing = record {
+        heard = out.heard;
+        said = out.said;
+        stands = out.stands;
+        hears = out.hears fine;
+        sound = record { fine = fine; is_open = out.is_open; up = out.up };
+      };
+      going = subst (λ (o : Option ControlEnd). HasEnded o (view a.control.port.end)) none ended;
+    }
+
+-- the end of a port was retired
+pub record HungUp (old new : PortState) : Type 0 where
+  pub end : IsSameEnd old.end new.end
+  pub view_is : view new.end ≡ retired_view (view old.end)
+  pub said : (said : List Message) → HasSaid old said → HasSaid new said
+  pub only : OnlySends old new
+
+heard-hung_up : (old new : PortState) → HungUp old new → heard_at new ≡ heard_at old
+heard-hung_up old new h =
+    ap (λ (e : EndView). hears new.own (may_hear new.talker) e.got) h.view_is
+    ∙ ap (λ (p : PortState). hears p.own (may_hear p.talker) (view old.end).got) h.only
+
+all-hung_up : (old new : PortState) (heard : List Message) → HungUp old new → HasHeardAll old heard → HasHeardAll new heard
+all-hung_up old new heard h all =
+    heard-hung_up old new h ∙ all ∙ sym (ap (λ (p : PortState). record { version = p.version; messages = heard; fault = p.fault }) h.only)
+
+control-over : (a : Agent) (port : PortState) (drained : DrainAnswer) (how : ControlEnd) (fault : Option SessionFault) → HungUp a.control.port port → HasHeardOut a → IsDrained drained a → a.control.port.fault ≡ fault
+    → over_by fault drained ≡ Some how → ControlOver (view port.end) (heard_at port) how
+control-over a port drained how (Some f) hung out ended is over =
+    let how_is : Fault f ≡ how = cc in
+    subst (λ (x : ControlEnd). ControlOver (view port.end) (heard_at port) x) how_is
+    (ap (λ (h : Heard). h.fault) (heard-hung_up a.control.port port hung ∙ out.all) ∙ is)
+control-over a port drained how None hung out ended is over = by_how (end_by drained) how over ended
+  where
+    by_how : (o : Option ControlEnd) (how : ControlEnd) → o ≡ Some how → HasEnded o (view a.control.port.end) → ControlOver (view port.end) (heard_at port) how
+    by_how None how e h = cc
+    by_how (Some Drained) how e h =
+        let how_is : Drained ≡ how = cc in
+        subst (λ (x : ControlEnd). ControlOver (view port.end) (heard_at port) x) how_is (ap (λ (v : EndView). v.saw) hung.view_is ∙ h.0, ap (λ (v : EndView). v.ended) hung.view_is ∙ h.1)
+    by_how (Some Gone) how e h =
+        let how_is : Gone ≡ how = cc in
+        subst (λ (x : ControlEnd). ControlOver (view port.end) (heard_at port) x) how_is (ap (λ (v : EndView). v.saw) hung.view_is ∙ h.0, ap (λ (v : EndView). v.ended) hung.view_is ∙ h.1)
+    by_how (Some (Fault f)) how e h = absurd h
+
+pub is-over : (a : Agent) (port : PortState) (drained : DrainAnswer) (how : ControlEnd) → HungUp a.control.port port → HasHeardOut a → IsDrained drained a → over_by a.control.port.fault drained ≡ Some how
+    → IsOver how (record (with_port a port) { over = Some how })
+is-over a port drained how hung out ended over =
+    let keeps : PortKeeps a.control.port port out.said = record {
+      end = hung.end;
+      own = ap (λ (p : PortState). p.own) hung.only;
+      talker = ap (λ (p : PortState). p.talker) hung.only;
+      version = λ v is. ap (λ (p : PortState). p.version) hung.only ∙ is;
+      said_is = hung.said out.said out.stands.speaks.said_is;
+    } in
+    let stands = port-stands a port out.heard out.said keeps out.stands in
+    record {
+      heard = out.heard;
+      said = out.said;
+      stands = record { port = stands.port; calls = stands.calls; slots = stands.slots; answers = stands.answers; asked_for = stands.asked_for; speaks = stands.speaks; quiet = stands.quiet };
+      all = all-hung_up a.control.port port out.heard hung out.all;
+      how_is = control-over a port drained how a.control.port.fault hung out ended refl over;
+      over_is = refl;
+      idle = ap (λ (v : EndView). v.idle) hung.view_is ∙ out.is_open.0;
+      retired = ap (λ (v : EndView). v.retired) hung.view_is;
+    }

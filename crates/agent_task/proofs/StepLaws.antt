@@ -1,0 +1,320 @@
+-- What an agent makes of one message more.
+use Rattle.std.proofs.Common.{◌≡◌, ℕ, ◌+◌, List, [], ◌∷◌, ◌++◌, refl, ap, sym, ◌∙◌, Some, None, Option, subst}
+use Rattle.std.specs.Prelude.{Bool, true, false, map, slice_get, slice_set, ◌&&◌}
+use Rattle.std.specs.List.{list_any}
+use Rattle.service_gate.specs.declared.builtin.Builtin.{Builtin}
+use Rattle.qrexec_frame.specs.declared.message.Message.{Message}
+use Rattle.qrexec_frame.specs.declared.message.Message.TheVariants as m
+use Rattle.qrexec_frame.specs.Streams.{Each}
+use Rattle.task_duties.specs.declared.place.PagePlace.TheVariants.{Payload}
+use Rattle.task_duties.specs.Pairwise.{EachPair, SomeOf}
+use Rattle.task_duties.specs.Places.{has_place, without}
+use Rattle.task_duties.specs.Words.{service_of_line}
+use Rattle.task_duties.specs.Agent.Answers.{IsRefused, At, Served, Answers, waits_as, answered, serves, takes, answers, nothing_heard}
+use Rattle.task_duties.specs.Agent.Saying.{AsksToServe}
+use Rattle.call_queue.specs.Queue.{Queued, QueueState, asked_as, asked_by, after_answer, IsWaitingAt}
+use Rattle.call_queue.specs.Asking.{Asks}
+use Rattle.call_queue.proofs.Places.{map-get}
+use Rattle.data_slots.specs.Slots.{Called, Serves, SlotsState}
+use Rattle.agent_control.specs.declared.control.SessionEnd.{SessionEnd}
+use Rattle.agent_control.specs.Speaking.{IsTellable, Speaks}
+use Rattle.agent_task.specs.declared.agent.Agent.{Agent}
+use Rattle.agent_task.specs.Given.{plan_of}
+use Rattle.agent_task.specs.Lines.{IsNamed}
+use Rattle.agent_task.specs.Standing.{Stands, AreAnswers, AreCallsOf, AreSlotsOf, AreAskedFor, IsServedBy, IsHearing, Awaits, OnlyTells, called_of}
+use Rattle.agent_task.proofs.ListLaws.{each-to, some-more, some-last, and-right-false}
+use Rattle.agent_task.proofs.SpeakLaws.{hears-more, answers-more, tells-more}
+use Rattle.agent_task.proofs.AnswerLaws.{takes-last, asked-answered, still-calls, called-refused, called-answered, some-waits, waits-none}
+use Rattle.agent_task.proofs.ListLaws.{and-parts}
+
+-- ---- what one message makes of the answers
+
+takes-connect : (d to port : ℕ) (ident : List ℕ) (a : Answers) → (list_any (waits_as ident) a.asked && has_place (Payload d to port) a.unused) ≡ true
+    → takes d a (m.Connect to port ident) ≡ record a { asked = answered ident (At to port) a.asked; unused = without (Payload d to port) a.unused }
+takes-connect d to port ident a is = rw is refl
+
+takes-connect-not : (d to port : ℕ) (ident : List ℕ) (a : Answers) → (list_any (waits_as ident) a.asked && has_place (Payload d to port) a.unused) ≡ false → takes d a (m.Connect to port ident) ≡ a
+takes-connect-not d to port ident a is = rw is refl
+
+takes-exec-unnamed : (d from port : ℕ) (line : List ℕ) (a : Answers) → service_of_line line ≡ None → takes d a (m.Exec from port line) ≡ a
+takes-exec-unnamed d from port line a is = ap (λ (o : Option (List ℕ)). serves d from port o a) is
+
+serves-no_end : (d from port : ℕ) (o : Option (List ℕ)) (a : Answers) → has_place (Payload from d port) a.unused ≡ false → serves d from port o a ≡ a
+serves-no_end d from port None a is = refl
+serves-no_end d from port (Some name) a is = rw is refl
+
+serves-one : (d from port : ℕ) (name : List ℕ) (a : Answers) → has_place (Payload from d port) a.unused ≡ true
+    → serves d from port (Some name) a ≡ record a { unused = without (Payload from d port) a.unused; served = a.served ++ record { from = from; port = port; service = name } ∷ [] }
+serves-one d from port name a is = rw is refl
+
+-- ---- an agent with other answers
+
+abbrev pub with_answers : Agent → QueueState → SlotsState → Agent
+with_answers a q s = record a { control = record a.control { queue = q }; slots = s }
+
+-- what it made of the messages that it heard
+abbrev pub made_of : Agent → List Message → Answers
+made_of a heard = answers (plan_of a.given) heard
+
+stands-on : (a : Agent) (q : QueueState) (s : SlotsState) (heard said : List Message) (w : Message) → Stands a heard said → AreCallsOf a.given q → AreSlotsOf a.given s → AreAnswers (takes a.given.domain (made_of a heard) w) q s
+    → AreAskedFor (heard ++ w ∷ []) s.served → Speaks (record a.control { queue = q }) (heard ++ w ∷ []) said → Stands (with_answers a q s) (heard ++ w ∷ []) said
+stands-on a q s heard said w stands calls slots are asked_for speaks = record {
+  port = stands.port;
+  calls = calls;
+  slots = slots;
+  answers = subst (λ (x : Answers). AreAnswers x q s) (sym (takes-last a.given.domain heard w (nothing_heard (plan_of a.given)))) are;
+  asked_for = asked_for;
+  speaks = speaks;
+  quiet = stands.quiet;
+}
+
+acts : (a : Agent) (q : QueueState) (s : SlotsState) (w : Message) (awaits : Awaits a w) → Stands (with_answers a q s) (awaits.heard ++ w ∷ []) awaits.said → IsHearing (with_answers a q s)
+acts a q s w awaits stands = record {
+  heard = awaits.heard ++ w ∷ [];
+  said = awaits.said;
+  stands = stands;
+  hears = awaits.hears;
+  sound = record { fine = awaits.sound.fine; is_open = awaits.sound.is_open; up = awaits.sound.up };
+}
+
+asked-for-more : (heard more : List Message) (served : List Serves) → AreAskedFor heard served → AreAskedFor (heard ++ more) served
+asked-for-more heard more served each = each-to (λ x. SomeOf (AsksToServe x.from x.port) heard) (λ x. SomeOf (AsksToServe x.from x.port) (heard ++ more)) served (λ x h. some-more (AsksToServe x.from x.port) heard more h) each
+
+-- ---- a message that changes no answer
+
+passed-stands : (a : Agent) (heard said : List Message) (w : Message) → Stands a heard said → takes a.given.domain (made_of a heard) w ≡ made_of a heard → Stands a (heard ++ w ∷ []) said
+passed-stands a heard said w stands same =
+    stands-on a a.control.queue a.slots heard said w stands stands.calls stands.slots (subst (λ (x : Answers). AreAnswers x a.control.queue a.slots) (sym same) stands.answers)
+    (asked-for-more heard (w ∷ []) a.slots.served stands.asked_for) (hears-more a.control heard (w ∷ []) said stands.speaks)
+
+pub passes : (a : Agent) (w : Message) (awaits : Awaits a w) → takes a.given.domain (made_of a awaits.heard) w ≡ made_of a awaits.heard → IsHearing a
+passes a w awaits same = acts a a.control.queue a.slots w awaits (passed-stands a awaits.heard awaits.said w awaits.stands same)
+
+pub passes-other : (a : Agent) (w : Message) → Awaits a w → ((d p : ℕ) (i : List ℕ) → w ≡ m.Connect d p i → ⊥) → ((i : List ℕ) → w ≡ m.Refused i → ⊥) → ((d p : ℕ) (l : List ℕ) → w ≡ m.Exec d p l → ⊥) → IsHearing a
+passes-other a w awaits connect refused exec = passes a w awaits (same w connect refused exec (made_of a awaits.heard))
+  where
+    same : (w : Message) → ((d p : ℕ) (i : List ℕ) → w ≡ m.Connect d p i → ⊥) → ((i : List ℕ) → w ≡ m.Refused i → ⊥) → ((d p : ℕ) (l : List ℕ) → w ≡ m.Exec d p l → ⊥) → (x : Answers) → takes a.given.domain x w ≡ x
+    same (m.Connect d p i) c r e x = absurd (c d p i refl)
+    same (m.Refused i) c r e x = absurd (r i refl)
+    same (m.Exec d p l) c r e x = absurd (e d p l refl)
+    same (m.JustExec d p l) c r e x = refl
+    same (m.Hello v) c r e x = refl
+    same (m.Stdin b) c r e x = refl
+    same (m.Stdout b) c r e x = refl
+    same (m.Stderr b) c r e x = refl
+    same (m.ExitCode k) c r e x = refl
+    same (m.Terminated d p) c r e x = refl
+    same (m.Trigger3 t i s) c r e x = refl
+    same (m.Trigger t i s) c r e x = refl
+
+-- ---- MSG_SERVICE_CONNECT
+
+pub connect-no_call : (a : Agent) (to port : ℕ) (ident : List ℕ) → Awaits a (m.Connect to port ident) → list_any (waits_as ident) (asked_by a.control.queue) ≡ false → IsHearing a
+connect-no_call a to port ident awaits none =
+    let made = made_of a awaits.heard in
+    let no : list_any (waits_as ident) made.asked ≡ false = ap (λ l. list_any (waits_as ident) l) (sym awaits.stands.answers.asked) ∙ none in
+    passes a (m.Connect to port ident) awaits (takes-connect-not a.given.domain to port ident made (ap (λ (b : Bool). b && has_place (Payload a.given.domain to port) made.unused) no))
+
+-- what the data ends say of a place
+place-there : (a : Agent) (heard said : List Message) (to port : ℕ) (b : Bool) → Stands a heard said → b ≡ has_place (Payload a.slots.domain to port) a.slots.unused → has_place (Payload a.given.domain to port) (made_of a heard).unused ≡ b
+place-there a heard said to port b stands is =
+    ap (λ l. has_place (Payload a.given.domain to port) l) (sym stands.answers.unused) ∙ ap (λ (d : ℕ). has_place (Payload d to port) a.slots.unused) (sym stands.slots.domain) ∙ sym is
+
+place-here : (a : Agent) (heard said : List Message) (from port : ℕ) (b : Bool) → Stands a heard said → b ≡ has_place (Payload from a.slots.domain port) a.slots.unused → has_place (Payload from a.given.domain port) (made_of a heard).unused ≡ b
+place-here a heard said from port b stands is =
+    ap (λ l. has_place (Payload from a.given.domain port) l) (sym stands.answers.unused) ∙ ap (λ (d : ℕ). has_place (Payload from d port) a.slots.unused) (sym stands.slots.domain) ∙ sym is
+
+pub connect-no_end : (a : Agent) (to port : ℕ) (ident : List ℕ) → Awaits a (m.Connect to port ident) → false ≡ has_place (Payload a.slots.domain to port) a.slots.unused → IsHearing a
+connect-no_end a to port ident awaits none =
+    let made = made_of a awaits.heard in
+    passes a (m.Connect to port ident) awaits (takes-connect-not a.given.domain to port ident made
+    (and-right-false (list_any (waits_as ident) made.asked) (has_place (Payload a.given.domain to port) made.unused) (place-there a awaits.heard awaits.said to port false awaits.stands none)))
+
+-- a call that waits has no session
+pub call-number : (a : Agent) (w : Message) (place : ℕ) (ident : List ℕ) → Awaits a w → IsWaitingAt a.control.queue place ident → slice_get a.slots.called place ≡ Some None
+call-number a w place ident awaits waiting =
+    let answers = awaits.stands.answers in
+    let at : slice_get (made_of a awaits.heard).asked place ≡ Some (asked_as waiting.0) = ap (λ l. slice_get l place) (sym answers.asked) ∙ map-get asked_as a.control.queue.calls place waiting.0 waiting.1 in
+    ap (λ l. slice_get l place) answers.called ∙ map-get called_of (made_of a awaits.heard).asked place (asked_as waiting.0) at
+    ∙ ap (λ (o : Option Called). Some o) (waits-none waiting.0.call waiting.0.answer (and-parts _ _ waiting.2).1)
+
+pub connect-taken : (a : Agent) (to port : ℕ) (ident : List ℕ) (place : ℕ) (input : List ℕ) (q : QueueState) (s : SlotsState) → Awaits a (m.Connect to port ident) → IsWaitingAt a.control.queue place ident
+    → true ≡ has_place (Payload a.slots.domain to port) a.slots.unused → q ≡ after_answer a.control.queue ident (At to port) → ((said : List Message) → Asks a.control.queue said → Asks q said)
+    → ((c : Queued) → slice_get a.control.queue.calls place ≡ Some c → input ≡ c.call.stdin)
+    → s ≡ record a.slots { unused = without (Payload a.slots.domain to port) a.slots.unused; called = slice_set a.slots.called place (Some (record { to = to; port = port; input = input })); open_count = a.slots.open_count + 1 }
+    → IsHearing (with_answers a q s)
+connect-taken a to port ident place input q s awaits waiting there q_is asks stdin s_is =
+    acts a q s w awaits (stands-on a q s heard said w stands (still-calls a.given a.control.queue q ident (At to port) asked stands.calls) slots are
+    (subst (λ l. AreAskedFor (heard ++ w ∷ []) l) (sym (ap (λ (x : SlotsState). x.served) s_is)) (asked-for-more heard (w ∷ []) a.slots.served stands.asked_for))
+    (hears-more (record a.control { queue = q }) heard (w ∷ []) said (answers-more a.control q ident (At to port) heard said asked asks stands.speaks)))
+  where
+    w : Message
+    w = m.Connect to port ident
+
+    heard : List Message
+    heard = awaits.heard
+
+    said : List Message
+    said = awaits.said
+
+    stands : Stands a heard said
+    stands = awaits.stands
+
+    made : Answers
+    made = made_of a heard
+
+    asked : asked_by q ≡ answered ident (At to port) (asked_by a.control.queue)
+    asked = ap asked_by q_is ∙ asked-answered ident (At to port) a.control.queue.calls
+
+    at : slice_get (asked_by a.control.queue) place ≡ Some (asked_as waiting.0)
+    at = map-get asked_as a.control.queue.calls place waiting.0 waiting.1
+
+    any : list_any (waits_as ident) made.asked ≡ true
+    any = ap (λ l. list_any (waits_as ident) l) (sym stands.answers.asked) ∙ some-waits ident (asked_by a.control.queue) place (asked_as waiting.0) at waiting.2
+
+    free : has_place (Payload a.given.domain to port) made.unused ≡ true
+    free = place-there a heard said to port true stands there
+
+    takes_is : takes a.given.domain made w ≡ record made { asked = answered ident (At to port) made.asked; unused = without (Payload a.given.domain to port) made.unused }
+    takes_is = takes-connect a.given.domain to port ident made (ap (λ (b : Bool). b && has_place (Payload a.given.domain to port) made.unused) any ∙ free)
+
+    slots : AreSlotsOf a.given s
+    slots = subst (λ (x : SlotsState). AreSlotsOf a.given x) (sym s_is) (record { domain = stands.slots.domain; version = stands.slots.version; held = stands.slots.held; whole = stands.slots.whole; apart = stands.slots.apart })
+
+    called : s.called ≡ map called_of (answered ident (At to port) made.asked)
+    called =
+        ap (λ (x : SlotsState). x.called) s_is ∙ ap (λ (l : List (Option Called)). slice_set l place (Some (record { to = to; port = port; input = input }))) (stands.answers.called ∙ ap (λ l. map called_of l) (sym stands.answers.asked))
+        ∙ ap (λ (i : List ℕ). slice_set (map called_of (asked_by a.control.queue)) place (Some (record { to = to; port = port; input = i }))) (stdin waiting.0 waiting.1)
+        ∙ called-answered ident to port (asked_by a.control.queue) place (asked_as waiting.0) stands.calls.apart at waiting.2 ∙ ap (λ l. map called_of (answered ident (At to port) l)) stands.answers.asked
+
+    unused : s.unused ≡ without (Payload a.given.domain to port) made.unused
+    unused = ap (λ (x : SlotsState). x.unused) s_is ∙ ap (λ (d : ℕ). without (Payload d to port) a.slots.unused) stands.slots.domain ∙ ap (λ l. without (Payload a.given.domain to port) l) stands.answers.unused
+
+    are : AreAnswers (takes a.given.domain made w) q s
+    are = subst (λ (x : Answers). AreAnswers x q s) (sym takes_is) (record {
+      asked = asked ∙ ap (λ l. answered ident (At to port) l) stands.answers.asked;
+      unused = unused;
+      called = called;
+      served = subst (λ l. EachPair IsServedBy made.served l) (sym (ap (λ (x : SlotsState). x.served) s_is)) stands.answers.served;
+    })
+
+-- ---- MSG_SERVICE_REFUSED
+
+pub refuse-taken : (a : Agent) (ident : List ℕ) (q : QueueState) → Awaits a (m.Refused ident) → q ≡ after_answer a.control.queue ident IsRefused → ((said : List Message) → Asks a.control.queue said → Asks q said) → IsHearing (with_answers a q a.slots)
+refuse-taken a ident q awaits q_is asks =
+    let w : Message = m.Refused ident in
+    let heard = awaits.heard in
+    let said = awaits.said in
+    let stands = awaits.stands in
+    let asked : asked_by q ≡ answered ident IsRefused (asked_by a.control.queue) = ap asked_by q_is ∙ asked-answered ident IsRefused a.control.queue.calls in
+    acts a q a.slots w awaits (stands-on a q a.slots heard said w stands (still-calls a.given a.control.queue q ident IsRefused asked stands.calls) stands.slots
+    (record {
+      asked = asked ∙ ap (λ l. answered ident IsRefused l) stands.answers.asked;
+      unused = stands.answers.unused;
+      called = stands.answers.called ∙ sym (called-refused ident (made_of a heard).asked);
+      served = stands.answers.served;
+    })
+    (asked-for-more heard (w ∷ []) a.slots.served stands.asked_for)
+    (hears-more (record a.control { queue = q }) heard (w ∷ []) said (answers-more a.control q ident IsRefused heard said asked asks stands.speaks)))
+
+-- ---- MSG_EXEC_CMDLINE
+
+pair-last : (xs : List Served) (ys : List Serves) (x : Served) (y : Serves) → EachPair IsServedBy xs ys → IsServedBy x y → EachPair IsServedBy (xs ++ x ∷ []) (ys ++ y ∷ [])
+pair-last [] [] x y each last = (last, tt)
+pair-last [] (z ∷ ys) x y each last = absurd each
+pair-last (z ∷ xs) [] x y each last = absurd each
+pair-last (z ∷ xs) (w ∷ ys) x y each last = (each.0, pair-last xs ys x y each.1 last)
+
+asked-last : (heard : List Message) (served : List Serves) (x : Serves) → AreAskedFor heard served → SomeOf (AsksToServe x.from x.port) heard → AreAskedFor heard (served ++ x ∷ [])
+asked-last heard [] x each last = (last, tt)
+asked-last heard (y ∷ served) x each last = (each.0, asked-last heard served x each.1 last)
+
+pub serve-taken : (a : Agent) (from port : ℕ) (line : List ℕ) (service : Builtin) (s : SlotsState) → Awaits a (m.Exec from port line) → IsNamed (service_of_line line) (Some service)
+    → true ≡ has_place (Payload from a.slots.domain port) a.slots.unused
+    → s ≡ record a.slots { unused = without (Payload from a.slots.domain port) a.slots.unused; served = a.slots.served ++ record { from = from; port = port; service = service } ∷ []; open_count = a.slots.open_count + 1 }
+    → IsHearing (with_answers a a.control.queue s)
+serve-taken a from port line service s awaits named there s_is = by_name (service_of_line line) refl named
+  where
+    w : Message
+    w = m.Exec from port line
+
+    heard : List Message
+    heard = awaits.heard
+
+    said : List Message
+    said = awaits.said
+
+    stands : Stands a heard said
+    stands = awaits.stands
+
+    made : Answers
+    made = made_of a heard
+
+    slots : AreSlotsOf a.given s
+    slots = subst (λ (x : SlotsState). AreSlotsOf a.given x) (sym s_is) (record { domain = stands.slots.domain; version = stands.slots.version; held = stands.slots.held; whole = stands.slots.whole; apart = stands.slots.apart })
+
+    by_name : (o : Option (List ℕ)) → service_of_line line ≡ o → IsNamed o (Some service) → IsHearing (with_answers a a.control.queue s)
+    by_name None is named = absurd named
+    by_name (Some name) is is_service =
+        let takes_is : takes a.given.domain made w ≡ record made { unused = without (Payload from a.given.domain port) made.unused; served = made.served ++ record { from = from; port = port; service = name } ∷ [] } =
+        ap (λ (o : Option (List ℕ)). serves a.given.domain from port o made) is ∙ serves-one a.given.domain from port name made (place-here a heard said from port true stands there) in
+        let served_is : s.served ≡ a.slots.served ++ record { from = from; port = port; service = service } ∷ [] = ap (λ (x : SlotsState). x.served) s_is in
+        let are : AreAnswers (takes a.given.domain made w) a.control.queue s = subst (λ (x : Answers). AreAnswers x a.control.queue s) (sym takes_is) (record {
+          asked = stands.answers.asked;
+          unused = ap (λ (x : SlotsState). x.unused) s_is ∙ ap (λ (d : ℕ). without (Payload from d port) a.slots.unused) stands.slots.domain ∙ ap (λ l. without (Payload from a.given.domain port) l) stands.answers.unused;
+          called = ap (λ (x : SlotsState). x.called) s_is ∙ stands.answers.called;
+          served = subst (λ l. EachPair IsServedBy (made.served ++ record { from = from; port = port; service = name } ∷ []) l) (sym served_is)
+              (pair-last made.served a.slots.served (record { from = from; port = port; service = name }) (record { from = from; port = port; service = service }) stands.answers.served (refl, refl, is_service));
+        }) in
+        acts a a.control.queue s w awaits (stands-on a a.control.queue s heard said w stands stands.calls slots are
+        (subst (λ l. AreAskedFor (heard ++ w ∷ []) l) (sym served_is)
+        (asked-last (heard ++ w ∷ []) a.slots.served (record { from = from; port = port; service = service }) (asked-for-more heard (w ∷ []) a.slots.served stands.asked_for) (some-last (AsksToServe from port) heard w (refl, refl))))
+        (hears-more a.control heard (w ∷ []) said stands.speaks))
+
+-- ---- what is told to have ended
+
+pub tells-stand : (old new : Agent) (ends : List SessionEnd) (heard said : List Message) → OnlyTells old new → new.control.unsaid.items ≡ old.control.unsaid.items ++ ends → Each (IsTellable (asked_by old.control.queue) heard) ends
+    → Stands old heard said → Stands new heard said
+tells-stand old new ends heard said only told each stands = subst (λ (x : Agent). Stands x heard said) (sym only) (record {
+  port = stands.port;
+  calls = stands.calls;
+  slots = stands.slots;
+  answers = stands.answers;
+  asked_for = stands.asked_for;
+  speaks = tells-more old.control new.control ends heard said told each stands.speaks;
+  quiet = stands.quiet;
+})
+
+-- what isn't served is told to have ended
+unserved : (old new : Agent) (d p : ℕ) (w : Message) (awaits : Awaits old w) → AsksToServe d p w → takes old.given.domain (made_of old awaits.heard) w ≡ made_of old awaits.heard → OnlyTells old new
+    → new.control.unsaid.items ≡ old.control.unsaid.items ++ record { domain = d; port = p; call = None } ∷ [] → IsHearing new
+unserved old new d p w awaits asks same only told =
+    let stands = passed-stands old awaits.heard awaits.said w awaits.stands same in
+    let after = tells-stand old new (record { domain = d; port = p; call = None } ∷ []) (awaits.heard ++ w ∷ []) awaits.said only told (some-last (AsksToServe d p) awaits.heard w asks, tt) stands in
+    let P : Agent → Type 0 = λ x. Stands x (awaits.heard ++ w ∷ []) awaits.said in
+    let Q : Agent → Type 0 = λ x. IsHearing x in
+    subst Q (sym only) (record {
+      heard = awaits.heard ++ w ∷ [];
+      said = awaits.said;
+      stands = subst P only after;
+      hears = awaits.hears;
+      sound = record { fine = awaits.sound.fine; is_open = awaits.sound.is_open; up = awaits.sound.up };
+    })
+
+pub just_exec-unserved : (old new : Agent) (d p : ℕ) (line : List ℕ) → Awaits old (m.JustExec d p line) → OnlyTells old new → new.control.unsaid.items ≡ old.control.unsaid.items ++ record { domain = d; port = p; call = None } ∷ [] → IsHearing new
+just_exec-unserved old new d p line awaits only told = unserved old new d p (m.JustExec d p line) awaits (refl, refl) refl only told
+
+pub exec-unnamed : (old new : Agent) (d p : ℕ) (line : List ℕ) → Awaits old (m.Exec d p line) → IsNamed (service_of_line line) None → OnlyTells old new
+    → new.control.unsaid.items ≡ old.control.unsaid.items ++ record { domain = d; port = p; call = None } ∷ [] → IsHearing new
+exec-unnamed old new d p line awaits named only told =
+    unserved old new d p (m.Exec d p line) awaits (refl, refl) (takes-exec-unnamed old.given.domain d p line (made_of old awaits.heard) (by_name (service_of_line line) named)) only told
+  where
+    by_name : (o : Option (List ℕ)) → IsNamed o None → o ≡ None
+    by_name None named = refl
+    by_name (Some name) named = absurd named
+
+pub exec-no_end : (old new : Agent) (d p : ℕ) (line : List ℕ) → Awaits old (m.Exec d p line) → false ≡ has_place (Payload d old.slots.domain p) old.slots.unused → OnlyTells old new
+    → new.control.unsaid.items ≡ old.control.unsaid.items ++ record { domain = d; port = p; call = None } ∷ [] → IsHearing new
+exec-no_end old new d p line awaits none only told =
+    unserved old new d p (m.Exec d p line) awaits (refl, refl)
+    (serves-no_end old.given.domain d p (service_of_line line) (made_of old awaits.heard) (place-here old awaits.heard awaits.said d p false awaits.stands none)) only told

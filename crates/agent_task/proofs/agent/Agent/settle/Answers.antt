@@ -1,0 +1,13 @@
+use Rattle.std.proofs.Common.{sym, ◌∙◌, ap}
+use Rattle.agent_task.specs.Ending.{over_by}
+use Rattle.agent_task.proofs.RoundLaws.{up-running, goes-on, is-over}
+use Rattle.agent_task.proofs.agent.Agent.settle.Goals as goal
+
+pub returns-in-Some-clause-running : goal.returns-in-Some-clause-running
+returns-in-Some-clause-running c =
+    is-over c.args.self.now c.hang_up.new.self c.args.drained c.in-Some.over (record { end = c.hang_up.ensures.end; view_is = c.hang_up.ensures.view; said = c.hang_up.ensures.said; only = c.hang_up.ensures.same }) c.requires.out c.requires.drained
+    (ap (λ f. over_by f c.args.drained) (sym c.fault.ensures) ∙ sym c.over_by.ensures ∙ c.in-Some.is)
+
+pub returns-in-None-clause-running : goal.returns-in-None-clause-running
+returns-in-None-clause-running c =
+    up-running c.args.self.now (goes-on c.args.self.now c.args.drained c.requires.out c.requires.drained (ap (λ f. over_by f c.args.drained) (sym c.fault.ensures) ∙ sym c.over_by.ensures ∙ c.in-None.is))

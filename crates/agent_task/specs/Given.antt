@@ -1,0 +1,27 @@
+-- What the task of an agent was given, as contracts see it.
+-- Source: this project's own.
+use Rattle.std.specs.Prelude.{List}
+use Rattle.vchan_rule.specs.Seated.{view}
+use Rattle.task_duties.specs.Agent.Given.{AgentPlan}
+use Rattle.task_duties.specs.TaskOwes.{EndAt, places_in, all_ends}
+use Rattle.task_duties.specs.GivenEnds.{all_given}
+use Rattle.agent_task.specs.declared.given.Given.{Given}
+
+-- the data ends as they were given
+abbrev pub data_ends : Given → List EndAt
+data_ends g = all_given g.payload.value.items
+
+-- its plan, and all its ends
+abbrev pub plan_of : Given → AgentPlan
+plan_of g = record { domain = g.domain; version = g.version; calls = g.calls.value.items; places = places_in (data_ends g) }
+
+abbrev pub ends_of : Given → List EndAt
+ends_of g = all_ends g.domain (view g.control.value) (data_ends g)
+
+-- what a task was given
+pub record AgentGiven : Type 0 where
+  pub plan : AgentPlan
+  pub ends : List EndAt
+
+abbrev pub given_of : Given → AgentGiven
+given_of g = record { plan = plan_of g; ends = ends_of g }

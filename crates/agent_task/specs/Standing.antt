@@ -1,0 +1,152 @@
+-- How an agent stands while its control channel is open: its calls and its sessions are what it makes of the messages that it heard.
+-- Source: this project's own.
+use Rattle.std.specs.Prelude.{◌≡◌, Bool, true, false, List, [], ◌∷◌, ◌++◌, map, Option, Some, None}
+use Rattle.qrexec_frame.specs.declared.message.Message.{Message}
+use Rattle.qrexec_frame.specs.Streams.{Each}
+use Rattle.vchan_rule.specs.Seated.{view, IsOpen}
+use Rattle.vchan_rule.specs.Ends.{IsSameEnd}
+use Rattle.end_view.specs.EndView.{EndView}
+use Rattle.service_gate.specs.Owing.{builtin_owes}
+use Rattle.scenario_file.specs.declared.scenario.CallPlan.{CallPlan}
+use Rattle.task_duties.specs.declared.done.ControlEnd.{ControlEnd}
+use Rattle.task_duties.specs.Pairwise.{EachPair, SomeOf}
+use Rattle.task_duties.specs.Words.{ident_of}
+use Rattle.task_duties.specs.TaskOwes.{places_in}
+use Rattle.task_duties.specs.Agent.Answers.{Answer, At, Asked, Served, Answers, answers}
+use Rattle.task_duties.specs.Agent.Sessions.{IsService}
+use Rattle.task_duties.specs.Agent.Saying.{AsksToServe}
+use Rattle.control_port.specs.Port.{PortState, HasHeard, HasHeardAll}
+use Rattle.control_port.specs.declared.talk.Talker.TheVariants.{Agent as OfAgent}
+use Rattle.call_queue.specs.Queue.{QueueState, asked_by, AreDifferent}
+use Rattle.data_slots.specs.Slots.{Called, Serves, SlotsState, held_at, AreApart}
+use Rattle.data_slots.specs.declared.done.SessionOver.{SessionOver}
+use Rattle.agent_control.specs.declared.control.SessionEnd.{SessionEnd}
+use Rattle.agent_control.specs.Speaking.{Speaks}
+use Rattle.agent_task.specs.declared.given.Given.{Given}
+use Rattle.agent_task.specs.declared.agent.Agent.{Agent}
+use Rattle.agent_task.specs.Given.{data_ends, plan_of}
+
+-- ---- what it makes of what it heard
+
+-- the session of a call, where the call was let through
+abbrev pub called_by : CallPlan → Answer → Option Called
+called_by call (At to port) = Some (record { to = to; port = port; input = call.stdin })
+called_by call answer = None
+
+abbrev pub called_of : Asked → Option Called
+called_of a = called_by a.call a.answer
+
+-- a session that it serves is one that it owes to serve, by the service of that name
+abbrev pub IsServedBy : Served → Serves → Type 0
+IsServedBy x s = (s.from ≡ x.from) × (s.port ≡ x.port) × IsService x.service (builtin_owes s.service)
+
+-- the queue and the data ends have these answers
+pub record AreAnswers (a : Answers) (q : QueueState) (s : SlotsState) : Type 0 where
+  pub asked : asked_by q ≡ a.asked
+  pub unused : s.unused ≡ a.unused
+  pub called : s.called ≡ map called_of a.asked
+  pub served : EachPair IsServedBy a.served s.served
+
+-- each session that it serves was asked for
+abbrev pub AreAskedFor : List Message → List Serves → Type 0
+AreAskedFor heard served = Each (λ x. SomeOf (AsksToServe x.from x.port) heard) served
+
+-- ---- what it was given
+
+-- the queue has the calls that were given, no two by one ident
+pub record AreCallsOf (g : Given) (q : QueueState) : Type 0 where
+  pub calls : map (λ a. a.call) (asked_by q) ≡ g.calls.value.items
+  pub apart : AreDifferent (map (λ a. ident_of a.call.number) (asked_by q))
+
+-- the data ends are those that were given, and memory sufficed for each turn of them
+pub record AreSlotsOf (g : Given) (s : SlotsState) : Type 0 where
+  pub domain : s.domain ≡ g.domain
+  pub version : s.version ≡ g.version
+  pub held : s.held ≡ map held_at (data_ends g)
+  pub whole : s.spent ≡ false
+  pub apart : AreApart (places_in (data_ends g))
+
+-- the port has the control end that was given
+pub record IsPortOf (g : Given) (p : PortState) : Type 0 where
+  pub own : p.own ≡ g.version
+  pub talker : p.talker ≡ OfAgent
+  pub end : IsSameEnd g.control.value p.end
+
+-- ---- between two messages
+
+-- the agent has acted on these messages, and said those
+pub record Stands (a : Agent) (heard said : List Message) : Type 0 where
+  pub port : IsPortOf a.given a.control.port
+  pub calls : AreCallsOf a.given a.control.queue
+  pub slots : AreSlotsOf a.given a.slots
+  pub answers : AreAnswers (answers (plan_of a.given) heard) a.control.queue a.slots
+  pub asked_for : AreAskedFor heard a.slots.served
+  pub speaks : Speaks a.control heard said
+  -- before the broker's greeting it says nothing but its own
+  pub quiet : a.control.port.version ≡ None → said ≡ []
+
+-- its control channel is open, and nothing wrong was heard
+pub record IsSound (a : Agent) : Type 0 where
+  pub fine : a.control.port.fault ≡ None
+  pub is_open : IsOpen a.control.port.end
+  pub up : a.over ≡ None
+
+-- it has acted on all messages that were handed out
+pub record IsHearing (a : Agent) : Type 0 where
+  pub heard : List Message
+  pub said : List Message
+  pub stands : Stands a heard said
+  pub hears : HasHeard a.control.port heard
+  pub sound : IsSound a
+
+-- and so it has, but for this one, which was handed out last
+pub record Awaits (a : Agent) (m : Message) : Type 0 where
+  pub heard : List Message
+  pub said : List Message
+  pub stands : Stands a heard said
+  pub hears : HasHeard a.control.port (heard ++ m ∷ [])
+  pub sound : IsSound a
+
+-- all messages were handed out that are in the bytes that came, up to what is wrong with them
+pub record HasHeardOut (a : Agent) : Type 0 where
+  pub heard : List Message
+  pub said : List Message
+  pub stands : Stands a heard said
+  pub all : HasHeardAll a.control.port heard
+  pub hears : a.control.port.fault ≡ None → HasHeard a.control.port heard
+  pub is_open : IsOpen a.control.port.end
+  pub up : a.over ≡ None
+
+-- a message more was acted on, or there was none
+abbrev pub HearsOn : Bool → Agent → Type 0
+HearsOn true a = IsHearing a
+HearsOn false a = HasHeardOut a
+
+-- between two turns: no drain has told the end of what the broker says
+pub record IsUp (a : Agent) : Type 0 where
+  pub hearing : IsHearing a
+  pub going : (view a.control.port.end).ended ≡ None
+
+-- ---- what a call leaves as it is
+
+abbrev pub IsSameAgent : Agent → Agent → Type 0
+IsSameAgent old new = (new.given ≡ old.given) × (new.over ≡ old.over)
+
+abbrev pub KeepsPort : Agent → Agent → Type 0
+KeepsPort old new = (new.control.port ≡ old.control.port) × (new.given ≡ old.given) × (new.over ≡ old.over)
+
+-- only the ends that are to be told are others
+abbrev pub OnlyTells : Agent → Agent → Type 0
+OnlyTells old new = new ≡ record old { control = record old.control { unsaid = new.control.unsaid } }
+
+-- what is told of a session that is over
+abbrev pub end_of : SessionOver → SessionEnd
+end_of over = record { domain = over.domain; port = over.port; call = over.number }
+
+-- its control end can be retired, or was retired when the channel was over
+abbrev pub CanRest : Option ControlEnd → EndView → Type 0
+CanRest None end = Unit {0}
+CanRest (Some how) end = end.retired ≡ true
+
+abbrev pub CanGiveUp : Agent → Type 0
+CanGiveUp a = ((view a.control.port.end).idle ≡ true) × CanRest a.over (view a.control.port.end)

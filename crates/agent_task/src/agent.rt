@@ -1,0 +1,103 @@
+//! An agent between two turns.
+ghost use Rattle.std.specs.Prelude.{◌≡◌, ◌<◌, ◌++◌, [], OnOk, length, map};
+ghost use Rattle.agent_task.specs.Standing.{IsUp, CanGiveUp, IsSameAgent, KeepsPort, OnlyTells, end_of};
+ghost use Rattle.agent_task.specs.Ending.{IsRunning};
+
+use crate::given::Given;
+use agent_control::{AgentControl, SessionEnd};
+use data_slots::{DataSlots, SessionOver};
+use std::alloc::Global;
+use std::thread;
+use task_duties::ControlEnd;
+use vchan_io::Memory;
+
+/// The agent of a domain: its control channel with its calls, and its data ends.
+#[derive(Drop)]
+pub(crate) struct Agent<'p> {
+    pub(crate) alloc: Global,
+    pub(crate) given: Given<'p>,
+    pub(crate) control: AgentControl<'p>,
+    pub(crate) slots: DataSlots<'p>,
+    // How the control channel came to its end, whose end is retired then.
+    pub(crate) over: Option<ControlEnd>,
+}
+
+impl<'p> Agent<'p> {
+    /// One round over all channels: what has come on the control channel, then each open session, then
+    /// what there is to say. Where nothing has come and no session is open, the thread gives way. `over` is
+    /// empty before and after, and kept for its room.
+    pub(crate) fn go_round(
+        &mut self,
+        scratch: &mut [u8],
+        over: &mut Vec<SessionOver>,
+    ) -> Result<(), Memory>
+        requires running { IsRunning self.old }
+        requires some { 0 < length scratch.old }
+        requires empty { over.old.items ≡ [] }
+        ensures running { OnOk result (IsRunning self.new) }
+        ensures empty { OnOk result (over.new.items ≡ []) }
+        ensures given { self.new.given ≡ self.old.given }
+        ensures retire { CanGiveUp self.new }
+        ensures long { length scratch.new ≡ length scratch.old }
+    {
+        let came = self.over.is_some() || self.listen(scratch)?;
+        self.turn_sessions(scratch, over)?;
+        if self.over.is_none() {
+            self.say()?;
+        }
+        if !came && self.slots.is_idle() {
+            thread::yield_now();
+        }
+        Ok(())
+    }
+
+    // One turn of each open session. Those that are over are to be told, while the control channel isn't.
+    fn turn_sessions(
+        &mut self,
+        scratch: &mut [u8],
+        over: &mut Vec<SessionOver>,
+    ) -> Result<(), Memory>
+        requires running { IsRunning self.old }
+        requires some { 0 < length scratch.old }
+        requires empty { over.old.items ≡ [] }
+        ensures running { OnOk result (IsRunning self.new) }
+        ensures empty { OnOk result (over.new.items ≡ []) }
+        ensures same { KeepsPort self.old self.new }
+        ensures long { length scratch.new ≡ length scratch.old }
+    {
+        self.slots.turn(scratch, over)?;
+        if self.over.is_none() {
+            self.note_over(over)?;
+        }
+        over.clear();
+        Ok(())
+    }
+
+    // Puts sessions that are over behind those that are to be told.
+    fn note_over(&mut self, over: &[SessionOver]) -> Result<(), Memory>
+        ensures same { OnlyTells self.old self.new }
+        ensures told { OnOk result (self.new.control.unsaid.items ≡ self.old.control.unsaid.items ++ map end_of over.now) }
+    {
+        for session in over {
+            self.control.unsaid.push_back(SessionEnd {
+                domain: session.domain,
+                port: session.port,
+                call: session.number,
+            })?;
+        }
+        Ok(())
+    }
+
+    // Says what there is to say, once both greetings have gone.
+    fn say(&mut self) -> Result<(), Memory>
+        requires up { IsUp self.old }
+        ensures up { OnOk result (IsUp self.new) }
+        ensures same { IsSameAgent self.old self.new }
+        ensures retire { CanGiveUp self.new }
+    {
+        if self.control.port.greeted() && self.control.port.version().is_some() {
+            self.control.say_on(self.alloc)?;
+        }
+        Ok(())
+    }
+}

@@ -1,0 +1,91 @@
+//! What an agent makes of each message.
+ghost use Rattle.std.specs.Prelude.{◌≡◌, ◌++◌, ◌∷◌, [], None, OnOk};
+ghost use Rattle.qrexec_frame.specs.declared.message.Message.TheVariants.{Connect, Refused, Exec};
+ghost use Rattle.agent_task.specs.Standing.{IsHearing, Awaits, KeepsPort, OnlyTells};
+
+use crate::agent::Agent;
+use crate::line::service_of;
+use agent_control::SessionEnd;
+use qrexec_frame::{Message, Text};
+use vchan_io::Memory;
+
+impl<'p> Agent<'p> {
+    /// Acts on a message that was handed out. What an agent doesn't hear from a broker changes nothing.
+    pub(crate) fn hear(&mut self, message: Message) -> Result<(), Memory>
+        requires { Awaits self.old message }
+        ensures hearing { OnOk result (IsHearing self.new) }
+        ensures same { KeepsPort self.old self.new }
+    {
+        match message {
+            Message::Connect {
+                domain,
+                port,
+                ident,
+            } => self.connect(domain, port, &ident),
+            Message::Refused { ident } => self.refuse(&ident),
+            Message::Exec { domain, port, line } => self.serve(domain, port, &line),
+            Message::JustExec {
+                domain,
+                port,
+                line: _,
+            } => self.end_unserved(domain, port),
+            _ => Ok(()),
+        }
+    }
+
+    // A call was let through: it has a session, where it waits and has an unused end. Else the message is
+    // passed over.
+    fn connect(&mut self, to: u32, port: u32, ident: &Text) -> Result<(), Memory>
+        requires { Awaits self.old (Connect to port ident.now) }
+        ensures hearing { OnOk result (IsHearing self.new) }
+        ensures same { KeepsPort self.old self.new }
+    {
+        let Some(place) = self.control.queue.waiting(ident.bytes()) else {
+            return Ok(());
+        };
+        if !self.slots.can_call(to, port) {
+            return Ok(());
+        }
+        let input = self.control.queue.connected(self.alloc, place, to, port);
+        self.slots.call(place, to, port, input.into_list())
+    }
+
+    // A call was refused, where it waits.
+    fn refuse(&mut self, ident: &Text) -> Result<(), Memory>
+        requires { Awaits self.old (Refused ident.now) }
+        ensures hearing { OnOk result (IsHearing self.new) }
+        ensures same { KeepsPort self.old self.new }
+    {
+        self.control.queue.refused(ident.bytes());
+        Ok(())
+    }
+
+    // A domain calls: it is served, where the line names a service and there is an unused end. Else it is
+    // told that the session has ended.
+    fn serve(&mut self, from: u32, port: u32, line: &Text) -> Result<(), Memory>
+        requires { Awaits self.old (Exec from port line.now) }
+        ensures hearing { OnOk result (IsHearing self.new) }
+        ensures same { KeepsPort self.old self.new }
+    {
+        let Some(service) = service_of(line.bytes()) else {
+            return self.end_unserved(from, port);
+        };
+        if !self.slots.can_serve(from, port) {
+            return self.end_unserved(from, port);
+        }
+        self.slots.serve(from, port, service)
+    }
+
+    // The end of a session that isn't served is to be told.
+    fn end_unserved(&mut self, domain: u32, port: u32) -> Result<(), Memory>
+        ensures same { OnlyTells self.old self.new }
+        ensures told { OnOk result (self.new.control.unsaid.items ≡ self.old.control.unsaid.items ++ record { domain = domain; port = port; call = None } ∷ []) }
+    {
+        self.control.unsaid.push_back(SessionEnd {
+            domain,
+            port,
+            call: None,
+        })?;
+        Ok(())
+    }
+}

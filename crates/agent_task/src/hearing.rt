@@ -1,0 +1,124 @@
+//! What an agent makes of its control channel.
+ghost use Rattle.std.specs.Prelude.{◌≡◌, ◌<◌, true, OnOk, IfOk, length};
+ghost use Rattle.vchan_rule.specs.Seated.{IsOpen};
+ghost use Rattle.control_port.specs.Port.{HasFewerLeft};
+ghost use Rattle.agent_task.specs.Standing.{IsUp, IsHearing, HearsOn, HasHeardOut, IsSameAgent, CanGiveUp};
+ghost use Rattle.agent_task.specs.Ending.{IsDrained, IsRunning, end_by, over_by};
+
+use crate::agent::Agent;
+use qrexec_data::SessionFault;
+use task_duties::ControlEnd;
+use vchan_io::Memory;
+use vchan_lifecycle::DrainAnswer;
+
+impl<'p> Agent<'p> {
+    /// Takes what has come on the control channel, after the own greeting, and acts on it. A channel that
+    /// is at its end, or on which something wrong came, is retired.
+    /// It answers whether something has come.
+    pub(crate) fn listen(&mut self, scratch: &mut [u8]) -> Result<bool, Memory>
+        requires up { IsUp self.old }
+        requires some { 0 < length scratch.old }
+        ensures running { OnOk result (IsRunning self.new) }
+        ensures given { self.new.given ≡ self.old.given }
+        ensures retire { CanGiveUp self.new }
+        ensures long { length scratch.new ≡ length scratch.old }
+    {
+        self.greet()?;
+        let drained = self.drain(scratch)?;
+        self.hear_all()?;
+        self.settle(drained);
+        Ok(!matches!(drained, DrainAnswer::NotYet { .. }))
+    }
+
+    // Says the own greeting, where it hasn't gone.
+    fn greet(&mut self) -> Result<(), Memory>
+        requires up { IsUp self.old }
+        ensures up { OnOk result (IsUp self.new) }
+        ensures same { IsSameAgent self.old self.new }
+        ensures open { IsOpen self.new.control.port.end }
+    {
+        if !self.control.port.greeted() {
+            self.control.port.greet()?;
+        }
+        Ok(())
+    }
+
+    // Takes the bytes that have come.
+    fn drain(&mut self, scratch: &mut [u8]) -> Result<DrainAnswer, Memory>
+        requires up { IsUp self.old }
+        requires some { 0 < length scratch.old }
+        ensures hearing { OnOk result (IsHearing self.new) }
+        ensures drained { IfOk result (λ drained. IsDrained drained self.new) }
+        ensures same { IsSameAgent self.old self.new }
+        ensures open { IsOpen self.new.control.port.end }
+        ensures long { length scratch.new ≡ length scratch.old }
+    {
+        Ok(self.control.port.drain(scratch)?)
+    }
+
+    // Acts on all whole messages that were taken.
+    fn hear_all(&mut self) -> Result<(), Memory>
+        requires hearing { IsHearing self.old }
+        ensures out { OnOk result (HasHeardOut self.new) }
+        ensures end { self.new.control.port.end ≡ self.old.control.port.end }
+        ensures same { IsSameAgent self.old self.new }
+    {
+        'messages: while self.hear_next()? {}
+        Ok(())
+    }
+
+    // Acts on the next message, and answers whether there was one.
+    fn hear_next(&mut self) -> Result<bool, Memory>
+        requires hearing { IsHearing self.old }
+        ensures hears { IfOk result (λ more. HearsOn more self.new) }
+        ensures fewer { result ≡ Ok true → HasFewerLeft self.old.control.port self.new.control.port }
+        ensures end { self.new.control.port.end ≡ self.old.control.port.end }
+        ensures same { IsSameAgent self.old self.new }
+    {
+        match self.control.port.next()? {
+            Some(message) => {
+                self.hear(message)?;
+                Ok(true)
+            }
+            None => Ok(false),
+        }
+    }
+
+    // Retires the end of a channel that is over: something wrong was heard, or the drain said so.
+    fn settle(&mut self, drained: DrainAnswer)
+        requires out { HasHeardOut self.old }
+        requires drained { IsDrained drained self.old }
+        ensures running { IsRunning self.new }
+        ensures given { self.new.given ≡ self.old.given }
+        ensures retire { CanGiveUp self.new }
+    {
+        match over_by(self.control.port.fault(), drained) {
+            Some(over) => {
+                self.control.port.hang_up();
+                self.over = Some(over);
+            }
+            None => {}
+        }
+    }
+}
+
+// How the channel is over, by what is wrong with what was heard or else by the drain.
+fn over_by(fault: Option<SessionFault>, drained: DrainAnswer) -> Option<ControlEnd>
+    ensures { result ≡ over_by fault drained }
+{
+    match fault {
+        Some(fault) => Some(ControlEnd::Fault(fault)),
+        None => end_by(drained),
+    }
+}
+
+// How a drain tells that the channel is over.
+fn end_by(drained: DrainAnswer) -> Option<ControlEnd>
+    ensures { result ≡ end_by drained }
+{
+    match drained {
+        DrainAnswer::More { .. } | DrainAnswer::NotYet { .. } => None,
+        DrainAnswer::AllRead => Some(ControlEnd::Drained),
+        DrainAnswer::PeerGone { .. } => Some(ControlEnd::Gone),
+    }
+}

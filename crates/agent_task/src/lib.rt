@@ -1,0 +1,16 @@
+//! The task of an agent: it makes the calls of its domain, serves those of others, and reports what came
+//! of all of them.
+//!
+//! It serves a run, which turns the tasks of all domains. In Qubes OS `qrexec-agent` does this work, with
+//! processes of their own for each call; that one task has all sessions of a domain is this project's own.
+#![tactic(auto)]
+
+mod agent;
+mod answering;
+mod finishing;
+mod given;
+mod hearing;
+mod line;
+mod task;
+
+pub use task::{AgentDone, AgentTask, AgentTurn};

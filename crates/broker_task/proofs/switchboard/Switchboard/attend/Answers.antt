@@ -1,0 +1,44 @@
+use Rattle.std.proofs.Common.{◌≡◌, ◌-◌, ◌∙◌, ap, sym, subst, true, None, Bool}
+use Rattle.std.specs.Prelude.{is_none}
+use Rattle.call_broker.specs.Brokered.{Brokered}
+use Rattle.call_broker.specs.Domains.{Domains, is_domain}
+use Rattle.broker_task.specs.Letters.{IsAt}
+use Rattle.broker_task.specs.Posting.{EachAt}
+use Rattle.broker_task.specs.Rounds.{IsThere}
+use Rattle.broker_task.proofs.PostLaws.{on-ok}
+use Rattle.broker_task.proofs.HearingSteps.{place-of-domain}
+use Rattle.broker_task.proofs.RoundSteps.{each-here, still-there, heard-fine, no-fault, goes-on-ok}
+use Rattle.broker_task.proofs.switchboard.Switchboard.attend.Goals as goal
+
+pub returns-then-not-there-clause-goes : goal.returns-then-not-there-clause-goes
+returns-then-not-there-clause-goes c =
+    goes-on-ok c.drop_domain.result c.args.self.now c.listen.new.self c.hear.new.self c.drop_domain.new.self c.requires.ready c.listen.ensures.broker c.in_ok-there.ensures.same c.hear.ensures.hub c.hear.ensures.ends
+    c.drop_domain.ensures.hub c.drop_domain.ensures.same c.drop_domain.ensures.posting c.drop_domain.ensures.read
+
+pub returns-then-not-is_fine-clause-goes : goal.returns-then-not-is_fine-clause-goes
+returns-then-not-is_fine-clause-goes c =
+    goes-on-ok c.drop_domain-then-not-is_fine.result c.args.self.now c.listen.new.self c.hear.new.self c.drop_domain-then-not-is_fine.new.self c.requires.ready c.listen.ensures.broker c.in_ok-there.ensures.same c.hear.ensures.hub
+    c.hear.ensures.ends c.drop_domain-then-not-is_fine.ensures.hub c.drop_domain-then-not-is_fine.ensures.same c.drop_domain-then-not-is_fine.ensures.posting c.drop_domain-then-not-is_fine.ensures.read
+
+pub send-requires-clause-sending : goal.send-requires-clause-sending
+send-requires-clause-sending c =
+    let s = c.hear.new.self in
+    let ds = s.daemons.items in
+    let x = c.index-2.result.now in
+    let hub_is = c.hear.ensures.hub ∙ ap (λ (b : Brokered). b.hub) c.listen.ensures.broker in
+    let number = subst (λ (h : Domains). is_domain h c.args.domain ≡ true) (sym hub_is) c.requires.number in
+    let place = place-of-domain s.broker.hub ds c.args.domain number c.in_ok-hear.ensures.posting.count in
+    let there : IsAt ds (c.args.domain - 1) x = record { within = place.0; is = c.index-2.ensures } in
+    let fine : is_none x.port.fault ≡ true = cc in
+    let up : c.in_ok-there.there ≡ true = cc in
+    let listened = c.in_ok-there.ensures.listened in
+    record {
+      posting = c.in_ok-hear.ensures.posting;
+      read = heard-fine c.args.domain s.broker.journal ds c.in_ok-hear.ensures.heard (each-here (λ y. y.port.fault ≡ None) c.args.domain ds (c.args.domain - 1) x there place.1 (no-fault x.port.fault fine));
+      opened = subst (λ (b : Bool). EachAt (λ d y. d ≡ c.args.domain → IsThere b y) ds) up (still-there c.args.domain c.in_ok-there.there c.listen.new.self.daemons.items ds c.hear.ensures.ends listened.whether);
+    }
+
+pub returns-clause-goes : goal.returns-clause-goes
+returns-clause-goes c =
+    goes-on-ok c.send.result c.args.self.now c.listen.new.self c.hear.new.self c.send.new.self c.requires.ready c.listen.ensures.broker c.in_ok-there.ensures.same c.hear.ensures.hub c.hear.ensures.ends
+    (ap (λ (b : Brokered). b.hub) c.send.ensures.broker) c.send.ensures.same (on-ok c.send.result c.send.ensures.sending (λ p. p.posting)) (on-ok c.send.result c.send.ensures.sending (λ p. p.read))

@@ -1,0 +1,94 @@
+use Rattle.std.proofs.Common.{◌-◌, ◌∷◌, ◌++◌, [], List, None, length, take, drop, sym, subst, arith}
+use Rattle.std.proofs.Math.ListN.{set}
+use Rattle.std.proofs.lemmas.List.{length-set}
+use Rattle.call_broker.specs.declared.event.Event.TheVariants.{Dropped}
+use Rattle.call_broker.specs.Brokered.{Brokered}
+use Rattle.broker_task.specs.declared.daemon.Daemon.{Daemon}
+use Rattle.broker_task.specs.Letters.{IsAt}
+use Rattle.broker_task.specs.Lines.{IsSameDaemon}
+use Rattle.broker_task.specs.Posting.{EachMoves, LetsGo, IsPosting, HaveRead}
+use Rattle.broker_task.proofs.ReplyLaws.{written-back}
+use Rattle.broker_task.proofs.HearingSteps.{place-of-domain}
+use Rattle.broker_task.proofs.SendingSteps.{moves-alone}
+use Rattle.broker_task.proofs.DropSteps.{HangsUp, without}
+use Rattle.broker_task.proofs.switchboard.Switchboard.drop_domain.Goals as goal
+
+pub returns-clause-posting : goal.returns-clause-posting
+returns-clause-posting c =
+    let s = c.args.self.now in
+    let old = s.broker in
+    let ds = s.daemons.items in
+    let t = c.args.domain in
+    let x = c.index_mut.result.now in
+    let y = c.hang_up.new.self in
+    let place = place-of-domain old.hub ds t c.requires.number c.requires.posting.count in
+    let there : IsAt ds (t - 1) x = record { within = place.0; is = c.index_mut.ensures.value } in
+    let up : HangsUp x y = record {
+      gone = c.hang_up.ensures.gone;
+      line = c.hang_up.ensures.line;
+      said = λ said h. c.hang_up.ensures.said said h;
+      got = c.hang_up.ensures.got;
+      letters = c.hang_up.ensures.outbox;
+      same = c.hang_up.ensures.same.0;
+      counted = c.hang_up.ensures.same.1;
+    } in
+    let mid = set ds (t - 1) y in
+    let new = c.release_target.new.daemons in
+    let lets : EachMoves (λ d. LetsGo t None) mid new = subst (λ (l : List Daemon). EachMoves (λ d. LetsGo t None) l new) c.as_mut_slice.ensures.value c.release_target.ensures in
+    let done = without old.hub old.journal t c.in_ok-event.field-0 ds mid new (moves-alone t HangsUp ds (t - 1) x y there place.1 up) lets c.in_ok-event.ensures.decided c.requires.number c.requires.posting c.requires.heard in
+    let back = written-back new mid s.daemons.len lets.count (omega (arith, s.daemons.ok.0, length-set ds (t - 1) y)) in
+    subst (λ (b : Brokered). IsPosting b.hub b.journal (take s.daemons.len (new ++ drop (length new) mid))) (sym c.in_ok-event.ensures.kept)
+    (subst (λ (l : List Daemon). IsPosting old.hub (old.journal ++ record { event = Dropped t; decision = c.in_ok-event.field-0 } ∷ []) l) (sym back) done.posting)
+
+pub returns-clause-read : goal.returns-clause-read
+returns-clause-read c =
+    let s = c.args.self.now in
+    let old = s.broker in
+    let ds = s.daemons.items in
+    let t = c.args.domain in
+    let x = c.index_mut.result.now in
+    let y = c.hang_up.new.self in
+    let place = place-of-domain old.hub ds t c.requires.number c.requires.posting.count in
+    let there : IsAt ds (t - 1) x = record { within = place.0; is = c.index_mut.ensures.value } in
+    let up : HangsUp x y = record {
+      gone = c.hang_up.ensures.gone;
+      line = c.hang_up.ensures.line;
+      said = λ said h. c.hang_up.ensures.said said h;
+      got = c.hang_up.ensures.got;
+      letters = c.hang_up.ensures.outbox;
+      same = c.hang_up.ensures.same.0;
+      counted = c.hang_up.ensures.same.1;
+    } in
+    let mid = set ds (t - 1) y in
+    let new = c.release_target.new.daemons in
+    let lets : EachMoves (λ d. LetsGo t None) mid new = subst (λ (l : List Daemon). EachMoves (λ d. LetsGo t None) l new) c.as_mut_slice.ensures.value c.release_target.ensures in
+    let done = without old.hub old.journal t c.in_ok-event.field-0 ds mid new (moves-alone t HangsUp ds (t - 1) x y there place.1 up) lets c.in_ok-event.ensures.decided c.requires.number c.requires.posting c.requires.heard in
+    let back = written-back new mid s.daemons.len lets.count (omega (arith, s.daemons.ok.0, length-set ds (t - 1) y)) in
+    subst (λ (b : Brokered). HaveRead b.journal (take s.daemons.len (new ++ drop (length new) mid))) (sym c.in_ok-event.ensures.kept)
+    (subst (λ (l : List Daemon). HaveRead (old.journal ++ record { event = Dropped t; decision = c.in_ok-event.field-0 } ∷ []) l) (sym back) done.read)
+
+pub returns-clause-same : goal.returns-clause-same
+returns-clause-same c =
+    let s = c.args.self.now in
+    let old = s.broker in
+    let ds = s.daemons.items in
+    let t = c.args.domain in
+    let x = c.index_mut.result.now in
+    let y = c.hang_up.new.self in
+    let place = place-of-domain old.hub ds t c.requires.number c.requires.posting.count in
+    let there : IsAt ds (t - 1) x = record { within = place.0; is = c.index_mut.ensures.value } in
+    let up : HangsUp x y = record {
+      gone = c.hang_up.ensures.gone;
+      line = c.hang_up.ensures.line;
+      said = λ said h. c.hang_up.ensures.said said h;
+      got = c.hang_up.ensures.got;
+      letters = c.hang_up.ensures.outbox;
+      same = c.hang_up.ensures.same.0;
+      counted = c.hang_up.ensures.same.1;
+    } in
+    let mid = set ds (t - 1) y in
+    let new = c.release_target.new.daemons in
+    let lets : EachMoves (λ d. LetsGo t None) mid new = subst (λ (l : List Daemon). EachMoves (λ d. LetsGo t None) l new) c.as_mut_slice.ensures.value c.release_target.ensures in
+    let done = without old.hub old.journal t c.in_ok-event.field-0 ds mid new (moves-alone t HangsUp ds (t - 1) x y there place.1 up) lets c.in_ok-event.ensures.decided c.requires.number c.requires.posting c.requires.heard in
+    let back = written-back new mid s.daemons.len lets.count (omega (arith, s.daemons.ok.0, length-set ds (t - 1) y)) in
+    subst (λ (l : List Daemon). EachMoves (λ d. IsSameDaemon) ds l) (sym back) done.same

@@ -1,0 +1,157 @@
+//! The task of the broker.
+ghost use Rattle.std.specs.Prelude.{◌≡◌, ◌<◌, ◌^◌, ℕ, [], length, map, IfOk};
+
+use crate::ends::{daemons_of, give_up, retire_all};
+use crate::switchboard::Switchboard;
+use call_broker::Broker;
+use std::alloc::Global;
+use std::marker::Model;
+use std::thread::yield_now;
+use task_duties::RetiredEnd;
+use vchan_io::Memory;
+use vchan_rule::End;
+
+/// How many bytes of a control channel are taken at once.
+const CHUNK: usize = 4_096;
+
+/// The broker of calls, with its ends of all control pages. Contracts see of it what it was given, which
+/// no turn changes.
+#[derive(Drop)]
+pub struct BrokerTask<'p> {
+    alloc: Global,
+    switchboard: Switchboard<'p>,
+    // What is taken of a control channel at once.
+    buf: Vec<u8>,
+}
+
+impl<'p> Model for BrokerTask<'p> {
+    ghost use Rattle.std.specs.Prelude.{◌<◌, length};
+    ghost use Rattle.broker_task.specs.Rounds.{IsReady};
+    ghost use Rattle.broker_task.specs.Given.{BrokerGiven, given_of};
+
+    ghost Value = { BrokerGiven };
+
+    ghost view = { λ t. given_of t.switchboard };
+
+    ghost invariant = { λ t. IsReady t.switchboard × (0 < length t.buf.items) };
+}
+
+/// What a turn of the task gives.
+pub enum BrokerTurn<'p> {
+    /// The task wants another turn.
+    Again(BrokerTask<'p>),
+    /// All domains are settled or dropped.
+    Done(BrokerDone),
+    /// Memory ran out. All ends have retired.
+    NoMemory,
+}
+
+/// A broker that is done.
+#[derive(Drop)]
+pub struct BrokerDone {
+    /// The broker, with its journal.
+    pub broker: Broker,
+    /// Its ends of the control pages, in the order of the domains.
+    pub ends: Vec<RetiredEnd>,
+}
+
+ghost use Rattle.qrexec_frame.specs.Streams.{Each};
+ghost use Rattle.broker_task.specs.Lines.{IsLine};
+ghost use Rattle.broker_task.specs.Rounds.{IsReady};
+ghost use Rattle.broker_task.specs.Given.{given_of};
+ghost use Rattle.broker_task.specs.Turns.{Pays, Finishes};
+
+impl<'p> BrokerTask<'p> {
+    ghost use Rattle.call_broker.specs.Domains.{count_of};
+    ghost use Rattle.vchan_rule.specs.Seated.{view};
+    ghost use Rattle.task_duties.specs.TaskOwes.{broker_given};
+    ghost use Rattle.broker_task.specs.Replies.{HasShortNames};
+    ghost use Rattle.broker_task.specs.Given.{IsNewClient, task_given};
+
+    /// The task of a broker that has decided nothing yet. `awaited` has how many calls of each domain are
+    /// awaited, and `controls` the broker's end of each domain's control page, those of the first domain
+    /// standing first.
+    ///
+    /// After want of memory all that it took is dropped, the ends unretired.
+    pub fn new(
+        alloc: Global,
+        broker: Broker,
+        awaited: Vec<u32>,
+        controls: Vec<End<'p>>,
+    ) -> Result<BrokerTask<'p>, Memory>
+        requires first { broker.journal ≡ [] }
+        requires names { HasShortNames broker.hub }
+        requires few { count_of broker.hub < 2 ^ 32 }
+        requires awaited { length awaited.items ≡ count_of broker.hub }
+        requires controls { length controls.items ≡ count_of broker.hub }
+        requires unused { Each IsNewClient controls.items }
+        ensures { IfOk result (λ task. task_given task ≡ broker_given broker.hub awaited.items (map view controls.entry.items)) }
+    {
+        let buf = vec![in alloc; 0u8; CHUNK]?;
+        let daemons = daemons_of(alloc, awaited.as_slice(), controls)?;
+        Ok(BrokerTask {
+            alloc,
+            switchboard: Switchboard { broker, daemons },
+            buf,
+        })
+    }
+
+    /// One turn: a round over all domains. Once all of them are settled or dropped, the ends retire. A turn
+    /// in which no domain has said anything gives way to other threads.
+    pub fn turn(self) -> BrokerTurn<'p>
+        ensures { Pays self.entry result }
+    {
+        let BrokerTask {
+            alloc,
+            mut switchboard,
+            mut buf,
+        } = self;
+        let before = switchboard.broker.journal().len();
+        match switchboard.round(buf.as_mut_slice()) {
+            Ok(()) => {
+                let heard = switchboard.broker.journal().len() != before;
+                after_round(alloc, switchboard, buf, heard)
+            }
+            Err(Memory) => {
+                give_up(switchboard.daemons);
+                BrokerTurn::NoMemory
+            }
+        }
+    }
+}
+
+// The task after a round, in which some domain was heard or none.
+fn after_round<'p>(
+    alloc: Global,
+    switchboard: Switchboard<'p>,
+    buf: Vec<u8>,
+    heard: bool,
+) -> BrokerTurn<'p>
+    requires ready { IsReady switchboard }
+    requires some { 0 < length buf.items }
+    ensures { Pays (given_of switchboard.entry) result }
+{
+    if switchboard.is_settled() {
+        return finish(alloc, switchboard);
+    }
+    if !heard {
+        yield_now();
+    }
+    BrokerTurn::Again(BrokerTask {
+        alloc,
+        switchboard,
+        buf,
+    })
+}
+
+// Gives the broker and all ends back.
+fn finish<'p>(alloc: Global, switchboard: Switchboard<'p>) -> BrokerTurn<'p>
+    requires { Each (λ x. IsLine x.domain x) switchboard.daemons.items }
+    ensures { Finishes switchboard.entry result }
+{
+    let Switchboard { broker, daemons } = switchboard;
+    match retire_all(alloc, daemons) {
+        Ok(ends) => BrokerTurn::Done(BrokerDone { broker, ends }),
+        Err(Memory) => BrokerTurn::NoMemory,
+    }
+}

@@ -1,0 +1,236 @@
+-- The tasks of a run may go from thread to thread: what an end and each task consists of may.
+use denote.Builtin.{u8, bool}
+use denote.Param.Send.{IsSend, AllSend, sendable, view_send, recorded_send, struct_send}
+use denote.Param.SendFields.{FieldsHave, VariantsHave, declared_send, variants_send}
+use denote.Struct.Declared.{shape}
+use Rattle.std.proofs.Crossing.{crosses}
+use Rattle.std.proofs.MapsCrossing.{BTreeMap-send, HashMap-send}
+use Rattle.std.proofs.alloc.Global.TheSendSync as heap
+use Rattle.std.specs.contracts.option.Option as option
+use Rattle.std.specs.contracts.vec.Vec as vec
+use Rattle.std.specs.contracts.alloc.Global as global
+use Rattle.std.specs.contracts.impls.GlobalAllocator.TheImpl.{ghosts}
+use Rattle.std.below.core.proofs.snapshot.Sent.{snapshot_send}
+use Rattle.atomic_table.proofs.shared.Seat.TheSendSync as seat
+use Rattle.atomic_table.proofs.shared.Shared.TheSendSync as shared
+use Rattle.ring_words.proofs.layout.Layout.TheSendSync as layout
+use Rattle.ring_words.proofs.page.Role.TheSendSync as role
+use Rattle.vchan_protocol.specs.contracts.call.Call as call
+use Rattle.vchan_core.proofs.machine.Machine.TheSendSync as machine
+use Rattle.vchan_rule.specs.contracts.end_seat.EndSeat as seat_of_end
+use Rattle.vchan_rule.specs.contracts.end_seat.EndSeat.TheInside as seat_inside
+use Rattle.vchan_rule.specs.contracts.end.End as end
+use Rattle.vchan_rule.specs.contracts.end.End.TheInside as end_inside
+use Rattle.qrexec_frame.proofs.decoder.Decoder.TheSendSync as decoder
+use Rattle.qrexec_data.proofs.fault.SessionFault.TheSendSync as fault
+use Rattle.qrexec_data.proofs.caller.Caller.TheSendSync as calling
+use Rattle.qrexec_data.proofs.serving.Serving.TheSendSync as answering
+use Rattle.service_gate.proofs.builtin.Builtin.TheSendSync as builtin
+use Rattle.service_gate.specs.contracts.builtin.Builtin as service
+use Rattle.control_port.proofs.talk.Talker.TheSendSync as talker
+use Rattle.control_port.specs.contracts.port.ControlPort as port
+use Rattle.control_port.specs.contracts.port.ControlPort.TheInside as port_inside
+use Rattle.scenario_file.proofs.scenario.CallPlan.TheSendSync as plan
+use Rattle.scenario_file.specs.contracts.scenario.CallPlan as call_plan
+use Rattle.call_queue.proofs.call.CallAnswer.TheSendSync as answer
+use Rattle.call_queue.specs.contracts.call.QueuedCall as queued
+use Rattle.call_queue.specs.contracts.queue.CallQueue as queue
+use Rattle.call_queue.specs.contracts.queue.CallQueue.TheInside as queue_inside
+use Rattle.agent_control.proofs.control.SessionEnd.TheSendSync as session_end
+use Rattle.agent_control.specs.contracts.control.AgentControl as control
+use Rattle.channel_session.proofs.caller.CallerEnd.TheSendSync as caller_end
+use Rattle.channel_session.proofs.serving.ServingEnd.TheSendSync as serving_end
+use Rattle.channel_session.specs.contracts.caller.CallerSession as caller
+use Rattle.channel_session.specs.contracts.caller.CallerSession.TheInside as caller_inside
+use Rattle.channel_session.specs.contracts.serving.ServingSession as serving
+use Rattle.channel_session.specs.contracts.serving.ServingSession.TheInside as serving_inside
+use Rattle.task_duties.proofs.done.ControlEnd.TheSendSync as control_end
+use Rattle.task_duties.proofs.ends.RetiredEnd.TheSendSync as retired_end
+use Rattle.task_duties.proofs.place.PagePlace.TheSendSync as place
+use Rattle.task_duties.specs.contracts.ends.DataEnd as data_end
+use Rattle.data_slots.proofs.done.SessionOver.TheSendSync as session_over
+use Rattle.data_slots.specs.contracts.note.CallNote as call_note
+use Rattle.data_slots.specs.contracts.note.ServedNote as served_note
+use Rattle.data_slots.specs.contracts.slot.Stage as stage
+use Rattle.data_slots.specs.contracts.slot.Slot as slot
+use Rattle.data_slots.specs.contracts.ends.Ends as ends
+use Rattle.data_slots.specs.contracts.slots.DataSlots as slots
+use Rattle.data_slots.specs.contracts.slots.DataSlots.TheInside as slots_inside
+use Rattle.agent_task.specs.contracts.given.Given as given
+use Rattle.agent_task.specs.contracts.agent.Agent as agent
+use Rattle.agent_task.specs.contracts.task.AgentTask as agent_task
+use Rattle.agent_task.specs.contracts.task.AgentTask.TheInside as agent_inside
+use Rattle.call_broker.proofs.broker.Broker.TheSendSync as broker
+use Rattle.broker_task.proofs.outbox.Outbox.TheSendSync as outbox
+use Rattle.broker_task.specs.contracts.daemon.Daemon as daemon
+use Rattle.broker_task.specs.contracts.switchboard.Switchboard as switchboard
+use Rattle.broker_task.specs.contracts.task.BrokerTask as broker_task
+use Rattle.broker_task.specs.contracts.task.BrokerTask.TheInside as broker_inside
+use Rattle.hostile_seat.proofs.Hostile.TheSendSync as hostile
+use Rattle.hostile_task.proofs.domain.HostileDomain.TheSendSync as domain
+use Rattle.hostile_task.proofs.progress.Progress.TheSendSync as progress
+use Rattle.hostile_task.specs.contracts.page.TurnedPage as page
+use Rattle.hostile_task.specs.contracts.pages.Pages as pages
+use Rattle.hostile_task.specs.contracts.task.HostileTask as hostile_task
+use Rattle.hostile_task.specs.contracts.task.HostileTask.TheInside as hostile_inside
+use Rattle.domain_task.specs.contracts.task.Task as task
+
+-- ---- an end
+
+seat_send : IsSend seat_of_end.the_row
+seat_send =
+    let fields : AllSend (shape seat_inside.the_type).fields = (search (sendable, seat.the_send), (layout.the_field_send, (role.the_field_send, (search sendable, (snapshot_send (option.the_row call.the_row), tt))))) in
+    view_send seat_inside.the_row _ _ _ _ (recorded_send seat_inside.the_field.row _ _ seat_inside.the_type.to_one (struct_send (shape seat_inside.the_type) fields))
+
+end_send : (κ : _) → IsSend (end.the_row κ)
+end_send κ =
+    let fields : AllSend (shape (end_inside.the_type κ)).fields = (search (sendable, shared.the_sync) depth 20, (seat_send, (machine.the_field_send, tt))) in
+    view_send (end_inside.the_row κ) _ _ _ _ (recorded_send (end_inside.the_field κ).row _ _ (end_inside.the_type κ).to_one (struct_send (shape (end_inside.the_type κ)) fields))
+
+-- ---- a control port
+
+port_send : (κ : _) → IsSend (port.the_row κ)
+port_send κ =
+    let fields : FieldsHave IsSend (port_inside.the_type κ).parts =
+    (end_send κ, (talker.the_send, (search sendable, (search sendable, (decoder.the_send, (search sendable depth 20, (search (sendable, crosses, fault.the_send) depth 20, (search (sendable, crosses), tt)))))))) in
+    view_send (port_inside.the_row κ) _ _ _ _ (declared_send (port_inside.the_type κ) fields)
+
+-- ---- the calls of an agent, and its control channel
+
+queued_send : IsSend queued.the_row
+queued_send =
+    let fields : FieldsHave IsSend queued.the_type.parts = (snapshot_send call_plan.the_row, (plan.the_send, (answer.the_send, (search sendable, (search sendable, tt))))) in
+    declared_send queued.the_type fields
+
+queue_send : IsSend queue.the_row
+queue_send =
+    let fields : FieldsHave IsSend queue_inside.the_type.parts =
+    (search (sendable, crosses, queued_send) depth 20, (search sendable, (search (sendable, crosses, BTreeMap-send) depth 20, (search (sendable, crosses), tt)))) in
+    view_send queue_inside.the_row _ _ _ _ (declared_send queue_inside.the_type fields)
+
+control_send : (κ : _) → IsSend (control.the_row κ)
+control_send κ =
+    let fields : FieldsHave IsSend (control.the_type κ).parts = (port_send κ, (queue_send, (search (sendable, crosses, session_end.the_send), tt))) in
+    declared_send (control.the_type κ) fields
+
+-- ---- the sessions of an agent, and its data ends
+
+caller_send : (κ : _) → IsSend (caller.the_row κ)
+caller_send κ =
+    let fields : FieldsHave IsSend (caller_inside.the_type κ).parts = (calling.the_send, (end_send κ, (search sendable, tt))) in
+    view_send (caller_inside.the_row κ) _ _ _ _ (declared_send (caller_inside.the_type κ) fields)
+
+serving_send : (κ : _) → IsSend (serving.the_row κ)
+serving_send κ =
+    let fields : FieldsHave IsSend (serving_inside.the_type κ).parts = (search (sendable, answering.the_send, builtin.the_send), (end_send κ, (search sendable, tt))) in
+    view_send (serving_inside.the_row κ) _ _ _ _ (declared_send (serving_inside.the_type κ) fields)
+
+stage_send : (κ : _) → IsSend (stage.the_row κ)
+stage_send κ =
+    let fields : VariantsHave IsSend (stage.enum κ).parts = (
+      (end_send κ, tt),
+      (
+        (search sendable, (snapshot_send (vec.the_row u8 global.the_row ghosts), (caller_send κ, tt))),
+        (
+          (search sendable, (snapshot_send service.the_row, (serving_send κ, tt))),
+          ((search sendable, (snapshot_send (vec.the_row u8 global.the_row ghosts), (caller_end.the_send, tt))), ((search sendable, (snapshot_send service.the_row, (serving_end.the_send, tt))), (tt, tt))),
+        ),
+      ),
+    ) in
+    variants_send (stage.enum κ) fields
+
+slot_send : (κ : _) → IsSend (slot.the_row κ)
+slot_send κ =
+    let fields : FieldsHave IsSend (slot.the_type κ).parts = (search sendable, (search sendable, (search sendable, (stage_send κ, tt)))) in
+    declared_send (slot.the_type κ) fields
+
+call_note_send : IsSend call_note.the_row
+call_note_send =
+    let fields : FieldsHave IsSend call_note.the_type.parts = (search sendable, (search sendable, (search sendable, (snapshot_send (vec.the_row u8 global.the_row ghosts), tt)))) in
+    declared_send call_note.the_type fields
+
+served_note_send : IsSend served_note.the_row
+served_note_send =
+    let fields : FieldsHave IsSend served_note.the_type.parts = (search sendable, (search sendable, (search sendable, (snapshot_send service.the_row, tt)))) in
+    declared_send served_note.the_type fields
+
+ends_send : (κ : _) → IsSend (ends.the_row κ)
+ends_send κ =
+    let fields : FieldsHave IsSend (ends.the_type κ).parts = (
+      heap.the_send,
+      (
+        search sendable,
+        (
+          search sendable,
+          (
+            search (sendable, crosses, slot_send) depth 20,
+            (
+              search (sendable, crosses, HashMap-send) depth 20,
+              (search (sendable, crosses), (search (sendable, crosses, call_note_send) depth 20, (search (sendable, crosses, served_note_send) depth 20, tt))),
+            ),
+          ),
+        ),
+      ),
+    ) in
+    declared_send (ends.the_type κ) fields
+
+slots_send : (κ : _) → IsSend (slots.the_row κ)
+slots_send κ =
+    let fields : FieldsHave IsSend (slots_inside.the_type κ).parts = (ends_send κ, (search (sendable, crosses, retired_end.the_send) depth 20, (snapshot_send bool, tt))) in
+    view_send (slots_inside.the_row κ) _ _ _ _ (declared_send (slots_inside.the_type κ) fields)
+
+-- ---- the task of an agent
+
+given_send : (κ : _) → IsSend (given.the_row κ)
+given_send κ =
+    let fields : FieldsHave IsSend (given.the_type κ).parts = (search sendable, (search sendable, (snapshot_send (vec.the_row call_plan.the_row global.the_row ghosts), (snapshot_send (end.the_row κ), (snapshot_send (vec.the_row (data_end.the_row κ) global.the_row ghosts), tt))))) in
+    declared_send (given.the_type κ) fields
+
+agent_send : (κ : _) → IsSend (agent.the_row κ)
+agent_send κ =
+    let fields : FieldsHave IsSend (agent.the_type κ).parts = (heap.the_send, (given_send κ, (control_send κ, (slots_send κ, (search (sendable, crosses, control_end.the_send) depth 20, tt))))) in
+    declared_send (agent.the_type κ) fields
+
+agent_task_send : (κ : _) → IsSend (agent_task.the_row κ)
+agent_task_send κ =
+    let fields : FieldsHave IsSend (agent_inside.the_type κ).parts = (agent_send κ, (search (sendable, crosses), (search (sendable, crosses, session_over.the_send), tt))) in
+    view_send (agent_inside.the_row κ) _ _ _ _ (declared_send (agent_inside.the_type κ) fields)
+
+-- ---- the task of the broker
+
+daemon_send : (κ : _) → IsSend (daemon.the_row κ)
+daemon_send κ =
+    let fields : FieldsHave IsSend (daemon.the_type κ).parts = (search sendable, (port_send κ, (outbox.the_send, (search sendable, (search sendable, tt))))) in
+    declared_send (daemon.the_type κ) fields
+
+switchboard_send : (κ : _) → IsSend (switchboard.the_row κ)
+switchboard_send κ =
+    let fields : FieldsHave IsSend (switchboard.the_type κ).parts = (broker.the_send, (search (sendable, crosses, daemon_send), tt)) in
+    declared_send (switchboard.the_type κ) fields
+
+broker_task_send : (κ : _) → IsSend (broker_task.the_row κ)
+broker_task_send κ =
+    let fields : FieldsHave IsSend (broker_inside.the_type κ).parts = (heap.the_send, (switchboard_send κ, (search (sendable, crosses), tt))) in
+    view_send (broker_inside.the_row κ) _ _ _ _ (declared_send (broker_inside.the_type κ) fields)
+
+-- ---- the task of a hostile domain
+
+page_send : (κ : _) → IsSend (page.the_row κ)
+page_send κ =
+    let fields : FieldsHave IsSend (page.the_type κ).parts = (place.the_send, (snapshot_send (end.the_row κ), (hostile.the_send κ, tt))) in
+    declared_send (page.the_type κ) fields
+
+pages_send : (κ : _) → IsSend (pages.the_row κ)
+pages_send κ =
+    let fields : FieldsHave IsSend (pages.the_type κ).parts = (page_send κ, (search (sendable, crosses, page_send) depth 20, tt)) in
+    declared_send (pages.the_type κ) fields
+
+hostile_task_send : (κ : _) → IsSend (hostile_task.the_row κ)
+hostile_task_send κ =
+    let fields : FieldsHave IsSend (hostile_inside.the_type κ).parts = (heap.the_send, (domain.the_send, (pages_send κ, (progress.the_send, (search (sendable, crosses), tt))))) in
+    view_send (hostile_inside.the_row κ) _ _ _ _ (declared_send (hostile_inside.the_type κ) fields)
+
+-- ---- a task
+
+pub task_send : (κ : _) → IsSend (task.the_row κ)
+task_send κ = variants_send (task.enum κ) ((agent_task_send κ, tt), ((broker_task_send κ, tt), ((hostile_task_send κ, tt), tt)))

@@ -1,0 +1,57 @@
+//! The turns of the tasks of a run.
+ghost use Rattle.domain_task.specs.Owes.{Owes, PaysFor};
+ghost use Rattle.domain_task.specs.Given.{given_of};
+
+use crate::done::TaskDone;
+use crate::task::Task;
+use agent_task::{AgentTask, AgentTurn};
+use broker_task::{BrokerTask, BrokerTurn};
+use hostile_task::{HostileTask, HostileTurn};
+use task_pool::{PoolTask, Turn};
+
+impl<'p> PoolTask for Task<'p> {
+    type Done = TaskDone;
+
+    ghost owes = { Owes };
+
+    fn turn(self) -> Turn<Self> {
+        match self {
+            Task::Agent(task) => turn_agent(task),
+            Task::Broker(task) => turn_broker(task),
+            Task::Hostile(task) => turn_hostile(task),
+        }
+    }
+}
+
+// A turn of an agent.
+fn turn_agent<'p>(task: AgentTask<'p>) -> Turn<Task<'p>>
+    ensures { PaysFor (given_of (Task.Agent task.entry)) result }
+{
+    match task.turn() {
+        AgentTurn::Again(task) => Turn::Again(Task::Agent(task)),
+        AgentTurn::Done(done) => Turn::Done(TaskDone::Agent(done)),
+        AgentTurn::NoMemory => Turn::Done(TaskDone::NoMemory),
+    }
+}
+
+// A turn of the broker.
+fn turn_broker<'p>(task: BrokerTask<'p>) -> Turn<Task<'p>>
+    ensures { PaysFor (given_of (Task.Broker task.entry)) result }
+{
+    match task.turn() {
+        BrokerTurn::Again(task) => Turn::Again(Task::Broker(task)),
+        BrokerTurn::Done(done) => Turn::Done(TaskDone::Broker(done)),
+        BrokerTurn::NoMemory => Turn::Done(TaskDone::NoMemory),
+    }
+}
+
+// A turn of a hostile domain.
+fn turn_hostile<'p>(task: HostileTask<'p>) -> Turn<Task<'p>>
+    ensures { PaysFor (given_of (Task.Hostile task.entry)) result }
+{
+    match task.turn() {
+        HostileTurn::Again(task) => Turn::Again(Task::Hostile(task)),
+        HostileTurn::Done(done) => Turn::Done(TaskDone::Hostile(done)),
+        HostileTurn::NoMemory => Turn::Done(TaskDone::NoMemory),
+    }
+}

@@ -1,0 +1,9 @@
+pub mod GivenLaws
+pub mod PlaceLaws
+pub mod DealtLaws
+pub mod AnswerLaws
+pub mod TaskLaws
+pub mod ReportLaws
+pub mod LineLaws
+pub mod SessionLaws
+pub mod WholeLaws

@@ -1,0 +1,5 @@
+pub mod Tasks
+pub mod Answering
+pub mod Parts
+pub mod Lines
+pub mod Sessions

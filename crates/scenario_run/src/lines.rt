@@ -1,0 +1,287 @@
+//! The lines of the calls of a run.
+ghost use Rattle.std.specs.Prelude.{◌≡◌, ◌+◌, ◌<◌, ◌^◌, ◌∷◌, [], length, map, IfOk};
+ghost use Rattle.scenario_file.specs.Scenario.{is_mixed, name_at, targets_hostile, hostile_at};
+ghost use Rattle.task_duties.specs.Places.{is_place};
+ghost use Rattle.task_duties.specs.Words.{ident_of};
+ghost use Rattle.task_duties.specs.declared.place.PagePlace.TheVariants.{Payload};
+ghost use Rattle.task_duties.specs.Agent.Owes.{caller_done};
+ghost use Rattle.run_laws.specs.Laid.{laid};
+ghost use Rattle.run_laws.specs.Run.{Run};
+ghost use Rattle.run_laws.specs.ReadOff.{cause_by, cause_in, cause_result, end_of_call, index_of, line_read, mixed_end, mixed_outcome, session_result};
+ghost use Rattle.scenario_run.specs.Lines.{HasReports, plain_result};
+
+use crate::answers::TaskReport;
+use call_broker::{Cause, Decision, Entry, Event};
+use itoa::Buffer;
+use qrexec_data::Outcome;
+use qrexec_frame::{Bytes, Text, TextError};
+use run_laws::{CallLine, CallResult, MixedOutcome};
+use run_report::SettledPage;
+use scenario_file::{CallPlan, LineCause, Scenario, number_named};
+use std::alloc::{AllocError, Global};
+use task_duties::{CallEnd, PagePlace};
+use vchan_io::Memory;
+
+/// The lines of all calls of a scenario, in order, by what the tasks report and by the pages.
+pub(crate) fn call_lines(
+    alloc: Global,
+    scenario: &Scenario,
+    reports: &mut [TaskReport],
+    pages: &[SettledPage],
+) -> Result<Vec<CallLine>, Memory>
+    requires count { length reports.old ≡ length scenario.now.domains + 1 }
+    requires reports { (run : Run) × HasReports scenario.now run scenario.now.calls reports.old }
+    requires pages { map (λ p. p.place) pages.now ≡ laid scenario.now }
+    requires few { length pages.now < 2 ^ 32 }
+    ensures lines { (run : Run) → HasReports scenario.now run scenario.now.calls reports.old → IfOk result (λ lines. lines.items ≡ map (line_read scenario.now run) scenario.now.calls) }
+    ensures served { map (λ r. r.served) reports.new ≡ map (λ r. r.served) reports.old }
+    ensures long { length reports.new ≡ length reports.old }
+{
+    let mut lines = Vec::with_capacity(alloc, scenario.calls.len())?;
+    for call in &scenario.calls {
+        let end = reports[call.from as usize].take_call().end;
+        let line = call_line(alloc, scenario, call, end, reports[0].journal(), pages)?;
+        lines.push(line)?;
+    }
+    Ok(lines)
+}
+
+// The line of a call that came to this end.
+fn call_line(
+    alloc: Global,
+    scenario: &Scenario,
+    call: &CallPlan,
+    end: CallEnd,
+    journal: &[Entry],
+    pages: &[SettledPage],
+) -> Result<CallLine, Memory>
+    requires pages { map (λ p. p.place) pages.now ≡ laid scenario.now }
+    requires few { length pages.now < 2 ^ 32 }
+    ensures { (run : Run) → run.journal ≡ journal.now → end ≡ end_of_call run call.now → IfOk result (λ line. line ≡ line_read scenario.now run call.now) }
+{
+    let result = if is_mixed(scenario, call) {
+        mixed_result(alloc, end)
+    } else {
+        plain_result(alloc, call, end, journal, pages)?
+    };
+    Ok(CallLine {
+        number: call.number,
+        from: name_of(alloc, scenario, call.from)?,
+        to: call.to.clone()?,
+        service: call.service.clone()?,
+        result,
+    })
+}
+
+// Whether a call's target is hostile.
+fn is_mixed(scenario: &Scenario, call: &CallPlan) -> bool
+    ensures { result ≡ is_mixed scenario.now call.now }
+{
+    match number_named(&scenario.domains, call.to.bytes()) {
+        Some(number) => is_hostile(scenario, number),
+        None => false,
+    }
+}
+
+/// Whether the domain of a number is hostile.
+pub(crate) fn is_hostile(scenario: &Scenario, number: u32) -> bool
+    ensures { result ≡ hostile_at scenario.now number }
+{
+    if number == 0 {
+        return false;
+    }
+    match scenario.domains.get(number as usize - 1) {
+        Some(domain) => domain.is_hostile(),
+        None => false,
+    }
+}
+
+/// The name of the domain of a number, empty where there is none.
+pub(crate) fn name_of(alloc: Global, scenario: &Scenario, number: u32) -> Result<Text, Memory>
+    ensures { IfOk result (λ name. name ≡ name_at scenario.now number) }
+{
+    if number == 0 {
+        return no_name(alloc);
+    }
+    match scenario.domains.get(number as usize - 1) {
+        Some(domain) => Ok(domain.name.clone()?),
+        None => no_name(alloc),
+    }
+}
+
+fn no_name(alloc: Global) -> Result<Text, Memory>
+    ensures { IfOk result (λ name. name ≡ []) }
+{
+    match Text::of(alloc, b"") {
+        Ok(name) => Ok(name),
+        Err(TextError::Memory) => Err(Memory),
+        Err(TextError::Nul) => unreachable!(),
+    }
+}
+
+// What comes of a call to a domain that is hostile.
+fn mixed_result(alloc: Global, end: CallEnd) -> CallResult
+    ensures { result ≡ mixed_end end }
+{
+    match end {
+        CallEnd::Session { outcome, got, .. } => CallResult::Mixed {
+            outcome: mixed_outcome(outcome),
+            got,
+        },
+        CallEnd::Refused => without_bytes(alloc, MixedOutcome::Refused),
+        CallEnd::Unanswered => without_bytes(alloc, MixedOutcome::Closed),
+    }
+}
+
+// What comes of any other call.
+fn plain_result(
+    alloc: Global,
+    call: &CallPlan,
+    end: CallEnd,
+    journal: &[Entry],
+    pages: &[SettledPage],
+) -> Result<CallResult, Memory>
+    requires { length pages.now < 2 ^ 32 }
+    ensures { IfOk result (λ r. r ≡ plain_result (map (λ p. p.place) pages.now) journal.now call.now end) }
+{
+    match end {
+        CallEnd::Session {
+            port,
+            to,
+            outcome: Outcome::Done { code },
+            stdout,
+            stderr,
+            ..
+        } => {
+            let from = call.from;
+            let page = page_at(pages, PagePlace::Payload { from, to, port });
+            Ok(CallResult::Done {
+                code,
+                stdout,
+                stderr,
+                page,
+            })
+        }
+        CallEnd::Session { outcome, got, .. } => Ok(CallResult::Mixed {
+            outcome: mixed_outcome(outcome),
+            got,
+        }),
+        CallEnd::Refused => {
+            let ident = ident_of(alloc, call.number)?;
+            Ok(refusal(alloc, cause_in(journal, call.from, &ident)))
+        }
+        CallEnd::Unanswered => Ok(without_bytes(alloc, MixedOutcome::Closed)),
+    }
+}
+
+// A result with no bytes got.
+fn without_bytes(alloc: Global, outcome: MixedOutcome) -> CallResult
+    ensures { result ≡ CallResult.Mixed outcome [] }
+{
+    CallResult::Mixed {
+        outcome,
+        got: Bytes::of(Vec::new(alloc)),
+    }
+}
+
+/// An outcome, without what is wrong.
+pub(crate) fn mixed_outcome(outcome: Outcome) -> MixedOutcome
+    ensures { result ≡ mixed_outcome outcome }
+{
+    match outcome {
+        Outcome::Done { code } => MixedOutcome::Done { code },
+        Outcome::Fault(_) => MixedOutcome::Fault,
+        Outcome::Closed => MixedOutcome::Closed,
+        Outcome::Gone => MixedOutcome::Gone,
+    }
+}
+
+// What comes of a refusal: a cause that the names and services give, or that the broker gave the call up.
+fn refusal(alloc: Global, cause: Option<Cause>) -> CallResult
+    ensures { result ≡ cause_result cause }
+{
+    match cause {
+        Some(Cause::NoDomain) => CallResult::Refused {
+            cause: LineCause::NoDomain,
+        },
+        Some(Cause::SameDomain) => CallResult::Refused {
+            cause: LineCause::SameDomain,
+        },
+        Some(Cause::NoService) => CallResult::Refused {
+            cause: LineCause::NoService,
+        },
+        _ => without_bytes(alloc, MixedOutcome::Refused),
+    }
+}
+
+// The first cause in a journal for which the call of a domain by this ident was refused.
+fn cause_in(journal: &[Entry], from: u32, ident: &[u8]) -> Option<Cause>
+    ensures { result ≡ cause_in journal.now from ident.now }
+{
+    for entry in journal {
+        if let Some(cause) = cause_by(entry, from, ident) {
+            return Some(cause);
+        }
+    }
+    None
+}
+
+// The cause for which an entry refuses it.
+fn cause_by(entry: &Entry, from: u32, ident: &[u8]) -> Option<Cause>
+    ensures { result ≡ cause_by from ident.now entry.now.event entry.now.decision }
+{
+    match (&entry.event, entry.decision) {
+        (
+            Event::Trigger {
+                from: caller,
+                ident: asked,
+                ..
+            },
+            Decision::Refused { cause },
+        ) if *caller == from && asked.bytes() == ident => Some(cause),
+        _ => None,
+    }
+}
+
+// The ident of the call of a number.
+fn ident_of(alloc: Global, number: u32) -> Result<Vec<u8>, AllocError>
+    ensures { IfOk result (λ ident. ident.items ≡ ident_of number) }
+{
+    let mut ident = Vec::from_slice(alloc, b"call-")?;
+    let mut buffer = Buffer::new();
+    ident.extend_from_slice(buffer.format(number).as_bytes())?;
+    Ok(ident)
+}
+
+// The index of the page at a place, which is how many pages there are where none lies there.
+fn page_at(pages: &[SettledPage], place: PagePlace) -> u32
+    requires { length pages.now < 2 ^ 32 }
+    ensures { result ≡ index_of place (map (λ p. p.place) pages.now) }
+{
+    let mut index = 0;
+    for page in pages {
+        if is_at(page.place, place) {
+            return index;
+        }
+        index += 1;
+    }
+    index
+}
+
+// Whether two places are the same.
+fn is_at(own: PagePlace, place: PagePlace) -> bool
+    ensures { result ≡ is_place place own }
+{
+    match (place, own) {
+        (PagePlace::Control { domain }, PagePlace::Control { domain: other }) => domain == other,
+        (
+            PagePlace::Payload { from, to, port },
+            PagePlace::Payload {
+                from: caller,
+                to: server,
+                port: other,
+            },
+        ) => from == caller && to == server && port == other,
+        _ => false,
+    }
+}

@@ -1,0 +1,155 @@
+//! The tasks of a run, from the ends that are dealt to them.
+ghost use Rattle.std.specs.Prelude.{◌≡◌, ◌≤◌, ◌-◌, ◌+◌, length, map, slice_get, Some, IfOk, OnOk};
+ghost use Rattle.vchan_rule.specs.Seated.{view};
+ghost use Rattle.scenario_file.specs.declared.scenario.Domain.{Domain as Named};
+ghost use Rattle.scenario_file.specs.Scenario.{IsScenario, domain_of};
+ghost use Rattle.run_laws.specs.Laid.{awaited_by, hub_of};
+ghost use Rattle.task_duties.specs.TaskOwes.{broker_given};
+ghost use Rattle.domain_task.specs.Given.{given_of};
+ghost use Rattle.scenario_run.specs.Tasks.{AreHandsOf, AreControlsOf, AreTasksOf, IsHandOf, domain_given, awaited_from};
+
+use crate::copies::{calls_from, copy_of_acts, entries_of, names_of};
+use call_broker::Broker;
+use domain_task::Task;
+use hostile_task::HostileDomain;
+use run_pages::{Dealt, Hand, page_table};
+use scenario_file::{Acts, Domain, Scenario};
+use std::alloc::{AllocError, Global};
+use vchan_io::Memory;
+use vchan_rule::End;
+
+/// The tasks of a scenario with the ends that were dealt: the broker's first, then those of the domains
+/// in order. Its error is want of memory, and drops the ends.
+pub(crate) fn tasks<'p>(
+    alloc: Global,
+    scenario: &Scenario,
+    dealt: Dealt<'p>,
+) -> Result<Vec<Task<'p>>, Memory>
+    requires controls { AreControlsOf scenario.now dealt.controls.items }
+    requires hands { AreHandsOf scenario.now dealt.hands.items }
+    ensures { IfOk result (λ tasks. AreTasksOf scenario.now (map view dealt.entry.controls.items) dealt.entry.hands.items (map given_of tasks.items)) }
+{
+    is_scenario(scenario);
+    let Dealt { controls, hands } = dealt;
+    let mut tasks = Vec::with_capacity(alloc, hands.len() + 1)?;
+    tasks.push(broker(alloc, scenario, controls)?)?;
+    let mut number = 0;
+    for hand in hands {
+        number += 1;
+        tasks.push(domain(alloc, scenario, number, hand)?)?;
+    }
+    Ok(tasks)
+}
+
+// The task of the broker.
+fn broker<'p>(
+    alloc: Global,
+    scenario: &Scenario,
+    controls: Vec<End<'p>>,
+) -> Result<Task<'p>, Memory>
+    requires { AreControlsOf scenario.now controls.items }
+    ensures { IfOk result (λ task. given_of task ≡ broker_given (hub_of scenario.now) (awaited_by scenario.now) (map view controls.entry.items)) }
+{
+    is_scenario(scenario);
+    let domains = entries_of(alloc, scenario)?;
+    let pages = page_table(alloc, scenario)?;
+    let broker = Broker::new(alloc, domains, pages)?;
+    let awaited = awaited(alloc, scenario)?;
+    Task::broker(alloc, broker, awaited, controls)
+}
+
+// What holds of every scenario, which a look at one of its fields tells.
+pub(crate) fn is_scenario(scenario: &Scenario)
+    ensures { IsScenario scenario.now }
+{
+    let _start = scenario.start;
+}
+
+// How many calls each domain has.
+fn awaited(alloc: Global, scenario: &Scenario) -> Result<Vec<u32>, AllocError>
+    ensures { IfOk result (λ counts. counts.items ≡ awaited_by scenario.now) }
+{
+    let mut counts = Vec::with_capacity(alloc, scenario.domains.len())?;
+    for index in 0..scenario.domains.len() as u32 {
+        counts.push(count_from(scenario, index + 1))?;
+    }
+    Ok(counts)
+}
+
+// How many calls a domain has.
+fn count_from(scenario: &Scenario, from: u32) -> u32
+    ensures { result ≡ awaited_from scenario.now from }
+{
+    let mut count = 0;
+    for call in &scenario.calls {
+        if call.from == from {
+            count += 1;
+        }
+    }
+    count
+}
+
+// The task of a domain.
+fn domain<'p>(
+    alloc: Global,
+    scenario: &Scenario,
+    number: u32,
+    hand: Hand<'p>,
+) -> Result<Task<'p>, Memory>
+    requires there { (1 ≤ number) × (number ≤ length scenario.now.domains) }
+    requires hand { IsHandOf scenario.now number hand }
+    ensures { IfOk result (λ task. given_of task ≡ domain_given scenario.now number hand.entry) }
+{
+    let domain = &scenario.domains[number as usize - 1];
+    match &domain.hostile {
+        Some(acts) => hostile(alloc, scenario, number, acts, hand),
+        None => agent(alloc, scenario, number, domain, hand),
+    }
+}
+
+// The agent of a domain.
+fn agent<'p>(
+    alloc: Global,
+    scenario: &Scenario,
+    number: u32,
+    domain: &Domain,
+    hand: Hand<'p>,
+) -> Result<Task<'p>, Memory>
+    requires domain { domain_of scenario.now number ≡ Some domain.now }
+    requires honest { domain.now.hostile ≡ None }
+    requires hand { IsHandOf scenario.now number hand }
+    ensures { IfOk result (λ task. given_of task ≡ domain_given scenario.now number hand.entry) }
+{
+    is_scenario(scenario);
+    let calls = calls_from(alloc, scenario, number)?;
+    Task::agent(
+        alloc,
+        number,
+        domain.version,
+        calls,
+        hand.control,
+        hand.payload,
+    )
+}
+
+// The task of a hostile domain.
+fn hostile<'p>(
+    alloc: Global,
+    scenario: &Scenario,
+    number: u32,
+    acts: &Acts,
+    hand: Hand<'p>,
+) -> Result<Task<'p>, Memory>
+    requires acts { (d : Named) × (domain_of scenario.now number ≡ Some d) × (d.hostile ≡ Some acts.now) }
+    requires hand { IsHandOf scenario.now number hand }
+    ensures { IfOk result (λ task. given_of task ≡ domain_given scenario.now number hand.entry) }
+{
+    let domain = HostileDomain {
+        number,
+        names: names_of(alloc, scenario)?,
+        acts: copy_of_acts(alloc, acts)?,
+        control: scenario.control,
+        payload: scenario.payload,
+    };
+    Task::hostile(alloc, domain, hand.control, hand.payload)
+}

@@ -1,0 +1,65 @@
+-- What each command prints, and what is wrong with an input that it doesn't print.
+use Rattle.std.specs.Prelude.{◌≡◌, ℕ, List, Option, Some, None, Ok, Err}
+use Rattle.step_script.specs.Language.Grammar.{script_of}
+use Rattle.step_script.specs.Meaning.ScriptText.{IsTextOf}
+use Rattle.step_script.specs.Parts.Readings.{CanBeOpened}
+use Rattle.stream_text.specs.Input.{BeginsWell}
+use Rattle.stream_text.specs.Texts.{decoded}
+use Rattle.scenario_file.specs.Generator.{generated}
+use Rattle.scenario_file.specs.Scenario.{Plan as Scenario, written}
+use Rattle.scenario_file.specs.Tables.{scenario_of}
+use Rattle.run_laws.specs.Lawful.{IsLawful}
+use Rattle.run_laws.specs.Report.{Report}
+use Rattle.run_report.specs.Lines.{text_of}
+use Rattle.run_report.specs.Summary.{summary_of}
+use Rattle.vchan.specs.declared.command.Command.{Command}
+use Rattle.vchan.specs.declared.command.Command.TheVariants.{Step, Decode, Run, Load}
+use Rattle.vchan.specs.declared.status.Status.{Status}
+use Rattle.vchan.specs.declared.status.Status.TheVariants.{BadInput, OutOfMemory}
+use Rattle.vchan.specs.declared.status.Bad.{Bad}
+use Rattle.vchan.specs.declared.status.Bad.TheVariants as bad
+use Rattle.vchan.specs.Sums.{sums_of}
+
+-- `run` prints a report that is lawful for the scenario that the input is
+pub record PrintsReport (input text : List ℕ) (report : Report) : Type 0 where
+  pub scenario : Scenario
+  pub reads : scenario_of input ≡ Ok (written scenario)
+  pub lawful : IsLawful scenario report
+  pub prints : text ≡ text_of report
+
+-- `load` prints the sums of a report that is lawful for the generated scenario; they are those that the services and the names alone give
+pub record PrintsSums (number calls : ℕ) (text : List ℕ) (report : Report) : Type 0 where
+  pub scenario : Scenario
+  pub made : written scenario ≡ generated number calls
+  pub lawful : IsLawful scenario report
+  pub prints : text ≡ summary_of scenario.calls report
+  pub alone : text ≡ sums_of (generated number calls)
+
+-- what a command prints for an input, and the report that goes with it. `step` prints the text of the script that the input is;
+-- where the script's lines are whole calls, the lists of what was sent and got tell their part of it. `decode` prints the text
+-- of the stream that the input spells. Neither has a report
+abbrev pub Prints : Command → List ℕ → List ℕ → Option Report → Type 0
+Prints Step input text None = IsTextOf input text
+Prints (Decode channel) input text None = decoded channel input ≡ Ok text
+Prints (Run workers) input text (Some report) = PrintsReport input text report
+Prints (Load number calls) input text (Some report) = PrintsSums number calls text report
+Prints command input text report = ⊥
+
+-- the input has not the command's form, and this is the first thing that is wrong with it
+abbrev pub IsBadFor : Command → List ℕ → Bad → Type 0
+IsBadFor Step input (bad.Script line kind) = script_of input ≡ Err (line, kind)
+IsBadFor (Decode channel) input (bad.Decode line kind) = decoded channel input ≡ Err (line, kind)
+IsBadFor (Run workers) input (bad.Scenario kind path) = scenario_of input ≡ Err (kind, path)
+IsBadFor command input wrong = ⊥
+
+-- memory is taken before a bad input is found to be one: of a script or of byte strings the first line is good
+abbrev pub TakesMemory : Command → List ℕ → Type 0
+TakesMemory Step input = CanBeOpened input
+TakesMemory (Decode channel) input = BeginsWell input
+TakesMemory command input = Unit {0}
+
+-- a status with which the program may end in place of a text for this input
+abbrev pub IsDue : Command → List ℕ → Status → Type 0
+IsDue command input (BadInput wrong) = IsBadFor command input wrong
+IsDue command input OutOfMemory = TakesMemory command input
+IsDue command input status = ⊥

@@ -1,0 +1,148 @@
+//! A pipe: bytes that go through one channel, from one thread to another.
+ghost use Rattle.std.specs.Prelude.{◌≡◌, ◌≤◌, ◌<◌, ◌+◌, ◌^◌, [], ℕ, IfOk, length, take, vec_len};
+ghost use Rattle.ring_words.specs.declared.page.Role.TheVariants.{Server, Client};
+ghost use Rattle.vchan_rule.specs.Seated.{view, last_view, IsOpen};
+ghost use Rattle.vchan_rule.specs.Ends.{IsSameEnd};
+ghost use Rattle.vchan_block.specs.Pipe.{GetsAll, HasEnded, HasPiped, IsEndOf, MayHaveEnded, SendsAll, drained_count};
+
+use crate::wait::wait;
+use crate::writing::write;
+use ring_words::Orders;
+use std::alloc::Global;
+use std::sync::Wait;
+use std::thread::{Threads, join};
+use std::time::Clock;
+use vchan_io::Memory;
+use vchan_lifecycle::{DrainAnswer, connect, drain, retire};
+use vchan_rule::{End, IdleSeat, Page, Retired, Settled};
+
+/// What the reading thread hands back: its end, and the bytes that this got.
+#[derive(Drop)]
+struct Received {
+    end: Retired,
+    bytes: Vec<u8>,
+}
+
+/// Connects as the client, sends all bytes and retires.
+fn write_all_and_retire<R: Wait + Clock>(
+    rt: &R,
+    page: &Page,
+    seat: IdleSeat,
+    bytes: &[u8],
+) -> Retired
+    requires { seat ≡ record { page = page.now; role = Client } }
+    ensures end { IsEndOf page.now.table Client result }
+    ensures sent { SendsAll (last_view result) bytes.now }
+{
+    let mut end = page.attach(seat);
+    match connect(&mut end) {
+        Ok(()) => {
+            let _ = write(rt, &mut end, bytes);
+            retire(end)
+        }
+        Err(_) => retire(end),
+    }
+}
+
+/// Drains into a buffer, behind the bytes that it has already.
+fn drain_behind(end: &mut End<'_>, buf: &mut [u8], count: usize) -> DrainAnswer
+    requires open { IsOpen end.old }
+    requires some { count < length buf.old }
+    requires got { (view end.old).got ≡ take count buf.old }
+    ensures same { IsSameEnd end.old end.new }
+    ensures open { IsOpen end.new }
+    ensures long { length buf.new ≡ length buf.old }
+    ensures few { (more : ℕ) → result ≡ DrainAnswer.More more → count + more ≤ length buf.old }
+    ensures got { (view end.new).got ≡ take (count + drained_count result) buf.new }
+    ensures ended { MayHaveEnded result (view end.new) }
+{
+    drain(end, &mut buf[count..])
+}
+
+/// Drains until no more comes, or until the buffer is full. So many bytes were got.
+fn drain_all<R: Wait + Clock>(rt: &R, end: &mut End<'_>, buf: &mut [u8]) -> usize
+    requires open { IsOpen end.old }
+    requires some { 0 < length buf.old }
+    requires none { (view end.old).got ≡ [] }
+    ensures same { IsSameEnd end.old end.new }
+    ensures open { IsOpen end.new }
+    ensures long { length buf.new ≡ length buf.old }
+    ensures few { result ≤ length buf.old }
+    ensures got { (view end.new).got ≡ take result buf.new }
+    ensures ended { result < length buf.old → HasEnded (view end.new) }
+{
+    let mut count = 0;
+    'drains: for _ in rt.forever() {
+        match drain_behind(end, buf, count) {
+            DrainAnswer::More { count: more } => {
+                count += more as usize;
+                if count == buf.len() {
+                    return count;
+                }
+            }
+            DrainAnswer::NotYet { prod: _, cons: _ } => wait(rt, end),
+            DrainAnswer::AllRead => return count,
+            DrainAnswer::PeerGone { prod: _, cons: _ } => return count,
+        }
+    }
+    unreachable!()
+}
+
+/// Reads as the server, into this buffer, until no more comes or the buffer is full, and retires.
+fn read_all_and_retire<R: Wait + Clock>(
+    rt: &R,
+    page: &Page,
+    seat: IdleSeat,
+    mut buf: Vec<u8>,
+) -> Received
+    requires seat { seat ≡ record { page = page.now; role = Server } }
+    requires some { 0 < vec_len buf }
+    ensures end { IsEndOf page.now.table Server result.end }
+    ensures got { GetsAll (last_view result.end) result.bytes.items (vec_len buf) }
+{
+    let mut end = page.attach(seat);
+    let count = drain_all(rt, &mut end, buf.as_mut_slice());
+    buf.truncate(count);
+    Received {
+        end: retire(end),
+        bytes: buf,
+    }
+}
+
+/// Sends all bytes through the left ring of a new page, whose indices begin at `start`, and hands back
+/// what was read there, with what stands of the page.
+///
+/// One thread writes as the client and retires; another reads as the server until no more comes, and
+/// retires. All memory is taken first: `Memory` comes at want of it alone. Where no second thread can
+/// be made it waits for ever, if the bytes are more than the ring holds.
+pub fn pipe<R: Threads + Wait + Clock + Sync>(
+    rt: &R,
+    alloc: Global,
+    orders: Orders,
+    start: u32,
+    bytes: Vec<u8>,
+) -> Result<(Vec<u8>, Settled), Memory>
+    requires { vec_len bytes < 2 ^ 31 }
+    ensures bytes { IfOk result (λ piped. piped.0.items ≡ bytes.items) }
+    ensures page { IfOk result (λ piped. HasPiped orders bytes.items piped.1) }
+{
+    let buf = vec![in alloc; 0u8; bytes.len() + 1]?;
+    let (page, server, client) = Page::open(alloc, orders, start)?;
+    let sent = bytes.as_slice();
+    let shared = &page;
+    let (client, received) = join(
+        rt,
+        || -> Retired
+            requires { client ≡ record { page = shared.now; role = Client } }
+            ensures { IsEndOf shared.entry.now.table Client result × SendsAll (last_view result) sent.entry.now }
+        { write_all_and_retire(rt, shared, client, sent) },
+        || -> Received
+            requires { (server ≡ record { page = shared.now; role = Server }) × (0 < vec_len buf) }
+            ensures { IsEndOf shared.entry.now.table Server result.end × GetsAll (last_view result.end) result.bytes.items (vec_len buf) }
+        { read_all_and_retire(rt, shared, server, buf) },
+    );
+    let Received { end: server, bytes } = received;
+    let settled = page.finish(server, client);
+    settled.promise();
+    Ok((bytes, settled))
+}

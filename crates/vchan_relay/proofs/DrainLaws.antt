@@ -1,0 +1,27 @@
+-- What a drain into the rest of a buffer got.
+use Rattle.std.proofs.Common.{◌≡◌, ◌≤◌, ◌+◌, ℕ, List, ◌++◌, length, take, Bool, refl, sym, subst, ap, ◌∙◌, arith}
+use Rattle.std.proofs.lemmas.List.{length-take-le, take-append-le, take-take}
+use Rattle.std.proofs.Math.Seq.{take-append-add}
+use Rattle.vchan_lifecycle.specs.declared.DrainAnswer.{DrainAnswer}
+use Rattle.vchan_lifecycle.specs.declared.DrainAnswer.TheVariants.{More, NotYet, AllRead, PeerGone}
+use Rattle.vchan_lifecycle.specs.Lifecycle.{drained_to}
+use Rattle.end_view.specs.EndView.{EndView}
+use Rattle.vchan_relay.specs.Ended.{drained_count}
+
+-- a piece that was got into the rest of a buffer stands behind those before it
+got_some : (got part post buf : List ℕ) (count more : ℕ) → count ≤ length buf → more ≤ length part → got ≡ take count buf ++ take more part → got ≡ take (count + more) (take count buf ++ (part ++ post))
+got_some got part post buf count more within few is =
+    is ∙ ap (λ (xs : List ℕ). take count buf ++ xs) (sym (take-append-le more part post few))
+    ∙ sym (subst (λ (n : ℕ). take (n + more) (take count buf ++ (part ++ post)) ≡ take count buf ++ take more (part ++ post)) (length-take-le count buf within) (take-append-add (take count buf) (part ++ post) more))
+
+got_none : (got rest buf : List ℕ) (count : ℕ) → count ≤ length buf → got ≡ take count buf → got ≡ take (count + 0) (take count buf ++ rest)
+got_none got rest buf count within is =
+    let same : count + 0 ≡ count = omega arith in
+    is ∙ sym (ap (λ (n : ℕ). take n (take count buf ++ rest)) same ∙ take-append-le count (take count buf) rest (let cut = length-take-le count buf within in omega (arith, cut)) ∙ take-take count count buf (omega arith))
+
+pub got_behind : (was e : EndView) (answer : DrainAnswer) (part post buf : List ℕ) (count : ℕ) (saw : Bool) → count ≤ length buf → ((more : ℕ) → answer ≡ More more → more ≤ length part) → was.got ≡ take count buf →
+    e ≡ drained_to was answer part saw → e.got ≡ take (count + drained_count answer) (take count buf ++ (part ++ post))
+got_behind was e (More more) part post buf count saw within few before is = got_some e.got part post buf count more within (few more refl) (ap (λ (v : EndView). v.got) is ∙ ap (λ (xs : List ℕ). xs ++ take more part) before)
+got_behind was e (NotYet prod cons) part post buf count saw within few before is = got_none e.got (part ++ post) buf count within (ap (λ (v : EndView). v.got) is ∙ before)
+got_behind was e AllRead part post buf count saw within few before is = got_none e.got (part ++ post) buf count within (ap (λ (v : EndView). v.got) is ∙ before)
+got_behind was e (PeerGone prod cons) part post buf count saw within few before is = got_none e.got (part ++ post) buf count within (ap (λ (v : EndView). v.got) is ∙ before)

@@ -1,0 +1,136 @@
+-- A row of tasks and of what they handed back, one page after another.
+use Rattle.std.proofs.Common.{◌≡◌, ◌+◌, ◌<◌, ℕ, suc, List, [], ◌∷◌, ◌++◌, length, drop, get_or, refl, sym, subst, ap, ◌∙◌, append_assoc, add-one, arith}
+use Rattle.std.proofs.lemmas.List.{length-drop}
+use Rattle.std.proofs.Math.Seq.{drop-cons}
+use Rattle.end_view.specs.Settled.{Settled}
+use Rattle.vchan_relay.specs.Settling.{IsSettledBy, AreSettledBy, AreAllSettledBy}
+use Rattle.atomic_table.specs.Seated.{TableId}
+use Rattle.ring_words.specs.declared.order.Orders.{Orders}
+use Rattle.ring_words.specs.declared.page.Role.TheVariants.{Server}
+use Rattle.vchan_rule.specs.Seated.{PageView, SeatedSide}
+use Rattle.vchan_relay.specs.declared.lay.PageSeats.{PageSeats}
+use Rattle.vchan_relay.specs.declared.task.HopDone.{HopDone}
+use Rattle.vchan_relay.specs.declared.task.HopDone.TheVariants.{Wrote, Passed, Read}
+use Rattle.vchan_relay.specs.declared.task.HopTask.{HopTask}
+use Rattle.vchan_relay.specs.declared.task.HopTask.TheVariants.{Reads}
+use Rattle.vchan_relay.specs.Ended.{IsEndOf}
+use Rattle.vchan_relay.specs.Given.{ReaderGiven}
+use Rattle.vchan_relay.specs.Laying.{IsLaid, AreLaid}
+use Rattle.vchan_relay.specs.Owes.{Owes, WriterHands, RelayHands, ReaderHands, FollowOn, AreTasks, AreHandedBack, AreLeft}
+
+-- ---- laying
+
+pub laid_more : (orders : Orders) (pages : List PageView) (seats : List PageSeats) (page : PageView) (seat : PageSeats) → AreLaid orders pages seats → IsLaid orders page seat → AreLaid orders (pages ++ page ∷ []) (seats ++ seat ∷ [])
+laid_more orders [] [] page seat laid is = (is, tt)
+laid_more orders [] (first ∷ seats) page seat laid is = absurd laid
+laid_more orders (first ∷ pages) [] page seat laid is = absurd laid
+laid_more orders (first ∷ pages) (other ∷ seats) page seat laid is = (laid.0, laid_more orders pages seats page seat laid.1 is)
+
+-- ---- dealing
+
+pub first_task : (bytes : List ℕ) (room : ℕ) (page : PageView) (pages : List PageView) (near : TableId) (task : HopTask) (tasks : List HopTask) → tasks ≡ task ∷ [] → Owes task (WriterHands page.table bytes) → near ≡ page.table →
+    (more : List HopTask) → FollowOn room near pages more → AreTasks bytes room (page ∷ pages) (tasks ++ more)
+first_task bytes room page pages near task tasks is owes same more follow =
+    subst (λ (xs : List HopTask). AreTasks bytes room (page ∷ pages) (xs ++ more)) (sym is) (owes, subst (λ (t : TableId). FollowOn room t pages more) same follow)
+
+pub next_task : (bytes : List ℕ) (room : ℕ) (all : List PageView) (before after : TableId) (page : PageView) (pages : List PageView) (task : HopTask) (tasks longer : List HopTask) →
+    ((more : List HopTask) → FollowOn room before (page ∷ pages) more → AreTasks bytes room all (tasks ++ more)) → longer ≡ tasks ++ task ∷ [] → Owes task (RelayHands before page.table) → after ≡ page.table →
+    (more : List HopTask) → FollowOn room after pages more → AreTasks bytes room all (longer ++ more)
+next_task bytes room all before after page pages task tasks longer goes_on is owes same more follow =
+    subst (λ (xs : List HopTask). AreTasks bytes room all xs) (sym (ap (λ (xs : List HopTask). xs ++ more) is ∙ append_assoc tasks (task ∷ []) more))
+    (goes_on (task ∷ more) (owes, subst (λ (t : TableId). FollowOn room t pages more) same follow))
+
+pub last_task : (bytes : List ℕ) (room : ℕ) (all : List PageView) (before : TableId) (given : ReaderGiven) (tasks longer : List HopTask) →
+    ((more : List HopTask) → FollowOn room before [] more → AreTasks bytes room all (tasks ++ more)) → longer ≡ tasks ++ Reads given ∷ [] → given ≡ record { page = before; room = room } → AreTasks bytes room all longer
+last_task bytes room all before given tasks longer goes_on is same =
+    subst (λ (xs : List HopTask). AreTasks bytes room all xs) (sym is) (goes_on (Reads given ∷ []) (λ done hands. subst (λ (r : ReaderGiven). ReaderHands r.page r.room done) same hands))
+
+-- no page is left where no seat is
+pub none_left : (orders : Orders) (pages : List PageView) → AreLaid orders pages [] → pages ≡ []
+none_left orders [] laid = refl
+none_left orders (page ∷ pages) laid = absurd laid
+
+-- where a seat is left, it's that of the page at the index
+pub record IsNext (orders : Orders) (pages : List PageView) (index : ℕ) (page : PageView) (seat : PageSeats) (seats : List PageSeats) : Type 0 where
+  pub within : index < length pages
+  pub cut : drop index pages ≡ page ∷ drop (index + 1) pages
+  pub laid : IsLaid orders page seat
+  pub rest : AreLaid orders (drop (index + 1) pages) seats
+
+some_left : (orders : Orders) (pages : List PageView) (seats : List PageSeats) (seat : PageSeats) → AreLaid orders pages (seat ∷ seats) → 0 < length pages
+some_left orders [] seats seat laid = absurd laid
+some_left orders (page ∷ pages) seats seat laid = omega arith
+
+pub is_next : (orders : Orders) (pages : List PageView) (index : ℕ) (page : PageView) (seat : PageSeats) (seats left : List PageSeats) → AreLaid orders (drop index pages) left → left ≡ seat ∷ seats → page ≡ get_or pages index page → IsNext orders pages index page seat seats
+is_next orders pages index page seat seats left laid is at =
+    let laid' : AreLaid orders (drop index pages) (seat ∷ seats) = subst (AreLaid orders (drop index pages)) is laid in
+    let some = some_left orders (drop index pages) seats seat laid' in
+    let long = length-drop index pages in
+    let within : index < length pages = omega (arith, some, long) in
+    let cut : drop index pages ≡ page ∷ drop (index + 1) pages =
+    drop-cons pages index page within ∙ ap (λ (p : PageView). p ∷ drop (suc index) pages) (sym at) ∙ ap (λ (n : ℕ). page ∷ drop n pages) (sym (add-one index)) in
+    let both : AreLaid orders (page ∷ drop (index + 1) pages) (seat ∷ seats) = subst (λ (ps : List PageView). AreLaid orders ps (seat ∷ seats)) cut laid' in
+    record { within = within; cut = cut; laid = both.0; rest = both.1 }
+
+-- ---- settling
+
+pub left_first : (bytes : List ℕ) (room : ℕ) (pages : List PageView) (client : SeatedSide) (dones : List HopDone) → AreHandedBack bytes room pages (Wrote client ∷ dones) → AreLeft room pages client dones
+left_first bytes room [] client dones handed = absurd handed
+left_first bytes room (page ∷ pages) client dones handed = (handed.0.0, handed.1)
+
+pub no_relay_first : (bytes : List ℕ) (room : ℕ) (pages : List PageView) (near far : SeatedSide) (dones : List HopDone) → AreHandedBack bytes room pages (Passed near far ∷ dones) → ⊥
+no_relay_first bytes room [] near far dones handed = handed
+no_relay_first bytes room (page ∷ pages) near far dones handed = handed.0
+
+pub no_reader_first : (bytes : List ℕ) (room : ℕ) (pages : List PageView) (end : SeatedSide) (got : List ℕ) (dones : List HopDone) → AreHandedBack bytes room pages (Read end got ∷ dones) → ⊥
+no_reader_first bytes room [] end got dones handed = handed
+no_reader_first bytes room (page ∷ pages) end got dones handed = handed.0
+
+pub some_first : (bytes : List ℕ) (room : ℕ) (pages : List PageView) → AreHandedBack bytes room pages [] → ⊥
+some_first bytes room [] handed = handed
+some_first bytes room (page ∷ pages) handed = handed
+
+pub passed_on : (room : ℕ) (page : PageView) (pages : List PageView) (client near far : SeatedSide) (dones : List HopDone) → AreLeft room (page ∷ pages) client (Passed near far ∷ dones) → IsEndOf page.table Server near × AreLeft room pages far dones
+passed_on room page [] client near far [] left = absurd left.1
+passed_on room page [] client near far (done ∷ dones) left = absurd left.1
+passed_on room page (next ∷ pages) client near far dones left = (left.1.0.0, (left.1.0.1, left.1.1))
+
+pub read_last : (room : ℕ) (page : PageView) (pages : List PageView) (client end : SeatedSide) (got : List ℕ) (dones : List HopDone) → AreLeft room (page ∷ pages) client (Read end got ∷ dones) → IsEndOf page.table Server end
+read_last room page [] client end got [] left = left.1.0
+read_last room page [] client end got (done ∷ dones) left = absurd left.1
+read_last room page (next ∷ pages) client end got dones left = absurd left.1.0
+
+pub no_writer_left : (room : ℕ) (page : PageView) (pages : List PageView) (client end : SeatedSide) (dones : List HopDone) → AreLeft room (page ∷ pages) client (Wrote end ∷ dones) → ⊥
+no_writer_left room page [] client end [] left = left.1
+no_writer_left room page [] client end (done ∷ dones) left = left.1
+no_writer_left room page (next ∷ pages) client end dones left = left.1.0
+
+pub some_done_left : (room : ℕ) (page : PageView) (pages : List PageView) (client : SeatedSide) → AreLeft room (page ∷ pages) client [] → ⊥
+some_done_left room page [] client left = left.1
+some_done_left room page (next ∷ pages) client left = left.1
+
+-- the same of lists that are known
+pub left_at : (room : ℕ) (pages pages' : List PageView) (client : SeatedSide) (dones dones' : List HopDone) → pages ≡ pages' → dones ≡ dones' → AreLeft room pages client dones → AreLeft room pages' client dones'
+left_at room pages pages' client dones dones' is_pages is_dones left = subst (λ (ps : List PageView). AreLeft room ps client dones') is_pages (subst (AreLeft room pages client) is_dones left)
+
+settled_at : (pages pages' : List PageView) (client : SeatedSide) (dones dones' : List HopDone) (settled : List Settled) (got : List ℕ) → pages ≡ pages' → dones ≡ dones' → AreSettledBy pages' client dones' settled got → AreSettledBy pages client dones settled got
+settled_at pages pages' client dones dones' settled got is_pages is_dones by =
+    subst (λ (ps : List PageView). AreSettledBy ps client dones settled got) (sym is_pages) (subst (λ (ds : List HopDone). AreSettledBy pages' client ds settled got) (sym is_dones) by)
+
+-- all that is settled, once a page more is
+all_settled : (all : List PageView) (first : List HopDone) (s : Settled) (settled longer more : List Settled) (got : List ℕ) → longer ≡ settled ++ s ∷ [] → AreAllSettledBy all first (settled ++ s ∷ more) got → AreAllSettledBy all first (longer ++ more) got
+all_settled all first s settled longer more got is by =
+    subst (λ (xs : List Settled). AreAllSettledBy all first xs got) (sym (ap (λ (xs : List Settled). xs ++ more) is ∙ append_assoc settled (s ∷ []) more)) by
+
+pub settled_on : (all : List PageView) (first : List HopDone) (page : PageView) (pages left : List PageView) (client near far : SeatedSide) (dones handed : List HopDone) (s : Settled) (settled longer : List Settled) →
+    left ≡ page ∷ pages → handed ≡ Passed near far ∷ dones → IsSettledBy page near client s → longer ≡ settled ++ s ∷ [] →
+    ((more : List Settled) (got : List ℕ) → AreSettledBy left client handed more got → AreAllSettledBy all first (settled ++ more) got) →
+    (more : List Settled) (got : List ℕ) → AreSettledBy pages far dones more got → AreAllSettledBy all first (longer ++ more) got
+settled_on all first page pages left client near far dones handed s settled longer is_left is_handed by is goes_on more got rest =
+    all_settled all first s settled longer more got is (goes_on (s ∷ more) got (settled_at left (page ∷ pages) client handed (Passed near far ∷ dones) (s ∷ more) got is_left is_handed (by, rest)))
+
+pub settled_last : (all : List PageView) (first : List HopDone) (page : PageView) (pages left : List PageView) (client end : SeatedSide) (bytes : List ℕ) (dones handed : List HopDone) (s : Settled) (settled longer : List Settled) →
+    left ≡ page ∷ pages → handed ≡ Read end bytes ∷ dones → IsSettledBy page end client s → longer ≡ settled ++ s ∷ [] →
+    ((more : List Settled) (got : List ℕ) → AreSettledBy left client handed more got → AreAllSettledBy all first (settled ++ more) got) → AreAllSettledBy all first longer bytes
+settled_last all first page pages left client end bytes dones handed s settled longer is_left is_handed by is goes_on =
+    subst (λ (xs : List Settled). AreAllSettledBy all first xs bytes) (sym is) (goes_on (s ∷ []) bytes (settled_at left (page ∷ pages) client handed (Read end bytes ∷ dones) (s ∷ []) bytes is_left is_handed (by, refl, refl)))

@@ -1,0 +1,53 @@
+//! The task of a relay.
+use crate::relay::Relay;
+use crate::task::{HopDone, HopTask};
+use std::marker::Model;
+use task_pool::Turn;
+
+/// A relay that hasn't ended, between the server's end of one page and the client's of the next.
+#[derive(Drop)]
+pub(crate) struct Hop<'p> {
+    relay: Relay<'p>,
+}
+
+impl<'p> Model for Hop<'p> {
+    ghost use Rattle.std.specs.Prelude.{◌≡◌, false};
+    ghost use Rattle.ring_words.specs.declared.page.Role.TheVariants.{Server, Client};
+    ghost use Rattle.vchan_relay.specs.Given.{HopGiven};
+
+    ghost Value = { HopGiven };
+
+    ghost view = { λ h. record { near = h.relay.near.page; far = h.relay.far.page } };
+
+    ghost invariant = { λ h. (h.relay.ended ≡ false) × (h.relay.near.side.role ≡ Server) × (h.relay.far.side.role ≡ Client) };
+}
+
+impl<'p> Hop<'p> {
+    ghost use Rattle.std.specs.Prelude.{◌≡◌, false};
+    ghost use Rattle.ring_words.specs.declared.page.Role.TheVariants.{Server, Client};
+    ghost use Rattle.task_pool.specs.Owes.{Pays};
+    ghost use Rattle.vchan_relay.specs.Owes.{hop_owes};
+
+    /// The task of a relay.
+    pub(crate) fn new(relay: Relay<'p>) -> Hop<'p>
+        requires going { relay.ended ≡ false }
+        requires near { relay.near.side.role ≡ Server }
+        requires far { relay.far.side.role ≡ Client }
+        ensures { result ≡ record { near = relay.entry.near.page; far = relay.entry.far.page } }
+    {
+        Hop { relay }
+    }
+
+    /// A turn of the relay, which retires both its ends once it has ended.
+    pub(crate) fn turn(self) -> Turn<HopTask<'p>>
+        ensures { Pays hop_owes (HopTask.Passes self.entry) result }
+    {
+        let Hop { mut relay } = self;
+        let _ = relay.turn();
+        if relay.ended() {
+            let (near, far) = relay.retire();
+            return Turn::Done(HopDone::Passed { near, far });
+        }
+        Turn::Again(HopTask::Passes(Hop { relay }))
+    }
+}

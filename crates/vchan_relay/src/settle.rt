@@ -1,0 +1,58 @@
+//! Settling the pages of a run.
+ghost use Rattle.std.specs.Prelude.{◌≡◌, IfOk, List, ℕ};
+ghost use Rattle.ring_words.specs.declared.page.Role.TheVariants.{Server, Client};
+ghost use Rattle.vchan_relay.specs.Ended.{IsEndOf};
+ghost use Rattle.vchan_relay.specs.Owes.{AreHandedBack};
+ghost use Rattle.vchan_relay.specs.Settling.{AreAllSettledBy, IsSettledBy};
+
+use crate::run::Relayed;
+use crate::task::HopDone;
+use std::alloc::Global;
+use vchan_io::Memory;
+use vchan_rule::{Page, Retired, Settled};
+
+/// A page that is settled by its two ends.
+fn settle_page(page: Page, server: Retired, client: Retired) -> Settled
+    requires server { IsEndOf page.table Server server }
+    requires client { IsEndOf page.table Client client }
+    ensures { IsSettledBy page server client result }
+{
+    let settled = page.finish(server, client);
+    settled.promise();
+    settled
+}
+
+/// Settles all pages by what the tasks handed back. Its error is want of memory.
+pub(crate) fn settle(
+    alloc: Global,
+    pages: Vec<Page>,
+    dones: Vec<HopDone>,
+) -> Result<Relayed, Memory>
+    requires { (bytes : List ℕ) × (room : ℕ) × AreHandedBack bytes room pages.items dones.items }
+    ensures { IfOk result (λ r. AreAllSettledBy pages.items dones.items r.pages r.got) }
+{
+    let mut settled = Vec::with_capacity(alloc, pages.len())?;
+    let mut dones = dones.into_iter();
+    let Some(HopDone::Wrote(first)) = dones.next() else {
+        unreachable!()
+    };
+    let mut client = first;
+    for page in pages {
+        match dones.next() {
+            Some(HopDone::Passed { near, far }) => {
+                settled.push(settle_page(page, near, client))?;
+                client = far;
+            }
+            Some(HopDone::Read { end, bytes }) => {
+                settled.push(settle_page(page, end, client))?;
+                return Ok(Relayed {
+                    got: bytes,
+                    pages: settled,
+                });
+            }
+            Some(HopDone::Wrote(_)) => unreachable!(),
+            None => unreachable!(),
+        }
+    }
+    unreachable!()
+}

@@ -1,0 +1,75 @@
+//! The task that sends all bytes.
+use crate::task::{HopDone, HopTask};
+use std::marker::Model;
+use task_pool::Turn;
+use vchan_lifecycle::retire;
+use vchan_rule::End;
+use vchan_stream::{WriteAnswer, write};
+
+/// The client of the first page, with the bytes that it sends.
+#[derive(Drop)]
+pub(crate) struct Writer<'p> {
+    end: End<'p>,
+    bytes: Vec<u8>,
+    sent: usize,
+}
+
+impl<'p> Model for Writer<'p> {
+    ghost use Rattle.std.specs.Prelude.{◌≡◌, ◌≤◌, length, take};
+    ghost use Rattle.ring_words.specs.declared.page.Role.TheVariants.{Client};
+    ghost use Rattle.vchan_rule.specs.Seated.{IsOpen};
+    ghost use Rattle.vchan_relay.specs.Given.{WriterGiven};
+
+    ghost Value = { WriterGiven };
+
+    ghost view = { λ w. record { page = w.end.page; bytes = w.bytes.items } };
+
+    ghost invariant = { λ w. IsOpen w.end × (w.end.side.role ≡ Client) × (w.sent ≤ length w.bytes.items) × (w.end.side.sent ≡ take w.sent w.bytes.items) };
+}
+
+impl<'p> Writer<'p> {
+    ghost use Rattle.std.specs.Prelude.{◌≡◌, []};
+    ghost use Rattle.ring_words.specs.declared.page.Role.TheVariants.{Client};
+    ghost use Rattle.task_pool.specs.Owes.{Pays};
+    ghost use Rattle.vchan_rule.specs.Seated.{view, IsOpen};
+    ghost use Rattle.vchan_relay.specs.Owes.{hop_owes};
+
+    /// A writer that has sent nothing.
+    pub(crate) fn new(end: End<'p>, bytes: Vec<u8>) -> Writer<'p>
+        requires open { IsOpen end }
+        requires client { end.side.role ≡ Client }
+        requires none { (view end).sent ≡ [] }
+        ensures { result ≡ record { page = end.entry.page; bytes = bytes.items } }
+    {
+        Writer {
+            end,
+            bytes,
+            sent: 0,
+        }
+    }
+
+    /// Sends what has room. After the last byte, and where the reader is shut, it retires.
+    pub(crate) fn turn(self) -> Turn<HopTask<'p>>
+        ensures { Pays hop_owes (HopTask.Writes self.entry) result }
+    {
+        let Writer {
+            mut end,
+            bytes,
+            sent,
+        } = self;
+        if sent == bytes.len() {
+            return Turn::Done(HopDone::Wrote(retire(end)));
+        }
+        match write(&mut end, &bytes[sent..]) {
+            WriteAnswer::Wrote { count } => Turn::Again(HopTask::Writes(Writer {
+                end,
+                bytes,
+                sent: sent + count as usize,
+            })),
+            WriteAnswer::Full { prod: _, cons: _ } => {
+                Turn::Again(HopTask::Writes(Writer { end, bytes, sent }))
+            }
+            WriteAnswer::PeerClosed => Turn::Done(HopDone::Wrote(retire(end))),
+        }
+    }
+}

@@ -1,0 +1,1 @@
+print(open("../../../examples/hostile-office.toml").read(), end="")

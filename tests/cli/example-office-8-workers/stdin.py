@@ -1,0 +1,1 @@
+print(open("../../../examples/office.toml").read(), end="")

@@ -1,0 +1,3 @@
+import sys
+
+sys.stdout.write('#' * 4194305)
