@@ -1,19 +1,19 @@
 -- What the tasks answer, with the pages that are settled by it, are the results of a run.
 use Rattle.std.proofs.Common.{◌≡◌, ◌≢◌, ℕ, zero, suc, ◌+◌, ◌<◌, ◌≤◌, List, [], ◌∷◌, map, length, refl, ap, sym, ◌∙◌, subst, arith, Some, None}
-use Rattle.std.specs.Prelude.{slice_get, slice_index_or, Contains}
+use Rattle.std.specs.Prelude.{slice_get, Contains}
 use Rattle.std.specs.List.{AllZip}
 use Rattle.vchan_rule.specs.Seated.{SeatedEnd, view}
 use Rattle.qrexec_frame.specs.Streams.{Each}
 use Rattle.scenario_file.specs.Scenario.{Plan as Scenario, IsScenario}
 use Rattle.task_duties.specs.Pairwise.{EachPair}
-use Rattle.task_duties.specs.TaskOwes.{Agent, AgentDone, Broker, BrokerDone, EndAt, Hostile, HostileDone, IsSameEnd, NoMemory, TaskDone as Answer, TaskGiven, TaskOwes, broker_ends, broker_given}
+use Rattle.task_duties.specs.TaskOwes.{Agent, AgentDone, Broker, BrokerDone, EndAt, Hostile, HostileDone, IsSameEnd, NoMemory, TaskDone as Answer, TaskGiven, TaskOwes, broker_given}
 use Rattle.domain_task.specs.declared.task.Task.{Task}
 use Rattle.domain_task.specs.declared.done.TaskDone.{TaskDone}
 use Rattle.domain_task.specs.Given.{given_of}
 use Rattle.domain_task.specs.Owes.{Owes, answer_of}
 use Rattle.run_laws.specs.Laid.{awaited_by, client_of, hub_of, server_of}
 use Rattle.run_laws.specs.Report.{SettledPage}
-use Rattle.run_laws.specs.Results.{AreResults, HasAnswered, IsGivenTo, IsJoined, answer_at, ends_of}
+use Rattle.run_laws.specs.Results.{AreResults, IsJoined, answer_at, ends_of}
 use Rattle.run_pages.specs.declared.deal.Hand.{Hand}
 use Rattle.run_pages.specs.Pages.{AreLaid, PageAt, new_ends}
 use Rattle.run_pages.specs.Dealt.{ControlsDealt, HandsDealt, hand_ends}

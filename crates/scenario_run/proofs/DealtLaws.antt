@@ -1,24 +1,24 @@
 -- The ends that are dealt are those that the tasks of a scenario may be given.
-use Rattle.std.proofs.Common.{◌≡◌, ◌≢◌, ◌⊎◌, inl, inr, ℕ, zero, suc, ◌+◌, ◌<◌, ◌≤◌, List, [], ◌∷◌, map, length, refl, ap, sym, ◌∙◌, subst, arith, Option, Some, None}
-use Rattle.std.specs.Prelude.{◌==◌, Bool, true, false, filter, filter_map, is_some, slice_get, if◌then◌else◌}
+use Rattle.std.proofs.Common.{◌≡◌, ◌≢◌, ◌⊎◌, inl, inr, ℕ, zero, suc, ◌+◌, ◌≤◌, List, [], ◌∷◌, map, length, refl, ap, sym, ◌∙◌, subst, arith, Some, None}
+use Rattle.std.specs.Prelude.{◌==◌, Bool, true, false, filter, is_some}
 use Rattle.std.proofs.lemmas.Bool.Decides.{nat_tests}
 use Rattle.ring_words.specs.declared.page.Role.{Role}
 use Rattle.ring_words.specs.declared.page.Role.TheVariants.{Server, Client}
 use Rattle.vchan_rule.specs.Seated.{SeatedEnd, view}
-use Rattle.end_view.specs.EndView.{EndView, IsUnused}
+use Rattle.end_view.specs.EndView.{IsUnused}
 use Rattle.qrexec_frame.specs.Streams.{Each}
 use Rattle.scenario_file.specs.Scenario.{Plan as Scenario, domain_of, hostile_at}
 use Rattle.task_duties.specs.declared.place.PagePlace.{PagePlace}
 use Rattle.task_duties.specs.declared.place.PagePlace.TheVariants.{Control, Payload}
 use Rattle.task_duties.specs.declared.ends.DataEnd.{DataEnd}
 use Rattle.task_duties.specs.Places.{numbers}
-use Rattle.task_duties.specs.TaskOwes.{Broker, EndAt, all_ends, broker_ends, places_in}
-use Rattle.task_duties.specs.GivenEnds.{all_given, given_at}
-use Rattle.task_duties.proofs.Elements.{Differ, Has, each-at, each-of, has-filter_map, has-map-back}
+use Rattle.task_duties.specs.TaskOwes.{Broker, EndAt, broker_ends, places_in}
+use Rattle.task_duties.specs.GivenEnds.{all_given}
+use Rattle.task_duties.proofs.Elements.{Differ, Has, each-of, has-filter_map, has-map-back}
 use Rattle.broker_task.specs.Given.{IsNewClient}
 use Rattle.data_slots.specs.Slots.{IsEndOf, IsGiven}
-use Rattle.run_laws.specs.Laid.{agent_plan, all_domains, awaited_by, client_of, hostile_plan, hub_of, is_data, laid, places_of, server_of}
-use Rattle.run_laws.specs.Run.{IsHonest, IsPlace}
+use Rattle.run_laws.specs.Laid.{agent_plan, awaited_by, client_of, hostile_plan, hub_of, is_data, places_of, server_of}
+use Rattle.run_laws.specs.Run.{IsPlace}
 use Rattle.run_laws.specs.Results.{IsGivenTo}
 use Rattle.run_laws.proofs.Scenarios.Numbers.{domain-is}
 use Rattle.run_laws.proofs.Scenarios.Names.{below-there}

@@ -1,18 +1,16 @@
 -- That what a scenario keeps is what its tasks may be given.
-use Rattle.std.proofs.Common.{◌≡◌, ◌≢◌, ◌⊎◌, inl, inr, ℕ, zero, suc, ◌+◌, ◌-◌, ◌*◌, ◌^◌, ◌<◌, ◌≤◌, List, [], ◌∷◌, ◌++◌, map, length, refl, ap, sym, ◌∙◌, subst, arith, length-append, Option, Some, None}
-use Rattle.std.specs.Prelude.{◌==◌, ◌&&◌, nat_le, Bool, true, false, filter, is_some, slice_get, slice_index_or, unwrap_or, if◌then◌else◌}
-use Rattle.std.specs.List.{All, count_by, flat_map, list_all}
+use Rattle.std.proofs.Common.{◌≡◌, ◌≢◌, ℕ, zero, suc, ◌+◌, ◌-◌, ◌*◌, ◌^◌, ◌<◌, ◌≤◌, List, [], ◌∷◌, ◌++◌, map, length, refl, ap, sym, ◌∙◌, subst, arith, length-append, Some, None}
+use Rattle.std.specs.Prelude.{◌==◌, Bool, true, false, slice_get, slice_index_or, if◌then◌else◌}
+use Rattle.std.specs.List.{All, flat_map}
 use Rattle.std.specs.Option.{option_map_or}
-use Rattle.std.proofs.lemmas.Bool.{and_parts}
 use Rattle.std.proofs.lemmas.Bool.Decides.{nat_tests}
 use Rattle.std.proofs.lemmas.List.Sums.{count_by-le-length}
 use Rattle.std.proofs.lemmas.List.Elements.{All-from_recursion, recursion_from_All}
-use Rattle.vchan_rule.specs.Seated.{view}
 use Rattle.qrexec_frame.specs.Streams.{Each}
-use Rattle.call_broker.specs.Domains.{Domains, count_of, first_port, is_domain, name_of}
+use Rattle.call_broker.specs.Domains.{Domains, first_port}
 use Rattle.call_queue.specs.Queue.{AreDifferent, FitsTrigger}
 use Rattle.broker_task.specs.Replies.{HasShortNames}
-use Rattle.scenario_file.specs.Scenario.{Plan as Scenario, DomainFits, IsScenario, NumbersFit, domain_of, hostile_at, is_hostile, version_at}
+use Rattle.scenario_file.specs.Scenario.{Plan as Scenario, DomainFits, IsScenario, NumbersFit, hostile_at, is_hostile}
 use Rattle.scenario_file.specs.declared.scenario.CallPlan.{CallPlan}
 use Rattle.scenario_file.specs.declared.scenario.Domain.{Domain}
 use Rattle.task_duties.specs.declared.ends.DataEnd.{DataEnd}
@@ -21,9 +19,9 @@ use Rattle.task_duties.specs.Hostile.Stores.{role_at}
 use Rattle.task_duties.specs.Places.{numbers}
 use Rattle.task_duties.specs.GivenEnds.{all_given}
 use Rattle.task_duties.specs.Words.{ident_of}
-use Rattle.task_duties.proofs.Elements.{Differ, Has, each-at, each-of, has-filter}
+use Rattle.task_duties.proofs.Elements.{Differ, each-at, each-of, has-filter}
 use Rattle.data_slots.specs.Slots.{IsEndOf, IsGiven}
-use Rattle.hostile_task.specs.Plan.{AreDataOf, IsDataOf}
+use Rattle.hostile_task.specs.Plan.{AreDataOf}
 use Rattle.hostile_task.specs.declared.domain.HostileDomain.{HostileDomain}
 use Rattle.ring_words.specs.declared.page.Role.{Role}
 use Rattle.ring_words.specs.declared.page.Role.TheVariants.{Server, Client}

@@ -1,13 +1,13 @@
 -- No two pages of a scenario lie at one place.
 use Rattle.std.proofs.Common.{◌≡◌, ◌≢◌, ◌⊎◌, inl, inr, ℕ, zero, suc, ◌+◌, ◌<◌, List, [], ◌∷◌, ◌++◌, map, refl, ap, sym, ◌∙◌, subst, arith, Some, None}
-use Rattle.std.specs.Prelude.{Bool, true, false, filter, slice_get, if◌then◌else◌}
+use Rattle.std.specs.Prelude.{Bool, true, false, filter, slice_get}
 use Rattle.std.specs.List.{flat_map}
 use Rattle.qrexec_frame.specs.Streams.{Each}
 use Rattle.scenario_file.specs.Scenario.{Plan as Scenario}
 use Rattle.task_duties.specs.declared.place.PagePlace.{PagePlace}
 use Rattle.task_duties.specs.declared.place.PagePlace.TheVariants.{Control, Payload}
 use Rattle.task_duties.specs.Places.{is_place, numbers}
-use Rattle.task_duties.proofs.Elements.{Comes, Differ, Has, differ-numbers, each-at, each-of, has-append, has-filter, has-flat_map, has-map}
+use Rattle.task_duties.proofs.Elements.{Differ, Has, differ-numbers, each-at, each-of, has-append, has-filter, has-flat_map, has-map}
 use Rattle.task_duties.proofs.ServedLaw.{same-place}
 use Rattle.data_slots.specs.Slots.{AreApart}
 use Rattle.hostile_task.specs.Plan.{AreApart as AreAllApart}

@@ -1,6 +1,6 @@
 -- What the tasks report of the calls and of what was served, as the lines of a report want it.
-use Rattle.std.proofs.Common.{◌≡◌, ◌≢◌, ◌⊎◌, inl, inr, ℕ, zero, suc, ◌+◌, ◌<◌, ◌≤◌, List, [], ◌∷◌, map, length, refl, ap, sym, ◌∙◌, subst, arith, Option, Some, None}
-use Rattle.std.specs.Prelude.{◌==◌, Bool, true, false, filter, is_some, slice_get, if◌then◌else◌}
+use Rattle.std.proofs.Common.{◌≡◌, ◌≢◌, inl, inr, ℕ, zero, suc, ◌+◌, ◌<◌, ◌≤◌, List, [], ◌∷◌, map, length, refl, ap, sym, ◌∙◌, subst, arith, Some, None}
+use Rattle.std.specs.Prelude.{◌==◌, Bool, true, false, filter, is_some, slice_get}
 use Rattle.std.proofs.lemmas.Bool.{false≢true}
 use Rattle.std.proofs.lemmas.Bool.Decides.{nat_tests}
 use Rattle.end_view.specs.EndView.{EndView}
@@ -19,14 +19,14 @@ use Rattle.task_duties.specs.Words.{ident_of}
 use Rattle.task_duties.proofs.Elements.{Differ, Has, each-at, has-filter, has-map-back}
 use Rattle.run_laws.specs.Laid.{agent_plan, calls_from}
 use Rattle.run_laws.specs.Laws.{agent_heard}
-use Rattle.run_laws.specs.ReadOff.{end_in, end_of_call}
+use Rattle.run_laws.specs.ReadOff.{end_in}
 use Rattle.run_laws.specs.Report.{SettledPage}
-use Rattle.run_laws.specs.Results.{AreResults, IsGivenTo, answer_at, calls_of, journal_of, run_of, served_of}
+use Rattle.run_laws.specs.Results.{AreResults, IsGivenTo, answer_at, calls_of, run_of, served_of}
 use Rattle.run_laws.specs.Run.{IsHonest, IsRun, Run, end_of}
 use Rattle.run_laws.proofs.Domains.ControlLaws.{own-end}
 use Rattle.run_laws.proofs.Runs.ResultLaws.{results_are_runs}
 use Rattle.run_laws.proofs.Scenarios.Calls.{calls-differ, idents}
-use Rattle.run_laws.proofs.Scenarios.Facts.{IsCall, IsClean, facts}
+use Rattle.run_laws.proofs.Scenarios.Facts.{IsCall, facts}
 use Rattle.run_laws.proofs.Sessions.CallLaw.{AreHeard, all-heard}
 use Rattle.scenario_run.specs.Parts.{ReportPart, report_of}
 use Rattle.scenario_run.specs.Lines.{HasReports, IsEndOf}

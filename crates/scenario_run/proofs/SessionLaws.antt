@@ -1,6 +1,6 @@
 -- The sessions with hostile callers: all of them, and in order.
-use Rattle.std.proofs.Common.{◌≡◌, ◌⊎◌, inl, inr, ℕ, zero, suc, ◌+◌, ◌-◌, ◌<◌, ◌≤◌, List, [], ◌∷◌, ◌++◌, map, length, refl, ap, sym, ◌∙◌, subst, arith, append_assoc, Option, Some, None}
-use Rattle.std.specs.Prelude.{◌==◌, ◌&&◌, ◌||◌, nat_lt, Bool, true, false, filter, slice_get, slice_index_or, AllPairs, IsPermutation, if◌then◌else◌}
+use Rattle.std.proofs.Common.{◌≡◌, ◌⊎◌, inl, inr, ℕ, zero, suc, ◌+◌, ◌-◌, ◌<◌, ◌≤◌, List, [], ◌∷◌, ◌++◌, map, length, refl, ap, sym, ◌∙◌, subst, arith, Some}
+use Rattle.std.specs.Prelude.{◌==◌, nat_lt, Bool, true, false, slice_get, slice_index_or, AllPairs, if◌then◌else◌}
 use Rattle.std.specs.List.{flat_map}
 use denote.Ref.{Bor}
 use denote.Param.Members.{Mut}
@@ -11,13 +11,11 @@ use Rattle.std.specs.Ordering.{is_lt, nat_cmp, ordering_then}
 use Rattle.std.specs.declared.cmp.Ordering.{Ordering}
 use Rattle.std.proofs.lemmas.Bool.{false≢true}
 use Rattle.std.proofs.lemmas.Bool.Decides.{nat_tests}
-use Rattle.std.proofs.lemmas.List.{append-nil, map-append}
 use Rattle.scenario_file.specs.Scenario.{Plan as Scenario, hostile_at}
 use Rattle.task_duties.specs.declared.done.ServedDone.{ServedDone}
 use Rattle.task_duties.specs.Places.{numbers}
-use Rattle.run_laws.specs.Laid.{all_domains}
 use Rattle.run_laws.specs.Run.{Run}
-use Rattle.run_laws.specs.HostileSessions.{HostileSession, hostile_sessions, session_line, sessions_at, stands_before}
+use Rattle.run_laws.specs.HostileSessions.{hostile_sessions, session_line, sessions_at, stands_before}
 use Rattle.scenario_run.specs.declared.sessions.Session.{Session}
 use Rattle.scenario_run.specs.Parts.{ReportPart}
 use Rattle.scenario_run.specs.Sessions.{HaveServed, seen, sessions_from, sessions_of, sessions_with}

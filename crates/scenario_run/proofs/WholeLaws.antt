@@ -1,5 +1,5 @@
 -- From what the tasks of a scenario answer to its lawful report.
-use Rattle.std.proofs.Common.{◌≡◌, ◌≢◌, ℕ, zero, suc, ◌+◌, ◌<◌, ◌≤◌, List, [], ◌∷◌, ◌++◌, Vec, map, length, take, refl, ap, sym, ◌∙◌, subst, arith, Option, Some, None}
+use Rattle.std.proofs.Common.{◌≡◌, ◌≢◌, ℕ, zero, suc, ◌+◌, List, [], ◌∷◌, ◌++◌, Vec, map, length, take, refl, ap, sym, ◌∙◌, subst, arith, Some, None}
 use Rattle.std.specs.Prelude.{false, slice_get, AllPairs, IsPermutation}
 use Rattle.std.specs.Global.{Global}
 use Rattle.qrexec_frame.specs.Streams.{Each}
@@ -7,7 +7,7 @@ use Rattle.scenario_file.specs.Scenario.{Plan as Scenario, IsScenario}
 use Rattle.task_duties.specs.declared.ends.RetiredEnd.{RetiredEnd}
 use Rattle.task_duties.specs.declared.done.ServedDone.{ServedDone}
 use Rattle.task_duties.specs.GivenEnds.{all_retired}
-use Rattle.task_duties.specs.TaskOwes.{EndAt, NoMemory, TaskDone as Answer}
+use Rattle.task_duties.specs.TaskOwes.{NoMemory, TaskDone as Answer}
 use Rattle.domain_task.specs.declared.done.TaskDone.{TaskDone}
 use Rattle.domain_task.specs.Owes.{answer_of}
 use Rattle.run_laws.specs.declared.report.CallLine.{CallLine}

@@ -1,4 +1,4 @@
-use Rattle.std.proofs.Common.{◌≡◌, ◌∙◌, ◌+◌, ◌<◌, ◌≤◌, ◌∷◌, ◌++◌, [], ℕ, List, Some, length, map, set, length-set, drop, take, get_or, refl, ap, sym, subst, arith}
+use Rattle.std.proofs.Common.{◌≡◌, ◌∙◌, ◌+◌, ◌≤◌, ◌∷◌, ◌++◌, [], List, Some, length, map, set, length-set, drop, take, refl, ap, sym, subst, arith}
 use Rattle.std.specs.Prelude.{slice_get}
 use Rattle.std.proofs.lemmas.List.{map-append}
 use Rattle.std.proofs.lemmas.Option.{slice_get_read}
@@ -8,7 +8,7 @@ use Rattle.run_laws.specs.Run.{Run}
 use Rattle.run_laws.specs.ReadOff.{end_of_call, line_read}
 use Rattle.scenario_run.specs.Parts.{ReportPart}
 use Rattle.scenario_run.specs.Lines.{HasReports}
-use Rattle.scenario_run.proofs.LineLaws.{IsNext, drop-at, map-set, next-is, one-there, report-at, reports-on, take-at, take-over}
+use Rattle.scenario_run.proofs.LineLaws.{drop-at, map-set, next-is, one-there, report-at, reports-on, take-at, take-over}
 use Rattle.scenario_run.proofs.lines.call_lines.Goals as goal
 
 pub take_call-end-requires : goal.take_call-end-requires

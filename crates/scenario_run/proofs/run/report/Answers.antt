@@ -1,14 +1,14 @@
-use Rattle.std.proofs.Common.{◌≡◌, ◌∙◌, ◌<◌, ◌^◌, length, map, ap, sym, subst, arith}
+use Rattle.std.proofs.Common.{◌≡◌, ◌∙◌, length, map, ap, sym, subst, arith}
 use Rattle.domain_task.specs.Owes.{answer_of}
 use Rattle.run_laws.specs.Laid.{laid}
 use Rattle.run_laws.specs.Report.{SettledPage}
-use Rattle.run_laws.specs.Results.{AreResults, run_of}
+use Rattle.run_laws.specs.Results.{run_of}
 use Rattle.run_pages.proofs.DealLaws.{map-length}
 use Rattle.scenario_run.specs.Lines.{HasReports}
 use Rattle.scenario_run.specs.Parts.{ReportPart}
 use Rattle.scenario_run.specs.Sessions.{HaveServed}
 use Rattle.scenario_run.proofs.GivenLaws.{laid-few}
-use Rattle.scenario_run.proofs.WholeLaws.{AreApart, AreSorted, all-served, back, lawful, reported, results, take-front}
+use Rattle.scenario_run.proofs.WholeLaws.{AreApart, all-served, back, lawful, reported, results, take-front}
 use Rattle.scenario_run.proofs.run.report.Goals as goal
 
 pub settle-requires-clause-back : goal.settle-requires-clause-back

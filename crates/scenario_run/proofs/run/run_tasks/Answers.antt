@@ -1,8 +1,5 @@
-use Rattle.std.proofs.Common.{◌≡◌, ◌∙◌, ◌+◌, ◌<◌, Result, Ok, Err, IfOk, List, length, vec_len, map, ap, sym, subst, arith}
+use Rattle.std.proofs.Common.{Result, Ok, Err, IfOk, arith}
 use denote.Param.Send.{sendable}
-use Rattle.std.specs.List.{AllZip}
-use Rattle.vchan_rule.specs.Seated.{view}
-use Rattle.scenario_file.specs.Scenario.{IsScenario}
 use Rattle.domain_task.specs.Given.{given_of}
 use Rattle.domain_task.proofs.Sent.{task_send}
 use Rattle.run_pages.proofs.DealLaws.{map-length}

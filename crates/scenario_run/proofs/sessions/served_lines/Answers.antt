@@ -1,7 +1,7 @@
-use Rattle.std.proofs.Common.{◌≡◌, ◌∙◌, Result, Ok, Err, IfOk, ap, map, subst, sym}
+use Rattle.std.proofs.Common.{◌≡◌, ◌∙◌, Result, Ok, Err, IfOk, map, subst}
 use Rattle.std.specs.Prelude.{IsPermutation}
 use Rattle.std.proofs.lemmas.List.Sorted.{IsPermutation-map}
-use Rattle.run_laws.specs.HostileSessions.{hostile_sessions, session_line}
+use Rattle.run_laws.specs.HostileSessions.{hostile_sessions}
 use Rattle.scenario_run.specs.Sessions.{seen}
 use Rattle.scenario_run.proofs.SessionLaws.{all-sessions, lines-seen, pairs-seen}
 use Rattle.scenario_run.proofs.sessions.served_lines.Goals as goal

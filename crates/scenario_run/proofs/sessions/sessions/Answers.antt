@@ -1,4 +1,4 @@
-use Rattle.std.proofs.Common.{◌≡◌, ◌∙◌, ◌++◌, ap, arith, length, map, subst, sym}
+use Rattle.std.proofs.Common.{◌≡◌, ◌∙◌, ◌++◌, ap, arith, length, map}
 use Rattle.std.specs.Vec.Iter.{into_iter_items}
 use Rattle.scenario_run.specs.Sessions.{seen, sessions_from}
 use Rattle.scenario_run.proofs.sessions.sessions.Goals as goal

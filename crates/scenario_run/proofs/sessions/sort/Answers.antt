@@ -1,4 +1,4 @@
-use Rattle.std.proofs.Common.{rules, ◌≡◌, ◌+◌, ◌<◌, ℕ, List, Result, Ok, Err, length, arith, OnOk}
+use Rattle.std.proofs.Common.{rules, ◌≡◌, ◌+◌, List, Result, Ok, Err, arith, OnOk}
 use Rattle.std.specs.Prelude.{false, slice_index_or, AllPairs}
 use Rattle.std.specs.List.Sorted.{IsSortedByKey}
 use Rattle.scenario_run.specs.declared.sessions.Session.{Session}
