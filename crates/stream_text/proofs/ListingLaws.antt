@@ -13,7 +13,7 @@ use Rattle.qrexec_frame.specs.Lines.{line_of}
 use Rattle.qrexec_frame.specs.Printing.{Printed}
 use Rattle.qrexec_frame.specs.Streams.{Placed, Rest}
 use Rattle.stream_text.specs.Texts.{printed, all_printed}
-use Rattle.stream_text.specs.Listings.{Lists, ListsAll}
+use Rattle.stream_text.specs.Listings.{Gathers, Lists, ListsAll}
 
 -- what `next_line` says of every stream that the decoder stood for
 abbrev pub Tells : DecoderState → DecoderState → List ℕ → List ℕ → Result Bool NextError → Type 0
@@ -78,3 +78,10 @@ lists-fed channel fed piece old new text is stands lists = record {
   stands = stands fed lists.given lists.stands;
   lines = lists.lines;
 }
+
+-- what is gathered came
+pub gathers-fed : (channel : Channel) (bytes : List ℕ) (old new : DecoderState) (gathered piece text : List ℕ) → piece ≡ gathered → new ≡ after_feed old piece → ((f : List ℕ) (given : List (Placed Message)) → StandsFor old f given → StandsFor new (f ++ piece) given)
+    → Gathers channel bytes old gathered text → Lists channel bytes new text
+gathers-fed channel bytes old new gathered piece text same is stands gathers =
+    let lists : List ℕ → Type 0 = λ all. Lists channel all new text in
+    subst lists (ap (λ behind. gathers.fed ++ behind) same ∙ gathers.whole) (lists-fed channel gathers.fed piece old new text is stands gathers.lists)

@@ -1,5 +1,5 @@
 -- What a listing stands for while its stream comes in.
-use Rattle.std.specs.Prelude.{◌≡◌, ℕ, List, length, Option, Some, None}
+use Rattle.std.specs.Prelude.{◌≡◌, ◌++◌, ℕ, List, length, Option, Some, None}
 use Rattle.qrexec_frame.specs.declared.channel.Channel.{Channel}
 use Rattle.qrexec_frame.specs.declared.fault.FrameFault.{FrameFault}
 use Rattle.qrexec_frame.specs.declared.message.Message.{Message}
@@ -15,6 +15,12 @@ pub record Lists (channel : Channel) (fed : List ℕ) (decoder : DecoderState) (
   pub on : decoder.channel ≡ channel
   pub stands : StandsFor decoder fed given
   pub lines : text ≡ all_printed given
+
+-- the decoder was fed the first of these bytes, and the others are gathered
+pub record Gathers (channel : Channel) (bytes : List ℕ) (decoder : DecoderState) (gathered text : List ℕ) : Type 0 where
+  pub fed : List ℕ
+  pub lists : Lists channel fed decoder text
+  pub whole : fed ++ gathered ≡ bytes
 
 -- how a stream ends, of which so many bytes are left: with a fault, or with those bytes
 abbrev pub EndsBy : Option FrameFault → ℕ → Ending Fault → Type 0

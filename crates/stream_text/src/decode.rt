@@ -5,7 +5,6 @@ ghost use Rattle.stream_text.specs.Texts.{decoded};
 
 use crate::error::DecodeError;
 use crate::listing::Listing;
-use crate::piece::read_piece;
 use qrexec_frame::Channel;
 use script_words::{LineReader, NextLine};
 use std::alloc::Global;
@@ -27,13 +26,10 @@ pub fn decode_text(alloc: Global, channel: Channel, bytes: &[u8]) -> Result<Vec<
     ensures memory { result ≡ Err DecodeError.Memory → BeginsWell bytes.now }
 {
     let mut listing = Listing::new(alloc, channel);
-    let mut piece = Vec::new(alloc);
     let mut total = 0usize;
     let mut reader = LineReader::of(bytes);
     while let NextLine::Line { number, text } = reader.next()? {
-        read_piece(&mut piece, number, total, text)?;
-        listing.take(piece.as_slice())?;
-        total += piece.len();
+        total += listing.take_line(number, total, text)?;
     }
     Ok(listing.into_text()?)
 }

@@ -1,46 +1,83 @@
 //! The text of a stream, as it grows with the stream.
-ghost use Rattle.std.specs.Prelude.{◌≡◌, ℕ, List, [], ◌++◌, codes, decimal, IfOk, OnOk};
+ghost use Rattle.std.specs.Prelude.{◌≡◌, ◌≤◌, ◌+◌, ℕ, List, [], ◌++◌, length, codes, decimal, IfErr, IfOk, OnOk};
 ghost use Rattle.qrexec_frame.specs.Fronts.{reading};
+ghost use Rattle.stream_text.specs.Input.{IsLineRefusal, piece_at};
 ghost use Rattle.stream_text.specs.Texts.{fault_line, text_of};
-ghost use Rattle.stream_text.specs.Listings.{Lists, ListsAll};
+ghost use Rattle.stream_text.specs.Listings.{Gathers, Lists, ListsAll};
 
+use crate::error::DecodeError;
+use crate::piece::push_piece;
 use itoa::{Buffer, Integer};
 use qrexec_frame::{Channel, Decoder, FrameFault, NextError};
 use std::alloc::{AllocError, Global};
 use vchan_io::Memory;
 
-/// A decoder that takes a stream piece by piece, and the lines of the messages that it has given.
+/// From so many bytes on, what is gathered goes to the decoder.
+const MANY: usize = 4_096;
+
+/// A decoder that takes a stream line by line, and the lines of the messages that it has given.
+// What the lines spell is gathered, so that the decoder looks at many short lines at once.
 #[derive(Drop)]
 pub(crate) struct Listing {
     decoder: Decoder,
+    gathered: Vec<u8>,
     text: Vec<u8>,
 }
 
 impl Listing {
     /// The listing of a stream of which nothing has come.
     pub(crate) fn new(alloc: Global, channel: Channel) -> Listing
-        ensures { Lists channel [] result.decoder result.text.items }
+        ensures { Gathers channel [] result.decoder result.gathered.items result.text.items }
     {
         Listing {
             decoder: Decoder::new(alloc, channel),
+            gathered: Vec::new(alloc),
             text: Vec::new(alloc),
         }
     }
 
-    /// Takes the next piece of the stream, and prints the messages that it completes.
-    pub(crate) fn take(&mut self, piece: &[u8]) -> Result<(), Memory>
-        ensures { (channel : Channel) (fed : List ℕ) → Lists channel fed self.old.decoder self.old.text.items →
-            OnOk result (Lists channel (fed ++ piece.now) self.new.decoder self.new.text.items) }
+    /// Takes the piece of the stream that the line of this number spells, and gives how many bytes it
+    /// has; `before` is how many bytes the lines before it spell.
+    ///
+    /// # Errors
+    ///
+    /// `Bad` exactly where the line is no byte string, or one with which there are too many bytes; `Memory`
+    /// only where it is neither.
+    pub(crate) fn take_line(
+        &mut self,
+        number: u32,
+        before: usize,
+        line: &[u8],
+    ) -> Result<usize, DecodeError>
+        requires { before ≤ 8388608 }
+        ensures taken { IfOk result (λ count. (piece : List ℕ) × (piece_at number before line.now ≡ Ok piece) × (count ≡ length piece) × (before + count ≤ 8388608)
+            × ((channel : Channel) (bytes : List ℕ) → Gathers channel bytes self.old.decoder self.old.gathered.items self.old.text.items →
+            Gathers channel (bytes ++ piece) self.new.decoder self.new.gathered.items self.new.text.items)) }
+        ensures bad { IfErr result (λ e. IsLineRefusal e (piece_at number before line.now)) }
     {
-        self.decoder.feed(piece)?;
+        let count = push_piece(&mut self.gathered, number, before, line)?;
+        if self.gathered.len() >= MANY {
+            self.feed_gathered()?;
+        }
+        Ok(count)
+    }
+
+    /// Hands what is gathered to the decoder, and prints the messages that it completes.
+    fn feed_gathered(&mut self) -> Result<(), Memory>
+        ensures { (channel : Channel) (bytes : List ℕ) → Gathers channel bytes self.old.decoder self.old.gathered.items self.old.text.items →
+            OnOk result (Gathers channel bytes self.new.decoder self.new.gathered.items self.new.text.items) }
+    {
+        self.decoder.feed(self.gathered.as_slice())?;
+        self.gathered.clear();
         let _ = self.print_messages()?;
         Ok(())
     }
 
     /// Prints the messages that are whole, and gives the fault behind them, if there is one.
     fn print_messages(&mut self) -> Result<Option<FrameFault>, Memory>
-        ensures { (channel : Channel) (fed : List ℕ) → Lists channel fed self.old.decoder self.old.text.items →
+        ensures listed { (channel : Channel) (fed : List ℕ) → Lists channel fed self.old.decoder self.old.text.items →
             IfOk result (λ fault. ListsAll channel fed self.new.decoder self.new.text.items fault) }
+        ensures gathered { self.new.gathered.items ≡ self.old.gathered.items }
     {
         'messages: loop {
             match self.decoder.next_line(&mut self.text) {
@@ -52,13 +89,26 @@ impl Listing {
         }
     }
 
-    /// The whole text, after the last piece of the stream.
+    /// The whole text, after the last line of the stream.
     pub(crate) fn into_text(mut self) -> Result<Vec<u8>, Memory>
+        ensures { (channel : Channel) (bytes : List ℕ) → Gathers channel bytes self.decoder self.gathered.items self.text.items →
+            IfOk result (λ text. text.items ≡ text_of (reading channel bytes)) }
+    {
+        self.decoder.feed(self.gathered.as_slice())?;
+        self.end()
+    }
+
+    /// The whole text, once the decoder has all of the stream.
+    fn end(mut self) -> Result<Vec<u8>, Memory>
         ensures { (channel : Channel) (fed : List ℕ) → Lists channel fed self.decoder self.text.items →
             IfOk result (λ text. text.items ≡ text_of (reading channel fed)) }
     {
         let fault = self.print_messages()?;
-        let Listing { decoder, mut text } = self;
+        let Listing {
+            decoder,
+            mut text,
+            ..
+        } = self;
         match fault {
             None => put_rest(&mut text, decoder.rest())?,
             Some(fault) => put_fault(&mut text, fault)?,

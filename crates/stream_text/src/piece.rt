@@ -1,5 +1,5 @@
 //! The pieces of a stream, one a line.
-ghost use Rattle.std.specs.Prelude.{◌≡◌, ◌+◌, ◌≤◌, length, IfErr, OnOk};
+ghost use Rattle.std.specs.Prelude.{◌≡◌, ◌+◌, ◌≤◌, ◌++◌, ℕ, List, length, IfErr, IfOk};
 ghost use Rattle.stream_text.specs.Input.{IsLineRefusal, piece_at};
 
 use crate::error::DecodeError;
@@ -8,27 +8,28 @@ use script_words::push_bytes;
 /// The most bytes that the lines of an input may spell in all.
 pub(crate) const MOST_BYTES: usize = 8_388_608;
 
-/// Reads the piece that the line of this number spells, in place of what `piece` held; `before` is how
-/// many bytes the lines before it spell.
+/// Appends the piece that the line of this number spells to `out`, and gives how many bytes it has;
+/// `before` is how many bytes the lines before it spell.
 ///
 /// # Errors
 ///
 /// `Bad` exactly where the line is no byte string, or one with which there are too many bytes; `Memory`
 /// only where it is neither.
-pub(crate) fn read_piece(
-    piece: &mut Vec<u8>,
+pub(crate) fn push_piece(
+    out: &mut Vec<u8>,
     number: u32,
     before: usize,
     line: &[u8],
-) -> Result<(), DecodeError>
+) -> Result<usize, DecodeError>
     requires { before ≤ 8388608 }
-    ensures ok { OnOk result (piece_at number before line.now ≡ Ok piece.new.items) }
+    ensures ok { IfOk result (λ count. (piece : List ℕ) × (piece_at number before line.now ≡ Ok piece) × (count ≡ length piece)
+        × (out.new.items ≡ out.old.items ++ piece)) }
     ensures bad { IfErr result (λ e. IsLineRefusal e (piece_at number before line.now)) }
-    ensures short { OnOk result (before + length piece.new.items ≤ 8388608) }
+    ensures short { IfOk result (λ count. before + count ≤ 8388608) }
 {
-    piece.clear();
-    match push_bytes(piece, line, MOST_BYTES - before) {
-        Ok(()) => Ok(()),
+    let held = out.len();
+    match push_bytes(out, line, MOST_BYTES - before) {
+        Ok(()) => Ok(out.len() - held),
         Err(refused) => Err(DecodeError::at(number, refused)),
     }
 }
