@@ -1,7 +1,7 @@
 //! Streams as bytes from outside, and calls passed between both sides. Contracts say the rest.
 ghost use Rattle.std.specs.Prelude.{[], codes, negsuc, pos};
 
-use crate::{Caller, Outcome, Serving};
+use qrexec_data::{Caller, Outcome, Serving};
 use qrexec_frame::{Channel, Decoder};
 use service_gate::{Boxed, Builtin, Service};
 use std::alloc::Global;
