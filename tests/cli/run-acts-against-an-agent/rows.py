@@ -27,11 +27,11 @@ def mixed(outcome, got="-", number=1):
 
 
 # A target that never answers: it says nothing at all, or its greeting alone.
-row(["rest 300"], [mixed("gone")])
-row(["hello", "rest 300"], [mixed("gone")])
+row(["rest 60"], [mixed("gone")])
+row(["hello", "rest 60"], [mixed("gone")])
 # One that is gone before it is asked, and one whose own end of the data page is shut.
 row([], [mixed("refused")])
-row(["hello", "poke work:513 cli_live 0", "rest 100"], [mixed("closed")])
+row(["hello", "poke work:513 cli_live 0", "rest 60"], [mixed("closed")])
 # One that is gone in the middle of the stream, or behind half a frame.
 STREAM = HELLO + "91010000020000006f6b"
 row(written(STREAM), [mixed("gone", STREAM)])
@@ -46,7 +46,7 @@ ASKED = HELLO + "9001000000000000"
 row(written(ASKED), [mixed("fault", ASKED)])
 # Of 17 calls the last is asked for once one of the others was told to have ended, and nobody is there then.
 row(
-    ["hello", "rest 300"],
+    ["hello", "rest 60"],
     [mixed("gone", number=number) for number in range(1, 17)] + [mixed("refused", number=17)],
     calls=17,
 )
@@ -55,11 +55,11 @@ row(["say 9001000000000000", "rest 50"], [mixed("refused")])
 row(["hello", "say 1202000060000000", "rest 50"], [mixed("gone")])
 # Bad orders on a data page, which the one who serves finds.
 row(
-    ["hello", "poke work:514 left_order 9", "trigger work echo 1", "rest 100"],
+    ["hello", "poke work:514 left_order 9", "trigger work echo 1", "rest 60"],
     [mixed("gone"), "served evil work 514 closed -"],
 )
 # A caller that never says anything on the data page.
-row(["hello", "trigger work echo 1", "rest 100"], [mixed("gone"), "served evil work 514 gone -"])
+row(["hello", "trigger work echo 1", "rest 60"], [mixed("gone"), "served evil work 514 gone -"])
 # Each act at its limits: 64 triggers of which 4 have a page, and a saying that nobody reads.
 row(
     [
@@ -71,7 +71,7 @@ row(
         "poke work:4294967295 left_prod 0",
         "signal",
         "scribble 65535 65536",
-        "rest 1000",
+        "rest 60",
     ],
     [mixed("gone"), *(f"served evil work {port} gone -" for port in (514, 516, 518, 520))],
 )
