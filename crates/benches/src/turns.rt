@@ -18,6 +18,7 @@ const RESTS: u32 = 6_000;
 
 /// How many turns of the agent come before the first that is timed, and how many are timed.
 const WARM_UP: u32 = 3_000;
+
 const TIMED: u32 = 2_000;
 
 /// The calls of an agent: how many stay open, since the domains asked don't answer; how many are refused
@@ -44,7 +45,10 @@ fn file_of(alloc: Global, row: Row) -> Result<String> {
     let mut text = String::new(alloc);
     text.push_str("[[domain]]\nname = 'agent'\n")?;
     for name in ["first", "other"] {
-        write!(text, "[[domain]]\nname = '{name}'\nhostile = ['hello', 'rest {RESTS}']\n")?;
+        write!(
+            text,
+            "[[domain]]\nname = '{name}'\nhostile = ['hello', 'rest {RESTS}']\n"
+        )?;
     }
     push_calls(&mut text, "nobody", row.refused)?;
     let first = row.open.min(MOST_OPEN);
@@ -68,13 +72,41 @@ fn median_of<R: Clock + Threads + Wait + Sync>(rt: &R, alloc: Global, row: Row) 
 }
 
 const ROWS: [Row; 7] = [
-    Row { open: 1, refused: 0, waiting: 0 },
-    Row { open: 8, refused: 0, waiting: 0 },
-    Row { open: 8, refused: 1_000, waiting: 0 },
-    Row { open: 8, refused: 4_000, waiting: 0 },
-    Row { open: 32, refused: 0, waiting: 0 },
-    Row { open: 32, refused: 0, waiting: 1_000 },
-    Row { open: 32, refused: 3_000, waiting: 1_000 },
+    Row {
+        open: 1,
+        refused: 0,
+        waiting: 0,
+    },
+    Row {
+        open: 8,
+        refused: 0,
+        waiting: 0,
+    },
+    Row {
+        open: 8,
+        refused: 1_000,
+        waiting: 0,
+    },
+    Row {
+        open: 8,
+        refused: 4_000,
+        waiting: 0,
+    },
+    Row {
+        open: 32,
+        refused: 0,
+        waiting: 0,
+    },
+    Row {
+        open: 32,
+        refused: 0,
+        waiting: 1_000,
+    },
+    Row {
+        open: 32,
+        refused: 3_000,
+        waiting: 1_000,
+    },
 ];
 
 /// The median times of so many runs of each row, a line for each.
@@ -83,7 +115,11 @@ pub fn measured<R: Clock + Print + AllocGlobal + Threads + Wait + Sync>(
     runs: u32,
 ) -> Result<()> {
     for row in ROWS {
-        let Row { open, refused, waiting } = row;
+        let Row {
+            open,
+            refused,
+            waiting,
+        } = row;
         print!(rt; "{open} {refused} {waiting}")?;
         for _ in 0..runs {
             let nanos = median_of(rt, rt.alloc(), row)?;

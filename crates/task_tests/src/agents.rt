@@ -75,10 +75,12 @@ fn hears_ends(broker: &mut ControlPort) -> Result<bool, Fail>
 /// Whether a message says that this session has ended.
 fn is_end(message: Option<Message>, domain: u32, port: u32) -> bool {
     match message {
-        Some(Message::Terminated {
-            domain: with,
-            port: at,
-        }) => with == domain && at == port,
+        Some(
+            Message::Terminated {
+                domain: with,
+                port: at,
+            },
+        ) => with == domain && at == port,
         _ => false,
     }
 }
@@ -99,7 +101,14 @@ fn an_agent_ends_what_it_does_not_serve(rt: HostRuntime) -> Result<(), Fail> {
     broker.connect().map_err(|_| "other orders")?;
     broker.greet()?;
     assert!(rt; say_all(alloc, &mut broker)?);
-    let agent = AgentTask::new(alloc, 1, 3, Vec::new(alloc), page.attach(server), Vec::new(alloc))?;
+    let agent = AgentTask::new(
+        alloc,
+        1,
+        3,
+        Vec::new(alloc),
+        page.attach(server),
+        Vec::new(alloc),
+    )?;
     let agent = again(agent).ok_or("done in the first turn")?;
     let _agent = again(agent).ok_or("done in the second turn")?;
     assert!(rt; hears_ends(&mut broker)?);

@@ -60,7 +60,7 @@ impl Gate for InOrder {
         if seen % 2 == 1 && self.is_next(task, seen) {
             self.pass(seen);
         }
-        let mut looks = 0;
+        let mut looks = 0u32;
         for _ in 0..MOST_LOOKS {
             let turns = self.turns.load(Ordering::SeqCst);
             if self.lets_in(task, turns) {
@@ -69,7 +69,11 @@ impl Gate for InOrder {
             if turns == seen && looks == PATIENCE {
                 self.pass(turns);
             }
-            looks = if turns == seen { looks + 1 } else { 0 };
+            looks = if turns == seen {
+                looks.saturating_add(1)
+            } else {
+                0
+            };
             seen = turns;
             thread::yield_now();
         }

@@ -28,6 +28,9 @@ domain = [{name = "work"}, {name = "evil", hostile = ["poke control left_order 9
 call = [{from = "work", to = "evil", service = "echo"}]
 "#;
 
+/// As many workers as each of these runs has tasks.
+const WORKERS: u32 = 3;
+
 /// A scenario, the places of its tasks as they take turns, the broker's being 0, and its report.
 type Row = (&'static str, &'static [u32], &'static str);
 
@@ -36,8 +39,16 @@ const ROWS: [Row; 5] = [
     (EACH_WAY, &[2, 1, 0], EACH_WAY_LINES),
     (EACH_WAY, &[1, 1, 1, 0, 2, 0, 2], EACH_WAY_LINES),
     // The broker has connected before the orders are spoilt, and finds it before.
-    (BAD_ORDERS, &[0, 1, 2], "call 1 work evil echo mixed gone -\ncalls 1\n"),
-    (BAD_ORDERS, &[2, 1, 0], "call 1 work evil echo mixed refused -\ncalls 1\n"),
+    (
+        BAD_ORDERS,
+        &[0, 1, 2],
+        "call 1 work evil echo mixed gone -\ncalls 1\n",
+    ),
+    (
+        BAD_ORDERS,
+        &[2, 1, 0],
+        "call 1 work evil echo mixed refused -\ncalls 1\n",
+    ),
 ];
 
 /// The text of the report of a scenario whose tasks take turns in this order.
@@ -47,11 +58,7 @@ fn told<R: Threads + Wait + Sync + AllocGlobal>(
     order: &'static [u32],
 ) -> Result<Vec<u8>, Fail> {
     let scenario = read(rt.alloc(), file.as_bytes())?;
-    let workers = scenario.domains.len() as u32 + 1;
-    if workers > 16 {
-        return Err(Fail::from("more tasks than workers"));
-    }
-    let report = run_scenario(rt, rt.alloc(), &scenario, workers, &InOrder::of(order))?;
+    let report = run_scenario(rt, rt.alloc(), &scenario, WORKERS, &InOrder::of(order))?;
     Ok(report_text(rt.alloc(), &report)?)
 }
 

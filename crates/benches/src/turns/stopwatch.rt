@@ -50,7 +50,10 @@ impl<'r, R: Clock + Sync> Stopwatch<'r, R> {
     /// Writes down how long the timed turn took that ends now.
     fn end_turn(&self, now: u64) {
         let began = self.began.swap(0, Ordering::SeqCst);
-        let place = self.turns.load(Ordering::SeqCst).saturating_sub(self.warm_up) as usize;
+        let place = self
+            .turns
+            .load(Ordering::SeqCst)
+            .saturating_sub(self.warm_up) as usize;
         if began != 0 && place < self.times.len() {
             self.times[place].store(now.saturating_sub(began), Ordering::SeqCst);
         }
@@ -73,7 +76,8 @@ impl<'r, R: Clock + Sync> Gate for Stopwatch<'r, R> {
         };
         self.end_turn(elapsed.as_nanos() as u64);
         if task == 1 && self.turns.fetch_add(1, Ordering::SeqCst) >= self.warm_up {
-            self.began.store(elapsed.as_nanos() as u64, Ordering::SeqCst);
+            self.began
+                .store(elapsed.as_nanos() as u64, Ordering::SeqCst);
         }
     }
 }
