@@ -10,6 +10,7 @@ mod pool;
 mod ring;
 mod scenario;
 mod session;
+mod turns;
 
 use anyhow::{Context, Result, bail};
 use std::alloc::Global;
@@ -20,7 +21,7 @@ use std::thread::Threads;
 use std::time::CpuClock;
 
 const USAGE: &str =
-    "usage: benches [broker EVENTS | pool TASKS TURNS WORKERS STEPS | ring SIZE CALLS ROUNDS | threads SIZE PIECES | scenario FILE | session SIZE PIECE]";
+    "usage: benches [broker EVENTS | pool TASKS TURNS WORKERS STEPS | ring SIZE CALLS ROUNDS | threads SIZE PIECES | scenario FILE | session SIZE PIECE | turns RUNS]";
 
 /// The numbers that these words write.
 fn numbers(alloc: Global, words: &[String]) -> Result<Vec<u32>> {
@@ -69,6 +70,7 @@ fn measured<R: Clock + CpuClock + Files + Print + AllocGlobal + Threads + Wait +
         ("ring", [size, calls, rounds]) => ring::measured(rt, *size, *calls, *rounds),
         ("threads", [size, pieces]) => ring::measured_in_threads(rt, *size, *pieces),
         ("session", [size, piece]) => session::measured(rt, *size, *piece),
+        ("turns", [runs]) => turns::measured(rt, *runs),
         _ => bail!(USAGE),
     }
 }

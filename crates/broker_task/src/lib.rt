@@ -15,7 +15,5 @@ mod round;
 mod settled;
 mod switchboard;
 mod task;
-#[cfg(test)]
-mod tests;
 
 pub use task::{BrokerDone, BrokerTask, BrokerTurn};

@@ -17,8 +17,6 @@ mod outcome;
 mod replies;
 mod requests;
 mod serving;
-#[cfg(test)]
-mod tests;
 
 pub use caller::{Caller, CallerParts};
 pub use fault::SessionFault;

@@ -18,8 +18,6 @@ mod kind;
 pub mod laws;
 mod line;
 mod message;
-#[cfg(test)]
-mod tests;
 mod text;
 
 pub use bytes::Bytes;

@@ -38,6 +38,3 @@ pub use outcomes::honest_lines;
 pub use path::{Path, push_fault_line};
 pub use scenario::{CallPlan, Domain, Scenario};
 pub use without::without_hostile;
-
-#[cfg(test)]
-mod tests;

@@ -22,6 +22,3 @@ pub use read::parse;
 pub use running::script_text;
 pub use script::Script;
 pub use script_words::{ByteError, bytes_of};
-
-#[cfg(test)]
-mod tests;

@@ -26,6 +26,3 @@ pub use steps::Steps;
 pub use vchan_protocol::{
     Answer, Asked, Begun, Bit, Call, EndState, EndedBy, Notes, Op, PastEvent, Side, laws,
 };
-
-#[cfg(test)]
-mod tests;

@@ -1,0 +1,514 @@
+//! Streams as bytes from outside, and calls passed between both sides. Contracts say the rest.
+ghost use Rattle.std.specs.Prelude.{[], codes, negsuc, pos};
+
+use qrexec_data::{Caller, Outcome, Serving};
+use qrexec_frame::{Channel, Decoder};
+use service_gate::{Boxed, Builtin, Service};
+use std::alloc::Global;
+use std::process::Abort;
+use std::test::Fail;
+use vchan_io::Memory;
+
+/// The greeting of version 3.
+const HELLO: &str = "000300000400000003000000";
+
+fn bytes_of(alloc: Global, parts: &[&str]) -> Result<Vec<u8>, Fail> {
+    let mut bytes = Vec::new(alloc);
+    for text in parts {
+        let part = hex::decode(alloc, *text)?;
+        bytes.extend_from_slice(&part)?;
+    }
+    Ok(bytes)
+}
+
+/// The lines of the messages of a data channel, with `;` behind each.
+fn lines_of(alloc: Global, bytes: &[u8]) -> Result<String, Fail> {
+    let mut decoder = Decoder::new(alloc, Channel::Data);
+    decoder.feed(bytes)?;
+    let mut lines = Vec::new(alloc);
+    for _ in 0..100 {
+        if !decoder.next_line(&mut lines).unwrap_or(false) {
+            break;
+        }
+        lines.push(b';')?;
+    }
+    Ok(String::from_utf8(lines)?)
+}
+
+fn caller(alloc: Global, stdin: &[u8], own: u32, chunk: u32) -> Result<Caller, Fail> {
+    if !(2..=3).contains(&own) || chunk == 0 || chunk > 65_536 {
+        return Err(Fail::from("not a version or a chunk"));
+    }
+    Ok(Caller::new(alloc, Vec::from_slice(alloc, stdin)?, own, chunk)?)
+}
+
+fn serving<S: Service>(
+    alloc: Global,
+    service: S,
+    own: u32,
+    chunk: u32,
+) -> Result<Serving<S>, Fail> {
+    if !(2..=3).contains(&own) || chunk == 0 || chunk > 65_536 {
+        return Err(Fail::from("not a version or a chunk"));
+    }
+    Ok(Serving::new(alloc, service, own, chunk)?)
+}
+
+fn builtin(name: &[u8]) -> Result<Builtin, Fail> {
+    Ok(Builtin::named(name).ok_or("no service of this name")?)
+}
+
+// ---- one side
+
+/// Which side takes the bytes of a row.
+#[derive(Clone, Copy, Debug)]
+enum Side {
+    Caller,
+    Serving,
+}
+
+/// What the owner says behind the bytes of a row.
+#[derive(Clone, Copy, Debug)]
+enum End {
+    Open,
+    Closed,
+    Gone,
+}
+
+/// What a side of version 3 takes, what its owner says then, and how it comes out.
+type Row = (Side, &'static [&'static str], End, &'static str);
+
+/// Streams of the one side and of the other that aren't what they should be, and some that are.
+const STREAMS: [Row; 18] = [
+    (
+        Side::Serving,
+        &["9001000000000000"],
+        End::Open,
+        "Some(Fault(Hello(NotHello { kind: 400 })))",
+    ),
+    (
+        Side::Serving,
+        &["000300000400000002000000"],
+        End::Open,
+        "None",
+    ),
+    (
+        Side::Serving,
+        &["000300000400000001000000"],
+        End::Open,
+        "Some(Fault(Hello(Version { got: 1 })))",
+    ),
+    (
+        Side::Serving,
+        &[HELLO, "9101000000000000"],
+        End::Open,
+        "Some(Fault(WrongSide { at: 12, kind: 401 }))",
+    ),
+    (
+        Side::Serving,
+        &[HELLO, "90010000000000009001000000000000"],
+        End::Open,
+        "Some(Fault(AfterEnd { at: 20, kind: 400 }))",
+    ),
+    (
+        Side::Serving,
+        &[HELLO, "9001000001000100"],
+        End::Open,
+        "Some(Fault(Frame(TooLong { at: 12, kind: 400, len: 65537 })))",
+    ),
+    (
+        Side::Serving,
+        &[HELLO, "0004000000000000"],
+        End::Open,
+        "Some(Fault(Frame(UnknownType { at: 12, kind: 1024 })))",
+    ),
+    (
+        Side::Caller,
+        &[HELLO, "9301000004000000ffffffff"],
+        End::Open,
+        "Some(Done { code: -1 })",
+    ),
+    (
+        Side::Caller,
+        &[
+            HELLO,
+            "92010000000000009101000000000000930100000400000000000000",
+        ],
+        End::Open,
+        "Some(Done { code: 0 })",
+    ),
+    (
+        Side::Caller,
+        &[HELLO, "9301000008000000"],
+        End::Open,
+        "Some(Fault(Frame(BadLength { at: 12, kind: 403, len: 8 })))",
+    ),
+    (
+        Side::Caller,
+        &[HELLO, "93010000"],
+        End::Closed,
+        "Some(Closed)",
+    ),
+    (Side::Caller, &[], End::Gone, "Some(Gone)"),
+    // The same of the other side, and what its owner says once something has decided.
+    (
+        Side::Caller,
+        &["9001000000000000"],
+        End::Open,
+        "Some(Fault(Hello(NotHello { kind: 400 })))",
+    ),
+    (
+        Side::Caller,
+        &["000300000400000001000000"],
+        End::Gone,
+        "Some(Fault(Hello(Version { got: 1 })))",
+    ),
+    (
+        Side::Caller,
+        &[HELLO, "9001000000000000"],
+        End::Closed,
+        "Some(Fault(WrongSide { at: 12, kind: 400 }))",
+    ),
+    (
+        Side::Caller,
+        &[HELLO, "9101000000000000910100000100000061"],
+        End::Open,
+        "Some(Fault(AfterEnd { at: 20, kind: 401 }))",
+    ),
+    (
+        Side::Serving,
+        &[HELLO, "93010000"],
+        End::Closed,
+        "Some(Closed)",
+    ),
+    (Side::Serving, &[], End::Gone, "Some(Gone)"),
+];
+
+/// How a caller comes out that takes these bytes in pieces of at most `most`.
+fn called(alloc: Global, bytes: &[u8], most: usize, end: End) -> Result<Option<Outcome>, Fail> {
+    let mut side = caller(alloc, b"", 3, 1)?;
+    for piece in bytes.chunks(most.max(1)) {
+        side.take(piece)?;
+    }
+    match end {
+        End::Open => {}
+        End::Closed => side.closed(),
+        End::Gone => side.gone(),
+    }
+    Ok(side.outcome())
+}
+
+/// The same of a side that serves.
+fn served<S: Service>(
+    alloc: Global,
+    service: S,
+    bytes: &[u8],
+    most: usize,
+    end: End,
+) -> Result<Option<Outcome>, Fail> {
+    let mut side = serving(alloc, service, 3, 1)?;
+    for piece in bytes.chunks(most.max(1)) {
+        side.take(piece)?;
+    }
+    match end {
+        End::Open => {}
+        End::Closed => side.closed(),
+        End::Gone => side.gone(),
+    }
+    Ok(side.outcome())
+}
+
+fn check_streams(rt: &impl Abort, alloc: Global, rows: &[Row]) -> Result<(), Fail> {
+    for (side, parts, end, want) in rows {
+        let bytes = bytes_of(alloc, parts)?;
+        for most in [1, 7, 100] {
+            let outcome = match side {
+                Side::Caller => called(alloc, &bytes, most, *end)?,
+                Side::Serving => served(alloc, builtin(b"echo")?, &bytes, most, *end)?,
+            };
+            let got = format!(in alloc; "{outcome:?}")?;
+            assert!(rt; got.as_str() == *want, "{got}");
+        }
+    }
+    Ok(())
+}
+
+#[test]
+fn each_side_comes_out_by_the_first_event_that_decides(rt: HostRuntime) -> Result<(), Fail> {
+    check_streams(&rt, rt.alloc(), &STREAMS)
+}
+
+// ---- what one side sends
+
+/// All that a caller sends now, reported in steps of at most `most` bytes.
+fn caller_sends(side: &mut Caller, out: &mut Vec<u8>, most: usize) -> Result<(), Fail> {
+    for _ in 0..1_000 {
+        let piece = side.front()?;
+        if piece.is_empty() {
+            break;
+        }
+        let count = piece.len().min(most);
+        out.extend_from_slice(&piece[..count])?;
+        side.advance(count);
+    }
+    Ok(())
+}
+
+/// All that a side that serves sends now, reported in single bytes.
+fn serving_sends<S: Service>(side: &mut Serving<S>, out: &mut Vec<u8>) -> Result<(), Fail> {
+    for _ in 0..1_000 {
+        let piece = side.front()?;
+        if piece.is_empty() {
+            break;
+        }
+        out.push(piece[0])?;
+        side.advance(1);
+    }
+    Ok(())
+}
+
+/// The lines of what a service answers to these bytes.
+fn answered<S: Service>(
+    alloc: Global,
+    service: S,
+    chunk: u32,
+    parts: &[&str],
+) -> Result<String, Fail> {
+    let mut side = serving(alloc, service, 3, chunk)?;
+    for byte in &bytes_of(alloc, parts)? {
+        side.take(&[*byte])?;
+    }
+    let mut out = Vec::new(alloc);
+    serving_sends(&mut side, &mut out)?;
+    lines_of(alloc, &out)
+}
+
+#[test]
+fn sends_its_input_behind_both_greetings(rt: HostRuntime) -> Result<(), Fail> {
+    let alloc = rt.alloc();
+    let mut side = caller(alloc, b"hello", 3, 2)?;
+    let mut out = Vec::new(alloc);
+    caller_sends(&mut side, &mut out, 5)?;
+    assert_eq!(rt; lines_of(alloc, &out)?.as_str(), "hello 3;");
+    side.take(&bytes_of(alloc, &[HELLO])?)?;
+    caller_sends(&mut side, &mut out, 3)?;
+    assert_eq!(rt;
+        lines_of(alloc, &out)?.as_str(),
+        "hello 3;stdin 2 6865;stdin 2 6c6c;stdin 1 6f;stdin 0 -;"
+    );
+    Ok(())
+}
+
+#[test]
+fn serves_split_in_single_bytes(rt: HostRuntime) -> Result<(), Fail> {
+    let alloc = rt.alloc();
+    let parts = [HELLO, "900100000400000061626364", "9001000000000000"];
+    assert_eq!(rt;
+        answered(alloc, builtin(b"split")?, 65_536, &parts)?.as_str(),
+        "hello 3;stdout 2 6163;stderr 2 6264;stdout 0 -;stderr 0 -;exit 0;"
+    );
+    Ok(())
+}
+
+// ---- both sides
+
+/// Passes what the caller and the side that serves send to the other, at most so many bytes at a time.
+fn pass<S: Service>(
+    caller: &mut Caller,
+    serving: &mut Serving<S>,
+    most: usize,
+) -> Result<usize, Fail> {
+    let asked = caller.front()?;
+    let sent = asked.len().min(most);
+    serving.take(&asked[..sent])?;
+    caller.advance(sent);
+    let answered = serving.front()?;
+    let came = answered.len().min(most);
+    caller.take(&answered[..came])?;
+    serving.advance(came);
+    Ok(sent + came)
+}
+
+/// How many messages the bytes are, and how long the longest body is.
+fn count_of(alloc: Global, bytes: &[u8]) -> Result<(usize, usize), Fail> {
+    let mut decoder = Decoder::new(alloc, Channel::Data);
+    decoder.feed(bytes)?;
+    let mut longest = 0;
+    for count in 0..100_000 {
+        match decoder.next_body() {
+            Ok(Some(body)) => longest = body.bytes.len().max(longest),
+            _ => return Ok((count, longest)),
+        }
+    }
+    Err(Fail::from("too many messages"))
+}
+
+/// A call of `echo`: both versions, the chunk, the length of the input, the most bytes that go over at a
+/// time; and then how many messages the caller sends, and how long the longest body on either way is.
+type Call = (u32, u32, u32, usize, usize, usize, usize);
+
+const CALLS: [Call; 8] = [
+    (3, 3, 65_536, 65_537, 1, 4, 65_536),
+    (2, 3, 65_536, 65_537, 1, 19, 4_096),
+    (3, 2, 65_536, 8_192, 100_000, 4, 4_096),
+    (3, 3, 1, 65_537, 100_000, 65_539, 4),
+    (3, 3, 1, 1, 1, 3, 4),
+    (3, 3, 1, 0, 1, 2, 4),
+    (2, 2, 65_536, 1, 7, 3, 4),
+    (3, 3, 65_536, 0, 100_000, 2, 4),
+];
+
+/// Passes a call to its end, and answers how many messages the caller sent, and how long the longest body
+/// on either way was.
+fn passed<S: Service>(alloc: Global, service: S, call: Call) -> Result<(usize, usize), Fail> {
+    let (own, theirs, chunk, len, most, _, _) = call;
+    let input = vec![in alloc; 0x61; len]?;
+    let mut caller = caller(alloc, &input, own, chunk)?;
+    let mut serving = serving(alloc, service, theirs, chunk)?;
+    for _ in 0..1_000_000 {
+        if pass(&mut caller, &mut serving, most)? == 0 {
+            break;
+        }
+    }
+    let done = Some(Outcome::Done { code: 0 });
+    if caller.outcome() != done
+        || serving.outcome() != done
+        || caller.stdout() != input.as_slice()
+    {
+        return Err(Fail::from("not the input"));
+    }
+    let (asked, longest_asked) = count_of(alloc, serving.got())?;
+    let (_, longest_answered) = count_of(alloc, caller.got())?;
+    Ok((asked, longest_asked.max(longest_answered)))
+}
+
+fn check_calls(rt: &impl Abort, alloc: Global, calls: &[Call]) -> Result<(), Fail> {
+    for call in calls {
+        let (messages, longest) = passed(alloc, builtin(b"echo")?, *call)?;
+        assert!(rt;
+            messages == call.5 && longest == call.6,
+            "{messages} {longest}"
+        );
+    }
+    Ok(())
+}
+
+#[test]
+fn calls_of_echo_give_their_input(rt: HostRuntime) -> Result<(), Fail> {
+    check_calls(&rt, rt.alloc(), &CALLS)
+}
+
+/// A message of the longest body, behind a greeting, that a side of version 2 takes.
+fn longest(alloc: Global, header: &str) -> Result<Vec<u8>, Fail> {
+    let mut bytes = bytes_of(alloc, &[HELLO, header])?;
+    bytes.extend_from_slice(&vec![in alloc; 0x61; 65_536]?)?;
+    Ok(bytes)
+}
+
+/// How many messages a side of version 2 sends that takes these bytes, and how long the longest body is.
+fn sent_by<S: Service>(alloc: Global, service: S, bytes: &[u8]) -> Result<(usize, usize), Fail> {
+    let mut side = serving(alloc, service, 2, 65_536)?;
+    side.take(bytes)?;
+    let mut out = Vec::new(alloc);
+    for _ in 0..100 {
+        let piece = side.front()?;
+        out.extend_from_slice(piece)?;
+        let count = piece.len();
+        side.advance(count);
+    }
+    count_of(alloc, &out)
+}
+
+#[test]
+fn version_two_takes_the_longest_bodies_and_sends_none(rt: HostRuntime) -> Result<(), Fail> {
+    let alloc = rt.alloc();
+    let mut caller = caller(alloc, b"", 2, 65_536)?;
+    caller.take(&longest(alloc, "9101000000000100")?)?;
+    assert!(rt; caller.stdout().len() == 65_536);
+    let sent = sent_by(
+        alloc,
+        builtin(b"echo")?,
+        &longest(alloc, "9001000000000100")?,
+    )?;
+    assert!(rt; sent == (17, 4_096));
+    Ok(())
+}
+
+// ---- services of the test's own
+
+/// It tells of the end, and looks at no input.
+#[derive(Drop)]
+struct Greeting;
+
+impl Service for Greeting {
+    ghost owes = { λ _ _. record { stdout = []; stderr = codes "hi"; code = negsuc 0 } };
+
+    fn feed(
+        &mut self,
+        _piece: &[u8],
+        _out: &mut Vec<u8>,
+        _err: &mut Vec<u8>,
+    ) -> Result<(), Memory> {
+        Ok(())
+    }
+
+    fn end(&mut self, _out: &mut Vec<u8>, err: &mut Vec<u8>) -> Result<i32, Memory> {
+        err.extend_from_slice(b"hi")?;
+        Ok(-1)
+    }
+}
+
+#[test]
+fn serves_with_an_object_of_the_callers(rt: HostRuntime) -> Result<(), Fail> {
+    let alloc = rt.alloc();
+    let service = Boxed {
+        inner: Box::new(alloc, Greeting)?,
+    };
+    assert_eq!(rt;
+        answered(alloc, service, 1, &[HELLO, "9001000000000000"])?.as_str(),
+        "hello 3;stderr 1 68;stderr 1 69;stdout 0 -;stderr 0 -;exit -1;"
+    );
+    Ok(())
+}
+
+/// It has no memory for any input.
+#[derive(Drop)]
+struct Poor;
+
+impl Service for Poor {
+    ghost owes = { λ _ _. record { stdout = []; stderr = []; code = pos 0 } };
+
+    fn feed(
+        &mut self,
+        _piece: &[u8],
+        _out: &mut Vec<u8>,
+        _err: &mut Vec<u8>,
+    ) -> Result<(), Memory> {
+        Err(Memory)
+    }
+
+    fn end(&mut self, _out: &mut Vec<u8>, _err: &mut Vec<u8>) -> Result<i32, Memory> {
+        Err(Memory)
+    }
+}
+
+/// Whether a side that takes the first piece and not the second has got the first alone.
+fn keeps_the_first<S: Service>(
+    alloc: Global,
+    service: S,
+    first: &[u8],
+    second: &[u8],
+) -> Result<bool, Fail> {
+    let mut side = serving(alloc, service, 3, 1)?;
+    side.take(first)?;
+    Ok(side.take(second).is_err() && side.got() == first)
+}
+
+#[test]
+fn tells_what_it_got_after_want_of_memory(rt: HostRuntime) -> Result<(), Fail> {
+    let alloc = rt.alloc();
+    let greeting = bytes_of(alloc, &[HELLO])?;
+    let input = bytes_of(alloc, &["900100000100000061"])?;
+    assert!(rt; keeps_the_first(alloc, Poor, &greeting, &input)?);
+    Ok(())
+}

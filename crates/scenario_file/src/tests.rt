@@ -1,5 +1,0 @@
-mod cases;
-mod faults;
-mod lines;
-
-use super::*;

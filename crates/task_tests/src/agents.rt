@@ -1,0 +1,116 @@
+//! What an agent answers to what a broker of this repository never says.
+ghost use Rattle.std.specs.Prelude.{◌≡◌, true};
+ghost use Rattle.vchan_rule.specs.Seated.{IsOpen};
+ghost use Rattle.control_port.specs.declared.talk.Talker.TheVariants.{Broker};
+
+use agent_task::{AgentTask, AgentTurn};
+use control_port::{ControlPort, Talker};
+use qrexec_frame::{Message, Text, fits};
+use ring_words::check_orders;
+use std::alloc::Global;
+use std::test::Fail;
+use vchan_rule::Page;
+
+/// Commands that no agent without data ends serves: whether each is a MSG_JUST_EXEC, the domain and the
+/// port that it names, and its line.
+const COMMANDS: [(bool, u32, u32, &[u8]); 4] = [
+    (true, 2, 513, b"DEFAULT:QUBESRPC echo vault"),
+    (false, 3, 515, b"DEFAULT:xterm"),
+    (false, 4, 517, b"DEFAULT:QUBESRPC nothing vault"),
+    (false, 5, 519, b"DEFAULT:QUBESRPC echo vault"),
+];
+
+/// The message of a command.
+fn message_of(alloc: Global, command: (bool, u32, u32, &[u8])) -> Result<Message, Fail> {
+    let (is_just, domain, port, line) = command;
+    let line = Text::of(alloc, line)?;
+    if is_just {
+        return Ok(Message::JustExec { domain, port, line });
+    }
+    Ok(Message::Exec { domain, port, line })
+}
+
+/// Says a message, where the broker may. It tells whether it did.
+fn say(broker: &mut ControlPort, message: &Message) -> Result<bool, Fail>
+    requires open { IsOpen broker.old.end }
+    requires talker { broker.old.talker ≡ Broker }
+    ensures open { IsOpen broker.new.end }
+    ensures talker { broker.new.talker ≡ broker.old.talker }
+{
+    if !broker.greeted() || !fits(message) || !Talker::Broker.says(message) {
+        return Ok(false);
+    }
+    broker.say(message)?;
+    Ok(true)
+}
+
+/// Says all commands.
+fn say_all(alloc: Global, broker: &mut ControlPort) -> Result<bool, Fail>
+    requires open { IsOpen broker.old.end }
+    requires talker { broker.old.talker ≡ Broker }
+    ensures open { IsOpen broker.new.end }
+{
+    for command in COMMANDS {
+        let message = message_of(alloc, command)?;
+        if !say(broker, &message)? {
+            return Ok(false);
+        }
+    }
+    Ok(true)
+}
+
+/// Whether the ends of all commands are heard, in their order.
+fn hears_ends(broker: &mut ControlPort) -> Result<bool, Fail>
+    requires { IsOpen broker.old.end }
+{
+    broker.drain(&mut [0; 256])?;
+    for (_, domain, port, _) in COMMANDS {
+        if broker.fault().is_some() || !is_end(broker.next()?, domain, port) {
+            return Ok(false);
+        }
+    }
+    Ok(true)
+}
+
+/// Whether a message says that this session has ended.
+fn is_end(message: Option<Message>, domain: u32, port: u32) -> bool {
+    match message {
+        Some(
+            Message::Terminated {
+                domain: with,
+                port: at,
+            },
+        ) => with == domain && at == port,
+        _ => false,
+    }
+}
+
+/// The task after a turn, where it wants another one.
+fn again(task: AgentTask<'_>) -> Option<AgentTask<'_>> {
+    match task.turn() {
+        AgentTurn::Again(task) => Some(task),
+        AgentTurn::Done(_) | AgentTurn::NoMemory => None,
+    }
+}
+
+#[test]
+fn an_agent_ends_what_it_does_not_serve(rt: HostRuntime) -> Result<(), Fail> {
+    let alloc = rt.alloc();
+    let (page, server, client) = Page::open(alloc, check_orders(10, 11)?, 0)?;
+    let mut broker = ControlPort::new(alloc, page.attach(client), Talker::Broker, 3);
+    broker.connect().map_err(|_| "other orders")?;
+    broker.greet()?;
+    assert!(rt; say_all(alloc, &mut broker)?);
+    let agent = AgentTask::new(
+        alloc,
+        1,
+        3,
+        Vec::new(alloc),
+        page.attach(server),
+        Vec::new(alloc),
+    )?;
+    let agent = again(agent).ok_or("done in the first turn")?;
+    let _agent = again(agent).ok_or("done in the second turn")?;
+    assert!(rt; hears_ends(&mut broker)?);
+    Ok(())
+}

@@ -1,0 +1,12 @@
+//! What the tasks of a run do together in stated orders of turns, as tests.
+//!
+//! Contracts say what each task owes whatever the order, and not that a run comes to its end: here some do.
+//! Runs against hostile domains with one worker are played through the whole program.
+#![tactic(auto)]
+
+#[cfg(test)]
+mod agents;
+#[cfg(test)]
+mod in_order;
+#[cfg(test)]
+mod runs;

@@ -1,0 +1,79 @@
+//! Runs of scenarios in stated orders of turns.
+use crate::in_order::InOrder;
+use run_report::report_text;
+use scenario_file::read;
+use scenario_run::run_scenario;
+use std::process::Abort;
+use std::sync::Wait;
+use std::test::Fail;
+use std::thread::Threads;
+
+/// Two domains with a call each to the other.
+const EACH_WAY: &str = r#"
+domain = [{name = "work"}, {name = "vault", version = 2}]
+call = [
+  {from = "work", to = "vault", service = "echo", stdin = "hello"},
+  {from = "vault", to = "work", service = "exit+7", stdin_fill = 5000},
+]
+"#;
+
+const EACH_WAY_LINES: &str = "call 1 work vault echo done 0 68656c6c6f -
+call 2 vault work exit+7 done 7 - -
+calls 2
+";
+
+/// A domain that spoils the order words of its control page, and a call to it.
+const BAD_ORDERS: &str = r#"
+domain = [{name = "work"}, {name = "evil", hostile = ["poke control left_order 9", "hello", "rest 60"]}]
+call = [{from = "work", to = "evil", service = "echo"}]
+"#;
+
+/// As many workers as each of these runs has tasks.
+const WORKERS: u32 = 3;
+
+/// A scenario, the places of its tasks as they take turns, the broker's being 0, and its report.
+type Row = (&'static str, &'static [u32], &'static str);
+
+const ROWS: [Row; 5] = [
+    (EACH_WAY, &[0, 1, 2], EACH_WAY_LINES),
+    (EACH_WAY, &[2, 1, 0], EACH_WAY_LINES),
+    (EACH_WAY, &[1, 1, 1, 0, 2, 0, 2], EACH_WAY_LINES),
+    // The broker has connected before the orders are spoilt, and finds it before.
+    (
+        BAD_ORDERS,
+        &[0, 1, 2],
+        "call 1 work evil echo mixed gone -\ncalls 1\n",
+    ),
+    (
+        BAD_ORDERS,
+        &[2, 1, 0],
+        "call 1 work evil echo mixed refused -\ncalls 1\n",
+    ),
+];
+
+/// The text of the report of a scenario whose tasks take turns in this order.
+fn told<R: Threads + Wait + Sync + AllocGlobal>(
+    rt: &R,
+    file: &str,
+    order: &'static [u32],
+) -> Result<Vec<u8>, Fail> {
+    let scenario = read(rt.alloc(), file.as_bytes())?;
+    let report = run_scenario(rt, rt.alloc(), &scenario, WORKERS, &InOrder::of(order))?;
+    Ok(report_text(rt.alloc(), &report)?)
+}
+
+fn check_rows<R: Threads + Wait + Sync + AllocGlobal + Abort>(
+    rt: &R,
+    rows: &[Row],
+) -> Result<(), Fail> {
+    for (file, order, lines) in rows {
+        let text = told(rt, *file, *order)?;
+        assert!(rt; text.as_slice() == lines.as_bytes(), "{order:?} of {file}");
+    }
+    Ok(())
+}
+
+#[test]
+fn runs_end_as_they_should_in_stated_orders(rt: HostRuntime) -> Result<(), Fail> {
+    check_rows(&rt, &ROWS)
+}
