@@ -2,13 +2,15 @@
 //!
 //! `top` is the whole program over any source and any two sinks, and its contract is what the program
 //! promises. `main` only makes the real source and sinks: standard input, standard output and standard
-//! error. What the program says of itself, as for `--help`, is the one thing that it does above `top`.
+//! error. What the program says of itself, as for `--help`, and the line of progress are all that it does
+//! above `top`.
 #![tactic(auto)]
 
 mod about;
 mod channels;
 mod command;
 mod lines;
+mod progress;
 mod run_end;
 mod runs;
 mod status;
@@ -17,13 +19,15 @@ mod work;
 
 pub use about::{About, about_in, tell};
 use command::command_words;
+use progress::Progress;
 pub use run_end::RunEnd;
 pub use run_report::Report;
 pub use runs::load_text;
-use service_gate::OpenGate;
+use service_gate::Gate;
 pub use status::{Bad, Status, exit_number};
 use std::alloc::Global;
 use std::env;
+use std::io::IsTerminal;
 use std::process::ExitCode;
 use std::rt::Env;
 use std::sync::Wait;
@@ -37,13 +41,23 @@ fn main(rt: HostRuntime) -> ExitCode {
     let mut source = StdSource::new(rt.stdin());
     let mut out = StdSink::new(rt.stdout());
     let mut err = StdSink::new(rt.stderr());
+    let progress = Progress::new(&rt, rt.stderr().is_terminal());
     let status = match arguments(&rt, rt.alloc()) {
         Some(arguments) => {
             let words = command_words(arguments.as_slice());
-            Some(carry_out(&rt, rt.alloc(), words, &mut source, &mut out, &mut err))
+            Some(carry_out(
+                &rt,
+                rt.alloc(),
+                words,
+                &mut source,
+                &mut out,
+                &mut err,
+                &progress,
+            ))
         }
         None => None,
     };
+    progress.end();
     ExitCode::from(exit_number(status))
 }
 
@@ -53,18 +67,19 @@ fn arguments(rt: &(impl Env + AllocGlobal), alloc: Global) -> Option<Vec<String>
     env::args(rt).ok()?.collect(alloc).ok()
 }
 
-/// Does what these words say.
-fn carry_out<S: Source, K: Sink, E: Sink, R: Threads + Wait + Clock + Sync>(
+/// Does what these words say. The workers of a run pass this gate.
+fn carry_out<S: Source, K: Sink, E: Sink, G: Gate, R: Threads + Wait + Clock + Sync>(
     rt: &R,
     alloc: Global,
     words: &[String],
     source: &mut S,
     out: &mut K,
     err: &mut E,
+    gate: &G,
 ) -> Status {
     match about_in(words) {
         Some(about) => tell(about.text(), out, err),
-        None => top(rt, alloc, words, source, out, err, &OpenGate).status,
+        None => top(rt, alloc, words, source, out, err, gate).status,
     }
 }
 

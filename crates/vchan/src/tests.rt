@@ -1,5 +1,5 @@
 use super::*;
-use service_gate::Gate;
+use service_gate::{Gate, OpenGate};
 use std::alloc::AllocError;
 use std::test::Fail;
 use vchan_io::{MemSink, MemSource, Memory};
