@@ -10,7 +10,6 @@ mod pool;
 mod ring;
 mod scenario;
 mod session;
-mod turns;
 
 use anyhow::{Context, Result, bail};
 use std::alloc::Global;
@@ -21,7 +20,7 @@ use std::thread::Threads;
 use std::time::CpuClock;
 
 const USAGE: &str =
-    "usage: benches [broker EVENTS | pool TASKS TURNS WORKERS STEPS | ring SIZE CALLS ROUNDS | threads SIZE PIECES | scenario FILE | session SIZE PIECE | turns RUNS]";
+    "usage: benches [broker EVENTS | pool TASKS TURNS WORKERS STEPS | ring SIZE CALLS ROUNDS | threads SIZE PIECES | scenario FILE | session SIZE PIECE]";
 
 /// The numbers that these words write.
 fn numbers(alloc: Global, words: &[String]) -> Result<Vec<u32>> {
@@ -70,7 +69,6 @@ fn measured<R: Clock + CpuClock + Files + Print + AllocGlobal + Threads + Wait +
         ("ring", [size, calls, rounds]) => ring::measured(rt, *size, *calls, *rounds),
         ("threads", [size, pieces]) => ring::measured_in_threads(rt, *size, *pieces),
         ("session", [size, piece]) => session::measured(rt, *size, *piece),
-        ("turns", [runs]) => turns::measured(rt, *runs),
         _ => bail!(USAGE),
     }
 }

@@ -283,19 +283,23 @@ fn answered<S: Service>(
     lines_of(alloc, &out)
 }
 
+/// Whether a caller of `hello` sends its greeting, and its input once it is greeted.
+fn sends_hello(alloc: Global, side: &mut Caller, out: &mut Vec<u8>) -> Result<bool, Fail> {
+    caller_sends(side, out, 5)?;
+    if lines_of(alloc, out)?.as_str() != "hello 3;" {
+        return Ok(false);
+    }
+    side.take(&bytes_of(alloc, &[HELLO])?)?;
+    caller_sends(side, out, 3)?;
+    Ok(lines_of(alloc, out)?.as_str() == "hello 3;stdin 2 6865;stdin 2 6c6c;stdin 1 6f;stdin 0 -;")
+}
+
 #[test]
 fn sends_its_input_behind_both_greetings(rt: HostRuntime) -> Result<(), Fail> {
     let alloc = rt.alloc();
     let mut side = caller(alloc, b"hello", 3, 2)?;
     let mut out = Vec::new(alloc);
-    caller_sends(&mut side, &mut out, 5)?;
-    assert_eq!(rt; lines_of(alloc, &out)?.as_str(), "hello 3;");
-    side.take(&bytes_of(alloc, &[HELLO])?)?;
-    caller_sends(&mut side, &mut out, 3)?;
-    assert_eq!(rt;
-        lines_of(alloc, &out)?.as_str(),
-        "hello 3;stdin 2 6865;stdin 2 6c6c;stdin 1 6f;stdin 0 -;"
-    );
+    assert!(rt; sends_hello(alloc, &mut side, &mut out)?);
     Ok(())
 }
 
@@ -358,28 +362,59 @@ const CALLS: [Call; 8] = [
     (3, 3, 65_536, 0, 100_000, 2, 4),
 ];
 
-/// Passes a call to its end, and answers how many messages the caller sent, and how long the longest body
-/// on either way was.
+/// Passes what both sides send until neither sends anything.
+fn pass_all<S: Service>(
+    caller: &mut Caller,
+    serving: &mut Serving<S>,
+    most: usize,
+) -> Result<(), Fail> {
+    for _ in 0..1_000_000 {
+        if pass(caller, serving, most)? == 0 {
+            break;
+        }
+    }
+    Ok(())
+}
+
+/// Whether a call of `echo` is over with its input.
+fn is_echoed<S: Service>(caller: &Caller, serving: &Serving<S>, input: &[u8]) -> bool {
+    let done = Some(Outcome::Done { code: 0 });
+    caller.outcome() == done && serving.outcome() == done && caller.stdout() == input
+}
+
+/// How many messages the caller sent, and how long the longest body on either way was.
+fn counts_of<S: Service>(
+    alloc: Global,
+    caller: &Caller,
+    serving: &Serving<S>,
+) -> Result<(usize, usize), Fail> {
+    let (asked, longest_asked) = count_of(alloc, serving.got())?;
+    let (_, longest_answered) = count_of(alloc, caller.got())?;
+    Ok((asked, longest_asked.max(longest_answered)))
+}
+
+/// Passes a call of `echo` to its end, and answers its counts.
+fn passed_between<S: Service>(
+    alloc: Global,
+    caller: &mut Caller,
+    serving: &mut Serving<S>,
+    most: usize,
+    input: &[u8],
+) -> Result<(usize, usize), Fail> {
+    pass_all(caller, serving, most)?;
+    if !is_echoed(caller, serving, input) {
+        return Err(Fail::from("not the input"));
+    }
+    counts_of(alloc, caller, serving)
+}
+
+/// Passes a call to its end, and answers its counts.
 fn passed<S: Service>(alloc: Global, service: S, call: Call) -> Result<(usize, usize), Fail> {
     let (own, theirs, chunk, len, most, _, _) = call;
     let input = vec![in alloc; 0x61; len]?;
     let mut caller = caller(alloc, &input, own, chunk)?;
     let mut serving = serving(alloc, service, theirs, chunk)?;
-    for _ in 0..1_000_000 {
-        if pass(&mut caller, &mut serving, most)? == 0 {
-            break;
-        }
-    }
-    let done = Some(Outcome::Done { code: 0 });
-    if caller.outcome() != done
-        || serving.outcome() != done
-        || caller.stdout() != input.as_slice()
-    {
-        return Err(Fail::from("not the input"));
-    }
-    let (asked, longest_asked) = count_of(alloc, serving.got())?;
-    let (_, longest_answered) = count_of(alloc, caller.got())?;
-    Ok((asked, longest_asked.max(longest_answered)))
+    passed_between(alloc, &mut caller, &mut serving, most, &input)
 }
 
 fn check_calls(rt: &impl Abort, alloc: Global, calls: &[Call]) -> Result<(), Fail> {

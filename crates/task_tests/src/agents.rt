@@ -1,5 +1,6 @@
 //! What an agent answers to what a broker of this repository never says.
-ghost use Rattle.std.specs.Prelude.{◌≡◌, true};
+ghost use Rattle.std.specs.Prelude.{◌≡◌, IfOk};
+ghost use Rattle.ring_words.specs.declared.page.Role.TheVariants.{Server, Client};
 ghost use Rattle.vchan_rule.specs.Seated.{IsOpen};
 ghost use Rattle.control_port.specs.declared.talk.Talker.TheVariants.{Broker};
 
@@ -9,7 +10,8 @@ use qrexec_frame::{Message, Text, fits};
 use ring_words::check_orders;
 use std::alloc::Global;
 use std::test::Fail;
-use vchan_rule::Page;
+use vchan_io::Memory;
+use vchan_rule::{IdleSeat, Page};
 
 /// Commands that no agent without data ends serves: whether each is a MSG_JUST_EXEC, the domain and the
 /// port that it names, and its line.
@@ -85,11 +87,41 @@ fn is_end(message: Option<Message>, domain: u32, port: u32) -> bool {
     }
 }
 
-/// The task after a turn, where it wants another one.
-fn again(task: AgentTask<'_>) -> Option<AgentTask<'_>> {
-    match task.turn() {
-        AgentTurn::Again(task) => Some(task),
-        AgentTurn::Done(_) | AgentTurn::NoMemory => None,
+/// The end of the broker of a page, which has greeted.
+fn broker_of(alloc: Global, page: &Page, client: IdleSeat) -> Result<ControlPort<'_>, Fail>
+    requires { client ≡ record { page = page.now; role = Client } }
+    ensures open { IfOk result (λ broker. IsOpen broker.end) }
+    ensures talker { IfOk result (λ broker. broker.talker ≡ Broker) }
+{
+    let mut broker = ControlPort::new(alloc, page.attach(client), Talker::Broker, 3);
+    broker.connect().map_err(|_| "other orders")?;
+    broker.greet()?;
+    Ok(broker)
+}
+
+/// The agent of domain 1 at a page, with no calls and no data ends.
+fn agent_of(alloc: Global, page: &Page, server: IdleSeat) -> Result<AgentTask<'_>, Memory>
+    requires { server ≡ record { page = page.now; role = Server } }
+{
+    let control = page.attach(server);
+    AgentTask::new(alloc, 1, 3, Vec::new(alloc), control, Vec::new(alloc))
+}
+
+/// Whether an agent goes on after two turns.
+fn turns_twice(agent: AgentTask<'_>) -> bool {
+    match agent.turn() {
+        AgentTurn::Again(agent) => goes_on(agent),
+        AgentTurn::Done(_done) => false,
+        AgentTurn::NoMemory => false,
+    }
+}
+
+/// Whether an agent goes on after a turn.
+fn goes_on(agent: AgentTask<'_>) -> bool {
+    match agent.turn() {
+        AgentTurn::Again(_agent) => true,
+        AgentTurn::Done(_done) => false,
+        AgentTurn::NoMemory => false,
     }
 }
 
@@ -97,20 +129,9 @@ fn again(task: AgentTask<'_>) -> Option<AgentTask<'_>> {
 fn an_agent_ends_what_it_does_not_serve(rt: HostRuntime) -> Result<(), Fail> {
     let alloc = rt.alloc();
     let (page, server, client) = Page::open(alloc, check_orders(10, 11)?, 0)?;
-    let mut broker = ControlPort::new(alloc, page.attach(client), Talker::Broker, 3);
-    broker.connect().map_err(|_| "other orders")?;
-    broker.greet()?;
+    let mut broker = broker_of(alloc, &page, client)?;
     assert!(rt; say_all(alloc, &mut broker)?);
-    let agent = AgentTask::new(
-        alloc,
-        1,
-        3,
-        Vec::new(alloc),
-        page.attach(server),
-        Vec::new(alloc),
-    )?;
-    let agent = again(agent).ok_or("done in the first turn")?;
-    let _agent = again(agent).ok_or("done in the second turn")?;
+    assert!(rt; turns_twice(agent_of(alloc, &page, server)?));
     assert!(rt; hears_ends(&mut broker)?);
     Ok(())
 }
