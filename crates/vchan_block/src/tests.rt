@@ -78,6 +78,30 @@ fn a_reader_closes_in_the_middle(rt: HostRuntime) -> Result<(), Fail> {
     Ok(())
 }
 
+#[test]
+fn what_never_fits_is_refused(rt: HostRuntime) -> Result<(), Fail> {
+    let orders = check_orders(10, 11).map_err(|_| "orders")?;
+    let (page, server, client) = Page::open(rt.alloc(), orders, 0)?;
+    let mut server = page.attach(server);
+    let mut client = page.attach(client);
+    if connect(&mut client).is_err() {
+        return Err(Fail::from("connect"));
+    }
+    let large = BlockSend::TooLarge {
+        len: 1_025,
+        size: 1_024,
+    };
+    assert!(rt; send(&rt, &mut client, &[b'q'; 1_025]) == large);
+    let large = BlockRecv::TooLarge {
+        len: 2_049,
+        size: 2_048,
+    };
+    assert!(rt; recv(&rt, &mut client, &mut [0; 2_049]) == large);
+    close(&mut server);
+    assert!(rt; write(&rt, &mut client, b"abc") == BlockWrite::PeerClosed { before: 0 });
+    Ok(())
+}
+
 /// Whether a pipe hands back as many bytes as it was given.
 fn comes_back<R: Threads + Wait + Clock + AllocGlobal + Sync>(
     rt: &R,

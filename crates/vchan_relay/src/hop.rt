@@ -4,17 +4,18 @@ ghost use Rattle.vchan_rule.specs.Ends.{IsSameEnd};
 ghost use Rattle.vchan_relay.specs.Relay.{IsRelay};
 ghost use Rattle.vchan_relay.specs.Turns.{Leaves, ends_relay};
 
+use crate::idle::IdleTurns;
 use crate::relay::Relay;
 use crate::task::{HopDone, HopTask};
 use crate::turn::RelayTurn;
 use std::marker::Model;
-use std::thread;
 use task_pool::Turn;
 
 /// A relay that hasn't ended, between the server's end of one page and the client's of the next.
 #[derive(Drop)]
 pub(crate) struct Hop<'p> {
     relay: Relay<'p>,
+    idle: IdleTurns,
 }
 
 impl<'p> Model for Hop<'p> {
@@ -30,8 +31,7 @@ impl<'p> Model for Hop<'p> {
 }
 
 /// A turn of the relay, and another one where it took bytes, by which these are passed on: so the next
-/// task finds them in its turn. Where nothing could be moved the thread gives way, since the pool can't
-/// tell. The answer is that of the last turn.
+/// task finds them in its turn. The answer is that of the last turn.
 fn advance(relay: &mut Relay<'_>) -> RelayTurn
     requires { relay.old.ended ≡ false }
     ensures near { IsSameEnd relay.old.near relay.new.near }
@@ -43,15 +43,16 @@ fn advance(relay: &mut Relay<'_>) -> RelayTurn
     let turn = relay.turn();
     match turn {
         RelayTurn::Took { count: _ } => relay.turn(),
-        RelayTurn::NotYet { prod: _, cons: _ } => {
-            thread::yield_now();
-            turn
-        }
-        RelayTurn::Full { prod: _, cons: _ } => {
-            thread::yield_now();
-            turn
-        }
         _ => turn,
+    }
+}
+
+/// How long a relay has moved nothing, after a turn with this answer.
+fn idle_after(turn: RelayTurn, idle: IdleTurns) -> IdleTurns {
+    match turn {
+        RelayTurn::NotYet { prod: _, cons: _ } => idle.one_more(),
+        RelayTurn::Full { prod: _, cons: _ } => idle.one_more(),
+        _ => IdleTurns::none(),
     }
 }
 
@@ -68,19 +69,22 @@ impl<'p> Hop<'p> {
         requires far { relay.far.side.role ≡ Client }
         ensures { result ≡ record { near = relay.entry.near.page; far = relay.entry.far.page } }
     {
-        Hop { relay }
+        Hop {
+            relay,
+            idle: IdleTurns::none(),
+        }
     }
 
     /// Goes on with the relay, which retires both its ends once it has ended.
     pub(crate) fn turn(self) -> Turn<HopTask<'p>>
         ensures { Pays hop_owes (HopTask.Passes self.entry) result }
     {
-        let Hop { mut relay } = self;
-        let _ = advance(&mut relay);
+        let Hop { mut relay, idle } = self;
+        let idle = idle_after(advance(&mut relay), idle);
         if relay.ended() {
             let (near, far) = relay.retire();
             return Turn::Done(HopDone::Passed { near, far });
         }
-        Turn::Again(HopTask::Passes(Hop { relay }))
+        Turn::Again(HopTask::Passes(Hop { relay, idle }))
     }
 }

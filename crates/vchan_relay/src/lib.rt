@@ -8,6 +8,7 @@
 mod deal;
 mod draining;
 mod hop;
+mod idle;
 pub mod laws;
 mod lay;
 mod reader;

@@ -1,8 +1,8 @@
 //! The task that gets all bytes.
 use crate::draining::{drain_behind, hand_back};
+use crate::idle::IdleTurns;
 use crate::task::HopTask;
 use std::marker::Model;
-use std::thread;
 use task_pool::Turn;
 use vchan_lifecycle::DrainAnswer;
 use vchan_rule::End;
@@ -13,6 +13,7 @@ pub(crate) struct Reader<'p> {
     end: End<'p>,
     room: Vec<u8>,
     count: usize,
+    idle: IdleTurns,
 }
 
 impl<'p> Model for Reader<'p> {
@@ -47,10 +48,11 @@ impl<'p> Reader<'p> {
             end,
             room,
             count: 0,
+            idle: IdleTurns::none(),
         }
     }
 
-    /// Gets what waits, and gives way where nothing does. Where no more comes, and where the room is
+    /// Gets what waits. Where no more comes, and where the room is
     /// full, it retires.
     pub(crate) fn turn(self) -> Turn<HopTask<'p>>
         ensures { Pays hop_owes (HopTask.Reads self.entry) result }
@@ -59,6 +61,7 @@ impl<'p> Reader<'p> {
             mut end,
             mut room,
             count,
+            idle,
         } = self;
         match drain_behind(&mut end, room.as_mut_slice(), count) {
             DrainAnswer::More { count: more } => {
@@ -66,11 +69,22 @@ impl<'p> Reader<'p> {
                 if count == room.len() {
                     return Turn::Done(hand_back(end, room, count));
                 }
-                Turn::Again(HopTask::Reads(Reader { end, room, count }))
+                let idle = IdleTurns::none();
+                Turn::Again(HopTask::Reads(Reader {
+                    end,
+                    room,
+                    count,
+                    idle,
+                }))
             }
             DrainAnswer::NotYet { prod: _, cons: _ } => {
-                thread::yield_now();
-                Turn::Again(HopTask::Reads(Reader { end, room, count }))
+                let idle = idle.one_more();
+                Turn::Again(HopTask::Reads(Reader {
+                    end,
+                    room,
+                    count,
+                    idle,
+                }))
             }
             DrainAnswer::AllRead => Turn::Done(hand_back(end, room, count)),
             DrainAnswer::PeerGone { prod: _, cons: _ } => Turn::Done(hand_back(end, room, count)),

@@ -9,7 +9,7 @@ use std::alloc::Global;
 use std::sync::Wait;
 use std::test::Fail;
 use std::thread::Threads;
-use vchan_lifecycle::{close, connect};
+use vchan_lifecycle::{close, connect, retire};
 use vchan_rule::{End, IdleSeat, Page};
 use vchan_stream::{WriteAnswer, write};
 
@@ -67,8 +67,9 @@ fn the_near_writer_shuts(rt: HostRuntime) -> Result<(), Fail> {
     let mut relay = relay.ok().ok_or("relay")?;
     assert!(rt; next(&mut relay) == Some(RelayTurn::NotYet { prod: 0, cons: 0 }));
     assert!(rt; write(&mut writer, b"hello") == WriteAnswer::Wrote { count: 5 });
-    close(&mut writer);
+    let _ = retire(writer);
     assert!(rt; next(&mut relay) == Some(RelayTurn::Took { count: 5 }));
+    assert!(rt; relay.held() == 5);
     assert!(rt; next(&mut relay) == Some(RelayTurn::Passed { count: 5 }));
     assert!(rt; next(&mut relay) == Some(RelayTurn::Ended));
     assert!(rt; relay.ended() && relay.held() == 0);
@@ -114,6 +115,29 @@ fn the_near_writer_leaves_a_wrong_index(rt: HostRuntime) -> Result<(), Fail> {
     };
     assert!(rt; next(&mut relay) == Some(gone));
     assert!(rt; relay.ended() && relay.held() == 0);
+    Ok(())
+}
+
+#[test]
+fn the_far_reader_leaves_a_wrong_index(rt: HostRuntime) -> Result<(), Fail> {
+    let (page, server, client) = open(rt.alloc()).ok_or("near page")?;
+    let (far_page, reader, far) = open(rt.alloc()).ok_or("far page")?;
+    let mut writer = connected(&page, client).ok_or("writer")?;
+    let mut hostile = far_page.attach(reader).turn();
+    let far = connected(&far_page, far).ok_or("far end")?;
+    let relay = Relay::new(rt.alloc(), page.attach(server), far, 16);
+    let mut relay = relay.ok().ok_or("relay")?;
+    assert!(rt; write(&mut writer, b"hello") == WriteAnswer::Wrote { count: 5 });
+    assert!(rt; next(&mut relay) == Some(RelayTurn::Took { count: 5 }));
+    hostile.store(WordName::LeftCons, 5_000);
+    let full = RelayTurn::Full {
+        prod: 0,
+        cons: 5_000,
+    };
+    assert!(rt; next(&mut relay) == Some(full));
+    hostile.store(WordName::SrvLive, 0);
+    assert!(rt; next(&mut relay) == Some(RelayTurn::FarClosed { held: 5 }));
+    let _ = hostile.retire();
     Ok(())
 }
 

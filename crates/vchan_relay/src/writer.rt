@@ -1,7 +1,7 @@
 //! The task that sends all bytes.
+use crate::idle::IdleTurns;
 use crate::task::{HopDone, HopTask};
 use std::marker::Model;
-use std::thread;
 use task_pool::Turn;
 use vchan_lifecycle::retire;
 use vchan_rule::End;
@@ -13,6 +13,7 @@ pub(crate) struct Writer<'p> {
     end: End<'p>,
     bytes: Vec<u8>,
     sent: usize,
+    idle: IdleTurns,
 }
 
 impl<'p> Model for Writer<'p> {
@@ -46,10 +47,11 @@ impl<'p> Writer<'p> {
             end,
             bytes,
             sent: 0,
+            idle: IdleTurns::none(),
         }
     }
 
-    /// Sends what has room, and gives way where nothing has. After the last byte, and where the reader
+    /// Sends what has room. After the last byte, and where the reader
     /// is shut, it retires.
     pub(crate) fn turn(self) -> Turn<HopTask<'p>>
         ensures { Pays hop_owes (HopTask.Writes self.entry) result }
@@ -58,6 +60,7 @@ impl<'p> Writer<'p> {
             mut end,
             bytes,
             sent,
+            idle,
         } = self;
         if sent == bytes.len() {
             return Turn::Done(HopDone::Wrote(retire(end)));
@@ -67,11 +70,14 @@ impl<'p> Writer<'p> {
                 end,
                 bytes,
                 sent: sent + count as usize,
+                idle: IdleTurns::none(),
             })),
-            WriteAnswer::Full { prod: _, cons: _ } => {
-                thread::yield_now();
-                Turn::Again(HopTask::Writes(Writer { end, bytes, sent }))
-            }
+            WriteAnswer::Full { prod: _, cons: _ } => Turn::Again(HopTask::Writes(Writer {
+                end,
+                bytes,
+                sent,
+                idle: idle.one_more(),
+            })),
             WriteAnswer::PeerClosed => Turn::Done(HopDone::Wrote(retire(end))),
         }
     }
