@@ -26,8 +26,7 @@ bad_words_end words left reads held writes is = record {
   unread = λ _. refl;
   bad_words = (λ _. is, λ _. refl);
   too_long = (λ same. absurd (not_too_long same), λ long. absurd (none_long long));
-  ends = (refl, refl);
-  settled = refl;
+  ends = (refl, refl, refl);
   reads_stay = λ _. refl;
   writes_stay = λ _. refl;
 }

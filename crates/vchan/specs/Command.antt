@@ -2,10 +2,11 @@
 use Rattle.std.specs.Prelude.{ℕ, ◌≤◌, nat_le, Bool, true, false, List, [], ◌∷◌, Option, Some, None, codes, bytes_eq, if◌then◌else◌}
 use Rattle.std.specs.Option.{option_map, option_and_then}
 use Rattle.script_words.specs.Numbers.{number_of}
+use Rattle.step_script.specs.Language.Opening.{orders_of}
 use Rattle.qrexec_frame.specs.declared.channel.Channel.{Channel}
 use Rattle.qrexec_frame.specs.declared.channel.Channel.TheVariants.{Control, Data}
 use Rattle.vchan.specs.declared.command.Command.{Command}
-use Rattle.vchan.specs.declared.command.Command.TheVariants.{Step, Decode, Run, Load}
+use Rattle.vchan.specs.declared.command.Command.TheVariants.{Step, Decode, Run, Load, Pipe, Relay}
 
 -- the kind of channel that a word names
 abbrev pub channel_of : List ℕ → Option Channel
@@ -27,20 +28,35 @@ abbrev pub load_of : List ℕ → List ℕ → Option Command
 load_of number calls =
     option_and_then (λ seed. option_map (Load seed) (number_within 1 2000 calls)) (number_within 0 65535 number)
 
--- the command of these words: `step`, alone; `decode control`; `decode data`; `run W`; `load N C`
+-- a pipe through a page with these orders, where a page may have them
+abbrev pub pipe_of : List ℕ → List ℕ → Option Command
+pipe_of left right =
+    option_and_then (λ l. option_and_then (λ r. option_map Pipe (orders_of l r)) (number_within 0 65535 right)) (number_within 0 65535 left)
+
+-- 1 to 16 relays, with 1 to 16 workers
+abbrev pub relay_of : List ℕ → List ℕ → Option Command
+relay_of hops workers =
+    option_and_then (λ hops'. option_map (Relay hops') (number_within 1 16 workers)) (number_within 1 16 hops)
+
+-- the command of these words: `step`, alone; `decode control`; `decode data`; `run W`; `load N C`; `pipe L R`; `relay K W`
 abbrev pub command_of : List (List ℕ) → Option Command
 command_of (word ∷ []) = if bytes_eq word (codes "step") then Some Step else None
 command_of (word ∷ argument ∷ []) =
     if bytes_eq word (codes "decode") then option_map Decode (channel_of argument)
     else if bytes_eq word (codes "run") then run_of argument
     else None
-command_of (word ∷ number ∷ calls ∷ []) = if bytes_eq word (codes "load") then load_of number calls else None
+command_of (word ∷ first ∷ second ∷ []) =
+    if bytes_eq word (codes "load") then load_of first second
+    else if bytes_eq word (codes "pipe") then pipe_of first second
+    else if bytes_eq word (codes "relay") then relay_of first second
+    else None
 command_of _ = None
 
 -- the numbers of a command keep the limits
 abbrev pub KeepsLimits : Command → Type 0
 KeepsLimits (Run workers) = (1 ≤ workers) × (workers ≤ 16)
 KeepsLimits (Load number calls) = (number ≤ 65535) × (1 ≤ calls) × (calls ≤ 2000)
+KeepsLimits (Relay hops workers) = ((1 ≤ hops) × (hops ≤ 16)) × ((1 ≤ workers) × (workers ≤ 16))
 KeepsLimits command = Unit {0}
 
 -- every command but `load` reads its input

@@ -1,5 +1,7 @@
 -- What each command prints, and what is wrong with an input that it doesn't print.
-use Rattle.std.specs.Prelude.{◌≡◌, ℕ, List, Option, Some, None, Ok, Err}
+use Rattle.std.specs.Prelude.{◌≡◌, ℕ, List, [], ◌∷◌, Option, Some, None, Ok, Err}
+use Rattle.ring_words.specs.Rings.{number_of}
+use Rattle.ring_words.specs.declared.order.Orders.{Orders}
 use Rattle.step_script.specs.Language.Grammar.{script_of}
 use Rattle.step_script.specs.Meaning.ScriptText.{IsTextOf}
 use Rattle.step_script.specs.Parts.Readings.{CanBeOpened}
@@ -10,14 +12,18 @@ use Rattle.scenario_file.specs.Scenario.{Plan as Scenario, written}
 use Rattle.scenario_file.specs.Tables.{scenario_of}
 use Rattle.run_laws.specs.Lawful.{IsLawful}
 use Rattle.run_laws.specs.Report.{Report}
+use Rattle.end_view.specs.Settled.{Settled}
 use Rattle.run_report.specs.Lines.{text_of}
 use Rattle.run_report.specs.Summary.{summary_of}
+use Rattle.vchan_block.specs.Pipe.{HasPiped}
+use Rattle.vchan_relay.specs.Runs.{HasRelayed}
 use Rattle.vchan.specs.declared.command.Command.{Command}
-use Rattle.vchan.specs.declared.command.Command.TheVariants.{Step, Decode, Run, Load}
+use Rattle.vchan.specs.declared.command.Command.TheVariants.{Step, Decode, Run, Load, Pipe, Relay}
 use Rattle.vchan.specs.declared.status.Status.{Status}
 use Rattle.vchan.specs.declared.status.Status.TheVariants.{BadInput, OutOfMemory}
 use Rattle.vchan.specs.declared.status.Bad.{Bad}
 use Rattle.vchan.specs.declared.status.Bad.TheVariants as bad
+use Rattle.vchan.specs.Relays.{relays_text}
 use Rattle.vchan.specs.Sums.{sums_of}
 
 -- `run` prints a report that is lawful for the scenario that the input is
@@ -35,15 +41,29 @@ pub record PrintsSums (number calls : ℕ) (text : List ℕ) (report : Report) :
   pub prints : text ≡ summary_of scenario.calls report
   pub alone : text ≡ sums_of (generated number calls)
 
--- what a command prints for an input, and the report that goes with it. `step` prints the text of the script that the input is;
--- where the script's lines are whole calls, the lists of what was sent and got tell their part of it. `decode` prints the text
--- of the stream that the input spells. Neither has a report
-abbrev pub Prints : Command → List ℕ → List ℕ → Option Report → Type 0
-Prints Step input text None = IsTextOf input text
-Prints (Decode channel) input text None = decoded channel input ≡ Ok text
-Prints (Run workers) input text (Some report) = PrintsReport input text report
-Prints (Load number calls) input text (Some report) = PrintsSums number calls text report
-Prints command input text report = ⊥
+-- `pipe` prints the input, all of which went through the left ring of the page
+pub record PrintsPiped (orders : Orders) (input text : List ℕ) (page : Settled) : Type 0 where
+  pub piped : HasPiped orders input page
+  pub prints : text ≡ input
+
+-- `relay` prints how many bytes went through the left ring of each page, of the orders 10 and 11, and the input, which is what came out behind the last
+pub record PrintsRelayed (hops : ℕ) (input text : List ℕ) (pages : List Settled) : Type 0 where
+  pub orders : Orders
+  pub orders_are : (number_of orders.left ≡ 10) × (number_of orders.right ≡ 11)
+  pub relayed : HasRelayed hops orders input (record { got = input; pages = pages })
+  pub prints : text ≡ relays_text pages input
+
+-- what a command prints for an input, and the report and the pages that go with it. `step` prints the text of the script that the input
+-- is; where the script's lines are whole calls, the lists of what was sent and got tell their part of it. `decode` prints the text
+-- of the stream that the input spells. Neither has a report, nor have `pipe` and `relay`, which alone have pages apart from one
+abbrev pub Prints : Command → List ℕ → List ℕ → Option Report → List Settled → Type 0
+Prints Step input text None [] = IsTextOf input text
+Prints (Decode channel) input text None [] = decoded channel input ≡ Ok text
+Prints (Run workers) input text (Some report) [] = PrintsReport input text report
+Prints (Load number calls) input text (Some report) [] = PrintsSums number calls text report
+Prints (Pipe orders) input text None (page ∷ []) = PrintsPiped orders input text page
+Prints (Relay hops workers) input text None pages = PrintsRelayed hops input text pages
+Prints command input text report pages = ⊥
 
 -- the input has not the command's form, and this is the first thing that is wrong with it
 abbrev pub IsBadFor : Command → List ℕ → Bad → Type 0

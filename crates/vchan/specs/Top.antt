@@ -3,6 +3,7 @@ use Rattle.std.specs.Prelude.{◌≡◌, ℕ, ◌<◌, ◌↔◌, true, false, L
 use Rattle.std.specs.Io.KnownBytes.{IsAtEnd}
 use Rattle.vchan_io.specs.Counts.{Rose}
 use Rattle.vchan_io.specs.Streams.{Takes, Appends, AppendsProperPrefix}
+use Rattle.end_view.specs.Settled.{Settled}
 use Rattle.run_laws.specs.Report.{Report}
 use Rattle.vchan.specs.declared.command.Command.{Command}
 use Rattle.vchan.specs.declared.status.Status.{Status}
@@ -16,9 +17,10 @@ use Rattle.vchan.specs.Prints.{Prints, IsBadFor}
 abbrev pub greatest_input : ℕ
 greatest_input = 4194304
 
--- these words are a command's, and this is the text that it prints for these bytes, with this report
-abbrev pub PrintedBy : List (List ℕ) → List ℕ → List ℕ → Option Report → Type 0
-PrintedBy words input text report = (command : Command) × (command_of words ≡ Some command) × Prints command input text report
+-- these words are a command's, and this is the text that it prints for these bytes, with this report and these pages
+abbrev pub PrintedBy : List (List ℕ) → List ℕ → List ℕ → Option Report → List Settled → Type 0
+PrintedBy words input text report pages =
+    (command : Command) × (command_of words ≡ Some command) × Prints command input text report pages
 
 -- these words are a command's, and these bytes have not its form
 abbrev pub BadFor : List (List ℕ) → List ℕ → Bad → Type 0
@@ -28,23 +30,24 @@ BadFor words input wrong = (command : Command) × (command_of words ≡ Some com
 abbrev pub IsReadBy : List (List ℕ) → Option (List ℕ) → Type 0
 IsReadBy words left' = words_read (command_of words) ≡ true → IsAtEnd left'
 
--- nothing was written, and there is no report
-abbrev pub ShowsNothing : Option (List ℕ) → Option (List ℕ) → Option Report → Type 0
-ShowsNothing held held' report = (held' ≡ held) × (report ≡ None)
+-- nothing was written, and there is no report and no page
+abbrev pub ShowsNothing : Option (List ℕ) → Option (List ℕ) → EndOfRun → Type 0
+ShowsNothing held held' end = (held' ≡ held) × (end.report ≡ None) × (end.settled ≡ [])
 
--- what a status says of the bytes taken, of the source afterwards, of the sink for the output before and after, and of the report
-abbrev pub Ends : Status → List (List ℕ) → List ℕ → Option (List ℕ) → ℕ → ℕ → Option (List ℕ) → Option (List ℕ) → ℕ → ℕ → Option Report → Type 0
-Ends Done words taken left' reads reads' held held' writes writes' report =
-    IsReadBy words left' × ((text : List ℕ) × PrintedBy words taken text report × Appends held held' text)
-Ends BadWords words taken left' reads reads' held held' writes writes' report = ShowsNothing held held' report
-Ends ReadFault words taken left' reads reads' held held' writes writes' report =
-    (words_read (command_of words) ≡ true) × Rose reads reads' × ShowsNothing held held' report
-Ends TooLong words taken left' reads reads' held held' writes writes' report = ShowsNothing held held' report
-Ends (BadInput wrong) words taken left' reads reads' held held' writes writes' report =
-    IsReadBy words left' × BadFor words taken wrong × ShowsNothing held held' report
-Ends WriteFault words taken left' reads reads' held held' writes writes' report =
-    IsReadBy words left' × Rose writes writes' × ((text : List ℕ) × PrintedBy words taken text report × AppendsProperPrefix held held' text)
-Ends OutOfMemory words taken left' reads reads' held held' writes writes' report = ShowsNothing held held' report
+-- what a status says of the bytes taken, of the source afterwards, of the sink for the output before and after, and of the report and the pages that are handed out
+abbrev pub Ends : Status → List (List ℕ) → List ℕ → Option (List ℕ) → ℕ → ℕ → Option (List ℕ) → Option (List ℕ) → ℕ → ℕ → EndOfRun → Type 0
+Ends Done words taken left' reads reads' held held' writes writes' end =
+    IsReadBy words left' × ((text : List ℕ) × PrintedBy words taken text end.report end.settled × Appends held held' text)
+Ends BadWords words taken left' reads reads' held held' writes writes' end = ShowsNothing held held' end
+Ends ReadFault words taken left' reads reads' held held' writes writes' end =
+    (words_read (command_of words) ≡ true) × Rose reads reads' × ShowsNothing held held' end
+Ends TooLong words taken left' reads reads' held held' writes writes' end = ShowsNothing held held' end
+Ends (BadInput wrong) words taken left' reads reads' held held' writes writes' end =
+    IsReadBy words left' × BadFor words taken wrong × ShowsNothing held held' end
+Ends WriteFault words taken left' reads reads' held held' writes writes' end =
+    IsReadBy words left' × Rose writes writes' × (end.settled ≡ [])
+    × ((text : List ℕ) × ((pages : List Settled) × PrintedBy words taken text end.report pages) × AppendsProperPrefix held held' text)
+Ends OutOfMemory words taken left' reads reads' held held' writes writes' end = ShowsNothing held held' end
 
 -- A run with these words: from a source that had so many bytes left, and has so many, with these counts of faults;
 -- to a sink that held so many, and holds so many, with these counts of faults. Each count stays but with its own status.
@@ -55,7 +58,6 @@ pub record IsRun (words : List (List ℕ)) (left left' : Option (List ℕ)) (rea
   pub unread : words_read (command_of words) ≡ false → taken ≡ []
   pub bad_words : (end.status ≡ BadWords) ↔ (command_of words ≡ None)
   pub too_long : (end.status ≡ TooLong) ↔ (greatest_input < length taken)
-  pub ends : Ends end.status words taken left' reads reads' held held' writes writes' end.report
-  pub settled : end.settled ≡ []
+  pub ends : Ends end.status words taken left' reads reads' held held' writes writes' end
   pub reads_stay : (¬ (end.status ≡ ReadFault)) → reads' ≡ reads
   pub writes_stay : (¬ (end.status ≡ WriteFault)) → writes' ≡ writes

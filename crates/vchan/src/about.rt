@@ -70,13 +70,20 @@ const HELP: &[u8] = b"usage: vchan WORDS
                     1 to 16, and prints a line for each call
     load N C        makes a scenario of C calls, 1 to 2,000, from a number N, 0 to
                     65,535, runs it with 4 workers, and prints sums over its calls
+    pipe L R        passes any bytes through a channel whose rings have the orders
+                    L and R, 10 to 20 but not both 10 or both 11, from one thread
+                    to another, and prints what comes out
+    relay K W       passes any bytes through K relays with W workers, both 1 to 16,
+                    and prints how many bytes went through each channel, and in
+                    hexadecimal what comes out behind the last
     --help          prints this text
     --version       prints the version, and the kit that it is proved with
 
 A command but load, which reads nothing, reads standard input to its end,
 4,194,304 bytes at most, and then writes its text to standard output.
 docs/SCRIPTS.md has the lines of a script, docs/DECODE.md those of a captured
-stream, docs/SCENARIOS.md the keys of a scenario and what run and load print.
+stream, docs/SCENARIOS.md the keys of a scenario and what run and load print,
+docs/RELAYS.md what relay prints.
 
 statuses, each but 0 and 8 with a line on standard error:
 

@@ -1,9 +1,14 @@
 ghost use Rattle.std.specs.Prelude.{◌≡◌, ◌≤◌, drop, map, string_bytes, IfSome};
 ghost use Rattle.std.specs.Option.{option_map};
-ghost use Rattle.vchan.specs.Command.{channel_of, command_of, load_of, number_within, run_of, KeepsLimits, reads_input};
+ghost use Rattle.step_script.specs.Language.Opening.{orders_of};
+ghost use Rattle.vchan.specs.Command.{channel_of, command_of, load_of, number_within, pipe_of, relay_of, run_of, KeepsLimits, reads_input};
 
+use ring_words::{Orders, check_orders};
 use script_words::parse_number;
 use stream_text::Channel;
+
+/// The greatest number that is looked at as an order: what an order word can hold.
+const MOST_ORDER: u32 = 65_535;
 
 /// What the words tell the program to do.
 #[derive(Clone, Copy, Debug, PartialEq, Eq)]
@@ -24,6 +29,19 @@ pub enum Command {
         /// How many calls the scenario has, from 1 to 2,000.
         calls: u32,
     },
+    /// Reads any bytes, passes them through one channel from one thread to another, and prints them.
+    Pipe {
+        /// The orders of the channel's page.
+        orders: Orders,
+    },
+    /// Reads any bytes, passes them through a row of relays, and prints how many went through each
+    /// channel, and what came out behind the last.
+    Relay {
+        /// How many relays there are, from 1 to 16.
+        hops: u32,
+        /// How many workers turn them, from 1 to 16.
+        workers: u32,
+    },
 }
 
 impl Command {
@@ -33,6 +51,7 @@ impl Command {
     {
         match self {
             Command::Step | Command::Decode(_) | Command::Run { .. } => true,
+            Command::Pipe { .. } | Command::Relay { .. } => true,
             Command::Load { .. } => false,
         }
     }
@@ -49,6 +68,8 @@ pub fn command_in(words: &[String]) -> Option<Command>
         [word, channel] if word.as_str() == "decode" => decode_in(channel),
         [word, workers] if word.as_str() == "run" => run_in(workers),
         [word, number, calls] if word.as_str() == "load" => load_in(number, calls),
+        [word, left, right] if word.as_str() == "pipe" => pipe_in(left, right),
+        [word, hops, workers] if word.as_str() == "relay" => relay_in(hops, workers),
         _ => None,
     }
 }
@@ -90,6 +111,37 @@ fn load_in(number: &String, calls: &String) -> Option<Command>
     let number = number_within(number, 0, 65_535)?;
     let calls = number_within(calls, 1, 2000)?;
     Some(Command::Load { number, calls })
+}
+
+/// The command that passes bytes through a page whose orders two words are.
+fn pipe_in(left: &String, right: &String) -> Option<Command>
+    ensures command { result ≡ pipe_of (string_bytes left.now) (string_bytes right.now) }
+    ensures limits { IfSome result KeepsLimits }
+{
+    let left = number_within(left, 0, MOST_ORDER)?;
+    let right = number_within(right, 0, MOST_ORDER)?;
+    let orders = orders_in(left as u16, right as u16)?;
+    Some(Command::Pipe { orders })
+}
+
+/// The orders of a page that two numbers are.
+#[tactic(auto, using(step_script::proofs::Language::OrdersLaws::orders_of_bad))]
+fn orders_in(left: u16, right: u16) -> Option<Orders>
+    ensures { result ≡ orders_of left right }
+{
+    match check_orders(left, right) {
+        Ok(orders) => Some(orders),
+        Err(_) => None,
+    }
+}
+
+/// The command that passes bytes through so many relays with so many workers.
+fn relay_in(hops: &String, workers: &String) -> Option<Command>
+    ensures command { result ≡ relay_of (string_bytes hops.now) (string_bytes workers.now) }
+    ensures limits { IfSome result KeepsLimits }
+{
+    let (hops, workers) = (number_within(hops, 1, 16)?, number_within(workers, 1, 16)?);
+    Some(Command::Relay { hops, workers })
 }
 
 /// The number that a word is, where it is from `least` to `most`: decimal digits without a leading

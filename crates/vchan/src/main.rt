@@ -6,7 +6,9 @@
 #![tactic(auto)]
 
 mod about;
+mod channels;
 mod command;
+mod lines;
 mod run_end;
 mod runs;
 mod status;
@@ -26,6 +28,7 @@ use std::process::ExitCode;
 use std::rt::Env;
 use std::sync::Wait;
 use std::thread::Threads;
+use std::time::Clock;
 pub use stream_text::{Channel, DecodeError, DecodeKind, decode_text};
 pub use top::{GREATEST_INPUT, top};
 use vchan_io::{Sink, Source, StdSink, StdSource};
@@ -51,7 +54,7 @@ fn arguments(rt: &(impl Env + AllocGlobal), alloc: Global) -> Option<Vec<String>
 }
 
 /// Does what these words say.
-fn carry_out<S: Source, K: Sink, E: Sink, R: Threads + Wait + Sync>(
+fn carry_out<S: Source, K: Sink, E: Sink, R: Threads + Wait + Clock + Sync>(
     rt: &R,
     alloc: Global,
     words: &[String],

@@ -15,7 +15,8 @@ pub struct RunEnd {
     /// The report of the scenario that was run, with `Done` and `WriteFault` of `run` and `load`; else
     /// `None`.
     pub report: Option<Report>,
-    /// The pages that stand apart from a report. No command has one today, so the list is empty.
+    /// The pages that stand apart from a report: with `Done` the one page of `pipe`, and those of `relay`
+    /// from near to far; else none.
     pub settled: Vec<Settled>,
 }
 
@@ -28,6 +29,17 @@ impl Model for RunEnd {
 }
 
 impl RunEnd {
+    /// The end of a run whose whole text was written.
+    pub(crate) fn done(report: Option<Report>, settled: Vec<Settled>) -> RunEnd
+        ensures { result ≡ record { status = Status.Done; report = report; settled = settled.items } }
+    {
+        RunEnd {
+            status: Status::Done,
+            report,
+            settled,
+        }
+    }
+
     /// The end of a run with no page that stands apart from its report.
     pub(crate) fn of(alloc: Global, status: Status, report: Option<Report>) -> RunEnd
         ensures { result ≡ record { status = status; report = report; settled = [] } }

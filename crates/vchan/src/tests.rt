@@ -46,7 +46,7 @@ fn sink(alloc: Global, stream: &Stream) -> Result<MemSink, Memory> {
     MemSink::new(alloc, 1 << 16, stream.most.max(1), fails)
 }
 
-fn run_over_memory<R: Threads + Wait + Sync>(
+fn run_over_memory<R: Threads + Wait + Clock + Sync>(
     rt: &R,
     alloc: Global,
     words: &[&str],
@@ -59,7 +59,7 @@ fn run_over_memory<R: Threads + Wait + Sync>(
 }
 
 /// The same, where the workers pass this gate.
-fn run_through<G: Gate, R: Threads + Wait + Sync>(
+fn run_through<G: Gate, R: Threads + Wait + Clock + Sync>(
     rt: &R,
     alloc: Global,
     words: &[&str],
@@ -96,7 +96,7 @@ fn run_through<G: Gate, R: Threads + Wait + Sync>(
 
 #[test]
 fn words_of_no_command_are_bad(rt: HostRuntime) -> Result<(), Fail> {
-    let rows: [&[&str]; 21] = [
+    let rows: [&[&str]; 25] = [
         &[],
         &["step", "x"],
         &["run"],
@@ -113,6 +113,10 @@ fn words_of_no_command_are_bad(rt: HostRuntime) -> Result<(), Fail> {
         &["load", "7", "0"],
         &["load", "7", "2001"],
         &["load", "7", "-1"],
+        &["pipe", "10"],
+        &["pipe", "10", "10"],
+        &["relay", "0", "1"],
+        &["relay", "1", "17"],
         &["Step"],
         &["decode"],
         &["decode", "Data"],
@@ -182,7 +186,11 @@ struct Long {
     text: &'static [u8],
 }
 
-const LONG_RUNS: [Long; 2] = [
+/// Seven times 16 bytes.
+const PASSED: &[u8] =
+    b"seven pieces of sixteen bytes each, and so more than six, go through a page or three of them in the right order.";
+
+const LONG_RUNS: [Long; 4] = [
     Long {
         words: &["step"],
         input: b"open 10 11\nclient write 6162636465666768696a6b6c6d6e6f70\nserver read 7\nserver read 20\nclient write 00\nserver read 1\n# and a comment that makes this script long enough for thirteen calls of a source\n",
@@ -192,6 +200,16 @@ const LONG_RUNS: [Long; 2] = [
         words: &["decode", "data"],
         input: b"00\n03\n00\n00\n04\n00\n00\n00\n03\n00\n00\n00\n91\n01\n00\n00\n00\n00\n00\n00\n93\n01\n00\n00\n04\n00\n00\n00\n07\n00\n00\n00\n",
         text: b"hello 3\nstdout 0 -\nexit 7\nrest 0\n",
+    },
+    Long {
+        words: &["pipe", "10", "11"],
+        input: PASSED,
+        text: PASSED,
+    },
+    Long {
+        words: &["relay", "2", "2"],
+        input: PASSED,
+        text: b"page 1 112 112\npage 2 112 112\npage 3 112 112\nbytes 736576656e20706965636573206f66207369787465656e20627974657320656163682c20616e6420736f206d6f7265207468616e207369782c20676f207468726f75676820612070616765206f72207468726565206f66207468656d20696e20746865207269676874206f726465722e\n",
     },
 ];
 

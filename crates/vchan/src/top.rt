@@ -16,6 +16,7 @@ use service_gate::Gate;
 use std::alloc::Global;
 use std::sync::Wait;
 use std::thread::Threads;
+use std::time::Clock;
 use step_script::ScriptKind;
 use stream_text::DecodeKind;
 use vchan_io::{ReadAllError, Sink, Source, WriteFault, read_all, write_all};
@@ -29,18 +30,20 @@ pub const GREATEST_INPUT: usize = 4_194_304;
 /// `gate`, and for all other words it isn't used.
 ///
 /// With `run` and `load` the report whose text or sums are written is handed out. It is lawful for the
-/// scenario, whatever the order of all steps of its workers.
+/// scenario, whatever the order of all steps of its workers. With `pipe` and `relay`, which take any
+/// bytes, the pages are handed out through which all of these bytes went, where all was written.
 ///
 /// # Statuses
 ///
 /// `BadWords` comes exactly where the words are no command's, `ReadFault` only where the source's
 /// count of faults rose, `TooLong` exactly where more than [`GREATEST_INPUT`] bytes were taken,
-/// `BadInput` exactly where the input was read to its end and has not the command's form,
+/// `BadInput` exactly where the input was read to its end and has not the command's form, which never
+/// comes with `pipe` and `relay`,
 /// `WriteFault` only where the count of `out` rose, and `OutOfMemory` wherever memory is short.
 /// Nothing is written to `out` but with `Done`, and with `WriteFault` a part of the text. The source's
 /// count stays as it was but with `ReadFault`, and that of `out` but with `WriteFault`. With `load`
 /// nothing is taken from the source.
-pub fn top<S: Source, K: Sink, E: Sink, G: Gate, R: Threads + Wait + Sync>(
+pub fn top<S: Source, K: Sink, E: Sink, G: Gate, R: Threads + Wait + Clock + Sync>(
     rt: &R,
     alloc: Global,
     words: &[String],
@@ -59,7 +62,7 @@ pub fn top<S: Source, K: Sink, E: Sink, G: Gate, R: Threads + Wait + Sync>(
 }
 
 /// Does the work, and says nothing of how it ended.
-fn run<S: Source, K: Sink, G: Gate, R: Threads + Wait + Sync>(
+fn run<S: Source, K: Sink, G: Gate, R: Threads + Wait + Clock + Sync>(
     rt: &R,
     alloc: Global,
     words: &[String],
@@ -79,12 +82,17 @@ fn run<S: Source, K: Sink, G: Gate, R: Threads + Wait + Sync>(
         Err(ReadAllError::TooLong) => return RunEnd::of(alloc, Status::TooLong, None),
         Err(ReadAllError::Memory) => return RunEnd::of(alloc, Status::OutOfMemory, None),
     };
-    let Work { text, report } = match do_work(rt, alloc, command, input.as_slice(), gate) {
+    let work = match do_work(rt, alloc, command, input, gate) {
         Ok(work) => work,
         Err(status) => return RunEnd::of(alloc, status, None),
     };
+    let Work {
+        text,
+        report,
+        settled,
+    } = work;
     match write_all(out, text.as_slice()) {
-        Ok(()) => RunEnd::of(alloc, Status::Done, report),
+        Ok(()) => RunEnd::done(report, settled),
         Err(WriteFault) => RunEnd::of(alloc, Status::WriteFault, report),
     }
 }
@@ -96,6 +104,7 @@ fn read_input<S: Source>(
     source: &mut S,
 ) -> Result<Vec<u8>, ReadAllError>
     ensures end { OnOk result (reads_input command ≡ true → IsAtEnd (S.left source.new)) }
+    ensures few { IfOk result (λ bytes. length bytes.items ≤ greatest_input) }
     ensures taken { (taken : List ℕ) × Takes (S.left source.old) (S.left source.new) taken
         × (reads_input command ≡ false → taken ≡ [])
         × (IsErrOf result ReadAllError.TooLong ↔ (greatest_input < length taken))

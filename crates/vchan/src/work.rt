@@ -1,8 +1,10 @@
 //! The work of a command: the text that it makes of its whole input.
-ghost use Rattle.std.specs.Prelude.{◌≡◌, ◌≤◌, IfErr, IfOk, None, Some};
+ghost use Rattle.std.specs.Prelude.{◌≡◌, ◌≤◌, IfErr, IfOk, MatchResult, [], None, Some, Ok, Err, length};
 ghost use Rattle.vchan.specs.Command.{KeepsLimits};
 ghost use Rattle.vchan.specs.Prints.{IsDue, Prints};
+ghost use Rattle.vchan.specs.Top.{greatest_input};
 
+use crate::channels::{pipe_input, relay_input};
 use crate::command::Command;
 use crate::runs::{load_text, run_text};
 use crate::status::{Bad, Status};
@@ -12,9 +14,11 @@ use service_gate::Gate;
 use std::alloc::Global;
 use std::sync::Wait;
 use std::thread::Threads;
+use std::time::Clock;
 use step_script::{ScriptError, script_text};
 use stream_text::{Channel, DecodeError, decode_text};
 use vchan_io::Memory;
+use vchan_rule::Settled;
 
 /// What a command has to print.
 #[derive(Drop)]
@@ -23,6 +27,21 @@ pub(crate) struct Work {
     pub text: Vec<u8>,
     /// The report of the scenario that was run, where one was.
     pub report: Option<Report>,
+    /// The pages that stand apart from a report.
+    pub settled: Vec<Settled>,
+}
+
+impl Work {
+    /// A text, with a report where a scenario was run.
+    fn of(alloc: Global, text: Vec<u8>, report: Option<Report>) -> Work
+        ensures { (result.text ≡ text) × (result.report ≡ report) × (result.settled.items ≡ []) }
+    {
+        Work {
+            text,
+            report,
+            settled: Vec::new(alloc),
+        }
+    }
 }
 
 /// What a command makes of the whole input. A scenario that is read is run with this gate.
@@ -33,38 +52,38 @@ pub(crate) struct Work {
 /// command's form, and `OutOfMemory` in its place only where memory is taken before that is found:
 /// of a script and of byte strings only where the input is good up to some line for which memory was
 /// short. There is no other.
-pub(crate) fn do_work<G: Gate, R: Threads + Wait + Sync>(
+pub(crate) fn do_work<G: Gate, R: Threads + Wait + Clock + Sync>(
     rt: &R,
     alloc: Global,
     command: Command,
-    input: &[u8],
+    input: Vec<u8>,
     gate: &G,
 ) -> Result<Work, Status>
-    requires { KeepsLimits command }
-    ensures prints { IfOk result (λ work. Prints command input.now work.text.items work.report) }
-    ensures due { IfErr result (λ status. IsDue command input.now status) }
+    requires limits { KeepsLimits command }
+    requires few { length input.items ≤ greatest_input }
+    ensures prints { IfOk result (λ work. Prints command input.items work.text.items work.report work.settled.items) }
+    ensures due { IfErr result (λ status. IsDue command input.items status) }
 {
     match command {
-        Command::Step => step(alloc, input),
-        Command::Decode(channel) => decode(alloc, channel, input),
-        Command::Run { workers } => run(rt, alloc, workers, input, gate),
+        Command::Step => step(alloc, input.as_slice()),
+        Command::Decode(channel) => decode(alloc, channel, input.as_slice()),
+        Command::Run { workers } => run(rt, alloc, workers, input.as_slice(), gate),
         Command::Load { number, calls } => match load_text(rt, alloc, number, calls) {
-            Ok((text, report)) => Ok(Work {
-                text,
-                report: Some(report),
-            }),
+            Ok((text, report)) => Ok(Work::of(alloc, text, Some(report))),
             Err(Memory) => Err(Status::OutOfMemory),
         },
+        Command::Pipe { orders } => through(pipe_input(rt, alloc, orders, input)),
+        Command::Relay { hops, workers } => through(relay_input(rt, alloc, hops, workers, input)),
     }
 }
 
 /// The text that a step script prints.
 fn step(alloc: Global, input: &[u8]) -> Result<Work, Status>
-    ensures prints { IfOk result (λ work. Prints Command.Step input.now work.text.items work.report) }
+    ensures prints { IfOk result (λ work. Prints Command.Step input.now work.text.items work.report work.settled.items) }
     ensures due { IfErr result (λ status. IsDue Command.Step input.now status) }
 {
     match script_text(alloc, input) {
-        Ok(text) => Ok(Work { text, report: None }),
+        Ok(text) => Ok(Work::of(alloc, text, None)),
         Err(ScriptError::Bad { line, kind }) => Err(Status::BadInput {
             bad: Bad::Script { line, kind },
         }),
@@ -74,11 +93,11 @@ fn step(alloc: Global, input: &[u8]) -> Result<Work, Status>
 
 /// The text of a captured stream.
 fn decode(alloc: Global, channel: Channel, input: &[u8]) -> Result<Work, Status>
-    ensures prints { IfOk result (λ work. Prints (Command.Decode channel) input.now work.text.items work.report) }
+    ensures prints { IfOk result (λ work. Prints (Command.Decode channel) input.now work.text.items work.report work.settled.items) }
     ensures due { IfErr result (λ status. IsDue (Command.Decode channel) input.now status) }
 {
     match decode_text(alloc, channel, input) {
-        Ok(text) => Ok(Work { text, report: None }),
+        Ok(text) => Ok(Work::of(alloc, text, None)),
         Err(DecodeError::Bad { line, kind }) => Err(Status::BadInput {
             bad: Bad::Decode { line, kind },
         }),
@@ -96,7 +115,7 @@ fn run<G: Gate, R: Threads + Wait + Sync>(
 ) -> Result<Work, Status>
     requires some_worker { 1 ≤ workers }
     requires few_workers { workers ≤ 16 }
-    ensures prints { IfOk result (λ work. Prints (Command.Run workers) input.now work.text.items work.report) }
+    ensures prints { IfOk result (λ work. Prints (Command.Run workers) input.now work.text.items work.report work.settled.items) }
     ensures due { IfErr result (λ status. IsDue (Command.Run workers) input.now status) }
 {
     let scenario = match read(alloc, input) {
@@ -109,9 +128,20 @@ fn run<G: Gate, R: Threads + Wait + Sync>(
         Err(ScenarioError::Memory) => return Err(Status::OutOfMemory),
     };
     match run_text(rt, alloc, &scenario, workers, gate) {
-        Ok((text, report)) => Ok(Work {
+        Ok((text, report)) => Ok(Work::of(alloc, text, Some(report))),
+        Err(Memory) => Err(Status::OutOfMemory),
+    }
+}
+
+/// The work of a command whose pages stand apart from a report: its text, and these pages.
+fn through(done: Result<(Vec<u8>, Vec<Settled>), Memory>) -> Result<Work, Status>
+    ensures prints { MatchResult done (λ d. result ≡ Ok (record { text = d.0; report = None; settled = d.1 })) (λ e. result ≡ Err Status.OutOfMemory) }
+{
+    match done {
+        Ok((text, settled)) => Ok(Work {
             text,
-            report: Some(report),
+            report: None,
+            settled,
         }),
         Err(Memory) => Err(Status::OutOfMemory),
     }

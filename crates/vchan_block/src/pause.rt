@@ -6,7 +6,7 @@ use std::{hint, thread};
 const SPINS: u32 = 64;
 
 /// Up to how many tries the processor is only given away.
-const YIELDS: u32 = 128;
+const YIELDS: u32 = 1_024;
 
 /// The shortest and the longest sleep, in microseconds.
 const SHORTEST: u64 = 16;

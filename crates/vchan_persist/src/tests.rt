@@ -65,7 +65,7 @@ fn check_cases(rt: &(impl Abort + AllocGlobal), cases: &str) -> Result<(), Fail>
             .split_once('\n')
             .ok_or("a case without an end of line")?;
         let line = told(rt, list)?;
-        assert!(rt; line.as_str() == wanted, "{wanted} of\n{list}");
+        assert!(rt; line.as_bytes() == wanted.as_bytes(), "{wanted} of\n{list}");
     }
     Ok(())
 }

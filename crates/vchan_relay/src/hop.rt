@@ -1,7 +1,14 @@
 //! The task of a relay.
+ghost use Rattle.std.specs.Prelude.{◌≡◌, false};
+ghost use Rattle.vchan_rule.specs.Ends.{IsSameEnd};
+ghost use Rattle.vchan_relay.specs.Relay.{IsRelay};
+ghost use Rattle.vchan_relay.specs.Turns.{Leaves, ends_relay};
+
 use crate::relay::Relay;
 use crate::task::{HopDone, HopTask};
+use crate::turn::RelayTurn;
 use std::marker::Model;
+use std::thread;
 use task_pool::Turn;
 
 /// A relay that hasn't ended, between the server's end of one page and the client's of the next.
@@ -22,6 +29,32 @@ impl<'p> Model for Hop<'p> {
     ghost invariant = { λ h. (h.relay.ended ≡ false) × (h.relay.near.side.role ≡ Server) × (h.relay.far.side.role ≡ Client) };
 }
 
+/// A turn of the relay, and another one where it took bytes, by which these are passed on: so the next
+/// task finds them in its turn. Where nothing could be moved the thread gives way, since the pool can't
+/// tell. The answer is that of the last turn.
+fn advance(relay: &mut Relay<'_>) -> RelayTurn
+    requires { relay.old.ended ≡ false }
+    ensures near { IsSameEnd relay.old.near relay.new.near }
+    ensures far { IsSameEnd relay.old.far relay.new.far }
+    ensures leaves { Leaves result relay.new }
+    ensures ended { relay.new.ended ≡ ends_relay result }
+    ensures relay { IsRelay relay.new }
+{
+    let turn = relay.turn();
+    match turn {
+        RelayTurn::Took { count: _ } => relay.turn(),
+        RelayTurn::NotYet { prod: _, cons: _ } => {
+            thread::yield_now();
+            turn
+        }
+        RelayTurn::Full { prod: _, cons: _ } => {
+            thread::yield_now();
+            turn
+        }
+        _ => turn,
+    }
+}
+
 impl<'p> Hop<'p> {
     ghost use Rattle.std.specs.Prelude.{◌≡◌, false};
     ghost use Rattle.ring_words.specs.declared.page.Role.TheVariants.{Server, Client};
@@ -38,12 +71,12 @@ impl<'p> Hop<'p> {
         Hop { relay }
     }
 
-    /// A turn of the relay, which retires both its ends once it has ended.
+    /// Goes on with the relay, which retires both its ends once it has ended.
     pub(crate) fn turn(self) -> Turn<HopTask<'p>>
         ensures { Pays hop_owes (HopTask.Passes self.entry) result }
     {
         let Hop { mut relay } = self;
-        let _ = relay.turn();
+        let _ = advance(&mut relay);
         if relay.ended() {
             let (near, far) = relay.retire();
             return Turn::Done(HopDone::Passed { near, far });

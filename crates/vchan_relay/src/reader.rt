@@ -2,6 +2,7 @@
 use crate::draining::{drain_behind, hand_back};
 use crate::task::HopTask;
 use std::marker::Model;
+use std::thread;
 use task_pool::Turn;
 use vchan_lifecycle::DrainAnswer;
 use vchan_rule::End;
@@ -49,7 +50,8 @@ impl<'p> Reader<'p> {
         }
     }
 
-    /// Gets what waits. Where no more comes, and where the room is full, it retires.
+    /// Gets what waits, and gives way where nothing does. Where no more comes, and where the room is
+    /// full, it retires.
     pub(crate) fn turn(self) -> Turn<HopTask<'p>>
         ensures { Pays hop_owes (HopTask.Reads self.entry) result }
     {
@@ -67,6 +69,7 @@ impl<'p> Reader<'p> {
                 Turn::Again(HopTask::Reads(Reader { end, room, count }))
             }
             DrainAnswer::NotYet { prod: _, cons: _ } => {
+                thread::yield_now();
                 Turn::Again(HopTask::Reads(Reader { end, room, count }))
             }
             DrainAnswer::AllRead => Turn::Done(hand_back(end, room, count)),

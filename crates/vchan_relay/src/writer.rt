@@ -1,6 +1,7 @@
 //! The task that sends all bytes.
 use crate::task::{HopDone, HopTask};
 use std::marker::Model;
+use std::thread;
 use task_pool::Turn;
 use vchan_lifecycle::retire;
 use vchan_rule::End;
@@ -48,7 +49,8 @@ impl<'p> Writer<'p> {
         }
     }
 
-    /// Sends what has room. After the last byte, and where the reader is shut, it retires.
+    /// Sends what has room, and gives way where nothing has. After the last byte, and where the reader
+    /// is shut, it retires.
     pub(crate) fn turn(self) -> Turn<HopTask<'p>>
         ensures { Pays hop_owes (HopTask.Writes self.entry) result }
     {
@@ -67,6 +69,7 @@ impl<'p> Writer<'p> {
                 sent: sent + count as usize,
             })),
             WriteAnswer::Full { prod: _, cons: _ } => {
+                thread::yield_now();
                 Turn::Again(HopTask::Writes(Writer { end, bytes, sent }))
             }
             WriteAnswer::PeerClosed => Turn::Done(HopDone::Wrote(retire(end))),

@@ -4,6 +4,7 @@ use std::alloc::Global;
 use std::sync::Wait;
 use std::test::Fail;
 use std::thread::Threads;
+use std::time::Clock;
 
 /// A channel, pieces of its stream, and the text that they give.
 const STREAMS: [(&str, &[u8], &[u8]); 10] = [
@@ -51,7 +52,7 @@ const STREAMS: [(&str, &[u8], &[u8]); 10] = [
     ("data", b"9201000003000000FFfe", b"rest 10\n"),
 ];
 
-fn decoded<R: Threads + Wait + Sync>(
+fn decoded<R: Threads + Wait + Clock + Sync>(
     rt: &R,
     alloc: Global,
     channel: &str,

@@ -4,6 +4,7 @@ use std::alloc::Global;
 use std::sync::Wait;
 use std::test::Fail;
 use std::thread::Threads;
+use std::time::Clock;
 
 /// A file that is no scenario, and what is said of it.
 const REFUSALS: [(&[u8], &[u8]); 5] = [
@@ -24,7 +25,7 @@ const REFUSALS: [(&[u8], &[u8]); 5] = [
 const LONG: &[u8] =
     b"# a comment that makes this file long enough\n# for more than six reads of 16 bytes\nrings = \"10 and 11\"\n";
 
-fn run_on<R: Threads + Wait + Sync>(
+fn run_on<R: Threads + Wait + Clock + Sync>(
     rt: &R,
     alloc: Global,
     file: &[u8],

@@ -6,6 +6,7 @@ use std::process::Abort;
 use std::sync::Wait;
 use std::test::Fail;
 use std::thread::Threads;
+use std::time::Clock;
 
 /// Scripts, and what they print.
 #[derive(Clone, Copy)]
@@ -160,7 +161,7 @@ const HOSTILE_ENDS: [Row; 6] = [
     },
 ];
 
-fn play_rows<R: Abort + AllocGlobal + Threads + Wait + Sync>(
+fn play_rows<R: Abort + AllocGlobal + Threads + Wait + Clock + Sync>(
     rt: &R,
     rows: &[Row],
 ) -> Result<(), Fail> {
@@ -173,7 +174,7 @@ fn play_rows<R: Abort + AllocGlobal + Threads + Wait + Sync>(
 }
 
 /// What a script prints through `top`, with status 0 and nothing on the third sink; else nothing.
-fn printed<R: Threads + Wait + Sync>(
+fn printed<R: Threads + Wait + Clock + Sync>(
     rt: &R,
     alloc: Global,
     script: &[u8],

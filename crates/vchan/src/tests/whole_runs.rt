@@ -8,6 +8,7 @@ use std::sync::atomic::{AtomicBool, AtomicU64, Ordering};
 use std::test::Fail;
 use std::thread;
 use std::thread::Threads;
+use std::time::Clock;
 
 /// Six calls between three domains.
 const SIX_CALLS: &[u8] = br#"
@@ -58,7 +59,7 @@ const SIX_LINES: &[u8] = b"call 1 work vault echo done 0 68656c6c6f -\n\
 
 const SUMS: &[u8] = b"calls 2\ndone 2\nstdin 1641\nstdout 517\nstderr 513\ncodes 0\n";
 
-fn run_six<G: Gate, R: Threads + Wait + Sync>(
+fn run_six<G: Gate, R: Threads + Wait + Clock + Sync>(
     rt: &R,
     alloc: Global,
     workers: &str,

@@ -1,0 +1,56 @@
+"""Sets the built program beside another one of the same words, for the scripts of this folder that import it.
+
+Each row is a name and the program's words. Its input is 4 MiB of all values. Both programs read it N times (5
+where `--rounds N` is left out), in turn, and the medians of the wall times and of the processor times are set
+beside one another. What both print has to be the same, and both have to end with status 0. Nothing is built: run
+./vchan once before.
+"""
+
+import os
+import resource
+import statistics
+import subprocess
+import sys
+import tempfile
+import time
+
+ROOT = os.path.dirname(os.path.dirname(os.path.abspath(__file__)))
+OWN = os.path.join(ROOT, "crates/vchan/out/vchan")
+INPUT = bytes(k * k % 251 for k in range(1 << 16)) * 64
+
+
+def run(program, words, path, out):
+    with open(path, "rb") as source:
+        ran = subprocess.run([program, *words], stdin=source, stdout=out)
+    if ran.returncode != 0:
+        sys.exit(f"{program} {' '.join(words)} ended with status {ran.returncode}")
+    return ran.stdout
+
+
+def measured(program, words, path):
+    """Wall and processor seconds of a run."""
+    before, begun = resource.getrusage(resource.RUSAGE_CHILDREN), time.perf_counter()
+    run(program, words, path, subprocess.DEVNULL)
+    wall, after = time.perf_counter() - begun, resource.getrusage(resource.RUSAGE_CHILDREN)
+    return wall, after.ru_utime + after.ru_stime - before.ru_utime - before.ru_stime
+
+
+def compare(usage, rows):
+    words, rounds = sys.argv[1:], 5
+    if "--rounds" in words[:-1]:
+        at = words.index("--rounds")
+        rounds = int(words[at + 1])
+        del words[at:at + 2]
+    if len(words) != 2 or words[0] != "--beside":
+        sys.exit(usage)
+    with tempfile.NamedTemporaryFile() as source:
+        source.write(INPUT)
+        source.flush()
+        for name, what in rows:
+            both = OWN, words[1]
+            if len({run(program, what, source.name, subprocess.PIPE) for program in both}) != 1:
+                sys.exit(f"{name}: the two programs print different texts")
+            pairs = [[measured(program, what, source.name) for program in both] for _ in range(rounds)]
+            wall, processor = ([statistics.median(pair[side][kind] for pair in pairs) for side in (0, 1)] for kind in (0, 1))
+            print(f"{name:24} wall {wall[0] * 1e3:7.0f} ms, {wall[1] * 1e3:.0f} ms: {wall[0] / wall[1]:.2f}; "
+                  f"processors {processor[0] * 1e3:.0f} ms, {processor[1] * 1e3:.0f} ms: {processor[0] / processor[1]:.2f}", flush=True)

@@ -1,0 +1,1 @@
+print(open("../../../examples/line.txt").read(), end="")

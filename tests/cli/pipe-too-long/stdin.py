@@ -1,0 +1,2 @@
+# One byte more than is read.
+print("z" * 4194304)

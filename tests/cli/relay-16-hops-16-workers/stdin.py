@@ -1,0 +1,4 @@
+# 1 MiB of all values.
+import sys
+
+sys.stdout.buffer.write(bytes(k * 7 % 256 for k in range(1 << 16)) * 16)
