@@ -1,5 +1,5 @@
 //! The clients of a persistent server, and the list of them that a text has.
-ghost use Rattle.std.specs.Prelude.{◌≡◌, Ok, Err, IfOk, IfErr};
+ghost use Rattle.std.specs.Prelude.{◌≡◌, Ok, Err, IfOk, IfErr, OnOk};
 ghost use Rattle.script_words.specs.Words.{lines_of};
 ghost use Rattle.vchan_persist.specs.Clients.{AreServable, BeginsWell, clients_of};
 ghost use Rattle.vchan_persist.specs.Reading.{IsRefusal};
@@ -41,6 +41,7 @@ pub enum Client {
 pub fn parse_clients(alloc: Global, bytes: &[u8]) -> Result<Vec<Client>, ClientsError>
     ensures clients { IfOk result (λ clients. clients_of bytes.now ≡ Ok clients.items) }
     ensures servable { IfOk result (λ clients. AreServable clients.items) }
+    ensures begins { OnOk result (BeginsWell (lines_of bytes.now)) }
     ensures bad { IfErr result (λ e. IsRefusal e (clients_of bytes.now)) }
     ensures memory { result ≡ Err ClientsError.Memory → BeginsWell (lines_of bytes.now) }
 {

@@ -1,7 +1,7 @@
 -- The line that was read, and those that are left.
-use Rattle.std.proofs.Common.{ℕ, ◌+◌, Ok, ap, sym, ◌∙◌}
+use Rattle.std.proofs.Common.{ℕ, ◌+◌, Ok, ap, subst, sym, ◌∙◌}
 use Rattle.script_words.specs.Words.{lines_of}
-use Rattle.vchan_persist.specs.Clients.{clients_from, clients_of}
+use Rattle.vchan_persist.specs.Clients.{BeginsWell, clients_from, clients_of}
 use Rattle.vchan_persist.proofs.ListLaws.{begins-later, read-all, read-bad, read-line}
 use Rattle.vchan_persist.proofs.client.parse_clients.Goals as goal
 
@@ -29,3 +29,6 @@ pub returns-clause-clients : goal.returns-clause-clients
 returns-clause-clients c =
     read-all (c.loop-text.list.lines + 1) c.loop-text.list.clients.items (lines_of c.loop-text.rest.now) (clients_of c.args.bytes.now) c.in_default.ensures.lines c.loop-text.invariant.read
     ∙ ap (λ v. Ok v.items) (sym c.into_clients.ensures)
+
+pub returns-clause-begins : goal.returns-clause-begins
+returns-clause-begins c = c.loop-text.invariant.begun (subst BeginsWell (sym c.in_default.ensures.lines) tt)
