@@ -1,8 +1,8 @@
 """Sets the built program beside another one of the same words, for the scripts of this folder that import it.
 
-Each row is a name and the program's words. Its input is 4 MiB of all values. Both programs read it N times (5
-where `--rounds N` is left out), in turn, and the medians of the wall times and of the processor times are set
-beside one another. What both print has to be the same, and both have to end with status 0. Nothing is built: run
+Each row is a name, the program's words and perhaps an input; without one it is 4 MiB of all values. Both programs
+read it N times (5 where `--rounds N` is left out), in turn, and the medians of the wall times and of the processor
+times are set beside one another. What both print has to be the same, and both have to end with status 0. Nothing is built: run
 ./vchan once before.
 """
 
@@ -43,10 +43,10 @@ def compare(usage, rows):
         del words[at:at + 2]
     if len(words) != 2 or words[0] != "--beside":
         sys.exit(usage)
-    with tempfile.NamedTemporaryFile() as source:
-        source.write(INPUT)
-        source.flush()
-        for name, what in rows:
+    for name, what, *own_input in rows:
+        with tempfile.NamedTemporaryFile() as source:
+            source.write(own_input[0] if own_input else INPUT)
+            source.flush()
             both = OWN, words[1]
             if len({run(program, what, source.name, subprocess.PIPE) for program in both}) != 1:
                 sys.exit(f"{name}: the two programs print different texts")

@@ -8,7 +8,7 @@ use Rattle.service_gate.specs.declared.builtin.Builtin.{Builtin}
 use Rattle.qrexec_data.specs.declared.outcome.Outcome.{Outcome}
 use Rattle.qrexec_data.specs.declared.outcome.Outcome.TheVariants.{Done, Fault, Closed, Gone}
 use Rattle.qrexec_data.specs.ServingSide.{ServingState, ServingStandsFor}
-use Rattle.vchan_rule.specs.Seated.{SeatedEnd, view}
+use Rattle.vchan_rule.specs.Seated.{SeatedEnd, view, IsOpen}
 use Rattle.end_view.specs.EndView.{EndView}
 use Rattle.task_duties.specs.Agent.Sessions.{chunk, IsClosed, IsGone}
 
@@ -24,6 +24,16 @@ pub record IsFreshCall (serving : ServingState Builtin) (end : SeatedEnd) : Type
   pub role : (view end).role ≡ Client
   pub idle : (view end).idle ≡ true
   pub fresh : (view end).state ≡ Fresh
+  pub sent : (view end).sent ≡ []
+  pub got : (view end).got ≡ []
+  pub ended : (view end).ended ≡ None
+
+-- nothing was read or sent yet, and the end is open
+pub record IsOpenCall (serving : ServingState Builtin) (end : SeatedEnd) : Type 0 where
+  pub chunk_is : serving.answering.chunk ≡ chunk
+  pub undecided : serving.answering.outcome ≡ None
+  pub nothing : serving.inbox.got ≡ []
+  pub is_open : IsOpen end
   pub sent : (view end).sent ≡ []
   pub got : (view end).got ≡ []
   pub ended : (view end).ended ≡ None

@@ -6,7 +6,7 @@ ghost use Rattle.qrexec_data.specs.ServingSide.{ServingStandsFor};
 ghost use Rattle.vchan_rule.specs.Seated.{view, last_view};
 ghost use Rattle.vchan_rule.specs.Ends.{IsSameEnd};
 ghost use Rattle.channel_session.specs.Calling.{IsRetired};
-ghost use Rattle.channel_session.specs.Answering.{IsFreshCall, IsAnswering, IsAtWork};
+ghost use Rattle.channel_session.specs.Answering.{IsFreshCall, IsOpenCall, IsAnswering, IsAtWork};
 ghost use Rattle.task_duties.specs.Agent.Sessions.{IsService, ServingOwes};
 
 use qrexec_data::{Outcome, Serving};
@@ -48,6 +48,21 @@ impl<'p> ServingSession<'p> {
         if connect(&mut end).is_err() {
             serving.closed();
         }
+        ServingSession {
+            serving,
+            end,
+            peer_shut: false,
+        }
+    }
+
+    /// A session of a side that has read and sent nothing, over an open end that has moved nothing, as
+    /// the server of a page has.
+    pub fn of_open(serving: Serving<Builtin>, end: End<'p>) -> ServingSession<'p>
+        requires open { IsOpenCall serving end }
+        ensures parts { (result.serving ≡ serving) × (result.end ≡ end.entry) }
+        ensures work { IsAtWork result.serving result.end }
+        ensures answering { (owed : List ℕ → Triple) → ServingStandsFor builtin_owes owed serving [] → IsAnswering owed result.serving result.end }
+    {
         ServingSession {
             serving,
             end,

@@ -16,4 +16,5 @@ mod task;
 mod tests;
 
 pub use domain::HostileDomain;
+pub use pages::field_of;
 pub use task::{HostileDone, HostileTask, HostileTurn};

@@ -144,8 +144,8 @@ impl<'p> Pages<'p> {
     }
 }
 
-// The field that a drawn number names.
-fn field_of(number: u32) -> WordName
+/// The field of the header that a drawn number names.
+pub fn field_of(number: u32) -> WordName
     ensures field { result ≡ field_of number }
     ensures reached { (orders : Orders) → MayPoke orders result }
 {

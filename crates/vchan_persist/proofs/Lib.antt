@@ -1,0 +1,4 @@
+mod ListLaws
+mod ScribbleLaws
+mod EpochLaws
+mod Sent

@@ -1,0 +1,147 @@
+-- A list of clients, read line by line.
+use Rattle.std.proofs.Common.{◌≡◌, ℕ, ◌+◌, ◌-◌, ◌≤◌, length, List, [], ◌∷◌, ◌++◌, Bool, true, false, Option, Some, None, Result, Ok, Err, refl, sym, ap, subst, ◌∙◌, arith}
+use Rattle.std.proofs.lemmas.Bool.Decides.{nat_tests}
+use Rattle.std.proofs.lemmas.List.{length_push}
+use Rattle.std.specs.Prelude.{◌||◌, nat_lt, IsOk, MatchBool, if◌then◌else◌}
+use Rattle.qrexec_frame.specs.Streams.{Each}
+use Rattle.script_words.specs.KeptLines.{is_passed_over}
+use Rattle.script_words.specs.Words.{words_of}
+use Rattle.vchan_persist.specs.declared.client.Client.{Client}
+use Rattle.vchan_persist.specs.declared.error.ClientsKind.{ClientsKind}
+use Rattle.vchan_persist.specs.declared.error.ClientsKind.TheVariants.{TooMany}
+use Rattle.vchan_persist.specs.declared.error.ClientsError.{ClientsError}
+use Rattle.vchan_persist.specs.declared.error.ClientsError.TheVariants as list
+use Rattle.vchan_persist.specs.declared.error.LineError.{LineError}
+use Rattle.vchan_persist.specs.declared.error.LineError.TheVariants as line
+use Rattle.vchan_persist.specs.Clients.{AreServable, IsServable, BeginsWell, added, at_number, client_of, clients_from, entry_of, has_too_many, some_client, stdin_len, stdin_total, too_many, with_line, ◌>>=◌}
+use Rattle.vchan_persist.specs.Reading.{GivesEntry, HasClient, IsAddRefusal, IsLineRefusal, IsRefusal, error_at}
+
+-- ---- one client more
+
+pub total-push : (clients : List Client) (client : Client) → stdin_total (clients ++ client ∷ []) ≡ stdin_total clients + stdin_len client
+unfolding stdin_total
+total-push [] client = omega arith
+total-push (c ∷ cs) client = let more = total-push cs client in omega (arith, more)
+
+pub each-push : (clients : List Client) (client : Client) → Each IsServable clients → IsServable client → Each IsServable (clients ++ client ∷ [])
+each-push [] client each servable = (servable, tt)
+each-push (c ∷ cs) client each servable = (each.0, each-push cs client each.1 servable)
+
+-- no client at all
+pub no-clients : (clients : List Client) → clients ≡ [] → AreServable clients × (0 ≡ stdin_total clients)
+unfolding stdin_total
+no-clients clients none = subst (λ (cs : List Client). AreServable cs × (0 ≡ stdin_total cs)) (sym none) ((omega arith, tt), refl)
+
+-- the tests of the limits, as facts
+limits : (line count bytes : ℕ) → (nat_lt 65536 line || (nat_lt 4096 count || nat_lt 8388608 bytes)) ≡ false → (line ≤ 65536) × (count ≤ 4096) × (bytes ≤ 8388608)
+limits line count bytes none = (grind (arith, nat_tests), grind (arith, nat_tests), grind (arith, nat_tests))
+
+pub line-within : (line : ℕ) (clients : List Client) → too_many line clients ≡ false → line ≤ 65536
+line-within line clients none = (limits line (length clients) (stdin_total clients) none).0
+
+-- one client more is within the limits where the test says so
+pub list-more : (line : ℕ) (clients now : List Client) (client : Client) (bytes len : ℕ) → AreServable clients → bytes ≡ stdin_total clients → IsServable client → too_many line (clients ++ client ∷ []) ≡ false
+    → now ≡ clients ++ client ∷ [] → len ≡ stdin_len client → AreServable now × (bytes + len ≡ stdin_total now) × (bytes + len ≤ 8388608)
+list-more line clients now client bytes len are total servable room is long =
+    let most = limits line (length (clients ++ client ∷ [])) (stdin_total (clients ++ client ∷ [])) room in
+    let sum : bytes + len ≡ stdin_total (clients ++ client ∷ []) = omega (arith, total-push clients client, total, long) in
+    subst (λ (cs : List Client). AreServable cs × (bytes + len ≡ stdin_total cs) × (bytes + len ≤ 8388608)) (sym is) ((most.1, each-push clients client are.1 servable), sum, omega (arith, most.2, sum))
+
+-- whether there is room for one client more
+room-by-numbers : (count bytes len : ℕ) → count ≤ 4096 → bytes ≤ 8388608 → nat_lt (8388608 - bytes) len ≡ (nat_lt 4096 count || nat_lt 8388608 (bytes + len))
+room-by-numbers count bytes len few small =
+    let one : nat_lt 4096 count ≡ false = grind (arith, nat_tests) in
+    let other : nat_lt (8388608 - bytes) len ≡ nat_lt 8388608 (bytes + len) = grind (arith, nat_tests) in
+    other ∙ ap (λ (b : Bool). b || nat_lt 8388608 (bytes + len)) (sym one)
+
+pub room-left : (clients : List Client) (client : Client) (bytes len count : ℕ) → bytes ≡ stdin_total clients → bytes ≤ 8388608 → length clients ≤ 4096 → count ≡ length clients → (count ≡ 4096 → ⊥) → len ≡ stdin_len client
+    → nat_lt (8388608 - bytes) len ≡ has_too_many (clients ++ client ∷ [])
+room-left clients client bytes len count total small few counted less long =
+    let longer = length_push clients client in
+    let count_is : length (clients ++ client ∷ []) ≤ 4096 = omega (arith, longer, counted, less, few) in
+    let sum : bytes + len ≡ stdin_total (clients ++ client ∷ []) = omega (arith, total-push clients client, total, long) in
+    room-by-numbers (length (clients ++ client ∷ [])) bytes len count_is small ∙ ap (λ (n : ℕ). nat_lt 4096 (length (clients ++ client ∷ [])) || nat_lt 8388608 n) sum
+
+-- ---- one line more
+
+-- a line whose entry has room
+pub line-taken : (number : ℕ) (clients now : List Client) (text : List ℕ) (entry : Option Client) → entry_of text ≡ Ok entry → too_many number (added clients entry) ≡ false → now ≡ added clients entry → with_line number clients text ≡ Ok now
+line-taken number clients now text entry is room same =
+    ap (λ (due : Result (Option Client) ClientsKind). due >>= (λ e. if too_many number (added clients e) then Err TooMany else Ok (added clients e))) is
+    ∙ ap (λ (full : Bool). if full then Err TooMany else Ok (added clients entry)) room
+    ∙ ap Ok (sym same)
+
+-- a line with a client
+pub has-client : (text : List ℕ) (client : Client) → entry_of text ≡ Ok (Some client) → HasClient text
+has-client text client is = by_passed (is_passed_over text) refl
+  where
+    by_client : (due : Result Client ClientsKind) → some_client due ≡ Ok (Some client) → IsOk due
+    by_client (Ok c) same = refl
+    by_client (Err kind) same = cc
+
+    entry_by : Bool → Result (Option Client) ClientsKind
+    entry_by b = if b then Ok None else some_client (client_of (words_of text))
+
+    by_passed : (b : Bool) → is_passed_over text ≡ b → HasClient text
+    by_passed true passed = let none : entry_by true ≡ Ok (Some client) = ap entry_by (sym passed) ∙ is in cc
+    by_passed false passed = (passed, by_client (client_of (words_of text)) (ap entry_by (sym passed) ∙ is))
+
+-- a line whose entry has no room, or no memory
+pub add-refused : (number : ℕ) (clients : List Client) (text : List ℕ) (entry : Option Client) (e : ClientsError) → entry_of text ≡ Ok entry → IsAddRefusal number entry e (too_many number (added clients entry))
+    → IsLineRefusal number e text (with_line number clients text)
+add-refused number clients text entry (list.Bad at kind) is refused = (
+  refused.0,
+  ap (λ (due : Result (Option Client) ClientsKind). due >>= (λ e. if too_many number (added clients e) then Err TooMany else Ok (added clients e))) is
+      ∙ ap (λ (full : Bool). if full then Err TooMany else Ok (added clients entry)) refused.2
+      ∙ ap Err (sym refused.1),
+)
+add-refused number clients text (Some client) list.Memory is refused = has-client text client is
+add-refused number clients text None list.Memory is refused = cc
+
+-- a line without an entry
+pub entry-refused : (number : ℕ) (clients : List Client) (text : List ℕ) (e : LineError) → GivesEntry (Err e) text → IsLineRefusal number (error_at e number) text (with_line number clients text)
+entry-refused number clients text (line.Bad kind) is = (
+  refl,
+  ap (λ (due : Result (Option Client) ClientsKind). due >>= (λ e. if too_many number (added clients e) then Err TooMany else Ok (added clients e))) is,
+)
+entry-refused number clients text line.Memory is = is
+
+-- ---- all lines
+
+pub read-line : (number : ℕ) (clients now : List Client) (text : List ℕ) (lines more : List (List ℕ)) → lines ≡ text ∷ more → with_line number clients text ≡ Ok now → clients_from number clients lines ≡ clients_from (number + 1) now more
+unfolding clients_from
+read-line number clients now text lines more cut is =
+    ap (clients_from number clients) cut ∙ ap (λ (due : Result (List Client) ClientsKind). at_number number due >>= (λ cs. clients_from (number + 1) cs more)) is
+
+pub read-bad : (number : ℕ) (clients : List Client) (text : List ℕ) (lines more : List (List ℕ)) (e : ClientsError) (all : Result (List Client) (ℕ × ClientsKind)) → lines ≡ text ∷ more → IsLineRefusal number e text (with_line number clients text)
+    → all ≡ clients_from number clients lines → IsRefusal e all
+unfolding clients_from
+read-bad number clients text lines more list.Memory all cut refused is = tt
+read-bad number clients text lines more (list.Bad at kind) all cut refused is =
+    is ∙ ap (clients_from number clients) cut ∙ ap (λ (due : Result (List Client) ClientsKind). at_number number due >>= (λ cs. clients_from (number + 1) cs more)) refused.1
+    ∙ ap (λ (n : ℕ). Err (n, kind)) (sym refused.0)
+
+pub read-all : (number : ℕ) (clients : List Client) (lines : List (List ℕ)) (all : Result (List Client) (ℕ × ClientsKind)) → lines ≡ [] → all ≡ clients_from number clients lines → all ≡ Ok clients
+unfolding clients_from
+read-all number clients lines all none is = is ∙ ap (clients_from number clients) none
+
+-- ---- the first client
+
+-- a list begins well where its first line has a client
+pub begins-here : (text : List ℕ) (lines more : List (List ℕ)) → lines ≡ text ∷ more → HasClient text → BeginsWell lines
+begins-here text lines more cut has = subst BeginsWell (sym cut) (subst (λ (b : Bool). MatchBool b (BeginsWell more) (IsOk (client_of (words_of text)))) (sym has.0) has.1)
+
+-- and where what is behind a good line begins well
+pub begins-later : (number : ℕ) (clients now : List Client) (text : List ℕ) (lines more : List (List ℕ)) → lines ≡ text ∷ more → with_line number clients text ≡ Ok now → BeginsWell more → BeginsWell lines
+begins-later number clients now text lines more cut is later = subst BeginsWell (sym cut) (by_passed (is_passed_over text) refl)
+  where
+    line_by : Bool → Result (List Client) ClientsKind
+    line_by b = (if b then Ok None else some_client (client_of (words_of text))) >>= (λ e. if too_many number (added clients e) then Err TooMany else Ok (added clients e))
+
+    by_client : (due : Result Client ClientsKind) → (some_client due >>= (λ e. if too_many number (added clients e) then Err TooMany else Ok (added clients e))) ≡ Ok now → IsOk due
+    by_client (Ok c) same = refl
+    by_client (Err kind) same = cc
+
+    by_passed : (b : Bool) → is_passed_over text ≡ b → MatchBool (is_passed_over text) (BeginsWell more) (IsOk (client_of (words_of text)))
+    by_passed true passed = subst (λ (b : Bool). MatchBool b (BeginsWell more) (IsOk (client_of (words_of text)))) (sym passed) later
+    by_passed false passed = subst (λ (b : Bool). MatchBool b (BeginsWell more) (IsOk (client_of (words_of text)))) (sym passed) (by_client (client_of (words_of text)) (ap line_by (sym passed) ∙ is))

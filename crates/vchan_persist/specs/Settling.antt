@@ -1,0 +1,27 @@
+-- What an epoch comes to, once its two tasks are done.
+-- Source: this project's own.
+use Rattle.std.specs.Prelude.{◌≡◌, ℕ, false, List, Some}
+use Rattle.ring_words.specs.declared.order.Orders.{Orders}
+use Rattle.end_view.specs.Settled.{Settled, IsSettled}
+use Rattle.vchan_rule.specs.Seated.{PageView, SeatedSide, last_view}
+use Rattle.service_gate.specs.Owing.{builtin_owes}
+use Rattle.service_gate.specs.declared.builtin.Builtin.{Builtin}
+use Rattle.task_duties.specs.Agent.Sessions.{IsService}
+use Rattle.vchan_persist.specs.declared.client.Client.{Client}
+use Rattle.vchan_persist.specs.declared.epoch.EpochResult.{EpochResult}
+use Rattle.vchan_persist.specs.Epochs.{answer_of, IsPageOf}
+
+-- the result of a client's epoch and its page, whatever name the service has
+pub record ComesTo (orders : Orders) (client : Client) (service : Builtin) (result : EpochResult) (page : Settled) : Type 0 where
+  pub settled : IsSettled page
+  pub orders_are : page.orders ≡ orders
+  pub server_honest : page.server.turned ≡ false
+  pub result_is : (name : List ℕ) → IsService name (builtin_owes service) → answer_of name client ≡ Some result
+  pub page_is : (name : List ℕ) → IsService name (builtin_owes service) → IsPageOf name client page
+
+-- a page settled by these two ends
+pub record IsSettledBy (page : PageView) (server client : SeatedSide) (s : Settled) : Type 0 where
+  pub settled : IsSettled s
+  pub orders_are : s.orders ≡ page.orders
+  pub server_is : s.server ≡ last_view server
+  pub client_is : s.client ≡ last_view client

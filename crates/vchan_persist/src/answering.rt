@@ -1,0 +1,84 @@
+//! The task of the server.
+use crate::task::{EpochTask, SideDone};
+use channel_session::ServingSession;
+use service_gate::Builtin;
+use std::marker::Model;
+use std::snapshot::Snapshot;
+use std::thread;
+use task_pool::Turn;
+
+/// The server's end of the page with the side that serves the call, which isn't over, and room for what
+/// comes.
+#[derive(Drop)]
+pub(crate) struct Answering<'p> {
+    session: ServingSession<'p>,
+    room: Vec<u8>,
+    // The service before any input, for clauses alone.
+    service: Snapshot<Builtin>,
+}
+
+impl<'p> Model for Answering<'p> {
+    ghost use Rattle.std.specs.Prelude.{◌≡◌, ◌<◌, None, length};
+    ghost use Rattle.ring_words.specs.declared.page.Role.TheVariants.{Server};
+    ghost use Rattle.service_gate.specs.Owing.{builtin_owes};
+    ghost use Rattle.channel_session.specs.Answering.{IsAnswering, IsAtWork};
+    ghost use Rattle.vchan_persist.specs.Given.{AnsweringGiven};
+
+    ghost Value = { AnsweringGiven };
+
+    ghost view = { λ a. record { page = a.session.end.page; service = a.service.value } };
+
+    ghost invariant = { λ a. IsAtWork a.session.serving a.session.end × IsAnswering (builtin_owes a.service.value) a.session.serving a.session.end × (a.session.serving.answering.outcome ≡ None) × (a.session.serving.answering.own ≡ 3) × (a.session.end.side.role ≡ Server) × (0 < length a.room.items) };
+}
+
+impl<'p> Answering<'p> {
+    ghost use Rattle.std.specs.Prelude.{◌≡◌, ◌<◌, None, length};
+    ghost use Rattle.ring_words.specs.declared.page.Role.TheVariants.{Server};
+    ghost use Rattle.task_pool.specs.Owes.{Pays};
+    ghost use Rattle.service_gate.specs.Owing.{builtin_owes};
+    ghost use Rattle.channel_session.specs.Answering.{IsAnswering, IsAtWork};
+    ghost use Rattle.vchan_persist.specs.Owes.{epoch_owes};
+
+    /// The task of such a session with this service, and with some room.
+    pub(crate) fn new(session: ServingSession<'p>, service: Builtin, room: Vec<u8>) -> Answering<'p>
+        requires work { IsAtWork session.serving session.end }
+        requires answering { IsAnswering (builtin_owes service) session.serving session.end }
+        requires undecided { session.serving.answering.outcome ≡ None }
+        requires own { session.serving.answering.own ≡ 3 }
+        requires server { session.end.side.role ≡ Server }
+        requires some { 0 < length room.items }
+        ensures { result ≡ record { page = session.entry.end.page; service = service } }
+    {
+        Answering {
+            session,
+            room,
+            service: Snapshot::of(&service),
+        }
+    }
+
+    /// A turn of the session. Once the call is over, and where memory runs out, its end retires.
+    pub(crate) fn turn(self) -> Turn<EpochTask<'p>>
+        ensures { Pays epoch_owes (EpochTask.Serves self.entry) result }
+    {
+        let Answering {
+            mut session,
+            mut room,
+            service,
+        } = self;
+        let Ok(()) = session.turn(room.as_mut_slice()) else {
+            session.give_up();
+            return Turn::Done(SideDone::NoMemory);
+        };
+        match session.outcome() {
+            Some(outcome) => Turn::Done(SideDone::Served(session.finish(outcome))),
+            None => {
+                thread::yield_now();
+                Turn::Again(EpochTask::Serves(Answering {
+                    session,
+                    room,
+                    service,
+                }))
+            }
+        }
+    }
+}

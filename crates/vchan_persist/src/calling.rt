@@ -1,0 +1,68 @@
+//! The task of a client that calls.
+use crate::task::{EpochTask, SideDone};
+use channel_session::CallerSession;
+use std::marker::Model;
+use std::thread;
+use task_pool::Turn;
+
+/// The client's end of the page with the caller's side of its call, which isn't over, and room for what
+/// comes.
+#[derive(Drop)]
+pub(crate) struct Calling<'p> {
+    session: CallerSession<'p>,
+    room: Vec<u8>,
+}
+
+impl<'p> Model for Calling<'p> {
+    ghost use Rattle.std.specs.Prelude.{◌≡◌, ◌<◌, None, length};
+    ghost use Rattle.ring_words.specs.declared.page.Role.TheVariants.{Client};
+    ghost use Rattle.channel_session.specs.Calling.{IsCalling};
+    ghost use Rattle.vchan_persist.specs.Given.{CallingGiven};
+
+    ghost Value = { CallingGiven };
+
+    ghost view = { λ c. record { page = c.session.end.page; stdin = c.session.caller.requests.input } };
+
+    ghost invariant = { λ c. IsCalling c.session.caller c.session.end × (c.session.caller.replies.outcome ≡ None) × (c.session.caller.replies.own ≡ 3) × (c.session.end.side.role ≡ Client) × (0 < length c.room.items) };
+}
+
+impl<'p> Calling<'p> {
+    ghost use Rattle.std.specs.Prelude.{◌≡◌, ◌<◌, None, length};
+    ghost use Rattle.ring_words.specs.declared.page.Role.TheVariants.{Client};
+    ghost use Rattle.task_pool.specs.Owes.{Pays};
+    ghost use Rattle.channel_session.specs.Calling.{IsCalling};
+    ghost use Rattle.vchan_persist.specs.Owes.{epoch_owes};
+
+    /// The task of such a session, with some room.
+    pub(crate) fn new(session: CallerSession<'p>, room: Vec<u8>) -> Calling<'p>
+        requires calling { IsCalling session.caller session.end }
+        requires undecided { session.caller.replies.outcome ≡ None }
+        requires own { session.caller.replies.own ≡ 3 }
+        requires client { session.end.side.role ≡ Client }
+        requires some { 0 < length room.items }
+        ensures { result ≡ record { page = session.entry.end.page; stdin = session.entry.caller.requests.input } }
+    {
+        Calling { session, room }
+    }
+
+    /// A turn of the session. Once its call is over, and where memory runs out, its end retires.
+    pub(crate) fn turn(self) -> Turn<EpochTask<'p>>
+        ensures { Pays epoch_owes (EpochTask.Calls self.entry) result }
+    {
+        let Calling {
+            mut session,
+            mut room,
+        } = self;
+        let Ok(()) = session.turn(room.as_mut_slice()) else {
+            session.give_up();
+            return Turn::Done(SideDone::NoMemory);
+        };
+        match session.outcome() {
+            Some(outcome) => Turn::Done(SideDone::Called(session.finish(outcome))),
+            None => {
+                thread::yield_now();
+                Turn::Again(EpochTask::Calls(Calling { session, room }))
+            }
+        }
+    }
+}

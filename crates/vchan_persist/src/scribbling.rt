@@ -1,0 +1,76 @@
+//! The task of a hostile client.
+ghost use Rattle.std.specs.Prelude.{◌≡◌, ◌≤◌};
+ghost use Rattle.hostile_seat.specs.Hostile.{strays_along};
+ghost use Rattle.vchan_persist.specs.Epochs.{scribbled};
+
+use crate::task::{EpochTask, SideDone};
+use hostile_seat::{Hostile, turn};
+use hostile_task::field_of;
+use scenario_file::next_number;
+use std::marker::Model;
+use task_pool::Turn;
+use vchan_rule::End;
+
+/// The client's end of the page, and the stores that its user is to make.
+#[derive(Drop)]
+pub(crate) struct Scribbling<'p> {
+    end: End<'p>,
+    seed: u32,
+    stores: u32,
+}
+
+impl<'p> Model for Scribbling<'p> {
+    ghost use Rattle.std.specs.Prelude.{◌≡◌, ◌≤◌};
+    ghost use Rattle.ring_words.specs.declared.page.Role.TheVariants.{Client};
+    ghost use Rattle.vchan_persist.specs.Given.{ScribblingGiven};
+
+    ghost Value = { ScribblingGiven };
+
+    ghost view = { λ s. record { page = s.end.page; seed = s.seed; stores = s.stores } };
+
+    ghost invariant = { λ s. (s.end.side.role ≡ Client) × (s.seed ≤ 65535) };
+}
+
+impl<'p> Scribbling<'p> {
+    ghost use Rattle.std.specs.Prelude.{◌≡◌, ◌≤◌};
+    ghost use Rattle.ring_words.specs.declared.page.Role.TheVariants.{Client};
+    ghost use Rattle.task_pool.specs.Owes.{Pays};
+    ghost use Rattle.vchan_persist.specs.Owes.{epoch_owes};
+
+    /// The task of a user who draws so many stores from this seed on.
+    pub(crate) fn new(end: End<'p>, seed: u32, stores: u32) -> Scribbling<'p>
+        requires client { end.side.role ≡ Client }
+        requires seed { seed ≤ 65535 }
+        ensures { result ≡ record { page = end.entry.page; seed = seed; stores = stores } }
+    {
+        Scribbling { end, seed, stores }
+    }
+
+    /// The end is given up to its user, who makes all stores and retires it.
+    pub(crate) fn turn(self) -> Turn<EpochTask<'p>>
+        ensures { Pays epoch_owes (EpochTask.Scribbles self.entry) result }
+    {
+        let Scribbling { end, seed, stores } = self;
+        let mut end = turn(end);
+        scribble(&mut end, seed, stores);
+        Turn::Done(SideDone::Scribbled(end.retire()))
+    }
+}
+
+/// Makes so many stores to fields of the header, each drawn by three numbers of the generator: the
+/// first of them would choose among pages, of which there is one.
+fn scribble(end: &mut Hostile<'_>, seed: u32, stores: u32)
+    requires { seed ≤ 65535 }
+    ensures page { end.new.page ≡ end.old.page }
+    ensures side { end.new.side ≡ strays_along end.old.side (scribbled seed stores) }
+{
+    let mut x = seed;
+    for _ in 0..stores {
+        let page = next_number(x);
+        let word = next_number(page);
+        let value = next_number(word);
+        let field = field_of(word);
+        end.store(field, u64::from(value));
+        x = value;
+    }
+}
