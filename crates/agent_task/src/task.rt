@@ -15,7 +15,7 @@ use vchan_io::Memory;
 use vchan_rule::End;
 
 /// How many bytes a turn takes of one channel at most. Source: this project's own.
-const SCRATCH: usize = 65_536;
+const SCRATCH: usize = 8_192;
 
 /// The agent of a domain. Contracts see of it what it was given, which no turn changes.
 #[derive(Drop)]

@@ -31,6 +31,11 @@ impl Pause {
         true
     }
 
+    /// Whether the last turn moved bytes, or there was none yet.
+    pub(crate) fn moved(&self) -> bool {
+        self.next == 0
+    }
+
     /// Notes a turn that wasn't passed over, and whether it moved bytes.
     pub(crate) fn note(&mut self, moved: bool) {
         if moved {

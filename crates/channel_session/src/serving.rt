@@ -131,6 +131,12 @@ impl<'p> ServingSession<'p> {
         }
     }
 
+    /// Whether the last turn moved bytes, or there was none yet. No contract relies on it: whoever has
+    /// nothing to do gives way.
+    pub fn moved(&self) -> bool {
+        self.pause.moved()
+    }
+
     /// How the call came out, `None` where nothing has decided yet.
     pub fn outcome(&self) -> Option<Outcome>
         ensures { result ≡ self.now.serving.answering.outcome }
