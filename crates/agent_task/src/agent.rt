@@ -24,7 +24,7 @@ pub(crate) struct Agent<'p> {
 
 impl<'p> Agent<'p> {
     /// One round over all channels: what has come on the control channel, then each open session, then
-    /// what there is to say. Where nothing has come and no session is open, the thread gives way. `over` is
+    /// what there is to say. Where nothing has come and no session moved bytes, the thread gives way. `over` is
     /// empty before and after, and kept for its room.
     pub(crate) fn go_round(
         &mut self,
@@ -41,22 +41,23 @@ impl<'p> Agent<'p> {
         ensures long { length scratch.new ≡ length scratch.old }
     {
         let came = self.over.is_some() || self.listen(scratch)?;
-        self.turn_sessions(scratch, over)?;
+        let moved = self.turn_sessions(scratch, over)?;
         if self.over.is_none() {
             self.say()?;
         }
-        if !came && self.slots.is_idle() {
+        if !came && !moved {
             thread::yield_now();
         }
         Ok(())
     }
 
     // One turn of each open session. Those that are over are to be told, while the control channel isn't.
+    // It answers whether any moved bytes or is over.
     fn turn_sessions(
         &mut self,
         scratch: &mut [u8],
         over: &mut Vec<SessionOver>,
-    ) -> Result<(), Memory>
+    ) -> Result<bool, Memory>
         requires running { IsRunning self.old }
         requires some { 0 < length scratch.old }
         requires empty { over.old.items ≡ [] }
@@ -65,12 +66,12 @@ impl<'p> Agent<'p> {
         ensures same { KeepsPort self.old self.new }
         ensures long { length scratch.new ≡ length scratch.old }
     {
-        self.slots.turn(scratch, over)?;
+        let moved = self.slots.turn(scratch, over)?;
         if self.over.is_none() {
             self.note_over(over)?;
         }
         over.clear();
-        Ok(())
+        Ok(moved)
     }
 
     // Puts sessions that are over behind those that are to be told.

@@ -15,12 +15,13 @@ use vchan_io::Memory;
 use vchan_rule::End;
 
 /// How many bytes a turn takes of one channel at most. Source: this project's own.
-const SCRATCH: usize = 65_536;
+const SCRATCH: usize = 8_192;
 
 /// The agent of a domain. Contracts see of it what it was given, which no turn changes.
 #[derive(Drop)]
 pub struct AgentTask<'p> {
-    agent: Agent<'p>,
+    // It is large, and whoever turns tasks moves them.
+    agent: Box<Agent<'p>>,
     // What is read goes through this.
     scratch: Vec<u8>,
     // The sessions that were over in a turn, kept for its room.
@@ -35,9 +36,9 @@ impl<'p> Model for AgentTask<'p> {
 
     ghost use Rattle.agent_task.specs.Ending.{IsRunning};
 
-    ghost view = { λ t. given_of t.agent.given };
+    ghost view = { λ t. given_of t.agent.value.given };
 
-    ghost invariant = { λ t. IsRunning t.agent × (0 < length t.scratch.items) × (t.ended.items ≡ []) };
+    ghost invariant = { λ t. IsRunning t.agent.value × (0 < length t.scratch.items) × (t.ended.items ≡ []) };
 }
 
 /// What a turn of such a task gives.
@@ -122,7 +123,7 @@ impl<'p> AgentTask<'p> {
             over: None,
         };
         Ok(AgentTask {
-            agent,
+            agent: Box::new(alloc, agent)?,
             scratch: vec![in alloc; 0u8; SCRATCH]?,
             ended: Vec::new(alloc),
         })
@@ -139,11 +140,13 @@ impl<'p> AgentTask<'p> {
             mut ended,
         } = self;
         if agent.go_round(&mut scratch, &mut ended).is_err() {
-            agent.give_up();
+            Box::into_inner(agent).give_up();
             return AgentTurn::NoMemory;
         }
         match agent.over {
-            Some(over) if agent.slots.is_idle() => AgentTask::finish(agent, over),
+            Some(over) if agent.slots.is_idle() => {
+                AgentTask::finish(Box::into_inner(agent), over)
+            }
             _ => AgentTurn::Again(AgentTask {
                 agent,
                 scratch,

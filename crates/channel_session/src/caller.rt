@@ -6,6 +6,7 @@ ghost use Rattle.task_duties.specs.Agent.Sessions.{CallerOwes};
 ghost use Rattle.channel_session.specs.Calling.{IsCalling, IsSameCall, IsRetired};
 ghost use Rattle.channel_session.specs.Ended.{done_of};
 
+use crate::pause::Pause;
 use qrexec_data::{Caller, CallerParts, Outcome};
 use qrexec_frame::Bytes;
 use std::marker::Model;
@@ -21,6 +22,7 @@ pub struct CallerSession<'p> {
     end: End<'p>,
     // Whether the peer was found shut, so that nothing more is written.
     peer_shut: bool,
+    pause: Pause,
 }
 
 impl<'p> Model for CallerSession<'p> {
@@ -41,11 +43,12 @@ impl<'p> CallerSession<'p> {
             caller,
             end,
             peer_shut: false,
+            pause: Pause::none(),
         }
     }
 
-    /// One turn: takes what has come, and writes what goes out next. After want of memory the session
-    /// is spent, and its end can still be retired.
+    /// One turn: takes what has come, and writes what goes out next. Where the last turns moved nothing it
+    /// may be passed over. After want of memory the session is spent, and its end can still be retired.
     pub fn turn(&mut self, buf: &mut [u8]) -> Result<(), Memory>
         requires calling { IsCalling self.old.caller self.old.end }
         requires undecided { self.old.caller.replies.outcome ≡ None }
@@ -56,15 +59,17 @@ impl<'p> CallerSession<'p> {
         ensures long { length buf.new ≡ length buf.old }
         ensures calling { OnOk result (IsCalling self.new.caller self.new.end) }
     {
-        self.read_on(buf)?;
-        if self.peer_shut || self.caller.outcome().is_some() {
+        if self.pause.passes() {
             return Ok(());
         }
-        self.write_on()
+        let came = self.read_on(buf)?;
+        let went = self.write_on()?;
+        self.pause.note(came || went);
+        Ok(())
     }
 
-    // Takes what has come, or hears that no more comes.
-    fn read_on(&mut self, buf: &mut [u8]) -> Result<(), Memory>
+    // Takes what has come, or hears that no more comes. It answers whether it did.
+    fn read_on(&mut self, buf: &mut [u8]) -> Result<bool, Memory>
         requires calling { IsCalling self.old.caller self.old.end }
         requires undecided { self.old.caller.replies.outcome ≡ None }
         requires some { 0 < length buf.old }
@@ -76,32 +81,46 @@ impl<'p> CallerSession<'p> {
     {
         match drain(&mut self.end, buf) {
             DrainAnswer::More { count } => self.caller.take(&buf[..count as usize])?,
-            DrainAnswer::NotYet { .. } => {}
+            DrainAnswer::NotYet { .. } => return Ok(false),
             DrainAnswer::AllRead => self.caller.closed(),
             DrainAnswer::PeerGone { .. } => self.caller.gone(),
         }
-        Ok(())
+        Ok(true)
     }
 
-    // Writes what goes out next, as much as has room.
-    fn write_on(&mut self) -> Result<(), Memory>
+    // Writes what goes out next, as much as has room, where nothing has decided yet and the peer isn't
+    // shut. It answers whether bytes went.
+    fn write_on(&mut self) -> Result<bool, Memory>
         requires calling { IsCalling self.old.caller self.old.end }
-        requires undecided { self.old.caller.replies.outcome ≡ None }
         ensures end { IsSameEnd self.old.end self.new.end }
         ensures same { OnOk result (IsSameCall self.old self.new) }
         ensures open { IsOpen self.new.end }
         ensures calling { OnOk result (IsCalling self.new.caller self.new.end) }
     {
+        if self.peer_shut || self.caller.outcome().is_some() {
+            return Ok(false);
+        }
         let piece = self.caller.front()?;
         if piece.is_empty() {
-            return Ok(());
+            return Ok(false);
         }
         match write(&mut self.end, piece) {
-            WriteAnswer::Wrote { count } => self.caller.advance(count as usize),
-            WriteAnswer::Full { .. } => {}
-            WriteAnswer::PeerClosed => self.peer_shut = true,
+            WriteAnswer::Wrote { count } => {
+                self.caller.advance(count as usize);
+                Ok(true)
+            }
+            WriteAnswer::Full { .. } => Ok(false),
+            WriteAnswer::PeerClosed => {
+                self.peer_shut = true;
+                Ok(false)
+            }
         }
-        Ok(())
+    }
+
+    /// Whether the last turn moved bytes, or there was none yet. No contract relies on it: whoever has
+    /// nothing to do gives way.
+    pub fn moved(&self) -> bool {
+        self.pause.moved()
     }
 
     /// How the call came out, `None` where nothing has decided yet.

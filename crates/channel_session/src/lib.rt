@@ -2,10 +2,12 @@
 //! the end, and what it has to send goes there.
 //!
 //! It serves the tasks of a run. A turn drains the end once and writes what is at the front of the
-//! session, and waits for nothing. Which side is the vchan server is this project's own choice.
+//! session, and waits for nothing; a turn that most likely moves nothing is passed over. Which side is
+//! the vchan server is this project's own choice.
 #![tactic(auto)]
 
 mod caller;
+mod pause;
 mod serving;
 
 pub use caller::{CallerEnd, CallerSession};

@@ -9,6 +9,7 @@ ghost use Rattle.channel_session.specs.Calling.{IsRetired};
 ghost use Rattle.channel_session.specs.Answering.{IsFreshCall, IsOpenCall, IsAnswering, IsAtWork};
 ghost use Rattle.task_duties.specs.Agent.Sessions.{IsService, ServingOwes};
 
+use crate::pause::Pause;
 use qrexec_data::{Outcome, Serving};
 use qrexec_frame::Bytes;
 use service_gate::Builtin;
@@ -25,6 +26,7 @@ pub struct ServingSession<'p> {
     end: End<'p>,
     // Whether the peer was found shut, so that nothing more is written.
     peer_shut: bool,
+    pause: Pause,
 }
 
 impl<'p> Model for ServingSession<'p> {
@@ -52,6 +54,7 @@ impl<'p> ServingSession<'p> {
             serving,
             end,
             peer_shut: false,
+            pause: Pause::none(),
         }
     }
 
@@ -67,11 +70,12 @@ impl<'p> ServingSession<'p> {
             serving,
             end,
             peer_shut: false,
+            pause: Pause::none(),
         }
     }
 
-    /// One turn: takes what has come, and writes what goes out next. After want of memory the session
-    /// is spent, and its end can still be retired.
+    /// One turn: takes what has come, and writes what goes out next. Where the last turns moved nothing it
+    /// may be passed over. After want of memory the session is spent, and its end can still be retired.
     pub fn turn(&mut self, buf: &mut [u8]) -> Result<(), Memory>
         requires work { IsAtWork self.old.serving self.old.end }
         requires undecided { self.old.serving.answering.outcome ≡ None }
@@ -83,15 +87,17 @@ impl<'p> ServingSession<'p> {
         ensures work { OnOk result (IsAtWork self.new.serving self.new.end) }
         ensures answering { (owed : List ℕ → Triple) → IsAnswering owed self.old.serving self.old.end → OnOk result (IsAnswering owed self.new.serving self.new.end) }
     {
-        self.read_on(buf)?;
-        if self.peer_shut || self.serving.outcome().is_some() {
+        if self.pause.passes() {
             return Ok(());
         }
-        self.write_on()
+        let came = self.read_on(buf)?;
+        let went = self.write_on()?;
+        self.pause.note(came || went);
+        Ok(())
     }
 
-    // Takes what has come, or hears that no more comes.
-    fn read_on(&mut self, buf: &mut [u8]) -> Result<(), Memory>
+    // Takes what has come, or hears that no more comes. It answers whether it did.
+    fn read_on(&mut self, buf: &mut [u8]) -> Result<bool, Memory>
         requires work { IsAtWork self.old.serving self.old.end }
         requires undecided { self.old.serving.answering.outcome ≡ None }
         requires some { 0 < length buf.old }
@@ -104,33 +110,47 @@ impl<'p> ServingSession<'p> {
     {
         match drain(&mut self.end, buf) {
             DrainAnswer::More { count } => self.serving.take(&buf[..count as usize])?,
-            DrainAnswer::NotYet { .. } => {}
+            DrainAnswer::NotYet { .. } => return Ok(false),
             DrainAnswer::AllRead => self.serving.closed(),
             DrainAnswer::PeerGone { .. } => self.serving.gone(),
         }
-        Ok(())
+        Ok(true)
     }
 
-    // Writes what goes out next, as much as has room.
-    fn write_on(&mut self) -> Result<(), Memory>
+    // Writes what goes out next, as much as has room, where nothing has decided yet and the peer isn't
+    // shut. It answers whether bytes went.
+    fn write_on(&mut self) -> Result<bool, Memory>
         requires work { IsAtWork self.old.serving self.old.end }
-        requires undecided { self.old.serving.answering.outcome ≡ None }
         ensures end { IsSameEnd self.old.end self.new.end }
         ensures idle { (view self.new.end).idle ≡ true }
         ensures own { OnOk result (self.new.serving.answering.own ≡ self.old.serving.answering.own) }
         ensures work { OnOk result (IsAtWork self.new.serving self.new.end) }
         ensures answering { (owed : List ℕ → Triple) → IsAnswering owed self.old.serving self.old.end → OnOk result (IsAnswering owed self.new.serving self.new.end) }
     {
+        if self.peer_shut || self.serving.outcome().is_some() {
+            return Ok(false);
+        }
         let piece = self.serving.front()?;
         if piece.is_empty() {
-            return Ok(());
+            return Ok(false);
         }
         match write(&mut self.end, piece) {
-            WriteAnswer::Wrote { count } => self.serving.advance(count as usize),
-            WriteAnswer::Full { .. } => {}
-            WriteAnswer::PeerClosed => self.peer_shut = true,
+            WriteAnswer::Wrote { count } => {
+                self.serving.advance(count as usize);
+                Ok(true)
+            }
+            WriteAnswer::Full { .. } => Ok(false),
+            WriteAnswer::PeerClosed => {
+                self.peer_shut = true;
+                Ok(false)
+            }
         }
-        Ok(())
+    }
+
+    /// Whether the last turn moved bytes, or there was none yet. No contract relies on it: whoever has
+    /// nothing to do gives way.
+    pub fn moved(&self) -> bool {
+        self.pause.moved()
     }
 
     /// How the call came out, `None` where nothing has decided yet.

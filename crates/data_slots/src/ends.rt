@@ -164,12 +164,13 @@ impl<'p> Ends<'p> {
         Ok(())
     }
 
-    /// One turn of each open session. Those that are over now are put behind `over`.
+    /// One turn of each open session. Those that are over now are put behind `over`. It answers whether any
+    /// moved bytes or is over.
     pub(crate) fn turn(
         &mut self,
         scratch: &mut [u8],
         over: &mut Vec<SessionOver>,
-    ) -> Result<(), Memory>
+    ) -> Result<bool, Memory>
         requires whole { IsWhole self.old }
         requires retire { Each (λ s. CanRetire s.stage) self.old.slots.items }
         requires some { 0 < length scratch.old }
@@ -179,12 +180,27 @@ impl<'p> Ends<'p> {
         ensures long { length scratch.new ≡ length scratch.old }
     {
         let mut next = 0;
+        let mut moved = false;
         while next < self.busy.len() {
-            if !self.turn_one(next, scratch, over)? {
+            if self.turn_one(next, scratch, over)? {
+                moved = true;
+            } else {
+                moved = moved || self.has_moved(next);
                 next += 1;
             }
         }
-        Ok(())
+        Ok(moved)
+    }
+
+    // Whether the last turn of the session of this place among the open ones moved bytes.
+    fn has_moved(&self, next: usize) -> bool {
+        let Some(at) = self.busy.get(next) else {
+            return false;
+        };
+        match self.slots.get(*at) {
+            Some(slot) => slot.moved(),
+            None => false,
+        }
     }
 
     // One turn of the session of this place among the open ones. It answers whether the session is over

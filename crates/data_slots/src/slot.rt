@@ -136,6 +136,15 @@ impl<'p> Slot<'p> {
         }
     }
 
+    /// Whether the last turn of an open session moved bytes.
+    pub(crate) fn moved(&self) -> bool {
+        match &self.stage {
+            Stage::Calls { session, .. } => session.moved(),
+            Stage::Serves { session, .. } => session.moved(),
+            _ => false,
+        }
+    }
+
     // What the broker is told of a session.
     fn told(&self) -> SessionOver
         requires session { is_session self.now.stage ≡ true }

@@ -137,10 +137,11 @@ impl<'p> DataSlots<'p> {
         self.ends.serve(from, port, service)
     }
 
-    /// One turn of each open session. Those that are over now are put behind `over`.
+    /// One turn of each open session. Those that are over now are put behind `over`. It answers whether
+    /// any moved bytes or is over, of which nothing is promised.
     ///
     /// After want of memory the ends can only be given up, and nothing is said of `over`.
-    pub fn turn(&mut self, scratch: &mut [u8], over: &mut Vec<SessionOver>) -> Result<(), Memory>
+    pub fn turn(&mut self, scratch: &mut [u8], over: &mut Vec<SessionOver>) -> Result<bool, Memory>
         requires whole { self.old.spent ≡ false }
         requires some { 0 < length scratch.old }
         ensures ok { OnOk result (self.new ≡ record self.old { open_count = self.new.open_count }) }

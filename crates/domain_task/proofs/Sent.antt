@@ -39,6 +39,7 @@ use Rattle.call_queue.specs.contracts.queue.CallQueue.TheInside as queue_inside
 use Rattle.agent_control.proofs.control.SessionEnd.TheSendSync as session_end
 use Rattle.agent_control.specs.contracts.control.AgentControl as control
 use Rattle.channel_session.proofs.caller.CallerEnd.TheSendSync as caller_end
+use Rattle.channel_session.proofs.pause.Pause.TheSendSync as pause
 use Rattle.channel_session.proofs.serving.ServingEnd.TheSendSync as serving_end
 use Rattle.channel_session.specs.contracts.caller.CallerSession as caller
 use Rattle.channel_session.specs.contracts.caller.CallerSession.TheInside as caller_inside
@@ -117,12 +118,12 @@ control_send κ =
 
 caller_send : (κ : _) → IsSend (caller.the_row κ)
 caller_send κ =
-    let fields : FieldsHave IsSend (caller_inside.the_type κ).parts = (calling.the_send, (end_send κ, (search sendable, tt))) in
+    let fields : FieldsHave IsSend (caller_inside.the_type κ).parts = (calling.the_send, (end_send κ, (search sendable, (pause.the_send, tt)))) in
     view_send (caller_inside.the_row κ) _ _ _ _ (declared_send (caller_inside.the_type κ) fields)
 
 serving_send : (κ : _) → IsSend (serving.the_row κ)
 serving_send κ =
-    let fields : FieldsHave IsSend (serving_inside.the_type κ).parts = (search (sendable, answering.the_send, builtin.the_send), (end_send κ, (search sendable, tt))) in
+    let fields : FieldsHave IsSend (serving_inside.the_type κ).parts = (search (sendable, answering.the_send, builtin.the_send), (end_send κ, (search sendable, (pause.the_send, tt)))) in
     view_send (serving_inside.the_row κ) _ _ _ _ (declared_send (serving_inside.the_type κ) fields)
 
 stage_send : (κ : _) → IsSend (stage.the_row κ)
@@ -193,7 +194,7 @@ agent_send κ =
 
 agent_task_send : (κ : _) → IsSend (agent_task.the_row κ)
 agent_task_send κ =
-    let fields : FieldsHave IsSend (agent_inside.the_type κ).parts = (agent_send κ, (search (sendable, crosses), (search (sendable, crosses, session_over.the_send), tt))) in
+    let fields : FieldsHave IsSend (agent_inside.the_type κ).parts = (search (sendable, crosses, agent_send) depth 20, (search (sendable, crosses), (search (sendable, crosses, session_over.the_send), tt))) in
     view_send (agent_inside.the_row κ) _ _ _ _ (declared_send (agent_inside.the_type κ) fields)
 
 -- ---- the task of the broker

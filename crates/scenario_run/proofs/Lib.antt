@@ -4,6 +4,7 @@ pub mod DealtLaws
 pub mod AnswerLaws
 pub mod TaskLaws
 pub mod ReportLaws
+pub mod IndexLaws
 pub mod LineLaws
 pub mod SessionLaws
 pub mod WholeLaws

@@ -1,38 +1,38 @@
 //! The lines of the calls of a run.
-ghost use Rattle.std.specs.Prelude.{◌≡◌, ◌+◌, ◌<◌, ◌^◌, ◌∷◌, [], length, map, IfOk};
+ghost use Rattle.std.specs.Prelude.{◌≡◌, ◌+◌, ◌∷◌, [], List, length, map, IfOk};
 ghost use Rattle.scenario_file.specs.Scenario.{is_mixed, name_at, targets_hostile, hostile_at};
-ghost use Rattle.task_duties.specs.Places.{is_place};
 ghost use Rattle.task_duties.specs.Words.{ident_of};
-ghost use Rattle.task_duties.specs.declared.place.PagePlace.TheVariants.{Payload};
+ghost use Rattle.task_duties.specs.declared.place.PagePlace.{PagePlace as Place};
 ghost use Rattle.task_duties.specs.Agent.Owes.{caller_done};
 ghost use Rattle.run_laws.specs.Laid.{laid};
 ghost use Rattle.run_laws.specs.Run.{Run};
-ghost use Rattle.run_laws.specs.ReadOff.{cause_by, cause_in, cause_result, end_of_call, index_of, line_read, mixed_end, mixed_outcome, session_result};
+ghost use Rattle.run_laws.specs.ReadOff.{cause_by, cause_in, cause_result, end_of_call, line_read, mixed_end, mixed_outcome, session_result};
+ghost use Rattle.scenario_run.specs.Index.{IsIndexOf};
 ghost use Rattle.scenario_run.specs.Lines.{HasReports, plain_result};
 
 use crate::answers::TaskReport;
+use crate::page_index::PageIndex;
 use call_broker::{Cause, Decision, Entry, Event};
 use itoa::Buffer;
 use qrexec_data::Outcome;
 use qrexec_frame::{Bytes, Text, TextError};
 use run_laws::{CallLine, CallResult, MixedOutcome};
-use run_report::SettledPage;
 use scenario_file::{CallPlan, LineCause, Scenario, number_named};
 use std::alloc::{AllocError, Global};
-use task_duties::{CallEnd, PagePlace};
+use task_duties::CallEnd;
 use vchan_io::Memory;
 
-/// The lines of all calls of a scenario, in order, by what the tasks report and by the pages.
+/// The lines of all calls of a scenario, in order, by what the tasks report and by the index of the
+/// pages.
 pub(crate) fn call_lines(
     alloc: Global,
     scenario: &Scenario,
     reports: &mut [TaskReport],
-    pages: &[SettledPage],
+    index: &PageIndex,
 ) -> Result<Vec<CallLine>, Memory>
     requires count { length reports.old ≡ length scenario.now.domains + 1 }
     requires reports { (run : Run) × HasReports scenario.now run scenario.now.calls reports.old }
-    requires pages { map (λ p. p.place) pages.now ≡ laid scenario.now }
-    requires few { length pages.now < 2 ^ 32 }
+    requires pages { IsIndexOf (laid scenario.now) index.now }
     ensures lines { (run : Run) → HasReports scenario.now run scenario.now.calls reports.old → IfOk result (λ lines. lines.items ≡ map (line_read scenario.now run) scenario.now.calls) }
     ensures served { map (λ r. r.served) reports.new ≡ map (λ r. r.served) reports.old }
     ensures long { length reports.new ≡ length reports.old }
@@ -40,7 +40,7 @@ pub(crate) fn call_lines(
     let mut lines = Vec::with_capacity(alloc, scenario.calls.len())?;
     for call in &scenario.calls {
         let end = reports[call.from as usize].take_call().end;
-        let line = call_line(alloc, scenario, call, end, reports[0].journal(), pages)?;
+        let line = call_line(alloc, scenario, call, end, reports[0].journal(), index)?;
         lines.push(line)?;
     }
     Ok(lines)
@@ -53,16 +53,15 @@ fn call_line(
     call: &CallPlan,
     end: CallEnd,
     journal: &[Entry],
-    pages: &[SettledPage],
+    index: &PageIndex,
 ) -> Result<CallLine, Memory>
-    requires pages { map (λ p. p.place) pages.now ≡ laid scenario.now }
-    requires few { length pages.now < 2 ^ 32 }
+    requires pages { IsIndexOf (laid scenario.now) index.now }
     ensures { (run : Run) → run.journal ≡ journal.now → end ≡ end_of_call run call.now → IfOk result (λ line. line ≡ line_read scenario.now run call.now) }
 {
     let result = if is_mixed(scenario, call) {
         mixed_result(alloc, end)
     } else {
-        plain_result(alloc, call, end, journal, pages)?
+        plain_result(alloc, call, end, journal, index)?
     };
     Ok(CallLine {
         number: call.number,
@@ -139,10 +138,9 @@ fn plain_result(
     call: &CallPlan,
     end: CallEnd,
     journal: &[Entry],
-    pages: &[SettledPage],
+    index: &PageIndex,
 ) -> Result<CallResult, Memory>
-    requires { length pages.now < 2 ^ 32 }
-    ensures { IfOk result (λ r. r ≡ plain_result (map (λ p. p.place) pages.now) journal.now call.now end) }
+    ensures { (places : List Place) → IsIndexOf places index.now → IfOk result (λ r. r ≡ plain_result places journal.now call.now end) }
 {
     match end {
         CallEnd::Session {
@@ -154,7 +152,7 @@ fn plain_result(
             ..
         } => {
             let from = call.from;
-            let page = page_at(pages, PagePlace::Payload { from, to, port });
+            let page = index.number_at(from, to, port);
             Ok(CallResult::Done {
                 code,
                 stdout,
@@ -251,37 +249,4 @@ fn ident_of(alloc: Global, number: u32) -> Result<Vec<u8>, AllocError>
     let mut buffer = Buffer::new();
     ident.extend_from_slice(buffer.format(number).as_bytes())?;
     Ok(ident)
-}
-
-// The index of the page at a place, which is how many pages there are where none lies there.
-fn page_at(pages: &[SettledPage], place: PagePlace) -> u32
-    requires { length pages.now < 2 ^ 32 }
-    ensures { result ≡ index_of place (map (λ p. p.place) pages.now) }
-{
-    let mut index = 0;
-    for page in pages {
-        if is_at(page.place, place) {
-            return index;
-        }
-        index += 1;
-    }
-    index
-}
-
-// Whether two places are the same.
-fn is_at(own: PagePlace, place: PagePlace) -> bool
-    ensures { result ≡ is_place place own }
-{
-    match (place, own) {
-        (PagePlace::Control { domain }, PagePlace::Control { domain: other }) => domain == other,
-        (
-            PagePlace::Payload { from, to, port },
-            PagePlace::Payload {
-                from: caller,
-                to: server,
-                port: other,
-            },
-        ) => from == caller && to == server && port == other,
-        _ => false,
-    }
 }

@@ -7,6 +7,7 @@ ghost use Rattle.scenario_run.specs.Answering.{AreAnswers};
 
 use crate::answers::{Answers, take_apart};
 use crate::lines::call_lines;
+use crate::page_index::PageIndex;
 use crate::sessions::served_lines;
 use crate::tasks::{is_scenario, tasks};
 use domain_task::TaskDone;
@@ -77,7 +78,8 @@ fn report(
     is_scenario(scenario);
     let Answers { ends, mut reports } = take_apart(alloc, dones)?;
     let pages = pages.settle(alloc, scenario, ends)?;
-    let calls = call_lines(alloc, scenario, reports.as_mut_slice(), pages.as_slice())?;
+    let index = PageIndex::of(alloc, pages.as_slice())?;
+    let calls = call_lines(alloc, scenario, reports.as_mut_slice(), &index)?;
     let served = served_lines(alloc, scenario, reports)?;
     Ok(Report {
         calls,

@@ -28,8 +28,8 @@ call_lines-requires-clause-reports c =
     subst (HasReports s (run_of s dones) s.calls) (sym c.as_mut_slice.ensures.value) (reported s c.args.pages c.args.dones.items ends reports settled c.requires.answers apart is) in
     (run_of s dones, has)
 
-pub call_lines-requires-clause-few : goal.call_lines-requires-clause-few
-call_lines-requires-clause-few c =
+pub of-requires : goal.of-requires
+of-requires c =
     let s = c.args.scenario.now in
     let dones = map answer_of c.args.dones.items in
     let ends = c.in_ok-ends.field-0.ends.items in
