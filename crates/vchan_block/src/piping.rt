@@ -114,7 +114,7 @@ fn read_all_and_retire<R: Wait + Clock>(
 ///
 /// One thread writes as the client and retires; another reads as the server until no more comes, and
 /// retires. All memory is taken first: `Memory` comes at want of it alone. Where no second thread can
-/// be made it waits for ever, if the bytes are more than the ring holds.
+/// be made it waits for ever.
 pub fn pipe<R: Threads + Wait + Clock + Sync>(
     rt: &R,
     alloc: Global,
