@@ -1,5 +1,6 @@
 //! What an agent answers to what a broker of this repository never says.
 ghost use Rattle.std.specs.Prelude.{◌≡◌, IfOk};
+ghost use Rattle.qrexec_frame.specs.Messages.{HasNumbers};
 ghost use Rattle.ring_words.specs.declared.page.Role.TheVariants.{Server, Client};
 ghost use Rattle.vchan_rule.specs.Seated.{IsOpen};
 ghost use Rattle.control_port.specs.declared.talk.Talker.TheVariants.{Broker};
@@ -23,7 +24,9 @@ const COMMANDS: [(bool, u32, u32, &[u8]); 4] = [
 ];
 
 /// The message of a command.
-fn message_of(alloc: Global, command: (bool, u32, u32, &[u8])) -> Result<Message, Fail> {
+fn message_of(alloc: Global, command: (bool, u32, u32, &[u8])) -> Result<Message, Fail>
+    ensures { IfOk result HasNumbers }
+{
     let (is_just, domain, port, line) = command;
     let line = Text::of(alloc, line)?;
     if is_just {
@@ -36,6 +39,7 @@ fn message_of(alloc: Global, command: (bool, u32, u32, &[u8])) -> Result<Message
 fn say(broker: &mut ControlPort, message: &Message) -> Result<bool, Fail>
     requires open { IsOpen broker.old.end }
     requires talker { broker.old.talker ≡ Broker }
+    requires numbers { HasNumbers message.now }
     ensures open { IsOpen broker.new.end }
     ensures talker { broker.new.talker ≡ broker.old.talker }
 {
