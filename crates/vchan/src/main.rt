@@ -7,6 +7,7 @@
 
 mod about;
 mod command;
+mod progress;
 mod run_end;
 mod runs;
 mod status;
@@ -15,6 +16,7 @@ mod work;
 
 pub use about::{About, about_in, tell};
 use command::command_words;
+use progress::Progress;
 pub use run_end::RunEnd;
 pub use run_report::Report;
 pub use runs::load_text;
@@ -22,10 +24,12 @@ use service_gate::OpenGate;
 pub use status::{Bad, Status, exit_number};
 use std::alloc::Global;
 use std::env;
+use std::io::{Eprint, IsTerminal};
 use std::process::ExitCode;
 use std::rt::Env;
 use std::sync::Wait;
 use std::thread::Threads;
+use std::time::Clock;
 pub use stream_text::{Channel, DecodeError, DecodeKind, decode_text};
 pub use top::{GREATEST_INPUT, top};
 use vchan_io::{Sink, Source, StdSink, StdSource};
@@ -34,10 +38,23 @@ fn main(rt: HostRuntime) -> ExitCode {
     let mut source = StdSource::new(rt.stdin());
     let mut out = StdSink::new(rt.stdout());
     let mut err = StdSink::new(rt.stderr());
+    let progress = if rt.stderr().is_terminal() {
+        Progress::begin(&rt)
+    } else {
+        None
+    };
     let status = match arguments(&rt, rt.alloc()) {
         Some(arguments) => {
             let words = command_words(arguments.as_slice());
-            Some(carry_out(&rt, rt.alloc(), words, &mut source, &mut out, &mut err))
+            Some(carry_out(
+                &rt,
+                rt.alloc(),
+                words,
+                &mut source,
+                &mut out,
+                &mut err,
+                progress,
+            ))
         }
         None => None,
     };
@@ -50,18 +67,20 @@ fn arguments(rt: &(impl Env + AllocGlobal), alloc: Global) -> Option<Vec<String>
     env::args(rt).ok()?.collect(alloc).ok()
 }
 
-/// Does what these words say.
-fn carry_out<S: Source, K: Sink, E: Sink, R: Threads + Wait + Sync>(
+/// Does what these words say. A run says on a terminal how far it is.
+fn carry_out<S: Source, K: Sink, E: Sink, R: Threads + Wait + Clock + Eprint + Sync>(
     rt: &R,
     alloc: Global,
     words: &[String],
     source: &mut S,
     out: &mut K,
     err: &mut E,
+    progress: Option<Progress<'_, R>>,
 ) -> Status {
-    match about_in(words) {
-        Some(about) => tell(about.text(), out, err),
-        None => top(rt, alloc, words, source, out, err, &OpenGate).status,
+    match (about_in(words), progress) {
+        (Some(about), _) => tell(about.text(), out, err),
+        (None, Some(gate)) => top(rt, alloc, words, source, out, err, &gate).status,
+        (None, None) => top(rt, alloc, words, source, out, err, &OpenGate).status,
     }
 }
 
