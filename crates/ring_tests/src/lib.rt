@@ -6,15 +6,11 @@
 //! says what it leaves in the lists of the page.
 #![tactic(auto)]
 
+#[cfg(test)]
 mod rows;
-mod threads;
-mod whole;
-
-pub use rows::{
-    closed_race, consumed_of_full_ring, consumed_prefix, events, five_bytes, fresh_page, full_ring,
-    long_packet, packets, ready_space_gone, said_by_hand,
-};
-pub use threads::{exchange, receive_all, send_all};
-
 #[cfg(test)]
 mod tests;
+#[cfg(test)]
+mod threads;
+#[cfg(test)]
+mod whole;

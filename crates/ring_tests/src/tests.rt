@@ -1,7 +1,11 @@
 ghost use Rattle.std.specs.Prelude.{◌≡◌};
 ghost use Rattle.ring_words.specs.declared.page.Role.TheVariants.{Server, Client};
 
-use super::*;
+use crate::rows::{
+    closed_race, consumed_of_full_ring, consumed_prefix, events, five_bytes, fresh_page, full_ring,
+    long_packet, packets, ready_space_gone, said_by_hand,
+};
+use crate::threads::{exchange, receive_all, send_all};
 use ring_words::check_orders;
 use std::alloc::{AllocError, Global};
 use std::test::Fail;
