@@ -7,10 +7,12 @@
 
 mod about;
 mod channels;
+mod clients;
 mod command;
 mod lines;
 mod run_end;
 mod runs;
+mod service_name;
 mod status;
 mod top;
 mod work;
