@@ -1,10 +1,9 @@
 //! A server for one client after another: each client has an epoch, which is a page laid anew for it,
 //! and is served there by one of the built-in services.
 //!
-//! It serves whoever keeps a service up for clients that come and go, honest or not, and the program's
-//! word for it. It stands for what `server_persist` of libxenvchan is for: there a page stays for the
-//! next client, and here it never does. That the side which serves is the vchan server is this
-//! project's own choice.
+//! It serves whoever keeps a service up for clients that come and go, honest or not. It stands for
+//! what `server_persist` of libxenvchan is for: there a page stays for the next client, and here it
+//! never does. That the side which serves is the vchan server is this project's own choice.
 #![tactic(auto)]
 
 mod answering;
