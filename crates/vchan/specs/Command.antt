@@ -1,12 +1,13 @@
 -- The words that the program takes.
-use Rattle.std.specs.Prelude.{ℕ, ◌≤◌, nat_le, Bool, true, false, List, [], ◌∷◌, Option, Some, None, codes, bytes_eq, if◌then◌else◌}
+use Rattle.std.specs.Prelude.{ℕ, ◌≤◌, ◌&&◌, nat_le, is_some, length, Bool, true, false, List, [], ◌∷◌, Option, Some, None, codes, bytes_eq, if◌then◌else◌}
 use Rattle.std.specs.Option.{option_map, option_and_then}
 use Rattle.script_words.specs.Numbers.{number_of}
 use Rattle.step_script.specs.Language.Opening.{orders_of}
+use Rattle.service_gate.specs.ServiceResult.{service}
 use Rattle.qrexec_frame.specs.declared.channel.Channel.{Channel}
 use Rattle.qrexec_frame.specs.declared.channel.Channel.TheVariants.{Control, Data}
 use Rattle.vchan.specs.declared.command.Command.{Command}
-use Rattle.vchan.specs.declared.command.Command.TheVariants.{Step, Decode, Run, Load, Pipe, Relay}
+use Rattle.vchan.specs.declared.command.Command.TheVariants.{Step, Decode, Run, Load, Pipe, Persist, Relay}
 
 -- the kind of channel that a word names
 abbrev pub channel_of : List ℕ → Option Channel
@@ -33,17 +34,26 @@ abbrev pub pipe_of : List ℕ → List ℕ → Option Command
 pipe_of left right =
     option_and_then (λ l. option_and_then (λ r. option_map Pipe (orders_of l r)) (number_within 0 65535 right)) (number_within 0 65535 left)
 
+-- a word of at most 63 bytes that names a built-in service; no service has a longer name
+abbrev pub service_name_of : List ℕ → Option (List ℕ)
+service_name_of word = if nat_le (length word) 63 && is_some (service word []) then Some word else None
+
+-- a server of the service that a word names
+abbrev pub persist_of : List ℕ → Option Command
+persist_of name = option_map Persist (service_name_of name)
+
 -- 1 to 16 relays, with 1 to 16 workers
 abbrev pub relay_of : List ℕ → List ℕ → Option Command
 relay_of hops workers =
     option_and_then (λ hops'. option_map (Relay hops') (number_within 1 16 workers)) (number_within 1 16 hops)
 
--- the command of these words: `step`, alone; `decode control`; `decode data`; `run W`; `load N C`; `pipe L R`; `relay K W`
+-- the command of these words: `step`, alone; `decode control`; `decode data`; `run W`; `load N C`; `pipe L R`; `persist NAME`; `relay K W`
 abbrev pub command_of : List (List ℕ) → Option Command
 command_of (word ∷ []) = if bytes_eq word (codes "step") then Some Step else None
 command_of (word ∷ argument ∷ []) =
     if bytes_eq word (codes "decode") then option_map Decode (channel_of argument)
     else if bytes_eq word (codes "run") then run_of argument
+    else if bytes_eq word (codes "persist") then persist_of argument
     else None
 command_of (word ∷ first ∷ second ∷ []) =
     if bytes_eq word (codes "load") then load_of first second

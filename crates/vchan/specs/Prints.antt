@@ -1,5 +1,5 @@
 -- What each command prints, and what is wrong with an input that it doesn't print.
-use Rattle.std.specs.Prelude.{◌≡◌, ℕ, List, [], ◌∷◌, Option, Some, None, Ok, Err}
+use Rattle.std.specs.Prelude.{◌≡◌, ℕ, List, [], ◌∷◌, Option, Some, None, Ok, Err, map}
 use Rattle.ring_words.specs.Rings.{number_of}
 use Rattle.ring_words.specs.declared.order.Orders.{Orders}
 use Rattle.step_script.specs.Language.Grammar.{script_of}
@@ -17,8 +17,14 @@ use Rattle.run_report.specs.Lines.{text_of}
 use Rattle.run_report.specs.Summary.{summary_of}
 use Rattle.vchan_block.specs.Pipe.{HasPiped}
 use Rattle.vchan_relay.specs.Runs.{HasRelayed}
+use Rattle.script_words.specs.Words.{lines_of}
+use Rattle.vchan_persist.specs.declared.client.Client.{Client}
+use Rattle.vchan_persist.specs.declared.epoch.EpochDone.{EpochDone}
+use Rattle.vchan_persist.specs.Clients.{clients_of, BeginsWell as ClientsBeginWell}
+use Rattle.vchan_persist.specs.Epochs.{AreEpochs}
+use Rattle.vchan.specs.Clients.{clients_text}
 use Rattle.vchan.specs.declared.command.Command.{Command}
-use Rattle.vchan.specs.declared.command.Command.TheVariants.{Step, Decode, Run, Load, Pipe, Relay}
+use Rattle.vchan.specs.declared.command.Command.TheVariants.{Step, Decode, Run, Load, Pipe, Persist, Relay}
 use Rattle.vchan.specs.declared.status.Status.{Status}
 use Rattle.vchan.specs.declared.status.Status.TheVariants.{BadInput, OutOfMemory}
 use Rattle.vchan.specs.declared.status.Bad.{Bad}
@@ -53,15 +59,27 @@ pub record PrintsRelayed (hops : ℕ) (input text : List ℕ) (pages : List Sett
   pub relayed : HasRelayed hops orders input (record { got = input; pages = pages })
   pub prints : text ≡ relays_text pages input
 
+-- `persist` prints what came of the clients that the input lists, each served by the service of this name on a page of its own, of the orders 10 and 11
+pub record PrintsServed (name input text : List ℕ) (pages : List Settled) : Type 0 where
+  pub orders : Orders
+  pub orders_are : (number_of orders.left ≡ 10) × (number_of orders.right ≡ 11)
+  pub clients : List Client
+  pub reads : clients_of input ≡ Ok clients
+  pub dones : List EpochDone
+  pub epochs : AreEpochs name orders 1 clients dones
+  pub pages_are : pages ≡ map (λ e. e.settled) dones
+  pub prints : text ≡ clients_text dones
+
 -- what a command prints for an input, and the report and the pages that go with it. `step` prints the text of the script that the input
 -- is; where the script's lines are whole calls, the lists of what was sent and got tell their part of it. `decode` prints the text
--- of the stream that the input spells. Neither has a report, nor have `pipe` and `relay`, which alone have pages apart from one
+-- of the stream that the input spells. Neither has a report, nor have `pipe`, `persist` and `relay`, which alone have pages apart from one
 abbrev pub Prints : Command → List ℕ → List ℕ → Option Report → List Settled → Type 0
 Prints Step input text None [] = IsTextOf input text
 Prints (Decode channel) input text None [] = decoded channel input ≡ Ok text
 Prints (Run workers) input text (Some report) [] = PrintsReport input text report
 Prints (Load number calls) input text (Some report) [] = PrintsSums number calls text report
 Prints (Pipe orders) input text None (page ∷ []) = PrintsPiped orders input text page
+Prints (Persist name) input text None pages = PrintsServed name input text pages
 Prints (Relay hops workers) input text None pages = PrintsRelayed hops input text pages
 Prints command input text report pages = ⊥
 
@@ -69,13 +87,15 @@ Prints command input text report pages = ⊥
 abbrev pub IsBadFor : Command → List ℕ → Bad → Type 0
 IsBadFor Step input (bad.Script line kind) = script_of input ≡ Err (line, kind)
 IsBadFor (Decode channel) input (bad.Decode line kind) = decoded channel input ≡ Err (line, kind)
+IsBadFor (Persist name) input (bad.Clients line kind) = clients_of input ≡ Err (line, kind)
 IsBadFor (Run workers) input (bad.Scenario kind path) = scenario_of input ≡ Err (kind, path)
 IsBadFor command input wrong = ⊥
 
--- memory is taken before a bad input is found to be one: of a script or of byte strings the first line is good
+-- memory is taken before a bad input is found to be one: of a script, of byte strings or of clients the first line is good
 abbrev pub TakesMemory : Command → List ℕ → Type 0
 TakesMemory Step input = CanBeOpened input
 TakesMemory (Decode channel) input = BeginsWell input
+TakesMemory (Persist name) input = ClientsBeginWell (lines_of input)
 TakesMemory command input = Unit {0}
 
 -- a status with which the program may end in place of a text for this input

@@ -6,10 +6,12 @@ use Rattle.stream_text.specs.declared.error.DecodeKind.{DecodeKind}
 use Rattle.stream_text.specs.declared.error.DecodeKind.TheVariants as decode
 use Rattle.scenario_file.specs.declared.error.ScenarioKind.{ScenarioKind}
 use Rattle.scenario_file.specs.KindWords.{fault_line}
+use Rattle.vchan_persist.specs.declared.error.ClientsKind.{ClientsKind}
+use Rattle.vchan_persist.specs.declared.error.ClientsKind.TheVariants as clients
 use Rattle.vchan.specs.declared.status.Status.{Status}
 use Rattle.vchan.specs.declared.status.Status.TheVariants.{Done, BadWords, ReadFault, TooLong, BadInput, WriteFault, OutOfMemory}
 use Rattle.vchan.specs.declared.status.Bad.{Bad}
-use Rattle.vchan.specs.declared.status.Bad.TheVariants.{Script, Decode, Scenario}
+use Rattle.vchan.specs.declared.status.Bad.TheVariants.{Script, Decode, Clients, Scenario}
 
 -- the number of a status
 abbrev pub code_of : Status → ℕ
@@ -42,6 +44,13 @@ decode_word decode.BadHex = codes "bad-hex"
 decode_word decode.TooManyLines = codes "too-many-lines"
 decode_word decode.TooManyBytes = codes "too-many-bytes"
 
+-- what is wrong with a line of a list of clients
+abbrev pub clients_word : ClientsKind → List ℕ
+clients_word clients.BadLine = codes "bad-line"
+clients_word clients.BadNumber = codes "bad-number"
+clients_word clients.BadHex = codes "bad-hex"
+clients_word clients.TooMany = codes "too-many"
+
 -- the line that the program prints of a bad line
 abbrev pub bad_line : ℕ → List ℕ → List ℕ
 bad_line line word = codes "vchan: line " ++ decimal line ++ codes ": " ++ word ++ codes "\n"
@@ -54,6 +63,7 @@ bad_place kind path = codes "vchan: " ++ fault_line kind path ++ codes "\n"
 abbrev pub bad_input : Bad → List ℕ
 bad_input (Script line kind) = bad_line line (script_word kind)
 bad_input (Decode line kind) = bad_line line (decode_word kind)
+bad_input (Clients line kind) = bad_line line (clients_word kind)
 bad_input (Scenario kind path) = bad_place kind path
 
 -- the line that the program prints with a status, with its line feed; none where all went well

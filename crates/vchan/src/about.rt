@@ -73,6 +73,8 @@ const HELP: &[u8] = b"usage: vchan WORDS
     pipe L R        passes any bytes through a channel whose rings have the orders
                     L and R, 10 to 20 but not both 10 or both 11, from one thread
                     to another, and prints what comes out
+    persist NAME    reads a list of clients, serves them one after another by the
+                    service NAME, and prints a line for what each is answered
     relay K W       passes any bytes through K relays with W workers, both 1 to 16,
                     and prints how many bytes went through each channel, and in
                     hexadecimal what comes out behind the last
@@ -83,7 +85,8 @@ A command but load, which reads nothing, reads standard input to its end,
 4,194,304 bytes at most, and then writes its text to standard output.
 docs/SCRIPTS.md has the lines of a script, docs/DECODE.md those of a captured
 stream, docs/SCENARIOS.md the keys of a scenario and what run and load print,
-docs/RELAYS.md what relay prints.
+docs/RELAYS.md what relay prints, docs/PERSIST.md the lines of a list of
+clients.
 
 statuses, each but 0 and 8 with a line on standard error:
 
@@ -91,9 +94,9 @@ statuses, each but 0 and 8 with a line on standard error:
     2   these words are no command's
     3   standard input could not be read to its end
     4   the input is too long
-    5   the input is no script, no list of byte strings, or no scenario; the line
-        has the number of the first bad line, or the place in the scenario, and
-        what is wrong with it
+    5   the input is no script, no list of byte strings, no scenario, or no list
+        of clients; the line has the number of the first bad line, or the place
+        in the scenario, and what is wrong with it
     6   standard output failed
     7   out of memory
     8   a word isn't UTF-8

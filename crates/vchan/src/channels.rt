@@ -57,7 +57,7 @@ pub(crate) fn relay_input<R: Threads + Wait + Sync>(
 }
 
 /// The orders of the rings that lie in the shared page itself: 10 and 11.
-fn small_orders() -> Orders
+pub(crate) fn small_orders() -> Orders
     ensures { (number_of result.left ≡ 10) × (number_of result.right ≡ 11) }
 {
     match check_orders(10, 11) {

@@ -1,8 +1,9 @@
 ghost use Rattle.std.specs.Prelude.{◌≡◌, ◌≤◌, drop, map, string_bytes, IfSome};
 ghost use Rattle.std.specs.Option.{option_map};
 ghost use Rattle.step_script.specs.Language.Opening.{orders_of};
-ghost use Rattle.vchan.specs.Command.{channel_of, command_of, load_of, number_within, pipe_of, relay_of, run_of, KeepsLimits, reads_input};
+ghost use Rattle.vchan.specs.Command.{channel_of, command_of, load_of, number_within, persist_of, pipe_of, relay_of, run_of, KeepsLimits, reads_input};
 
+use crate::service_name::ServiceName;
 use ring_words::{Orders, check_orders};
 use script_words::parse_number;
 use stream_text::Channel;
@@ -11,7 +12,7 @@ use stream_text::Channel;
 const MOST_ORDER: u32 = 65_535;
 
 /// What the words tell the program to do.
-#[derive(Clone, Copy, Debug, PartialEq, Eq)]
+#[derive(Debug, Drop)]
 pub enum Command {
     /// Reads a step script and plays it on one thread.
     Step,
@@ -34,6 +35,11 @@ pub enum Command {
         /// The orders of the channel's page.
         orders: Orders,
     },
+    /// Reads a list of clients, serves them one after another, and prints what each is answered.
+    Persist {
+        /// The service that serves them.
+        name: ServiceName,
+    },
     /// Reads any bytes, passes them through a row of relays, and prints how many went through each
     /// channel, and what came out behind the last.
     Relay {
@@ -46,12 +52,12 @@ pub enum Command {
 
 impl Command {
     /// Whether it reads its input: all but `load` do.
-    pub(crate) fn reads_input(self) -> bool
-        ensures { result ≡ reads_input self }
+    pub(crate) fn reads_input(&self) -> bool
+        ensures { result ≡ reads_input self.now }
     {
         match self {
             Command::Step | Command::Decode(_) | Command::Run { .. } => true,
-            Command::Pipe { .. } | Command::Relay { .. } => true,
+            Command::Pipe { .. } | Command::Persist { .. } | Command::Relay { .. } => true,
             Command::Load { .. } => false,
         }
     }
@@ -67,6 +73,7 @@ pub fn command_in(words: &[String]) -> Option<Command>
         [word] if word.as_str() == "step" => Some(Command::Step),
         [word, channel] if word.as_str() == "decode" => decode_in(channel),
         [word, workers] if word.as_str() == "run" => run_in(workers),
+        [word, name] if word.as_str() == "persist" => persist_in(name),
         [word, number, calls] if word.as_str() == "load" => load_in(number, calls),
         [word, left, right] if word.as_str() == "pipe" => pipe_in(left, right),
         [word, hops, workers] if word.as_str() == "relay" => relay_in(hops, workers),
@@ -133,6 +140,15 @@ fn orders_in(left: u16, right: u16) -> Option<Orders>
         Ok(orders) => Some(orders),
         Err(_) => None,
     }
+}
+
+/// The command that serves clients by the service that a word names.
+fn persist_in(name: &String) -> Option<Command>
+    ensures command { result ≡ persist_of (string_bytes name.now) }
+    ensures limits { IfSome result KeepsLimits }
+{
+    let name = ServiceName::of(name.as_bytes())?;
+    Some(Command::Persist { name })
 }
 
 /// The command that passes bytes through so many relays with so many workers.

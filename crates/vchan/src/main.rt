@@ -8,11 +8,13 @@
 
 mod about;
 mod channels;
+mod clients;
 mod command;
 mod lines;
 mod progress;
 mod run_end;
 mod runs;
+mod service_name;
 mod status;
 mod top;
 mod work;

@@ -15,8 +15,8 @@ pub struct RunEnd {
     /// The report of the scenario that was run, with `Done` and `WriteFault` of `run` and `load`; else
     /// `None`.
     pub report: Option<Report>,
-    /// The pages that stand apart from a report: with `Done` the one page of `pipe`, and those of `relay`
-    /// from near to far; else none.
+    /// The pages that stand apart from a report: with `Done` the one page of `pipe`, those of the
+    /// clients of `persist` in order, and those of `relay` from near to far; else none.
     pub settled: Vec<Settled>,
 }
 

@@ -4,6 +4,7 @@ ghost use Rattle.vchan.specs.Status.{code_of, number_of_exit};
 use scenario_file::{Path, ScenarioKind};
 use step_script::ScriptKind;
 use stream_text::DecodeKind;
+use vchan_persist::ClientsKind;
 
 /// How a run of the program ended.
 #[derive(Debug, Drop)]
@@ -43,6 +44,13 @@ pub enum Bad {
         line: u32,
         /// What is wrong with that line.
         kind: DecodeKind,
+    },
+    /// It is no list of clients.
+    Clients {
+        /// The first bad line, from 1.
+        line: u32,
+        /// What is wrong with that line.
+        kind: ClientsKind,
     },
     /// It is no scenario.
     Scenario {

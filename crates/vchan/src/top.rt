@@ -3,7 +3,7 @@ ghost use Rattle.std.specs.Io.KnownBytes.{IsAtEnd};
 ghost use Rattle.vchan_io.specs.Counts.{Rose};
 ghost use Rattle.vchan_io.specs.Streams.{Appends, Takes};
 ghost use Rattle.vchan.specs.Command.{reads_input};
-ghost use Rattle.vchan.specs.Status.{status_line, bad_input, bad_line, bad_place, script_word, decode_word};
+ghost use Rattle.vchan.specs.Status.{status_line, bad_input, bad_line, bad_place, script_word, decode_word, clients_word};
 ghost use Rattle.vchan.specs.Top.{IsRun, greatest_input};
 
 use crate::command::{Command, command_in};
@@ -20,6 +20,7 @@ use std::time::Clock;
 use step_script::ScriptKind;
 use stream_text::DecodeKind;
 use vchan_io::{ReadAllError, Sink, Source, WriteFault, read_all, write_all};
+use vchan_persist::ClientsKind;
 
 /// The longest input that the program reads, in bytes.
 pub const GREATEST_INPUT: usize = 4_194_304;
@@ -76,7 +77,7 @@ fn run<S: Source, K: Sink, G: Gate, R: Threads + Wait + Clock + Sync>(
     let Some(command) = command_in(words) else {
         return RunEnd::of(alloc, Status::BadWords, None);
     };
-    let input = match read_input(alloc, command, source) {
+    let input = match read_input(alloc, &command, source) {
         Ok(input) => input,
         Err(ReadAllError::ReadFault) => return RunEnd::of(alloc, Status::ReadFault, None),
         Err(ReadAllError::TooLong) => return RunEnd::of(alloc, Status::TooLong, None),
@@ -100,16 +101,16 @@ fn run<S: Source, K: Sink, G: Gate, R: Threads + Wait + Clock + Sync>(
 /// The input of a command: the source to its end, or nothing where the command reads none.
 fn read_input<S: Source>(
     alloc: Global,
-    command: Command,
+    command: &Command,
     source: &mut S,
 ) -> Result<Vec<u8>, ReadAllError>
-    ensures end { OnOk result (reads_input command ≡ true → IsAtEnd (S.left source.new)) }
+    ensures end { OnOk result (reads_input command.now ≡ true → IsAtEnd (S.left source.new)) }
     ensures few { IfOk result (λ bytes. length bytes.items ≤ greatest_input) }
     ensures taken { (taken : List ℕ) × Takes (S.left source.old) (S.left source.new) taken
-        × (reads_input command ≡ false → taken ≡ [])
+        × (reads_input command.now ≡ false → taken ≡ [])
         × (IsErrOf result ReadAllError.TooLong ↔ (greatest_input < length taken))
         × IfOk result (λ bytes. bytes.items ≡ taken) }
-    ensures fault { IsErrOf result ReadAllError.ReadFault → (reads_input command ≡ true) × Rose (S.faults source.old) (S.faults source.new) }
+    ensures fault { IsErrOf result ReadAllError.ReadFault → (reads_input command.now ≡ true) × Rose (S.faults source.old) (S.faults source.new) }
     ensures unfaulted { (¬ IsErrOf result ReadAllError.ReadFault) → S.faults source.new ≡ S.faults source.old }
 {
     if !command.reads_input() {
@@ -142,6 +143,7 @@ fn report_bad<E: Sink>(err: &mut E, bad: &Bad) -> Result<(), WriteFault>
     match bad {
         Bad::Script { line, kind } => report_line(err, *line, script_kind(*kind)),
         Bad::Decode { line, kind } => report_line(err, *line, decode_kind(*kind)),
+        Bad::Clients { line, kind } => report_line(err, *line, clients_kind(*kind)),
         Bad::Scenario { kind, at } => report_place(err, *kind, at),
     }
 }
@@ -184,6 +186,18 @@ fn script_kind(kind: ScriptKind) -> &'static [u8]
         ScriptKind::BadOrders => b"bad-orders",
         ScriptKind::TooManyLines => b"too-many-lines",
         ScriptKind::TooManyBytes => b"too-many-bytes",
+    }
+}
+
+/// What is wrong with a line of a list of clients, in the program's words.
+fn clients_kind(kind: ClientsKind) -> &'static [u8]
+    ensures { result.now ≡ clients_word kind }
+{
+    match kind {
+        ClientsKind::BadLine => b"bad-line",
+        ClientsKind::BadNumber => b"bad-number",
+        ClientsKind::BadHex => b"bad-hex",
+        ClientsKind::TooMany => b"too-many",
     }
 }
 

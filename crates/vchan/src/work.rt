@@ -5,6 +5,7 @@ ghost use Rattle.vchan.specs.Prints.{IsDue, Prints};
 ghost use Rattle.vchan.specs.Top.{greatest_input};
 
 use crate::channels::{pipe_input, relay_input};
+use crate::clients::persist_input;
 use crate::command::Command;
 use crate::runs::{load_text, run_text};
 use crate::status::{Bad, Status};
@@ -73,6 +74,14 @@ pub(crate) fn do_work<G: Gate, R: Threads + Wait + Clock + Sync>(
             Err(Memory) => Err(Status::OutOfMemory),
         },
         Command::Pipe { orders } => through(pipe_input(rt, alloc, orders, input)),
+        Command::Persist { name } => match persist_input(rt, alloc, &name, input.as_slice()) {
+            Ok((text, settled)) => Ok(Work {
+                text,
+                report: None,
+                settled,
+            }),
+            Err(status) => Err(status),
+        },
         Command::Relay { hops, workers } => through(relay_input(rt, alloc, hops, workers, input)),
     }
 }

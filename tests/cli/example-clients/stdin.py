@@ -1,0 +1,1 @@
+print(open("../../../examples/clients.list").read(), end="")

@@ -1,0 +1,1 @@
+print("call 61\n" * 4096, end="")
