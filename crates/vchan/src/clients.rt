@@ -3,7 +3,10 @@ ghost use Rattle.std.specs.Prelude.{◌≡◌, ◌++◌, ◌∷◌, [], ℕ, Lis
 ghost use Rattle.ring_words.specs.declared.order.Orders.{Orders as PageOrders};
 ghost use Rattle.vchan.specs.declared.command.Command.TheVariants.{Persist};
 ghost use Rattle.vchan.specs.Prints.{IsDue, Prints};
-ghost use Rattle.vchan.specs.Clients.{client_lines, client_line, clients_text};
+ghost use Rattle.std.specs.Fmt.{signed_decimal};
+ghost use Rattle.qrexec_frame.specs.Lines.{shown_bytes};
+ghost use Rattle.run_report.specs.Lines.{spaced};
+ghost use Rattle.vchan.specs.Clients.{client_lines, client_line, client_words, clients_text};
 
 use crate::channels::small_orders;
 use crate::lines::{push_bytes, push_number};
@@ -79,19 +82,36 @@ fn push_client(out: &mut Vec<u8>, number: u32, answer: &EpochResult) -> Result<(
 {
     out.extend_from_slice(b"client")?;
     push_number(out, number)?;
+    push_answer(out, answer)?;
+    out.push(b'\n')?;
+    Ok(())
+}
+
+/// What came of a client, as the words of its line.
+fn push_answer(out: &mut Vec<u8>, answer: &EpochResult) -> Result<(), AllocError>
+    ensures { OnOk result (out.new.items ≡ out.old.items ++ spaced (client_words answer.now)) }
+{
     match answer {
         EpochResult::Answered {
             code,
             stdout,
             stderr,
-        } => {
-            out.extend_from_slice(b" done")?;
-            push_number(out, *code)?;
-            push_bytes(out, stdout.slice())?;
-            push_bytes(out, stderr.slice())?;
-        }
-        EpochResult::Hostile => out.extend_from_slice(b" hostile")?,
+        } => push_answered(out, *code, stdout.slice(), stderr.slice()),
+        EpochResult::Hostile => out.extend_from_slice(b" hostile"),
     }
-    out.push(b'\n')?;
-    Ok(())
+}
+
+/// The words of a client that was answered.
+fn push_answered(
+    out: &mut Vec<u8>,
+    code: i32,
+    stdout: &[u8],
+    stderr: &[u8],
+) -> Result<(), AllocError>
+    ensures { OnOk result (out.new.items ≡ out.old.items ++ spaced (codes "done" ∷ signed_decimal code ∷ shown_bytes stdout.now ∷ shown_bytes stderr.now ∷ [])) }
+{
+    out.extend_from_slice(b" done")?;
+    push_number(out, code)?;
+    push_bytes(out, stdout)?;
+    push_bytes(out, stderr)
 }
