@@ -10,7 +10,7 @@ use crate::writing::write;
 use ring_words::Orders;
 use std::alloc::Global;
 use std::sync::Wait;
-use std::thread::{Threads, join};
+use std::thread::{Promise, Threads, scope, scope_env};
 use std::time::Clock;
 use vchan_io::Memory;
 use vchan_lifecycle::{DrainAnswer, connect, drain, retire};
@@ -109,12 +109,64 @@ fn read_all_and_retire<R: Wait + Clock>(
     }
 }
 
+/// What the writing thread promises of the end that it hands back.
+#[derive(Clone, Copy)]
+struct AllSent<'a> {
+    page: &'a Page,
+    bytes: &'a [u8],
+}
+
+impl<'a> Promise<Retired> for AllSent<'a> {
+    ghost kept_by = { λ p end. IsEndOf p.page.now.table Client end × SendsAll (last_view end) p.bytes.now };
+}
+
+/// Writes and reads at once, the writer on a thread of its own: the client's end, and what was
+/// received. Its error is want of memory for that thread. Without it no byte is sent: a writer and a
+/// reader one after the other would wait for ever.
+fn write_and_read<R: Threads + Wait + Clock + Sync>(
+    rt: &R,
+    page: &Page,
+    server: IdleSeat,
+    client: IdleSeat,
+    bytes: &[u8],
+    buf: Vec<u8>,
+) -> Result<(Retired, Received), Memory>
+    requires server { server ≡ record { page = page.now; role = Server } }
+    requires client { client ≡ record { page = page.now; role = Client } }
+    requires some { 0 < vec_len buf }
+    ensures client { IfOk result (λ done. IsEndOf page.now.table Client done.0 × SendsAll (last_view done.0) bytes.now) }
+    ensures server { IfOk result (λ done. IsEndOf page.now.table Server done.1.end × GetsAll (last_view done.1.end) done.1.bytes.items (vec_len buf)) }
+{
+    scope(
+        scope_env(),
+        rt,
+        |threads| -> Result<(Retired, Received), Memory>
+            requires { (client ≡ record { page = page.now; role = Client }) × (server ≡ record { page = page.now; role = Server }) × (0 < vec_len buf) }
+            ensures client { IfOk result (λ done. IsEndOf page.entry.now.table Client done.0 × SendsAll (last_view done.0) bytes.entry.now) }
+            ensures server { IfOk result (λ done. IsEndOf page.entry.now.table Server done.1.end × GetsAll (last_view done.1.end) done.1.bytes.items (vec_len buf)) }
+        {
+            let writer = threads.spawn_with(
+                AllSent { page, bytes },
+                move || -> Retired
+                    requires { client ≡ record { page = page.now; role = Client } }
+                    ensures { IsEndOf page.entry.now.table Client result × SendsAll (last_view result) bytes.entry.now }
+                { write_all_and_retire(rt, page, client, bytes) },
+            );
+            let Ok(writer) = writer else {
+                return Err(Memory);
+            };
+            let received = read_all_and_retire(rt, page, server, buf);
+            Ok((writer.join(rt), received))
+        },
+    )
+}
+
 /// Sends all bytes through the left ring of a new page, whose indices begin at `start`, and hands back
 /// what was read there, with what stands of the page.
 ///
 /// One thread writes as the client and retires; another reads as the server until no more comes, and
-/// retires. All memory is taken first: `Memory` comes at want of it alone. Where no second thread can
-/// be made it waits for ever.
+/// retires. All memory is taken first, and the writing thread started last: `Memory` comes at want of
+/// it alone, as where no second thread can be made, and nothing was sent then.
 pub fn pipe<R: Threads + Wait + Clock + Sync>(
     rt: &R,
     alloc: Global,
@@ -128,19 +180,7 @@ pub fn pipe<R: Threads + Wait + Clock + Sync>(
 {
     let buf = vec![in alloc; 0u8; bytes.len() + 1]?;
     let (page, server, client) = Page::open(alloc, orders, start)?;
-    let sent = bytes.as_slice();
-    let shared = &page;
-    let (client, received) = join(
-        rt,
-        || -> Retired
-            requires { client ≡ record { page = shared.now; role = Client } }
-            ensures { IsEndOf shared.entry.now.table Client result × SendsAll (last_view result) sent.entry.now }
-        { write_all_and_retire(rt, shared, client, sent) },
-        || -> Received
-            requires { (server ≡ record { page = shared.now; role = Server }) × (0 < vec_len buf) }
-            ensures { IsEndOf shared.entry.now.table Server result.end × GetsAll (last_view result.end) result.bytes.items (vec_len buf) }
-        { read_all_and_retire(rt, shared, server, buf) },
-    );
+    let (client, received) = write_and_read(rt, &page, server, client, bytes.as_slice(), buf)?;
     let Received { end: server, bytes } = received;
     let settled = page.finish(server, client);
     settled.promise();
