@@ -1,0 +1,46 @@
+//! Messages and texts by the calls that lend, clean and print them. Streams are read through the whole
+//! program.
+use qrexec_frame::{
+    Channel, Decoder, Kind, Message, Text, clean_name, clean_service, clean_target, encode_data,
+    fits, message_line,
+};
+use std::test::Fail;
+
+#[test]
+fn lends_bodies(rt: HostRuntime) -> Result<(), Fail> {
+    let alloc = rt.alloc();
+    let mut decoder = Decoder::new(alloc, Channel::Data);
+    let mut bytes = Vec::new(alloc);
+    encode_data(Kind::Stderr, b"ab", &mut bytes)?;
+    encode_data(Kind::Stdout, b"", &mut bytes)?;
+    decoder.feed(&bytes)?;
+    let Ok(Some(body)) = decoder.next_body() else {
+        return Err(Fail::from("no message"));
+    };
+    assert!(rt; body.kind == Kind::Stderr && body.bytes == b"ab".as_slice());
+    assert!(rt; decoder.rest() == 8 && decoder.held() == 18 && decoder.at() == 10);
+    Ok(())
+}
+
+#[test]
+fn cleans_texts(rt: HostRuntime) -> Result<(), Fail> {
+    let alloc = rt.alloc();
+    let text = Text::of(alloc, b"a @:+$")?;
+    assert!(rt; clean_name(alloc, &text)?.bytes() == b"a_____".as_slice());
+    assert!(rt; clean_service(alloc, &text)?.bytes() == b"a___+_".as_slice());
+    assert!(rt; clean_target(alloc, &text)?.bytes() == b"a_@:__".as_slice());
+    Ok(())
+}
+
+#[test]
+fn prints_texts_without_nul(rt: HostRuntime) -> Result<(), Fail> {
+    let alloc = rt.alloc();
+    assert!(rt; Text::of(alloc, b"a\0b").is_err());
+    let text = Text::of(alloc, b"call 1")?;
+    let message = Message::Refused {
+        ident: text.clone()?,
+    };
+    assert!(rt; fits(&message));
+    assert!(rt; message_line(alloc, &message)?.as_slice() == b"refused call 1".as_slice());
+    Ok(())
+}

@@ -1,0 +1,58 @@
+//! What a scenario is without its hostile domains, and a scenario that is made from a number.
+use scenario_file::{generate, honest_lines, next_number, read, without_hostile};
+use std::alloc::Global;
+use std::test::Fail;
+
+/// Two honest domains and a hostile one, a call between the two, and one that is refused.
+const VISITED: &[u8] = br#"
+[[domain]]
+name = "work"
+[[domain]]
+name = "evil"
+hostile = ["hello", "rest 3"]
+[[domain]]
+name = "mail"
+[[call]]
+from = "work"
+to = "mail"
+service = "upper"
+stdin = "a"
+[[call]]
+from = "mail"
+to = "evil"
+service = "echo"
+[[call]]
+from = "mail"
+to = "nobody"
+service = "echo"
+"#;
+
+/// Whether the visited scenario without its hostile domain has two domains, and the lines of the two calls
+/// that aren't with it, under their numbers.
+fn stands_without_the_hostile(alloc: Global) -> Result<bool, Fail> {
+    let visited = read(alloc, VISITED)?;
+    let left = without_hostile(alloc, &visited)?;
+    let lines = honest_lines(alloc, &left)?;
+    Ok(left.domains.len() == 2 && lines.len() == 2 && lines[0].number == 1 && lines[1].number == 3)
+}
+
+#[test]
+fn a_scenario_stands_without_its_hostile_domain(rt: HostRuntime) -> Result<(), Fail> {
+    assert!(rt; stands_without_the_hostile(rt.alloc())?);
+    Ok(())
+}
+
+/// The first numbers behind 7, worked by hand.
+const NUMBERS: [u32; 8] = [599, 44_999, 32_612, 21_105, 10_061, 33_742, 40_318, 9_222];
+
+#[test]
+fn a_number_gives_a_scenario(rt: HostRuntime) -> Result<(), Fail> {
+    let mut number = 7;
+    for next in NUMBERS {
+        assert!(rt; number <= 65_536);
+        number = next_number(number);
+        assert_eq!(rt; number, next);
+    }
+    assert_eq!(rt; generate(rt.alloc(), 7, 2)?.calls.len(), 2);
+    Ok(())
+}
