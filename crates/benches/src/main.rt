@@ -10,6 +10,8 @@ mod pool;
 mod ring;
 mod scenario;
 mod session;
+mod turns;
+mod waiting;
 
 use anyhow::{Context, Result, bail};
 use std::alloc::Global;
@@ -20,7 +22,7 @@ use std::thread::Threads;
 use std::time::CpuClock;
 
 const USAGE: &str =
-    "usage: benches [broker EVENTS | pool TASKS TURNS WORKERS STEPS | ring SIZE CALLS ROUNDS | threads SIZE PIECES | scenario FILE | session SIZE PIECE]";
+    "usage: benches [broker EVENTS | pool TASKS TURNS WORKERS STEPS | ring SIZE CALLS ROUNDS | threads SIZE PIECES | scenario FILE | session SIZE PIECE | turns RUNS | waiting MILLIS]";
 
 /// The numbers that these words write.
 fn numbers(alloc: Global, words: &[String]) -> Result<Vec<u32>> {
@@ -33,12 +35,14 @@ fn numbers(alloc: Global, words: &[String]) -> Result<Vec<u32>> {
 }
 
 /// A small piece of the work of each bench.
-fn small<R: Print + AllocGlobal + Threads + Wait + Sync>(rt: &R) -> Result<()> {
+fn small<R: Clock + CpuClock + Print + AllocGlobal + Threads + Wait + Sync>(rt: &R) -> Result<()> {
     broker::small(rt)?;
     pool::small(rt)?;
     ring::small(rt)?;
     scenario::small(rt)?;
     session::small(rt)?;
+    turns::small(rt)?;
+    waiting::small(rt)?;
     Ok(())
 }
 
@@ -69,6 +73,8 @@ fn measured<R: Clock + CpuClock + Files + Print + AllocGlobal + Threads + Wait +
         ("ring", [size, calls, rounds]) => ring::measured(rt, *size, *calls, *rounds),
         ("threads", [size, pieces]) => ring::measured_in_threads(rt, *size, *pieces),
         ("session", [size, piece]) => session::measured(rt, *size, *piece),
+        ("turns", [runs]) => turns::measured(rt, *runs),
+        ("waiting", [millis]) => waiting::measured(rt, *millis),
         _ => bail!(USAGE),
     }
 }

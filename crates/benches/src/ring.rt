@@ -19,7 +19,7 @@ use vchan_rule::{End, IdleSeat, Page};
 const ORDER: u16 = 16;
 
 /// A page with its two seats.
-fn open(alloc: Global) -> Result<(Page, IdleSeat, IdleSeat)>
+pub fn open(alloc: Global) -> Result<(Page, IdleSeat, IdleSeat)>
     ensures { IfOk result (λ p. (p.1 ≡ record { page = p.0; role = Server }) × (p.2 ≡ record { page = p.0; role = Client })) }
 {
     let Ok(orders) = check_orders(ORDER, ORDER) else {
@@ -32,7 +32,7 @@ fn open(alloc: Global) -> Result<(Page, IdleSeat, IdleSeat)>
 }
 
 /// The client of a page, once it is connected.
-fn connected(page: &Page, seat: IdleSeat) -> Result<End<'_>>
+pub fn connected(page: &Page, seat: IdleSeat) -> Result<End<'_>>
     requires { seat ≡ record { page = page.now; role = Client } }
     ensures { IfOk result (λ end. IsOpen end) }
 {
