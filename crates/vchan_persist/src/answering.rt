@@ -1,10 +1,9 @@
 //! The task of the server.
-use crate::task::{EpochTask, SideDone};
+use crate::task::{EpochTask, SideDone, give_way};
 use channel_session::ServingSession;
 use service_gate::Builtin;
 use std::marker::Model;
 use std::snapshot::Snapshot;
-use std::thread;
 use task_pool::Turn;
 
 /// The server's end of the page with the side that serves the call, which isn't over, and room for what
@@ -72,7 +71,7 @@ impl<'p> Answering<'p> {
         match session.outcome() {
             Some(outcome) => Turn::Done(SideDone::Served(session.finish(outcome))),
             None => {
-                thread::yield_now();
+                give_way(session.moved());
                 Turn::Again(EpochTask::Serves(Answering {
                     session,
                     room,

@@ -1,8 +1,7 @@
 //! The task of a client that calls.
-use crate::task::{EpochTask, SideDone};
+use crate::task::{EpochTask, SideDone, give_way};
 use channel_session::CallerSession;
 use std::marker::Model;
-use std::thread;
 use task_pool::Turn;
 
 /// The client's end of the page with the caller's side of its call, which isn't over, and room for what
@@ -60,7 +59,7 @@ impl<'p> Calling<'p> {
         match session.outcome() {
             Some(outcome) => Turn::Done(SideDone::Called(session.finish(outcome))),
             None => {
-                thread::yield_now();
+                give_way(session.moved());
                 Turn::Again(EpochTask::Calls(Calling { session, room }))
             }
         }

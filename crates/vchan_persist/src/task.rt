@@ -3,6 +3,7 @@ use crate::answering::Answering;
 use crate::calling::Calling;
 use crate::scribbling::Scribbling;
 use channel_session::{CallerEnd, ServingEnd};
+use std::thread;
 use task_pool::{PoolTask, Turn};
 use vchan_rule::Retired;
 
@@ -48,5 +49,13 @@ impl<'p> PoolTask for EpochTask<'p> {
             EpochTask::Serves(answering) => answering.turn(),
             EpochTask::Over(done) => Turn::Done(done),
         }
+    }
+}
+
+/// Gives way where the last turn of a session moved nothing, since the other side has to make one before
+/// there is more to move.
+pub(crate) fn give_way(moved: bool) {
+    if !moved {
+        thread::yield_now();
     }
 }
