@@ -93,15 +93,15 @@ fn calls_run<R: CpuClock + Threads + Wait + Sync>(
     Ok(report.calls.len())
 }
 
-/// The median time of a turn of the agent in a run of a row, in nanoseconds.
-fn median_of<R: CpuClock + Threads + Wait + Sync>(rt: &R, alloc: Global, row: Row) -> Result<u64> {
+/// The average time of a turn of the agent in a run of a row, in nanoseconds.
+fn average_of<R: CpuClock + Threads + Wait + Sync>(rt: &R, alloc: Global, row: Row) -> Result<u64> {
     let file = file_of(alloc, row, LONG.rests)?;
     let stopwatch = Stopwatch {
         clock: rt,
-        times: Times::new(alloc, LONG.warm_up, LONG.timed)?,
+        times: Times::new(LONG.warm_up, LONG.timed),
     };
     calls_run(rt, alloc, file.as_str(), &stopwatch)?;
-    stopwatch.times.median(alloc)
+    stopwatch.times.average()
 }
 
 /// How many calls a short run has.
@@ -114,7 +114,7 @@ pub fn small<R: CpuClock + Print + AllocGlobal + Threads + Wait + Sync>(rt: &R) 
     let file = file_of(rt.alloc(), row, SHORT.rests)?;
     let stopwatch = Stopwatch {
         clock: rt,
-        times: Times::new(rt.alloc(), SHORT.warm_up, SHORT.timed)?,
+        times: Times::new(SHORT.warm_up, SHORT.timed),
     };
     let calls = calls_run(rt, rt.alloc(), file.as_str(), &stopwatch)?;
     println!(rt; "turns: calls {calls}")?;
@@ -132,7 +132,7 @@ const ROWS: [(u32, u32, u32); 7] = [
     (32, 3_000, 1_000),
 ];
 
-/// The median times of so many runs of a row, in a line behind its numbers of calls.
+/// The average times of so many runs of a row, in a line behind its numbers of calls.
 fn row_measured<R: CpuClock + Print + AllocGlobal + Threads + Wait + Sync>(
     rt: &R,
     row: Row,
@@ -145,7 +145,7 @@ fn row_measured<R: CpuClock + Print + AllocGlobal + Threads + Wait + Sync>(
     } = row;
     print!(rt; "{open} {refused} {waiting}")?;
     for _ in 0..runs {
-        let nanos = median_of(rt, rt.alloc(), row)?;
+        let nanos = average_of(rt, rt.alloc(), row)?;
         print!(rt; " {nanos}")?;
     }
     println!(rt; "")?;

@@ -1,7 +1,6 @@
 //! A gate that times turns.
 use anyhow::{Result, bail};
 use service_gate::Gate;
-use std::alloc::{AllocError, Global};
 use std::sync::atomic::{AtomicU64, Ordering};
 use std::time::CpuClock;
 
@@ -11,66 +10,61 @@ const TIMED_TASK: u32 = 1;
 /// The times of turns, each by the processor time of the one worker.
 #[derive(Drop)]
 pub struct Times {
-    // How many turns are let go before the first one that is timed.
-    warm_up: u64,
+    // The numbers of the first turn that is timed, and of the first one behind those.
+    first: u64,
+    behind: u64,
     // How many turns have begun.
     turns: AtomicU64,
     // When the turn under way began, in nanoseconds; 0 where it isn't timed.
     began: AtomicU64,
-    // The nanoseconds of the turns that were timed; 0 of those that haven't come.
-    nanos: Vec<AtomicU64>,
+    // The nanoseconds of the turns that were timed, and how many these are.
+    nanos: AtomicU64,
+    timed: AtomicU64,
 }
 
 impl Times {
-    /// Room for the times of so many turns behind the first ones.
-    pub fn new(alloc: Global, warm_up: u32, timed: u32) -> Result<Times, AllocError> {
-        Ok(Times {
-            warm_up: u64::from(warm_up),
+    /// Of so many turns behind the first ones.
+    pub fn new(warm_up: u32, timed: u32) -> Times {
+        Times {
+            first: u64::from(warm_up),
+            behind: u64::from(warm_up) + u64::from(timed),
             turns: AtomicU64::new(0),
             began: AtomicU64::new(0),
-            nanos: no_nanos(alloc, timed)?,
-        })
+            nanos: AtomicU64::new(0),
+            timed: AtomicU64::new(0),
+        }
     }
 
-    /// The median of the times, in nanoseconds.
-    pub fn median(&self, alloc: Global) -> Result<u64> {
-        let mut nanos = Vec::new(alloc);
-        for time in &self.nanos {
-            nanos.push(time.load(Ordering::SeqCst))?;
+    /// The average of the times, in nanoseconds.
+    pub fn average(&self) -> Result<u64> {
+        let timed = self.timed.load(Ordering::SeqCst);
+        if timed != self.behind.saturating_sub(self.first) {
+            bail!("the run ended before its turns were timed");
         }
-        nanos.sort()?;
-        match nanos.get(nanos.len() / 2) {
-            Some(0) | None => bail!("the run ended before its turns were timed"),
-            Some(median) => Ok(*median),
+        match self.nanos.load(Ordering::SeqCst).checked_div(timed) {
+            Some(average) => Ok(average),
+            None => bail!("no turn was timed"),
         }
     }
 
     /// A turn begins now.
     fn begin_turn(&self, now: u64) {
         let before = self.turns.fetch_add(1, Ordering::SeqCst);
-        if before >= self.warm_up {
+        if self.first <= before && before < self.behind {
             self.began.store(now, Ordering::SeqCst);
         }
     }
 
-    /// Writes down how long the timed turn took that ends now, if one does.
+    /// Counts the timed turn that ends now, if one does.
     fn end_turn(&self, now: u64) {
         let began = self.began.swap(0, Ordering::SeqCst);
-        let turns = self.turns.load(Ordering::SeqCst);
-        let place = turns.saturating_sub(self.warm_up).saturating_sub(1) as usize;
-        if began != 0 && place < self.nanos.len() {
-            self.nanos[place].store(now.saturating_sub(began), Ordering::SeqCst);
+        if began != 0 {
+            let _ = self
+                .nanos
+                .fetch_add(now.saturating_sub(began), Ordering::SeqCst);
+            let _ = self.timed.fetch_add(1, Ordering::SeqCst);
         }
     }
-}
-
-/// So many times that aren't known yet.
-fn no_nanos(alloc: Global, timed: u32) -> Result<Vec<AtomicU64>, AllocError> {
-    let mut nanos = Vec::with_capacity(alloc, timed as usize)?;
-    for _ in 0..timed {
-        nanos.push(AtomicU64::new(0))?;
-    }
-    Ok(nanos)
 }
 
 /// Times the turns of the task at place 1 of a pool with one worker, each up to the turn behind it.
