@@ -1,5 +1,5 @@
 -- The text and the pages of epochs, one epoch after another.
-use Rattle.std.proofs.Common.{◌≡◌, ℕ, List, [], ◌∷◌, ◌++◌, map, refl, sym, ap, ◌∙◌, append_assoc}
+use Rattle.std.proofs.Common.{◌≡◌, ℕ, List, [], ◌∷◌, ◌++◌, map, sym, ap, ◌∙◌, append_assoc}
 use Rattle.std.proofs.lemmas.List.{append-nil}
 use Rattle.end_view.specs.Settled.{Settled}
 use Rattle.vchan_persist.specs.declared.epoch.EpochDone.{EpochDone}

@@ -1,5 +1,5 @@
 -- The text of a run of relays, through each of whose pages the same bytes went.
-use Rattle.std.proofs.Common.{◌≡◌, ℕ, suc, ◌+◌, List, [], ◌∷◌, ◌++◌, length, codes, refl, ap, sym, subst, ◌∙◌, append_assoc, arith}
+use Rattle.std.proofs.Common.{◌≡◌, ℕ, suc, ◌+◌, List, [], ◌∷◌, ◌++◌, length, codes, refl, ap, sym, ◌∙◌, append_assoc, arith}
 use Rattle.std.proofs.lemmas.List.{append-nil}
 use Rattle.ring_words.specs.Rings.{number_of}
 use Rattle.ring_words.specs.declared.order.Orders.{Orders}
@@ -9,7 +9,7 @@ use Rattle.qrexec_frame.specs.Streams.{Each}
 use Rattle.run_report.specs.Lines.{spaced}
 use Rattle.vchan_relay.specs.Runs.{HasCarried, HasRelayed}
 use Rattle.vchan.specs.Prints.{PrintsRelayed}
-use Rattle.vchan.specs.Relays.{counts_line, even_lines, page_lines, relays_text}
+use Rattle.vchan.specs.Relays.{counts_line, even_lines, page_lines}
 
 -- the line of a page through which these bytes went
 carried_line : (number : ℕ) (orders : Orders) (bytes : List ℕ) (page : Settled) → HasCarried orders bytes page →

@@ -1,4 +1,3 @@
-use Rattle.std.proofs.Common.{rules}
 use Rattle.vchan.proofs.work.run.Goals as goal
 
 pub returns-in-Ok-run_text-clause-prints : goal.returns-in-Ok-run_text-clause-prints
