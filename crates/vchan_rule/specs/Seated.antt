@@ -13,6 +13,11 @@ use Rattle.end_view.specs.EndView.{EndView, view_of}
 use Rattle.end_view.specs.Settled.{Settled}
 use Rattle.vchan_rule.specs.declared.rule.Opening.{Opening}
 
+-- the words with which pages begin: the orders of the pages, and at which number all their indices begin
+pub record PageStart : Type 0 where
+  pub orders : Orders
+  pub start : ℕ
+
 -- a page: its table, its orders, and at which number all its indices began
 pub record PageView : Type 0 where
   pub table : TableId

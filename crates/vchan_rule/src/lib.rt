@@ -15,5 +15,5 @@ mod steps;
 mod turned;
 
 pub use end::End;
-pub use page::{IdleSeat, Page, Settled};
+pub use page::{IdleSeat, Page, Settled, StartWords};
 pub use turned::{Retired, TurnedEnd};

@@ -10,12 +10,51 @@ ghost use Rattle.vchan_rule.specs.Seated.{settled_page};
 use crate::end::End;
 use crate::rule::{Halves, Opening, PageTable, Place};
 use crate::turned::Retired;
-use ring_words::{Orders, Role};
+use ring_words::{Orders, Role, Words};
 use std::alloc::Global;
 use std::marker::Model;
 use std::snapshot::Snapshot;
 use vchan_core::{EndState, start_words};
 use vchan_io::Memory;
+
+/// The words with which pages of these orders begin, made once for any number of pages: all
+/// indices at this start, the order words saying these orders, and the client fresh.
+#[derive(Drop)]
+pub struct StartWords {
+    words: Words,
+    orders: Orders,
+    start: u32,
+}
+
+impl Model for StartWords {
+    ghost use Rattle.std.specs.Prelude.{◌≡◌, ◌<◌, ◌^◌};
+    ghost use Rattle.vchan_protocol.specs.History.Page.{start_words as start_words_of};
+    ghost use Rattle.vchan_protocol.specs.declared.call.EndState.TheVariants.{Fresh};
+    ghost use Rattle.vchan_rule.specs.Rule.{said_of};
+    ghost use Rattle.vchan_rule.specs.Seated.{PageStart};
+
+    ghost Value = { PageStart };
+
+    ghost view = { λ w. record { orders = w.orders; start = w.start } };
+
+    ghost invariant = { λ w. (w.words.list ≡ start_words_of w.orders w.start (said_of w.orders) Fresh) × (w.start < 2 ^ 32) };
+}
+
+impl StartWords {
+    /// The words for pages of these orders whose indices begin at `start`. Its error is want of
+    /// memory.
+    pub fn new(alloc: Global, orders: Orders, start: u32) -> Result<StartWords, Memory>
+        ensures { IfOk result (λ w. (w.orders ≡ orders) × (w.start ≡ start)) }
+    {
+        let said = (orders.left.number(), orders.right.number());
+        let words = start_words(alloc, orders, start, said, EndState::Fresh)?;
+        Ok(StartWords {
+            words,
+            orders,
+            start,
+        })
+    }
+}
 
 /// A page that two ends share.
 #[derive(Drop)]
@@ -62,7 +101,8 @@ impl Model for IdleSeat {
 
 impl Page {
     /// A page with the start values, whose order words say its orders, and its two seats: the
-    /// server's and the client's. Its error is want of memory.
+    /// server's and the client's. Its error is want of memory. Whoever opens many pages of the same
+    /// orders makes their start words once, and lays each page from these.
     pub fn open(
         alloc: Global,
         orders: Orders,
@@ -70,10 +110,20 @@ impl Page {
     ) -> Result<(Page, IdleSeat, IdleSeat), Memory>
         ensures { IfOk result (λ p. (p.0.orders ≡ orders) × (p.0.start ≡ start) × (p.1 ≡ record { page = p.0; role = Server }) × (p.2 ≡ record { page = p.0; role = Client })) }
     {
-        let said = (orders.left.number(), orders.right.number());
-        let words = start_words(alloc, orders, start, said, EndState::Fresh)?;
+        let words = StartWords::new(alloc, orders, start)?;
+        Page::lay(alloc, &words)
+    }
+
+    /// A page of these start words and its two seats, as `open` gives them. Its error is want of
+    /// memory.
+    pub fn lay(alloc: Global, start: &StartWords) -> Result<(Page, IdleSeat, IdleSeat), Memory>
+        ensures { IfOk result (λ p. (p.0.orders ≡ start.now.orders) × (p.0.start ≡ start.now.start) × (p.1 ≡ record { page = p.0; role = Server }) × (p.2 ≡ record { page = p.0; role = Client })) }
+    {
+        let words = start.words.list();
+        let orders = start.orders;
+        let start = start.start;
         let opening = Opening { orders, start };
-        let (table, mut server) = PageTable::of_words(alloc, words.list(), &opening)?;
+        let (table, mut server) = PageTable::of_words(alloc, words, &opening)?;
         let client = table.shared.split_seat::<Halves>(&mut server);
         let page = Page {
             table,

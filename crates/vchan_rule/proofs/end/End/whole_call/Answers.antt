@@ -1,5 +1,5 @@
 use Rattle.vchan_core.specs.OneMachine.Phases.{IsIdle}
-use Rattle.std.proofs.Common.{◌≡◌, Option, None, IsSome, length, take, refl, ap, ◌∙◌, subst, arith}
+use Rattle.std.proofs.Common.{◌≡◌, Option, None, IsSome, length, refl, ap, ◌∙◌, subst, arith}
 use Rattle.std.proofs.lemmas.Bool.{false≢true}
 use Rattle.vchan_protocol.specs.declared.call.Answer.{Answer}
 use Rattle.vchan_protocol.specs.declared.side.Side.{Side}
