@@ -1,2 +1,3 @@
 mod CallingLaws
 mod AnsweringLaws
+pub mod Sent

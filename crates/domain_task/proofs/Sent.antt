@@ -1,31 +1,18 @@
--- The tasks of a run may go from thread to thread: what an end and each task consists of may.
+-- The tasks of a run may go from thread to thread: what each task consists of may.
 use denote.Builtin.{u8, bool}
-use denote.Param.Send.{IsSend, AllSend, sendable, view_send, recorded_send, struct_send}
+use denote.Param.Send.{IsSend, sendable, view_send}
 use denote.Param.SendFields.{FieldsHave, VariantsHave, declared_send, variants_send}
-use denote.Struct.Declared.{shape}
 use Rattle.std.proofs.Crossing.{crosses}
 use Rattle.std.proofs.MapsCrossing.{BTreeMap-send, HashMap-send}
 use Rattle.std.proofs.alloc.Global.TheSendSync as heap
-use Rattle.std.specs.contracts.option.Option as option
 use Rattle.std.specs.contracts.vec.Vec as vec
 use Rattle.std.specs.contracts.alloc.Global as global
 use Rattle.std.specs.contracts.impls.GlobalAllocator.TheImpl.{ghosts}
 use Rattle.std.below.core.proofs.snapshot.Sent.{snapshot_send}
-use Rattle.atomic_table.proofs.shared.Seat.TheSendSync as seat
-use Rattle.atomic_table.proofs.shared.Shared.TheSendSync as shared
-use Rattle.ring_words.proofs.layout.Layout.TheSendSync as layout
-use Rattle.ring_words.proofs.page.Role.TheSendSync as role
-use Rattle.vchan_protocol.specs.contracts.call.Call as call
-use Rattle.vchan_core.proofs.machine.Machine.TheSendSync as machine
-use Rattle.vchan_rule.specs.contracts.end_seat.EndSeat as seat_of_end
-use Rattle.vchan_rule.specs.contracts.end_seat.EndSeat.TheInside as seat_inside
 use Rattle.vchan_rule.specs.contracts.end.End as end
-use Rattle.vchan_rule.specs.contracts.end.End.TheInside as end_inside
+use Rattle.vchan_rule.proofs.Sent.{end_send}
 use Rattle.qrexec_frame.proofs.decoder.Decoder.TheSendSync as decoder
 use Rattle.qrexec_data.proofs.fault.SessionFault.TheSendSync as fault
-use Rattle.qrexec_data.proofs.caller.Caller.TheSendSync as calling
-use Rattle.qrexec_data.proofs.serving.Serving.TheSendSync as answering
-use Rattle.service_gate.proofs.builtin.Builtin.TheSendSync as builtin
 use Rattle.service_gate.specs.contracts.builtin.Builtin as service
 use Rattle.control_port.proofs.talk.Talker.TheSendSync as talker
 use Rattle.control_port.specs.contracts.port.ControlPort as port
@@ -39,12 +26,8 @@ use Rattle.call_queue.specs.contracts.queue.CallQueue.TheInside as queue_inside
 use Rattle.agent_control.proofs.control.SessionEnd.TheSendSync as session_end
 use Rattle.agent_control.specs.contracts.control.AgentControl as control
 use Rattle.channel_session.proofs.caller.CallerEnd.TheSendSync as caller_end
-use Rattle.channel_session.proofs.pause.Pause.TheSendSync as pause
+use Rattle.channel_session.proofs.Sent.{caller_send, serving_send}
 use Rattle.channel_session.proofs.serving.ServingEnd.TheSendSync as serving_end
-use Rattle.channel_session.specs.contracts.caller.CallerSession as caller
-use Rattle.channel_session.specs.contracts.caller.CallerSession.TheInside as caller_inside
-use Rattle.channel_session.specs.contracts.serving.ServingSession as serving
-use Rattle.channel_session.specs.contracts.serving.ServingSession.TheInside as serving_inside
 use Rattle.task_duties.proofs.done.ControlEnd.TheSendSync as control_end
 use Rattle.task_duties.proofs.ends.RetiredEnd.TheSendSync as retired_end
 use Rattle.task_duties.proofs.place.PagePlace.TheSendSync as place
@@ -76,18 +59,6 @@ use Rattle.hostile_task.specs.contracts.task.HostileTask as hostile_task
 use Rattle.hostile_task.specs.contracts.task.HostileTask.TheInside as hostile_inside
 use Rattle.domain_task.specs.contracts.task.Task as task
 
--- ---- an end
-
-seat_send : IsSend seat_of_end.the_row
-seat_send =
-    let fields : AllSend (shape seat_inside.the_type).fields = (search (sendable, seat.the_send), (layout.the_field_send, (role.the_field_send, (search sendable, (snapshot_send (option.the_row call.the_row), tt))))) in
-    view_send seat_inside.the_row _ _ _ _ (recorded_send seat_inside.the_field.row _ _ seat_inside.the_type.to_one (struct_send (shape seat_inside.the_type) fields))
-
-end_send : (κ : _) → IsSend (end.the_row κ)
-end_send κ =
-    let fields : AllSend (shape (end_inside.the_type κ)).fields = (search (sendable, shared.the_sync) depth 20, (seat_send, (machine.the_field_send, tt))) in
-    view_send (end_inside.the_row κ) _ _ _ _ (recorded_send (end_inside.the_field κ).row _ _ (end_inside.the_type κ).to_one (struct_send (shape (end_inside.the_type κ)) fields))
-
 -- ---- a control port
 
 port_send : (κ : _) → IsSend (port.the_row κ)
@@ -115,16 +86,6 @@ control_send κ =
     declared_send (control.the_type κ) fields
 
 -- ---- the sessions of an agent, and its data ends
-
-caller_send : (κ : _) → IsSend (caller.the_row κ)
-caller_send κ =
-    let fields : FieldsHave IsSend (caller_inside.the_type κ).parts = (calling.the_send, (end_send κ, (search sendable, (pause.the_send, tt)))) in
-    view_send (caller_inside.the_row κ) _ _ _ _ (declared_send (caller_inside.the_type κ) fields)
-
-serving_send : (κ : _) → IsSend (serving.the_row κ)
-serving_send κ =
-    let fields : FieldsHave IsSend (serving_inside.the_type κ).parts = (search (sendable, answering.the_send, builtin.the_send), (end_send κ, (search sendable, (pause.the_send, tt)))) in
-    view_send (serving_inside.the_row κ) _ _ _ _ (declared_send (serving_inside.the_type κ) fields)
 
 stage_send : (κ : _) → IsSend (stage.the_row κ)
 stage_send κ =

@@ -2,7 +2,7 @@
 //!
 //! It serves whoever runs a scenario: what came of each call and of each session with a hostile
 //! caller, and the pages on which it came. What a lawful report is, `run_laws` says; here it gets its
-//! types, its text, and the text of its sums.
+//! types, its text, and the text of its sums; whoever prints other lines takes its words of them.
 #![tactic(auto)]
 
 mod lines;
@@ -10,6 +10,7 @@ mod report;
 mod summary;
 mod text;
 
+pub use lines::{push_bytes, push_number};
 pub use report::{Report, SettledPage};
 pub use run_laws::{CallLine, CallResult, MixedOutcome, ServedLine};
 pub use summary::summary_text;

@@ -106,13 +106,16 @@ fn push_word(out: &mut Vec<u8>, word: &[u8]) -> Result<(), AllocError>
     out.extend_from_slice(word)
 }
 
-fn push_number<I: Integer>(out: &mut Vec<u8>, number: I) -> Result<(), AllocError>
+/// A space and a decimal number, behind what was printed before. Want of memory may leave a part of it.
+pub fn push_number<I: Integer>(out: &mut Vec<u8>, number: I) -> Result<(), AllocError>
     ensures { OnOk result (out.new.items ≡ out.old.items ++ spaced (I.text number ∷ [])) }
 {
     push_word(out, Buffer::new().format(number).as_bytes())
 }
 
-fn push_bytes(out: &mut Vec<u8>, bytes: &[u8]) -> Result<(), AllocError>
+/// A space and bytes in lower case hexadecimal, or `-` where there are none, behind what was printed
+/// before. Want of memory may leave a part of it.
+pub fn push_bytes(out: &mut Vec<u8>, bytes: &[u8]) -> Result<(), AllocError>
     ensures { OnOk result (out.new.items ≡ out.old.items ++ spaced (shown_bytes bytes.now ∷ [])) }
 {
     if bytes.is_empty() {

@@ -8,8 +8,8 @@ ghost use Rattle.vchan.specs.Prints.{Prints};
 ghost use Rattle.vchan.specs.Relays.{counts_line, even_lines};
 ghost use Rattle.vchan.specs.Top.{greatest_input};
 
-use crate::lines::{push_bytes, push_number};
 use ring_words::{Orders, check_orders};
+use run_report::{push_bytes, push_number};
 use std::alloc::{AllocError, Global};
 use std::sync::Wait;
 use std::thread::Threads;

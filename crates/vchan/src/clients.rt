@@ -9,9 +9,9 @@ ghost use Rattle.run_report.specs.Lines.{spaced};
 ghost use Rattle.vchan.specs.Clients.{client_lines, client_line, client_words, clients_text};
 
 use crate::channels::small_orders;
-use crate::lines::{push_bytes, push_number};
 use crate::service_name::ServiceName;
 use crate::status::{Bad, Status};
+use run_report::{push_bytes, push_number};
 use std::alloc::{AllocError, Global};
 use std::sync::Wait;
 use std::thread::Threads;

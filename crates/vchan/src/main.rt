@@ -10,7 +10,6 @@ mod about;
 mod channels;
 mod clients;
 mod command;
-mod lines;
 mod progress;
 mod run_end;
 mod runs;

@@ -3,3 +3,4 @@ pub mod GoingLaws
 pub mod EndLaws
 pub mod Keeps
 pub mod ByteLaws
+pub mod Sent
