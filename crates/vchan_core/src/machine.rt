@@ -317,6 +317,7 @@ impl Machine {
     /// The event of a put of `count` bytes once `stored` of them are: the bytes come first, and
     /// then the index shows them all at once.
     #[tactic(auto, using(vchan_protocol::proofs::Table::PlanLaws::bytes_laws), unfolding(crate::specs::OneMachine::Phases::rest_at))]
+    #[inline(always)]
     fn put_event(&self, stored: u32, count: u32) -> Op
         ensures op { (answer : Answer) → result ≡ next_op (rest_at (standing self.now) (Phase.Put stored count answer)) }
         ensures some { result ≢ Op.Nothing }
@@ -338,6 +339,7 @@ impl Machine {
     /// The event of a take of `count` bytes once `loaded` of them are: the index releases their
     /// places only after all bytes were loaded.
     #[tactic(auto, using(vchan_protocol::proofs::Table::PlanLaws::bytes_laws), unfolding(crate::specs::OneMachine::Phases::rest_at))]
+    #[inline(always)]
     fn take_event(&self, loaded: u32, count: u32) -> Op
         ensures op { (answer : Answer) → result ≡ next_op (rest_at (standing self.now) (Phase.Take loaded count answer)) }
         ensures some { result ≢ Op.Nothing }

@@ -20,7 +20,7 @@ ghost use Rattle.vchan_rule.specs.Going.{Starts};
 ghost use Rattle.vchan_rule.specs.Called.{MayMake, HasCalled};
 ghost use Rattle.vchan_rule.specs.Ends.{Pays, IsSameEnd, seen};
 
-use crate::end_seat::{EndSeat, OTHERWISE, READS, WRITES};
+use crate::end_seat::{DRAINS, EndSeat, OTHERWISE, READS, WRITES};
 use crate::rule::{PageWords, Place};
 use crate::turned::{Retired, TurnedEnd};
 use ring_words::{Orders, Role};
@@ -183,8 +183,8 @@ impl<'p> End<'p> {
             .move_bytes(self.words, &mut self.machine, payload, buf)
     }
 
-    /// Begins a call, and makes the first events of a write or a read, on a machine of its own, as long
-    /// as the compiler can see their order. `steps` counts them.
+    /// Begins a call, and makes the first events of a write, a read or a drain, on a machine of its
+    /// own, as long as the compiler can see their order. `steps` counts them.
     #[inline(always)]
     fn start<L: Ledger, const WAY: u8>(
         &mut self,
@@ -256,6 +256,9 @@ impl<'p> End<'p> {
             }
             Call::Read { most } => {
                 self.whole_call::<L, READS>(Call::Read { most }, payload, buf, steps)
+            }
+            Call::Drain { most } => {
+                self.whole_call::<L, DRAINS>(Call::Drain { most }, payload, buf, steps)
             }
             _ => self.whole_call::<L, OTHERWISE>(call, payload, buf, steps),
         }

@@ -30,13 +30,18 @@ use std::sync::ledger::Ledger;
 use vchan_core::words::{cons_word, written_ring};
 use vchan_core::{Ahead, Answer, Call, Machine, Op, Steps};
 
-/// The ways of a whole call: a write and a read make most of their events in an order that the
-/// compiler can see.
+/// The ways of a whole call: a write, a read and a drain make most of their events in an order that
+/// the compiler can see.
 pub(crate) const WRITES: u8 = 0;
 
 pub(crate) const READS: u8 = 1;
 
-pub(crate) const OTHERWISE: u8 = 2;
+pub(crate) const DRAINS: u8 = 2;
+
+pub(crate) const OTHERWISE: u8 = 3;
+
+/// The stretch in which a drain that found nothing asks for a signal.
+const ASKS: u8 = 4;
 
 /// An end's seat at the table of its page, and all of the end but the words and its machine.
 #[derive(Drop)]
@@ -261,7 +266,7 @@ impl EndSeat {
     /// A look at the peer's index, the bytes, the index that shows or releases them, and the look
     /// whether the peer asked for a signal: the events of most calls that move bytes.
     #[inline(always)]
-    fn look_and_move<L: Ledger, const WRITES: bool>(
+    fn look_and_move<L: Ledger, const WAY: u8>(
         &mut self,
         words: &PageWords,
         machine: &mut Machine,
@@ -279,11 +284,11 @@ impl EndSeat {
             return Some(answer);
         }
         self.counted_bytes(words, machine, payload, buf, steps);
-        self.two_events::<L, WRITES>(words, machine, payload, buf, steps)
+        self.two_events::<L, WAY>(words, machine, payload, buf, steps)
     }
 
     #[inline(always)]
-    fn two_events<L: Ledger, const WRITES: bool>(
+    fn two_events<L: Ledger, const WAY: u8>(
         &mut self,
         words: &PageWords,
         machine: &mut Machine,
@@ -301,6 +306,56 @@ impl EndSeat {
             return Some(answer);
         }
         self.counted_event(words, machine, payload, buf, steps)
+    }
+
+    /// A drain that has begun: a look, and then as in `look_and_move` where it found bytes, and else the
+    /// events of a drain that finds none.
+    #[inline(always)]
+    fn look_and_drain<L: Ledger>(
+        &mut self,
+        words: &PageWords,
+        machine: &mut Machine,
+        payload: &[u8],
+        buf: &mut [u8],
+        steps: &mut Steps<L>,
+    ) -> Option<Answer>
+        requires words { AreWordsOf words.now.table_id words.now.key self.old }
+        requires ready { IsReady (driven words.now.key.start self.old machine.old) payload.now buf.old }
+        ensures words { AreWordsOf words.now.table_id words.now.key self.new }
+        ensures goes { Goes (driven words.now.key.start self.old machine.old) payload.now buf.old result (driven words.now.key.start self.new machine.new) buf.new }
+        ensures steps { steps.new + length (seen (driven words.now.key.start self.old machine.old) payload.now).trail ≡ steps.old + length (seen (driven words.now.key.start self.new machine.new) payload.now).trail }
+    {
+        if let Some(answer) = self.counted_event(words, machine, payload, buf, steps) {
+            return Some(answer);
+        }
+        if let Ahead::Elsewhere = machine.ahead() {
+            return self.find_none(words, machine, payload, buf, steps);
+        }
+        self.counted_bytes(words, machine, payload, buf, steps);
+        self.two_events::<L, DRAINS>(words, machine, payload, buf, steps)
+    }
+
+    /// A drain that found nothing: it asks for a signal and looks again, and where nothing came it
+    /// looks whether the peer is live, and whether it is gone.
+    #[inline(always)]
+    fn find_none<L: Ledger>(
+        &mut self,
+        words: &PageWords,
+        machine: &mut Machine,
+        payload: &[u8],
+        buf: &mut [u8],
+        steps: &mut Steps<L>,
+    ) -> Option<Answer>
+        requires words { AreWordsOf words.now.table_id words.now.key self.old }
+        requires ready { IsReady (driven words.now.key.start self.old machine.old) payload.now buf.old }
+        ensures words { AreWordsOf words.now.table_id words.now.key self.new }
+        ensures goes { Goes (driven words.now.key.start self.old machine.old) payload.now buf.old result (driven words.now.key.start self.new machine.new) buf.new }
+        ensures steps { steps.new + length (seen (driven words.now.key.start self.old machine.old) payload.now).trail ≡ steps.old + length (seen (driven words.now.key.start self.new machine.new) payload.now).trail }
+    {
+        if let Some(answer) = self.two_events::<L, ASKS>(words, machine, payload, buf, steps) {
+            return Some(answer);
+        }
+        self.two_events::<L, OTHERWISE>(words, machine, payload, buf, steps)
     }
 
     /// A write that has begun: a look whether the peer is live, and then as in `look_and_move`.
@@ -322,11 +377,11 @@ impl EndSeat {
         if let Some(answer) = self.counted_event(words, machine, payload, buf, steps) {
             return Some(answer);
         }
-        self.look_and_move::<L, true>(words, machine, payload, buf, steps)
+        self.look_and_move::<L, WRITES>(words, machine, payload, buf, steps)
     }
 
-    /// The first events of a call of this way that was just begun; most writes and reads are over then.
-    /// A call of no such way makes no event here.
+    /// The first events of a call of this way that was just begun; most writes, reads and drains are
+    /// over then. A call of no such way makes no event here.
     #[inline(always)]
     pub(crate) fn quickly<L: Ledger, const WAY: u8>(
         &mut self,
@@ -344,7 +399,8 @@ impl EndSeat {
     {
         match WAY {
             WRITES => self.live_and_move(words, machine, payload, buf, steps),
-            READS => self.look_and_move::<L, false>(words, machine, payload, buf, steps),
+            READS => self.look_and_move::<L, READS>(words, machine, payload, buf, steps),
+            DRAINS => self.look_and_drain(words, machine, payload, buf, steps),
             _ => None,
         }
     }

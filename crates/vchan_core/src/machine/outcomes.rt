@@ -222,6 +222,7 @@ impl Machine {
 
     /// A write that has looked for the last time.
     #[tactic(auto, unfolding(crate::specs::OneMachine::Phases::rest_at, vchan_protocol::specs::Table::Calls::write_looked))]
+    #[inline(always)]
     fn write_looked(&self, len: u32, cons: u32) -> Next
         ensures plan { plan_at (standing self.now) result ≡ write_looked_plan (standing self.now) len cons }
         ensures payload_left { payload_next result ≤ len }
@@ -340,6 +341,7 @@ impl Machine {
 
     /// A drain's look after it saw its peer closed: only now an equal index says that all was read.
     #[tactic(auto, unfolding(crate::specs::OneMachine::Phases::rest_at, vchan_protocol::specs::Table::Calls::drain_further))]
+    #[inline(always)]
     fn drain_further(&self, most: u32, prod: u32) -> Next
         ensures plan { plan_at (standing self.now) result ≡ drain_further_plan (standing self.now) most prod }
         ensures payload_left { payload_next result ≡ 0 }
