@@ -1,25 +1,42 @@
 -- The routes of calls, and how many pages are laid for them.
-use Rattle.std.proofs.Common.{◌≡◌, ℕ, ◌+◌, List, [], ◌∷◌, map, refl, ap, sym, ◌∙◌}
-use Rattle.std.specs.Prelude.{◌==◌, true, false, cond, Some}
+use Rattle.std.proofs.Common.{◌≡◌, ℕ, ◌+◌, ◌≤◌, List, [], ◌∷◌, length, map, refl, ap, sym, ◌∙◌, arith}
+use Rattle.std.specs.Prelude.{◌==◌, ◌&&◌, Bool, true, false, cond, filter, Some}
 use Rattle.std.specs.List.{count_by}
-use Rattle.std.proofs.lemmas.List.Sums.{sum_by-cons}
+use Rattle.std.proofs.lemmas.List.Sums.{count_by-le-length, length-filter, sum_by-cons}
+use Rattle.std.proofs.lemmas.List.{length-map}
 use Rattle.scenario_file.specs.Scenario.{Plan as Scenario, domain_of, hostile_at, is_hostile}
 use Rattle.scenario_file.specs.declared.scenario.Domain.{Domain}
-use Rattle.scenario_file.specs.declared.scenario.CallPlan.{CallPlan}
-use Rattle.run_laws.specs.Laid.{calls_between, pages_between, is_from_to}
-use Rattle.run_pages.specs.Routes.{route_of, routes_of, is_route}
+use Rattle.run_laws.specs.Laid.{calls_between, pages_between}
+use Rattle.run_pages.specs.Routes.{route_of, routes_of, is_from, is_to}
 
-count-along : (s : Scenario) (from to : ℕ) (calls : List CallPlan)
-    → count_by (is_route from to) (map (route_of s) calls) ≡ count_by (is_from_to s from to) calls
-count-along s from to [] = refl
-count-along s from to (call ∷ calls) =
-    sum_by-cons (λ r. cond (is_route from to r) 1 0) (route_of s call) (map (route_of s) calls)
-    ∙ ap (λ n. cond (is_from_to s from to call) 1 0 + n) (count-along s from to calls)
-    ∙ sym (sum_by-cons (λ c. cond (is_from_to s from to c) 1 0) call calls)
+-- one element more, where those behind it are counted
+count-more : {X Y : Type 0} (f : X → Y) (p q : Y → Bool) (x : X) (xs : List X) (b : Bool) → p (f x) ≡ b
+    → count_by q (filter p (map f xs)) ≡ count_by (λ y. p (f y) && q (f y)) xs
+    → count_by q (filter p (map f (x ∷ xs))) ≡ count_by (λ y. p (f y) && q (f y)) (x ∷ xs)
+count-more f p q x xs true passes rest =
+    let kept : filter p (map f (x ∷ xs)) ≡ f x ∷ filter p (map f xs) = rw passes refl in
+    let both : (p (f x) && q (f x)) ≡ q (f x) = rw passes refl in
+    ap (count_by q) kept ∙ sum_by-cons (λ y. cond (q y) 1 0) (f x) (filter p (map f xs)) ∙ ap (λ n. cond (q (f x)) 1 0 + n) rest
+    ∙ sym (sum_by-cons (λ y. cond (p (f y) && q (f y)) 1 0) x xs ∙ ap (λ b. cond b 1 0 + count_by (λ y. p (f y) && q (f y)) xs) both)
+count-more f p q x xs false fails rest =
+    let kept : filter p (map f (x ∷ xs)) ≡ filter p (map f xs) = rw fails refl in
+    let both : (p (f x) && q (f x)) ≡ false = rw fails refl in
+    let none : 0 + count_by (λ y. p (f y) && q (f y)) xs ≡ count_by (λ y. p (f y) && q (f y)) xs = omega arith in
+    ap (count_by q) kept ∙ rest
+    ∙ sym (sum_by-cons (λ y. cond (p (f y) && q (f y)) 1 0) x xs ∙ ap (λ b. cond b 1 0 + count_by (λ y. p (f y) && q (f y)) xs) both ∙ none)
 
--- as many routes as calls go from one domain to another
-pub count-routes : (s : Scenario) (from to : ℕ) → count_by (is_route from to) (routes_of s) ≡ calls_between s from to
-count-routes s from to = count-along s from to s.calls
+-- how many of those that pass one test pass another
+count-kept : {X Y : Type 0} (f : X → Y) (p q : Y → Bool) (xs : List X) → count_by q (filter p (map f xs)) ≡ count_by (λ x. p (f x) && q (f x)) xs
+count-kept f p q [] = refl
+count-kept f p q (x ∷ xs) = count-more f p q x xs (p (f x)) refl (count-kept f p q xs)
+
+-- as many of a domain's routes go to another as calls do
+pub count-routes : (s : Scenario) (from to : ℕ) → count_by (is_to to) (filter (is_from from) (routes_of s)) ≡ calls_between s from to
+count-routes s from to = count-kept (route_of s) (is_from from) (is_to to) s.calls
+
+-- a domain has no more routes than there are calls
+pub routes-within : (s : Scenario) (from : ℕ) → length (filter (is_from from) (routes_of s)) ≤ length s.calls
+routes-within s from = omega (arith, length-filter (is_from from) (routes_of s), count_by-le-length (is_from from) (routes_of s), length-map s.calls (route_of s))
 
 -- as many pages are laid for an honest caller as it has calls
 pub between-calls : (s : Scenario) (from to : ℕ) → (from == to) ≡ false → hostile_at s from ≡ false → pages_between s from to ≡ calls_between s from to

@@ -1,13 +1,13 @@
 //! Where the pages of a scenario lie.
-ghost use Rattle.std.specs.Prelude.{◌≡◌, ◌≤◌, ◌++◌, length, map, IfOk, OnOk};
+ghost use Rattle.std.specs.Prelude.{◌≡◌, ◌≤◌, ◌++◌, filter, length, map, IfOk, OnOk};
 ghost use Rattle.std.specs.List.{flat_map};
 ghost use Rattle.call_broker.specs.Domains.{first_port};
 ghost use Rattle.task_duties.specs.Places.{numbers};
 ghost use Rattle.task_duties.specs.declared.place.PagePlace.TheVariants.{Control, Payload};
 ghost use Rattle.run_laws.specs.Laid.{all_domains, laid, laid_between, page_table, pages_between};
-ghost use Rattle.run_pages.specs.Routes.{routes_of};
+ghost use Rattle.run_pages.specs.Routes.{is_from, routes_of};
 
-use crate::routes::{Route, pages_between, routes};
+use crate::routes::{Route, pages_between, routes, routes_from};
 use call_broker::port_after;
 use scenario_file::Scenario;
 use std::alloc::{AllocError, Global};
@@ -22,19 +22,20 @@ pub fn page_table(alloc: Global, scenario: &Scenario) -> Result<Vec<u32>, Memory
     let routes = routes(alloc, scenario)?;
     let mut table = Vec::new(alloc);
     for index in 0..scenario.domains.len() as u32 {
-        push_row(&mut table, scenario, &routes, index + 1)?;
+        let mine = routes_from(alloc, &routes, index + 1)?;
+        push_row(&mut table, scenario, &mine, index + 1)?;
     }
     Ok(table)
 }
 
-/// The numbers of pages for the calls of one domain to each.
+/// The numbers of pages for the calls of one domain to each, by the routes from it.
 fn push_row(
     table: &mut Vec<u32>,
     scenario: &Scenario,
     routes: &[Route],
     from: u32,
 ) -> Result<(), AllocError>
-    requires routes { routes.now ≡ routes_of scenario.now }
+    requires routes { routes.now ≡ filter (is_from from) (routes_of scenario.now) }
     requires there { (1 ≤ from) × (from ≤ length scenario.now.domains) }
     ensures { OnOk result (table.new.items ≡ table.old.items ++ map (pages_between scenario.now from) (all_domains scenario.now)) }
 {
@@ -53,7 +54,8 @@ pub(crate) fn places(alloc: Global, scenario: &Scenario) -> Result<Vec<PagePlace
     let mut places = Vec::new(alloc);
     push_controls(&mut places, scenario.domains.len() as u32)?;
     for index in 0..scenario.domains.len() as u32 {
-        push_from(&mut places, scenario, &routes, index + 1)?;
+        let mine = routes_from(alloc, &routes, index + 1)?;
+        push_from(&mut places, scenario, &mine, index + 1)?;
     }
     Ok(places)
 }
@@ -68,14 +70,14 @@ fn push_controls(places: &mut Vec<PagePlace>, count: u32) -> Result<(), AllocErr
     Ok(())
 }
 
-/// The places of the pages for the calls of one domain.
+/// The places of the pages for the calls of one domain, by the routes from it.
 fn push_from(
     places: &mut Vec<PagePlace>,
     scenario: &Scenario,
     routes: &[Route],
     from: u32,
 ) -> Result<(), AllocError>
-    requires routes { routes.now ≡ routes_of scenario.now }
+    requires routes { routes.now ≡ filter (is_from from) (routes_of scenario.now) }
     requires there { (1 ≤ from) × (from ≤ length scenario.now.domains) }
     ensures { OnOk result (places.new.items ≡ places.old.items ++ flat_map (laid_between scenario.now from) (all_domains scenario.now)) }
 {

@@ -1,12 +1,12 @@
 //! From which domain to which one the calls of a scenario go.
-ghost use Rattle.std.specs.Prelude.{◌≡◌, ◌≤◌, length, Some, IfOk};
+ghost use Rattle.std.specs.Prelude.{◌≡◌, ◌≤◌, filter, length, Some, IfOk};
 ghost use Rattle.scenario_file.specs.Scenario.{domain_at};
 ghost use Rattle.std.specs.List.{count_by};
 ghost use Rattle.run_laws.specs.Laid.{pages_between};
-ghost use Rattle.run_pages.specs.Routes.{is_route, routes_of};
+ghost use Rattle.run_pages.specs.Routes.{is_from, is_to, routes_of};
 
 use scenario_file::{Domain, Scenario, number_named};
-use std::alloc::Global;
+use std::alloc::{AllocError, Global};
 use vchan_io::Memory;
 
 /// Where a call goes from, and to which domain, where one has the target's name.
@@ -30,9 +30,26 @@ pub(crate) fn routes(alloc: Global, scenario: &Scenario) -> Result<Vec<Route>, M
     Ok(routes)
 }
 
-/// How many data pages are laid for the calls from one domain to another.
+/// The routes from one domain, in order.
+pub(crate) fn routes_from(
+    alloc: Global,
+    routes: &[Route],
+    from: u32,
+) -> Result<Vec<Route>, AllocError>
+    ensures { IfOk result (λ mine. mine.items ≡ filter (is_from from) routes.now) }
+{
+    let mut mine = Vec::new(alloc);
+    for route in routes {
+        if route.from == from {
+            mine.push(*route)?;
+        }
+    }
+    Ok(mine)
+}
+
+/// How many data pages are laid for the calls from one domain to another, by the routes from it.
 pub(crate) fn pages_between(scenario: &Scenario, routes: &[Route], from: u32, to: u32) -> u32
-    requires routes { routes.now ≡ routes_of scenario.now }
+    requires routes { routes.now ≡ filter (is_from from) (routes_of scenario.now) }
     requires there { (1 ≤ from) × (from ≤ length scenario.now.domains) }
     ensures pages { result ≡ pages_between scenario.now from to }
     ensures few { result ≤ 4096 }
@@ -44,7 +61,7 @@ pub(crate) fn pages_between(scenario: &Scenario, routes: &[Route], from: u32, to
     if caller.is_hostile() {
         return caller.ports;
     }
-    calls_between(routes, from, to)
+    calls_to(routes, to)
 }
 
 /// The domain of a number.
@@ -55,15 +72,15 @@ fn domain_at(domains: &[Domain], number: u32) -> &Domain
     &domains[number as usize - 1]
 }
 
-/// How many of these routes go from one domain to another.
-fn calls_between(routes: &[Route], from: u32, to: u32) -> u32
+/// How many of these routes go to a domain.
+fn calls_to(routes: &[Route], to: u32) -> u32
     requires few { length routes.now ≤ 4096 }
-    ensures count { result ≡ count_by (is_route from to) routes.now }
+    ensures count { result ≡ count_by (is_to to) routes.now }
     ensures few { result ≤ 4096 }
 {
     let mut count = 0;
     for route in routes {
-        if route.from == from && route.to == Some(to) {
+        if route.to == Some(to) {
             count += 1;
         }
     }
