@@ -3,6 +3,7 @@ pub mod RouteLaws
 pub mod ListLaws
 pub mod DealLaws
 pub mod LayLaws
+pub mod PartLaws
 pub mod SettleLaws
 pub mod FollowLaws
 pub mod DealingLaws

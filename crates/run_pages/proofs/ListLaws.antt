@@ -1,4 +1,4 @@
--- Elements of lists that grow by one, or change at one place.
+-- Elements of lists that grow, or change at one place.
 use Rattle.std.proofs.Common.{◌≡◌, ◌≢◌, ◌⊎◌, inl, inr, ℕ, zero, suc, List, [], ◌∷◌, ◌++◌, ◌<◌, length, get_or, set, refl, ap, subst, arith, Some, None}
 use Rattle.std.specs.Prelude.{slice_get}
 use Rattle.qrexec_frame.specs.Streams.{Each}
@@ -49,6 +49,16 @@ pair-more R [] [] x y e r = (r, tt)
 pair-more R (a ∷ xs) (b ∷ ys) x y e r = (e.0, pair-more R xs ys x y e.1 r)
 pair-more R [] (b ∷ ys) x y e r = absurd e
 pair-more R (a ∷ xs) [] x y e r = absurd e
+
+pub each-append : {A : Type 0} (P : A → Type 0) (xs ys : List A) → Each P xs → Each P ys → Each P (xs ++ ys)
+each-append P [] ys e f = f
+each-append P (x ∷ xs) ys e f = (e.0, each-append P xs ys e.1 f)
+
+pub pair-append : {A B : Type 0} (R : A → B → Type 0) (xs more : List A) (ys some : List B) → EachPair R xs ys → EachPair R more some → EachPair R (xs ++ more) (ys ++ some)
+pair-append R [] more [] some e f = f
+pair-append R (x ∷ xs) more (y ∷ ys) some e f = (e.0, pair-append R xs more ys some e.1 f)
+pair-append R [] more (y ∷ ys) some e f = absurd e
+pair-append R (x ∷ xs) more [] some e f = absurd e
 
 -- the last pair of two lists
 pub record LastPair {A B : Type 0} (R : A → B → Type 0) (xs : List A) (x : A) (ys : List B) : Type 0 where

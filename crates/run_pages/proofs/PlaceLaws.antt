@@ -1,15 +1,15 @@
 -- What is dealt lies where the tasks of a scenario are to have their ends.
-use Rattle.std.proofs.Common.{◌≡◌, ◌⊎◌, inl, inr, ℕ, zero, suc, ◌+◌, ◌≤◌, List, [], ◌∷◌, map, length, refl, ap, sym, ◌∙◌, subst, arith, Option, Some, None}
-use Rattle.std.specs.Prelude.{◌==◌, ◌||◌, Bool, true, false, filter, filter_map, if◌then◌else◌}
+use Rattle.std.proofs.Common.{◌≡◌, ℕ, ◌+◌, ◌≤◌, List, [], ◌∷◌, map, length, refl, ap, sym, ◌∙◌, arith}
+use Rattle.std.specs.Prelude.{◌==◌, ◌||◌, Bool, true, false, filter}
 use Rattle.std.proofs.lemmas.Bool.{ne_eqb}
 use Rattle.end_view.specs.EndView.{EndView}
 use Rattle.scenario_file.specs.Scenario.{Plan as Scenario}
 use Rattle.task_duties.specs.declared.place.PagePlace.{PagePlace}
 use Rattle.task_duties.specs.declared.place.PagePlace.TheVariants.{Control, Payload}
 use Rattle.task_duties.specs.Places.{numbers}
-use Rattle.task_duties.specs.TaskOwes.{EndAt, places_in, broker_ends}
-use Rattle.run_laws.specs.Laid.{is_end_of, laid, places_of, server_of, client_of, all_domains}
-use Rattle.run_pages.specs.Pages.{PageAt, AreLaid, end_on, new_end, new_ends}
+use Rattle.task_duties.specs.TaskOwes.{places_in, broker_ends}
+use Rattle.run_laws.specs.Laid.{is_end_of, laid, places_of, server_of, client_of}
+use Rattle.run_pages.specs.Pages.{PageAt, AreLaid, new_ends}
 
 -- a domain has an end of a page where the server's or the client's is its own
 is-end : (d : ℕ) (place : PagePlace) → 1 ≤ d → is_end_of d place ≡ (server_of place == d || client_of place == d)

@@ -1,4 +1,5 @@
 pub mod Routes
 pub mod Pages
+pub mod Parts
 pub mod Dealt
 pub mod Settling

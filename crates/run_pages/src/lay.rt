@@ -1,13 +1,13 @@
 //! Laying the pages of a run.
-ghost use Rattle.std.specs.Prelude.{◌≡◌, IfOk};
-ghost use Rattle.run_laws.specs.Results.{orders_of};
-ghost use Rattle.run_pages.specs.Pages.{AreLaid, AreSeatsOf, HasSeats, IsLaidFor, page_at};
+ghost use Rattle.std.specs.Prelude.{◌≤◌, IfOk};
+ghost use Rattle.run_pages.specs.Pages.{AreLaid, HasSeats};
 
+use crate::parts::{Part, RunStarts, lay_parts};
 use crate::places::places;
-use ring_words::Orders;
 use scenario_file::Scenario;
 use std::alloc::Global;
 use std::marker::Model;
+use std::thread::Threads;
 use task_duties::PagePlace;
 use vchan_io::Memory;
 use vchan_rule::{IdleSeat, Page};
@@ -42,44 +42,22 @@ impl Model for RunPages {
 }
 
 impl RunPages {
-    /// Lays all pages of a scenario, and gives the seats of each. Its error is want of memory.
-    pub fn lay(alloc: Global, scenario: &Scenario) -> Result<(RunPages, Vec<PageSeats>), Memory>
+    /// Lays all pages of a scenario by this many workers, and gives the seats of each. The places are
+    /// cut into parts, one a worker; with one worker no thread is made. Its error is want of memory.
+    pub fn lay<R: Threads + Sync>(
+        rt: &R,
+        alloc: Global,
+        scenario: &Scenario,
+        workers: u32,
+    ) -> Result<(RunPages, Vec<PageSeats>), Memory>
+        requires { 1 ≤ workers }
         ensures laid { IfOk result (λ p. AreLaid scenario.now p.0) }
         ensures seats { IfOk result (λ p. HasSeats p.0 p.1.items) }
     {
         let places = places(alloc, scenario)?;
-        let mut pages = Vec::with_capacity(alloc, places.len())?;
-        let mut seats = Vec::with_capacity(alloc, places.len())?;
-        for place in &places {
-            let (page, seats_of_page) = open_page(alloc, scenario, *place)?;
-            pages.push(page)?;
-            seats.push(seats_of_page)?;
-        }
+        let starts = RunStarts::new(alloc, scenario)?;
+        let parts = lay_parts(rt, alloc, &starts, places.as_slice(), workers)?;
+        let Part { pages, seats } = Part::join(alloc, places.len(), parts)?;
         Ok((RunPages { pages }, seats))
-    }
-}
-
-/// The page at a place, with its seats.
-fn open_page(
-    alloc: Global,
-    scenario: &Scenario,
-    place: PagePlace,
-) -> Result<(LaidPage, PageSeats), Memory>
-    ensures place { IfOk result (λ p. p.0.place ≡ place) }
-    ensures laid { IfOk result (λ p. IsLaidFor scenario.now (page_at p.0)) }
-    ensures seats { IfOk result (λ p. AreSeatsOf (page_at p.0) p.1) }
-{
-    let orders = orders_of(scenario, place);
-    let (page, server, client) = Page::open(alloc, orders, scenario.start)?;
-    Ok((LaidPage { place, page }, PageSeats { server, client }))
-}
-
-/// The orders of the rings of the page at a place.
-fn orders_of(scenario: &Scenario, place: PagePlace) -> Orders
-    ensures { result ≡ orders_of scenario.now place }
-{
-    match place {
-        PagePlace::Control { .. } => scenario.control,
-        PagePlace::Payload { .. } => scenario.payload,
     }
 }

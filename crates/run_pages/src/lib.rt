@@ -7,6 +7,7 @@
 
 mod deal;
 mod lay;
+mod parts;
 mod places;
 mod routes;
 mod settle;

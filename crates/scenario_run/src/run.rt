@@ -21,9 +21,10 @@ use std::thread::Threads;
 use task_pool::run_pool;
 use vchan_io::Memory;
 
-/// Runs a scenario with this many workers, from 1 to 16: its pages are laid, a task for each domain
-/// and one of the broker take turns until all are done, and each page is settled. A worker enters the
-/// gate with the place of the task before each turn: 0 is the broker's, k that of domain k.
+/// Runs a scenario with this many workers, from 1 to 16: its pages are laid, each worker laying a part
+/// of them, a task for each domain and one of the broker take turns until all are done, and each page
+/// is settled. A worker enters the gate with the place of the task before each turn: 0 is the broker's,
+/// k that of domain k.
 ///
 /// The report is lawful whatever the order of all steps. The error is want of memory.
 pub fn run_scenario<G: Gate, R: Threads + Wait + Sync>(
@@ -37,7 +38,7 @@ pub fn run_scenario<G: Gate, R: Threads + Wait + Sync>(
     requires few_workers { workers ≤ 16 }
     ensures { IfOk result (λ report. IsLawful scenario.now report) }
 {
-    let (pages, seats) = RunPages::lay(alloc, scenario)?;
+    let (pages, seats) = RunPages::lay(rt, alloc, scenario, workers)?;
     let dones = run_tasks(rt, alloc, scenario, workers, gate, &pages, seats)?;
     report(alloc, scenario, pages, dones)
 }

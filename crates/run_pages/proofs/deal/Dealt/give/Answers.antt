@@ -1,4 +1,4 @@
-use Rattle.std.proofs.Common.{◌≡◌, ◌-◌, ◌∷◌, [], refl, arith, subst, sym}
+use Rattle.std.proofs.Common.{◌≡◌, ◌-◌, refl, arith, subst, sym}
 use Rattle.std.proofs.lemmas.Option.{slice_get_read}
 use Rattle.qrexec_frame.specs.Streams.{Each}
 use Rattle.task_duties.specs.declared.ends.DataEnd.{DataEnd}

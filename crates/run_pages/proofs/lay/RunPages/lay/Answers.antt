@@ -1,22 +1,19 @@
-use Rattle.std.proofs.Common.{◌≡◌, ◌<◌, ◌+◌, ◌++◌, ◌∷◌, [], ◌∙◌, arith, subst, sym, ap, map, take, get_or, length}
-use Rattle.std.proofs.lemmas.List.{take_more}
-use Rattle.std.proofs.lemmas.Grind.{common_steps}
-use Rattle.run_pages.specs.Pages.{IsLaying, page_at}
-use Rattle.run_pages.proofs.LayLaws.{lay-more}
-use Rattle.std.proofs.lemmas.List.{map-append}
+use Rattle.std.proofs.Common.{subst}
+use Rattle.run_pages.specs.Parts.{AreParts, IsPartOf}
+use Rattle.run_pages.proofs.PartLaws.{laid-whole}
 use Rattle.run_pages.proofs.lay.RunPages.lay.Goals as goal
 
-pub loop-place-preserved : goal.loop-place-preserved
-loop-place-preserved c =
-    let items = c.deref-place-items.result.now in
-    let k = c.loop-place.place-index in
-    let page = c.in_ok-page.page in
-    let within : k < length items = omega (arith, c.loop-place-test.true) in
-    let here : get_or items k page.place ≡ page.place = grind (arith, common_steps, c.in_ok-page.ensures.place, within) in
-    let taken : take (k + 1) items ≡ take k items ++ page.place ∷ [] = take_more items k page.place within ∙ ap (λ p. take k items ++ p ∷ []) here in
-    let pages : map page_at c.push.new.self.items ≡ map page_at c.loop-place.pages.items ++ page_at page ∷ [] =
-    ap (map page_at) c.in_ok-push.ensures.items ∙ map-append page_at c.loop-place.pages.items (page ∷ []) in
-    subst (λ places. IsLaying c.args.scenario.now places (map page_at c.push.new.self.items) c.push-in-loop-place.new.self.items) (sym taken)
-    (subst (λ pages. IsLaying c.args.scenario.now (take k items ++ page.place ∷ []) pages c.push-in-loop-place.new.self.items) (sym pages)
-    (subst (λ seats. IsLaying c.args.scenario.now (take k items ++ page.place ∷ []) (map page_at c.loop-place.pages.items ++ page_at page ∷ []) seats) (sym c.in_ok-push-2.ensures.items)
-    (lay-more c.args.scenario.now (take k items) (map page_at c.loop-place.pages.items) c.loop-place.seats.items (page_at page) c.in_ok-page.seats_of_page c.in_ok-page.ensures.laid c.in_ok-page.ensures.seats c.loop-place.invariant)))
+pub returns-clause-laid : goal.returns-clause-laid
+returns-clause-laid g c =
+    let s = c.args.scenario.now in
+    let places = c.in_ok-places.places.items in
+    let parts : AreParts s places c.in_ok-parts.parts.items = subst (λ l. AreParts s l c.in_ok-parts.parts.items) c.as_slice.ensures.value (c.in_ok-parts.ensures s c.in_ok-starts.ensures) in
+    laid-whole s places c.in_ok-pages.field-0 c.in_ok-places.ensures (c.in_ok-pages.ensures s places parts)
+
+pub returns-clause-seats : goal.returns-clause-seats
+returns-clause-seats g c =
+    let s = c.args.scenario.now in
+    let places = c.in_ok-places.places.items in
+    let parts : AreParts s places c.in_ok-parts.parts.items = subst (λ l. AreParts s l c.in_ok-parts.parts.items) c.as_slice.ensures.value (c.in_ok-parts.ensures s c.in_ok-starts.ensures) in
+    let whole : IsPartOf s places c.in_ok-pages.field-0 = c.in_ok-pages.ensures s places parts in
+    whole.seated
