@@ -1,13 +1,19 @@
 -- The ident of a call: it has no NUL, and it is short.
-use Rattle.std.proofs.Common.{◌≡◌, ℕ, ◌<◌, ◌≤◌, ◌^◌, suc, zero, List, [], ◌∷◌, length, length-append, refl, arith, decimal, lit<, ⊎_elim, inl, inr}
-use Rattle.std.specs.Prelude.{true, false, Bool, ◌&&◌, Contains, codes}
+use Rattle.std.proofs.Common.{◌≡◌, ℕ, ◌+◌, ◌<◌, ◌≤◌, ◌^◌, suc, zero, List, [], ◌∷◌, ◌++◌, length, length-append, refl, sym, arith, decimal, lit<, ⊎_elim, inl, inr}
+use Rattle.std.specs.Prelude.{true, false, Bool, ◌&&◌, Contains, codes, nat_lt, if◌then◌else◌}
 use Rattle.std.specs.Str.{all_ascii_digits}
 use Rattle.std.specs.Char.{is_ascii_digit}
 use Rattle.std.specs.Str.Parse.{digits_value}
 use Rattle.std.proofs.lemmas.Fmt.{digits_decimal, length-decimal-le}
+use Rattle.std.proofs.lemmas.Bool.Decides.{nat_tests}
 use Rattle.std.proofs.lemmas.List.Elements.{Contains-append_cases}
 use Rattle.std.proofs.lemmas.Str.Parse.{IsNumeralModel, numerals_by_value, tells_all_ascii_digits}
-use Rattle.qrexec_frame.specs.Texts.{FitsText}
+use Rattle.qrexec_frame.specs.Texts.{FitsText, padded, ended}
+use Rattle.qrexec_frame.specs.declared.message.Message.TheVariants.{Trigger, Trigger3}
+use Rattle.qrexec_frame.specs.Messages.{written}
+use Rattle.qrexec_frame.proofs.WrittenLaws.{length-padded}
+use Rattle.scenario_file.specs.declared.scenario.CallPlan.{CallPlan}
+use Rattle.call_queue.specs.Queue.{FitsTrigger, trigger_of}
 use Rattle.task_duties.specs.Words.{ident_of}
 use Rattle.task_duties.proofs.Elements.{Has, has-from}
 
@@ -45,3 +51,39 @@ ident-short number small = let d = length-decimal-le 10 number (lit< tt) (omega 
 
 pub ident-fits : (number : ℕ) → number < 2 ^ 32 → FitsText 31 (ident_of number)
 ident-fits number small = record { within = ident-short number small; no_nul = record { none = ident-no-nul number small } }
+
+-- ---- how long a trigger is as it is written
+
+trigger-len : (to ident service : List ℕ) → length to ≤ 31 → length ident ≤ 31 → length service ≤ 63 → length (written (Trigger to ident service)) ≡ 136
+trigger-len to ident service few short small =
+    let first = length-padded 64 service (omega (arith, small)) in
+    let second = length-padded 32 to (omega (arith, few)) in
+    let third = length-padded 32 ident (omega (arith, short)) in
+    let all = length-append (padded 64 service) (padded 32 to ++ padded 32 ident) in
+    let rest = length-append (padded 32 to) (padded 32 ident) in
+    omega (arith, first, second, third, all, rest)
+
+trigger3-len : (to ident service : List ℕ) → length to ≤ 31 → length ident ≤ 31 → length (written (Trigger3 to ident service)) ≡ 105 + length service
+trigger3-len to ident service few short =
+    let first = length-padded 64 to (omega (arith, few)) in
+    let second = length-padded 32 ident (omega (arith, short)) in
+    let all = length-append (padded 64 to) (padded 32 ident ++ ended service) in
+    let rest = length-append (padded 32 ident) (ended service) in
+    let size = length-append service (0 ∷ []) in
+    omega (arith, first, second, all, rest, size)
+
+-- below version 3
+pub old-len : (version : ℕ) (call : CallPlan) → version < 3 → call.number < 2 ^ 32 → FitsTrigger call → 136 ≡ length (written (trigger_of version call))
+old-len version call less small fits = by_version (nat_lt version 3) refl
+  where
+    by_version : (b : Bool) → nat_lt version 3 ≡ b → 136 ≡ length (written (if b then Trigger call.to (ident_of call.number) call.service else Trigger3 call.to (ident_of call.number) call.service))
+    by_version true is = sym (trigger-len call.to (ident_of call.number) call.service fits.0 (ident-short call.number small) fits.1)
+    by_version false is = absurd (grind (arith, nat_tests, is, less))
+
+-- from version 3 on
+pub new-len : (version : ℕ) (call : CallPlan) → 3 ≤ version → call.number < 2 ^ 32 → FitsTrigger call → 105 + length call.service ≡ length (written (trigger_of version call))
+new-len version call more small fits = by_version (nat_lt version 3) refl
+  where
+    by_version : (b : Bool) → nat_lt version 3 ≡ b → 105 + length call.service ≡ length (written (if b then Trigger call.to (ident_of call.number) call.service else Trigger3 call.to (ident_of call.number) call.service))
+    by_version true is = absurd (grind (arith, nat_tests, is, more))
+    by_version false is = sym (trigger3-len call.to (ident_of call.number) call.service fits.0 (ident-short call.number small))

@@ -3,6 +3,7 @@
 use Rattle.std.specs.Prelude.{◌≡◌, ◌≢◌, ℕ, ◌+◌, ◌<◌, ◌≤◌, ◌&&◌, not, nat_lt, bytes_eq, Bool, false, List, [], ◌∷◌, ◌++◌, length, map, Option, Some, None, MatchOption, true, slice_get, slice_set, if◌then◌else◌}
 use Rattle.qrexec_frame.specs.declared.message.Message.{Message}
 use Rattle.qrexec_frame.specs.declared.message.Message.TheVariants.{Trigger3, Trigger}
+use Rattle.qrexec_frame.specs.Messages.{written}
 use Rattle.qrexec_frame.specs.Streams.{Each}
 use Rattle.scenario_file.specs.declared.scenario.CallPlan.{CallPlan}
 use Rattle.task_duties.specs.Words.{ident_of}
@@ -71,6 +72,11 @@ trigger_of version call =
 abbrev pub HasToSay : QueueState → ℕ → Option Message → Type 0
 HasToSay q version None = IsHeld q
 HasToSay q version (Some m) = (c : Queued) × IsDue q c × (m ≡ trigger_of version c.call)
+
+-- the length of what it has to say, as it is written on a channel
+abbrev pub HasToSayOfLen : QueueState → ℕ → Option ℕ → Type 0
+HasToSayOfLen q version None = IsHeld q
+HasToSayOfLen q version (Some len) = (m : Message) × HasToSay q version (Some m) × (len ≡ length (written m))
 
 -- ---- what is left of it
 

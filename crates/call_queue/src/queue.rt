@@ -8,13 +8,13 @@ ghost use Rattle.qrexec_frame.specs.declared.message.Message.TheVariants.{Termin
 ghost use Rattle.task_duties.specs.Words.{ident_of};
 ghost use Rattle.task_duties.specs.Agent.Saying.{is_refusal};
 ghost use Rattle.task_duties.specs.Agent.Answers.{IsRefused, At, waits_as};
-ghost use Rattle.call_queue.specs.Queue.{Queued, asked_as, asked_by, answer_of, fresh, IsDue, HasToSay, after_trigger, after_answer, FitsTrigger, AreDifferent, IsWaitingAt, IsConnectedAt};
+ghost use Rattle.call_queue.specs.Queue.{Queued, asked_as, asked_by, answer_of, fresh, IsDue, IsHeld, HasToSay, HasToSayOfLen, trigger_of, after_trigger, after_answer, FitsTrigger, AreDifferent, IsWaitingAt, IsConnectedAt};
 ghost use Rattle.call_queue.specs.Asking.{Asks};
 
 use crate::call::{CallAnswer, QueuedCall};
 use crate::index::{Index, index_of, place_in};
 use crate::setup::{idents_of, queued, targets_of};
-use crate::trigger::trigger_of;
+use crate::trigger::{trigger_len, trigger_of};
 use qrexec_frame::{Bytes, Message};
 use scenario_file::CallPlan;
 use std::alloc::Global;
@@ -91,14 +91,37 @@ impl CallQueue {
         ensures says { IfOk result (λ message. HasToSay self.now version message) }
         ensures spelt { IfOk result (λ message. IfSome message (λ m. IsSpellable m)) }
     {
-        if self.next == self.calls.len() {
+        let Some(plan) = self.due() else {
             return Ok(None);
+        };
+        Ok(Some(trigger_of(alloc, plan, version)?))
+    }
+
+    /// How many bytes the message takes on its channel that [`CallQueue::front`] gives. No memory is taken
+    /// for that.
+    pub fn front_len(&self, version: u32) -> Option<usize>
+        ensures { HasToSayOfLen self.now version result }
+    {
+        let Some(plan) = self.due() else {
+            return None;
+        };
+        Some(trigger_len(plan, version))
+    }
+
+    // The call whose trigger is next: there is none where all were said, or where the limit holds it back.
+    fn due(&self) -> Option<&CallPlan>
+        ensures held { result ≡ None → IsHeld self.now }
+        ensures says { IfSome result (λ plan. (version : ℕ) → HasToSay self.now version (Some (trigger_of version plan.now))) }
+        ensures fits { IfSome result (λ plan. FitsTrigger plan.now) }
+    {
+        if self.next == self.calls.len() {
+            return None;
         }
         let call = &self.calls[self.next];
         if self.counts[call.target] >= MOST_OPEN {
-            return Ok(None);
+            return None;
         }
-        Ok(Some(trigger_of(alloc, &call.plan, version)?))
+        Some(&call.plan)
     }
 
     /// Told that the trigger has gone that [`CallQueue::front`] gave.

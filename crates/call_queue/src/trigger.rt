@@ -1,6 +1,6 @@
 //! The trigger of a call.
-ghost use Rattle.std.specs.Prelude.{◌≡◌, ◌<◌, ◌^◌, IfOk};
-ghost use Rattle.qrexec_frame.specs.Messages.{IsSpellable};
+ghost use Rattle.std.specs.Prelude.{◌≡◌, ◌<◌, ◌^◌, length, IfOk};
+ghost use Rattle.qrexec_frame.specs.Messages.{written, IsSpellable};
 ghost use Rattle.qrexec_frame.specs.Texts.{HasNoNul, FitsText};
 ghost use Rattle.task_duties.specs.Words.{ident_of};
 ghost use Rattle.call_queue.specs.Queue.{trigger_of, FitsTrigger};
@@ -10,6 +10,13 @@ use qrexec_frame::{Message, Text, TextError};
 use scenario_file::CallPlan;
 use std::alloc::Global;
 use vchan_io::Memory;
+
+/// How long a trigger below version 3 is: its header, two names of 32 bytes and a service of 64.
+const TRIGGER_LEN: usize = 136;
+
+/// How long a trigger of version 3 is without the bytes of its service: its header, a target of 64 bytes,
+/// an ident of 32, and the NUL at the end.
+const TRIGGER3_LEN: usize = 105;
 
 /// The ident by which the call of a number is asked for.
 pub(crate) fn ident_text(alloc: Global, number: u32) -> Result<Text, Memory>
@@ -57,6 +64,25 @@ pub(crate) fn trigger_of(alloc: Global, plan: &CallPlan, version: u32) -> Result
         ident,
         service,
     })
+}
+
+/// How many bytes the trigger of a call takes on a channel.
+pub(crate) fn trigger_len(plan: &CallPlan, version: u32) -> usize
+    requires { FitsTrigger plan.now }
+    ensures { result ≡ length (written (trigger_of version plan.now)) }
+{
+    is_u32(plan.number);
+    if version >= 3 {
+        return TRIGGER3_LEN + plan.service.bytes().len();
+    }
+    TRIGGER_LEN
+}
+
+// A number is below 2 to the 32.
+fn is_u32(number: u32)
+    ensures { number < 2 ^ 32 }
+{
+    let _number = number;
 }
 
 // No byte of a text is NUL.
