@@ -1,6 +1,7 @@
 //! What an agent says.
-ghost use Rattle.std.specs.Prelude.{◌≡◌, true, OnOk, IfOk};
+ghost use Rattle.std.specs.Prelude.{◌≡◌, true, false, Some, OnOk, IfOk};
 ghost use Rattle.qrexec_frame.specs.Messages.{IsSpellable as Fits};
+ghost use Rattle.qrexec_frame.specs.declared.message.Message.{Message as Said};
 ghost use Rattle.task_duties.specs.Hearing.{to_broker};
 ghost use Rattle.vchan_rule.specs.Seated.{IsOpen};
 ghost use Rattle.vchan_rule.specs.Ends.{IsSameEnd};
@@ -100,7 +101,8 @@ impl<'p> AgentControl<'p> {
         Ok(())
     }
 
-    // Says the trigger that is next, and answers whether one has gone.
+    // Says the trigger that is next, and answers whether one has gone. One that has no room isn't made: a
+    // turn in which nothing has room takes no memory.
     fn say_trigger(&mut self, alloc: Global) -> Result<bool, Memory>
         requires can { CanSpeak self.old }
         ensures end { IsSameEnd self.old.port.end self.new.port.end }
@@ -110,6 +112,34 @@ impl<'p> AgentControl<'p> {
         let Some(version) = self.port.version() else {
             return Ok(false);
         };
+        let Some(len) = self.queue.front_len(version) else {
+            return Ok(false);
+        };
+        if !self.has_room(len) {
+            return Ok(false);
+        }
+        Ok(self.say_front(alloc, version)?)
+    }
+
+    // Whether so many bytes have room now.
+    fn has_room(&mut self, len: usize) -> bool
+        requires can { CanSpeak self.old }
+        ensures end { IsSameEnd self.old.port.end self.new.port.end }
+        ensures open { IsOpen self.new.port.end }
+        ensures none { (m : Said) → Says self.old self.new m false }
+    {
+        len <= self.port.room() as usize
+    }
+
+    // Makes the trigger that is next and says it, in the version that was agreed on. It answers whether it
+    // has gone.
+    fn say_front(&mut self, alloc: Global, version: u32) -> Result<bool, Memory>
+        requires can { CanSpeak self.old }
+        requires version { self.old.port.version ≡ Some version }
+        ensures end { IsSameEnd self.old.port.end self.new.port.end }
+        ensures open { IsOpen self.new.port.end }
+        ensures more { OnOk result (SaysMore self.old self.new) }
+    {
         let Some(message) = self.queue.front(alloc, version)? else {
             return Ok(false);
         };

@@ -8,8 +8,8 @@ ghost use Rattle.vchan_lifecycle.specs.Lifecycle.{connected_to, drained_to, drai
 ghost use Rattle.vchan_notify.specs.Notify.{asked_gone};
 ghost use Rattle.vchan_packet.specs.Packet.{sent_to};
 ghost use Rattle.vchan_packet.specs.declared.SendAnswer.TheVariants as answer;
-ghost use Rattle.vchan_protocol.specs.declared.call.Answer.TheVariants.{Gone};
-ghost use Rattle.vchan_protocol.specs.declared.call.Call.TheVariants.{PeerGone};
+ghost use Rattle.vchan_protocol.specs.declared.call.Answer.TheVariants.{Gone, Space};
+ghost use Rattle.vchan_protocol.specs.declared.call.Call.TheVariants.{PeerGone, BufferSpace};
 ghost use Rattle.vchan_protocol.specs.Table.Calls.{Trace};
 ghost use Rattle.vchan_protocol.specs.Answering.Causes.{Cause};
 ghost use Rattle.vchan_protocol.specs.History.Core.{standing_of};
@@ -29,7 +29,7 @@ use std::marker::Model;
 use vchan_core::{Call, EndState};
 use vchan_io::Memory;
 use vchan_lifecycle::{BadOrders, DrainAnswer, connect, drain, retire};
-use vchan_notify::peer_gone;
+use vchan_notify::{buffer_space, peer_gone};
 use vchan_packet::{SendAnswer, send};
 use vchan_rule::{End, Retired};
 
@@ -129,6 +129,21 @@ impl<'p> ControlPort<'p> {
         ensures same { OnlySends self.old self.new }
     {
         peer_gone(&mut self.end)
+    }
+
+    /// How many bytes have room to be sent now. It asks for a signal at more room.
+    pub fn room(&mut self) -> u32
+        requires open { IsOpen self.old.end }
+        ensures end { IsSameEnd self.old.end self.new.end }
+        ensures open { IsOpen self.new.end }
+        ensures view { view self.new.end ≡ view self.old.end }
+        ensures trail { Trace (standing_of self.old.end.side) BufferSpace self.new.end.side.trail (Space result) }
+        ensures cause { Cause (standing_of self.old.end.side) BufferSpace (loads_of (standing_of self.old.end.side) self.new.end.side.trail) (Space result) }
+        ensures said { (said : List Said) → HasSaid self.old said → HasSaid self.new said }
+        ensures heard { (heard : List Said) → HasHeard self.old heard → HasHeard self.new heard }
+        ensures same { OnlySends self.old self.new }
+    {
+        buffer_space(&mut self.end)
     }
 
     /// Sends the own greeting, which is the first message. It has gone where the answer is `Sent`. After

@@ -1,15 +1,18 @@
-use Rattle.std.proofs.Common.{subst, sym, ◌∙◌}
-use Rattle.call_queue.specs.Queue.{HasToSay}
-use Rattle.agent_control.specs.Speaking.{Says}
-use Rattle.agent_control.proofs.SpeakingLaws.{says-nothing, says-trigger}
+use Rattle.std.proofs.Common.{sym, ◌∙◌}
+use Rattle.qrexec_frame.specs.declared.message.Message.TheVariants.{Terminated}
+use Rattle.agent_control.proofs.SpeakingLaws.{says-nothing, says-then}
 use Rattle.agent_control.proofs.control.AgentControl.say_trigger.Goals as goal
 
-pub returns-then-not-branch-clause-more : goal.returns-then-not-branch-clause-more
-returns-then-not-branch-clause-more c =
-    says-nothing c.args.self.now c.say.new.self c.in-Some-2.message c.say.ensures.end (subst (λ b. Says c.args.self.now c.say.new.self c.in-Some-2.message b) c.if-not-branch.true c.in_ok-say.ensures.says)
+pub returns-then-not-has_room-clause-more : goal.returns-then-not-has_room-clause-more
+returns-then-not-has_room-clause-more c = says-nothing c.args.self.now c.has_room.new.self (Terminated 0 0) c.has_room.ensures.end (c.has_room.ensures.none (Terminated 0 0))
+
+pub say_front-requires-clause-can : goal.say_front-requires-clause-can
+say_front-requires-clause-can c = (c.has_room.ensures.none (Terminated 0 0)).can
+
+pub say_front-requires-clause-version : goal.say_front-requires-clause-version
+say_front-requires-clause-version c = (c.has_room.ensures.none (Terminated 0 0)).version ∙ (sym c.version.ensures ∙ c.in-Some.is)
 
 pub returns-clause-more : goal.returns-clause-more
 returns-clause-more c =
-    says-trigger c.args.self.now c.say.new.self c.triggered.new.self c.in-Some.version c.in-Some-2.message (sym c.version.ensures ∙ c.in-Some.is) c.say.ensures.end
-    (subst (λ b. Says c.args.self.now c.say.new.self c.in-Some-2.message b) c.if-not-branch.false c.in_ok-say.ensures.says)
-    (subst (λ o. HasToSay c.args.self.now.queue c.in-Some.version o) c.in-Some-2.is c.in_ok-message.ensures.says) c.triggered.ensures.is c.triggered.ensures.asks
+    says-then c.args.self.now c.has_room.new.self c.say_front.new.self (says-nothing c.args.self.now c.has_room.new.self (Terminated 0 0) c.has_room.ensures.end (c.has_room.ensures.none (Terminated 0 0)))
+    c.in_ok-say_front.ensures.more
