@@ -7,6 +7,8 @@
 #[cfg(test)]
 mod agents;
 #[cfg(test)]
+mod held_back;
+#[cfg(test)]
 mod in_order;
 #[cfg(test)]
 mod runs;

@@ -1,0 +1,184 @@
+//! What the broker holds back: no caller is told to connect before its target was told to serve.
+ghost use Rattle.std.specs.Prelude.{◌≡◌, ◌≤◌, IfOk, length};
+ghost use Rattle.qrexec_frame.specs.Messages.{HasNumbers};
+ghost use Rattle.ring_words.specs.declared.page.Role.TheVariants.{Server};
+ghost use Rattle.vchan_rule.specs.Seated.{IsOpen};
+ghost use Rattle.control_port.specs.declared.talk.Talker.TheVariants.{Agent};
+ghost use Rattle.broker_task.specs.Given.{IsNewClient};
+
+use broker_task::{BrokerTask, BrokerTurn};
+use call_broker::{Broker, DomainEntry};
+use control_port::{ControlPort, Talker};
+use qrexec_frame::{Message, Text, fits};
+use ring_words::check_orders;
+use std::alloc::Global;
+use std::test::Fail;
+use vchan_packet::SendAnswer;
+use vchan_rule::{End, IdleSeat, Page};
+
+/// The name of the domain that calls, as long as one may be, and of the one that is called.
+const CALLER: &[u8] = b"a-domain-of-thirty-one-letters-";
+
+const TARGET: &[u8] = b"vault";
+
+/// How many calls it asks for: as many as may be live from one domain to another.
+const CALLS: u32 = 16;
+
+/// How many Execs have room until the target reads: a ring of 1,024 bytes has room for the greeting, which
+/// takes 12, and for 14 commands of 70 bytes each.
+const WITH_ROOM: u32 = 14;
+
+/// A name of a domain.
+fn name_of(alloc: Global, name: &[u8]) -> Result<Text, Fail>
+    ensures { IfOk result (λ name. length name ≤ 31) }
+{
+    if name.len() > 31 {
+        return Err("a long name".into());
+    }
+    Ok(Text::of(alloc, name)?)
+}
+
+/// The task of the broker of two domains, with its ends of their control pages.
+fn task_of<'p>(alloc: Global, first: End<'p>, second: End<'p>) -> Result<BrokerTask<'p>, Fail>
+    requires first { IsNewClient first }
+    requires second { IsNewClient second }
+{
+    let mut domains = Vec::new(alloc);
+    let name = name_of(alloc, CALLER)?;
+    domains.push(DomainEntry { name })?;
+    let name = name_of(alloc, TARGET)?;
+    domains.push(DomainEntry { name })?;
+    let pages = Vec::from_array(alloc, [0, CALLS, 0, 0])?;
+    let broker = Broker::new(alloc, domains, pages)?;
+    let awaited = Vec::from_array(alloc, [CALLS, 0])?;
+    let mut controls = Vec::new(alloc);
+    controls.push(first)?;
+    controls.push(second)?;
+    Ok(BrokerTask::new(alloc, broker, awaited, controls)?)
+}
+
+/// The end of an agent of a page, which has greeted.
+fn agent_of(alloc: Global, page: &Page, server: IdleSeat) -> Result<ControlPort<'_>, Fail>
+    requires { server ≡ record { page = page.now; role = Server } }
+    ensures open { IfOk result (λ agent. IsOpen agent.end) }
+    ensures talker { IfOk result (λ agent. agent.talker ≡ Agent) }
+{
+    let mut agent = ControlPort::new(alloc, page.attach(server), Talker::Agent, 3);
+    agent.greet()?;
+    Ok(agent)
+}
+
+/// The trigger of a call to the target.
+fn trigger(alloc: Global) -> Result<Message, Fail>
+    ensures { IfOk result HasNumbers }
+{
+    Ok(Message::Trigger3 {
+        target: Text::of(alloc, TARGET)?,
+        ident: Text::of(alloc, b"one")?,
+        service: Text::of(alloc, b"echo")?,
+    })
+}
+
+/// Asks for all calls. It tells whether all triggers were said.
+fn ask_all(alloc: Global, caller: &mut ControlPort) -> Result<bool, Fail>
+    requires open { IsOpen caller.old.end }
+    requires talker { caller.old.talker ≡ Agent }
+    ensures open { IsOpen caller.new.end }
+{
+    'calls: for _ in 0..CALLS {
+        let message = trigger(alloc)?;
+        if !say(caller, &message)? {
+            return Ok(false);
+        }
+    }
+    Ok(true)
+}
+
+/// Says a message, where an agent may and it has room. It tells whether it did.
+fn say(agent: &mut ControlPort, message: &Message) -> Result<bool, Fail>
+    requires open { IsOpen agent.old.end }
+    requires talker { agent.old.talker ≡ Agent }
+    requires numbers { HasNumbers message.now }
+    ensures open { IsOpen agent.new.end }
+    ensures talker { agent.new.talker ≡ agent.old.talker }
+{
+    if !agent.greeted() || !fits(message) || !Talker::Agent.says(message) {
+        return Ok(false);
+    }
+    Ok(agent.say(message)? == SendAnswer::Sent)
+}
+
+/// Whether just so many Connects are heard now.
+fn hears_connects(caller: &mut ControlPort, count: u32) -> Result<bool, Fail>
+    requires open { IsOpen caller.old.end }
+    ensures open { IsOpen caller.new.end }
+{
+    caller.drain(&mut [0; 1_024])?;
+    'connects: for _ in 0..count {
+        if !hears_connect(caller)? {
+            return Ok(false);
+        }
+    }
+    Ok(!hears_connect(caller)?)
+}
+
+/// Whether the next message is a Connect.
+fn hears_connect(caller: &mut ControlPort) -> Result<bool, Fail>
+    ensures { caller.new.end ≡ caller.old.end }
+{
+    if caller.fault().is_some() {
+        return Ok(false);
+    }
+    Ok(matches!(caller.next()?, Some(Message::Connect { .. })))
+}
+
+/// The task after two turns, so that in the second one each domain hears what came of the first.
+fn turned_twice(task: BrokerTask<'_>) -> Option<BrokerTask<'_>> {
+    turned(turned(task)?)
+}
+
+/// The task after a turn, where it wants another.
+fn turned(task: BrokerTask<'_>) -> Option<BrokerTask<'_>> {
+    match task.turn() {
+        BrokerTurn::Again(task) => Some(task),
+        BrokerTurn::Done(_done) => None,
+        BrokerTurn::NoMemory => None,
+    }
+}
+
+/// Whether the caller hears the Connects of the calls whose Exec has gone, and no others until the target
+/// has read.
+fn holds_back(
+    task: BrokerTask<'_>,
+    caller: &mut ControlPort,
+    target: &mut ControlPort,
+) -> Result<bool, Fail>
+    requires caller { IsOpen caller.old.end }
+    requires target { IsOpen target.old.end }
+{
+    let task = turned_twice(task).ok_or("no more turns")?;
+    if !hears_connects(caller, WITH_ROOM)? {
+        return Ok(false);
+    }
+    let task = turned_twice(task).ok_or("no more turns")?;
+    if !hears_connects(caller, 0)? {
+        return Ok(false);
+    }
+    target.drain(&mut [0; 1_024])?;
+    let _task = turned_twice(task).ok_or("no more turns")?;
+    hears_connects(caller, CALLS - WITH_ROOM)
+}
+
+#[test]
+fn a_connect_waits_for_its_exec(rt: HostRuntime) -> Result<(), Fail> {
+    let alloc = rt.alloc();
+    let orders = check_orders(10, 11)?;
+    let (first, caller, to_caller) = Page::open(alloc, orders, 0)?;
+    let (second, target, to_target) = Page::open(alloc, orders, 0)?;
+    let task = task_of(alloc, first.attach(to_caller), second.attach(to_target))?;
+    let mut caller = agent_of(alloc, &first, caller)?;
+    let mut target = agent_of(alloc, &second, target)?;
+    assert!(rt; ask_all(alloc, &mut caller)?);
+    assert!(rt; holds_back(task, &mut caller, &mut target)?);
+    Ok(())
+}
