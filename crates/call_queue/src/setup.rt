@@ -19,7 +19,7 @@ pub(crate) fn idents_of(alloc: Global, calls: &[CallPlan]) -> Result<Vec<Text>, 
     ensures are { IfOk result (λ idents. idents.items ≡ map (λ c. ident_of c.number) calls.now) }
     ensures small { OnOk result (Each (λ c. c.number < 2 ^ 32) calls.now) }
 {
-    let mut idents = Vec::new(alloc);
+    let mut idents = Vec::with_capacity(alloc, calls.len())?;
     for call in calls {
         idents.push(ident_text(alloc, call.number)?)?;
     }
@@ -30,7 +30,7 @@ pub(crate) fn idents_of(alloc: Global, calls: &[CallPlan]) -> Result<Vec<Text>, 
 pub(crate) fn targets_of(alloc: Global, calls: &[CallPlan]) -> Result<Vec<Text>, AllocError>
     ensures { IfOk result (λ targets. targets.items ≡ map (λ c. c.to) calls.now) }
 {
-    let mut targets = Vec::new(alloc);
+    let mut targets = Vec::with_capacity(alloc, calls.len())?;
     for call in calls {
         targets.push(call.to.clone()?)?;
     }
@@ -46,7 +46,7 @@ pub(crate) fn queued(
 ) -> Result<Vec<QueuedCall>, AllocError>
     ensures { IfOk result (λ queued. EachPair (IsFresh targets.now) calls.items queued.items) }
 {
-    let mut queued = Vec::new(alloc);
+    let mut queued = Vec::with_capacity(alloc, calls.len())?;
     for plan in calls {
         queued.push(QueuedCall {
             given: Snapshot::of(&plan),

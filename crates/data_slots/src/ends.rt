@@ -281,7 +281,7 @@ impl<'p> Ends<'p> {
 fn unused_slots<'p>(alloc: Global, ends: Vec<DataEnd<'p>>) -> Result<Vec<Slot<'p>>, AllocError>
     ensures { IfOk result (λ slots. slots.items ≡ unused_slots ends.entry.items) }
 {
-    let mut slots = Vec::new(alloc);
+    let mut slots = Vec::with_capacity(alloc, ends.len())?;
     for DataEnd {
         from,
         to,
@@ -302,7 +302,7 @@ fn unused_slots<'p>(alloc: Global, ends: Vec<DataEnd<'p>>) -> Result<Vec<Slot<'p
 fn no_notes(alloc: Global, count: usize) -> Result<Vec<Option<CallNote>>, AllocError>
     ensures { IfOk result (λ notes. notes.items ≡ replicate count None) }
 {
-    let mut notes = Vec::new(alloc);
+    let mut notes = Vec::with_capacity(alloc, count)?;
     for _call in 0..count {
         notes.push(None)?;
     }
