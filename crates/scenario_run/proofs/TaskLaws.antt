@@ -1,41 +1,17 @@
 -- The tasks of a run, one more at a time.
-use Rattle.std.proofs.Common.{◌≡◌, ℕ, zero, suc, ◌+◌, ◌≤◌, List, [], ◌∷◌, length, refl, ap, ◌∙◌, subst, arith, Some, None}
+use Rattle.std.proofs.Common.{◌≡◌, ℕ, zero, suc, ◌+◌, List, [], ◌∷◌, length, refl, ap, ◌∙◌, subst, arith, Some, None}
 use Rattle.std.specs.Prelude.{slice_get}
-use Rattle.std.specs.Global.{Global}
-use Rattle.std.specs.declared.vec.IntoIter.{IntoIter}
-use Rattle.std.specs.Vec.Iter.{into_iter_items, into_iter_len}
-use Rattle.std.proofs.lemmas.Grind.{common_steps}
 use Rattle.end_view.specs.EndView.{EndView}
 use Rattle.scenario_file.specs.Scenario.{Plan as Scenario}
 use Rattle.task_duties.specs.TaskOwes.{TaskGiven, broker_given}
 use Rattle.run_laws.specs.Laid.{awaited_by, hub_of}
 use Rattle.run_pages.specs.declared.deal.Hand.{Hand}
-use Rattle.scenario_run.specs.Tasks.{AreHandsOf, AreTasksOf, IsHandOf, domain_given}
-
--- an iterator that has nothing more
-pub none-left : (it : IntoIter Hand Global) → into_iter_len it ≡ 0 → into_iter_items it ≡ []
-none-left it none = grind (arith, common_steps, none)
+use Rattle.scenario_run.specs.Tasks.{AreTasksOf, domain_given}
 
 -- the tasks of these hands, from a number on
 abbrev pub given_from : Scenario → ℕ → List Hand → List TaskGiven
 given_from s d [] = []
 given_from s d (hand ∷ hands) = domain_given s d hand ∷ given_from s (d + 1) hands
-
--- the tasks of the hands that are left may still be made
-abbrev pub AreLeft : Scenario → ℕ → List Hand → Type 0
-AreLeft s d [] = Unit {0}
-AreLeft s d (hand ∷ hands) = ((1 ≤ d) × (d ≤ length s.domains)) × IsHandOf s d hand × AreLeft s (d + 1) hands
-
-left-from : (s : Scenario) (d : ℕ) (hands : List Hand) → 1 ≤ d → d + length hands ≤ length s.domains + 1 → ((k : ℕ) (hand : Hand) → slice_get hands k ≡ Some hand → IsHandOf s (k + d) hand) → AreLeft s d hands
-left-from s d [] some within each = tt
-left-from s d (hand ∷ hands) some within each = (
-  (some, omega (arith, within)),
-  subst (λ n. IsHandOf s n hand) (let e : 0 + d ≡ d = omega arith in e) (each 0 hand refl),
-  left-from s (d + 1) hands (omega (arith, some)) (omega (arith, within)) (λ k h is. subst (λ n. IsHandOf s n h) (let e : suc k + d ≡ k + (d + 1) = omega arith in e) (each (suc k) h is)),
-)
-
-pub all-left : (s : Scenario) (hands : List Hand) → AreHandsOf s hands → AreLeft s 1 hands
-all-left s hands are = left-from s 1 hands (omega arith) (omega (arith, are.0)) are.1
 
 given-at : (s : Scenario) (d : ℕ) (hands : List Hand) (k : ℕ) (hand : Hand) → slice_get hands k ≡ Some hand → slice_get (given_from s d hands) k ≡ Some (domain_given s (k + d) hand)
 given-at s d [] k hand is = absurd (let e : None ≡ Some hand = is in cc)

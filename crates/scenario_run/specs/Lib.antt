@@ -1,4 +1,5 @@
 pub mod Tasks
+pub mod Making
 pub mod Answering
 pub mod Parts
 pub mod Lines

@@ -8,6 +8,7 @@
 mod answers;
 mod copies;
 mod lines;
+mod making;
 mod page_index;
 mod run;
 mod sessions;

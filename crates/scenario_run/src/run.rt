@@ -21,10 +21,10 @@ use std::thread::Threads;
 use task_pool::run_pool;
 use vchan_io::Memory;
 
-/// Runs a scenario with this many workers, from 1 to 16: its pages are laid, each worker laying a part
-/// of them, a task for each domain and one of the broker take turns until all are done, and each page
-/// is settled. A worker enters the gate with the place of the task before each turn: 0 is the broker's,
-/// k that of domain k.
+/// Runs a scenario with this many workers, from 1 to 16: its pages are laid and its tasks made, each worker
+/// laying and making some of them; the tasks, one for each domain and one of the broker, take turns until
+/// all are done, and each page is settled. A worker enters the gate with the place of the task before each
+/// turn: 0 is the broker's, k that of domain k.
 ///
 /// The report is lawful whatever the order of all steps. The error is want of memory.
 pub fn run_scenario<G: Gate, R: Threads + Wait + Sync>(
@@ -61,7 +61,7 @@ fn run_tasks<G: Gate, R: Threads + Wait + Sync>(
 {
     is_scenario(scenario);
     let dealt = pages.deal(alloc, scenario, seats)?;
-    let tasks = tasks(alloc, scenario, dealt)?;
+    let tasks = tasks(rt, alloc, scenario, workers, dealt)?;
     run_pool(rt, alloc, tasks, workers, gate)
 }
 

@@ -9,34 +9,37 @@ ghost use Rattle.domain_task.specs.Given.{given_of};
 ghost use Rattle.scenario_run.specs.Tasks.{AreHandsOf, AreControlsOf, AreTasksOf, IsHandOf, domain_given, awaited_from};
 
 use crate::copies::{calls_from, copy_of_acts, entries_of, names_of};
+use crate::making::make_all;
 use call_broker::Broker;
 use domain_task::Task;
 use hostile_task::HostileDomain;
 use run_pages::{Dealt, Hand, page_table};
 use scenario_file::{Acts, Domain, Scenario};
 use std::alloc::{AllocError, Global};
+use std::thread::Threads;
 use vchan_io::Memory;
 use vchan_rule::End;
 
 /// The tasks of a scenario with the ends that were dealt: the broker's first, then those of the domains
-/// in order. Its error is want of memory, and drops the ends.
-pub(crate) fn tasks<'p>(
+/// in order, which are made by this many workers. Its error is want of memory, and drops the ends.
+pub(crate) fn tasks<'p, R: Threads + Sync>(
+    rt: &R,
     alloc: Global,
     scenario: &Scenario,
+    workers: u32,
     dealt: Dealt<'p>,
 ) -> Result<Vec<Task<'p>>, Memory>
+    requires some_worker { 1 ≤ workers }
     requires controls { AreControlsOf scenario.now dealt.controls.items }
     requires hands { AreHandsOf scenario.now dealt.hands.items }
     ensures { IfOk result (λ tasks. AreTasksOf scenario.now (map view dealt.entry.controls.items) dealt.entry.hands.items (map given_of tasks.items)) }
 {
-    is_scenario(scenario);
     let Dealt { controls, hands } = dealt;
-    let mut tasks = Vec::with_capacity(alloc, hands.len() + 1)?;
+    let made = make_all(rt, alloc, scenario, workers, hands)?;
+    let mut tasks = Vec::with_capacity(alloc, made.len() + 1)?;
     tasks.push(broker(alloc, scenario, controls)?)?;
-    let mut number = 0;
-    for hand in hands {
-        number += 1;
-        tasks.push(domain(alloc, scenario, number, hand)?)?;
+    for making in made {
+        tasks.push(making.task()?)?;
     }
     Ok(tasks)
 }
@@ -89,8 +92,8 @@ fn count_from(scenario: &Scenario, from: u32) -> u32
     count
 }
 
-// The task of a domain.
-fn domain<'p>(
+/// The task of a domain.
+pub(crate) fn domain<'p>(
     alloc: Global,
     scenario: &Scenario,
     number: u32,

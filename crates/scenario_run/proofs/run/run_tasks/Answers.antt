@@ -12,10 +12,10 @@ if-ok (Ok x) P Q f p = f x p
 if-ok (Err e) P Q f p = tt
 
 pub tasks-requires-clause-controls : goal.tasks-requires-clause-controls
-tasks-requires-clause-controls g c = controls-fit c.args.scenario.now c.args.pages.now c.in_ok-dealt.dealt.controls.items c.requires.laid c.in_ok-dealt.ensures.controls c.in_ok-dealt.ensures.as_many
+tasks-requires-clause-controls g c κs within = controls-fit c.args.scenario.now c.args.pages.now c.in_ok-dealt.dealt.controls.items c.requires.laid c.in_ok-dealt.ensures.controls c.in_ok-dealt.ensures.as_many
 
 pub tasks-requires-clause-hands : goal.tasks-requires-clause-hands
-tasks-requires-clause-hands g c = hands-fit c.args.scenario.now c.args.pages.now c.in_ok-dealt.dealt.hands.items c.requires.laid c.in_ok-dealt.ensures.hands c.in_ok-dealt.ensures.orders c.in_ok-dealt.ensures.all
+tasks-requires-clause-hands g c κs within = hands-fit c.args.scenario.now c.args.pages.now c.in_ok-dealt.dealt.hands.items c.requires.laid c.in_ok-dealt.ensures.hands c.in_ok-dealt.ensures.orders c.in_ok-dealt.ensures.all
 
 pub run_pool-requires-send-T : goal.run_pool-requires-send-T
 run_pool-requires-send-T g c κs within = search (sendable, task_send)

@@ -1,29 +1,38 @@
-use Rattle.std.proofs.Common.{◌≡◌, ◌∙◌, ◌+◌, ◌++◌, ◌∷◌, [], ap, arith, length, map, subst, sym}
+use Rattle.std.proofs.Common.{rules, ◌≡◌, ◌∙◌, ◌++◌, ◌∷◌, [], ap, map, subst, sym}
 use Rattle.std.specs.Vec.Iter.{into_iter_items}
-use Rattle.std.proofs.lemmas.List.{append-nil}
+use Rattle.std.proofs.lemmas.List.{map-append}
 use Rattle.vchan_rule.specs.Seated.{view}
-use Rattle.task_duties.specs.TaskOwes.{broker_given}
-use Rattle.run_laws.specs.Laid.{awaited_by, hub_of}
 use Rattle.domain_task.specs.Given.{given_of}
-use Rattle.scenario_run.proofs.TaskLaws.{AreLeft, all-left, are-tasks, given_from, none-left}
+use Rattle.scenario_run.specs.Making.{AreMade}
+use Rattle.scenario_run.proofs.MakingLaws.{IsMaking, making-first, making-on, making-over, none-left}
+use Rattle.scenario_run.proofs.TaskLaws.{are-tasks}
 use Rattle.scenario_run.proofs.tasks.tasks.Goals as goal
 
-pub loop-hand-init : goal.loop-hand-init
-loop-hand-init c =
+pub loop-making-init : goal.loop-making-init
+loop-making-init g c = record {
+  can_next = tt;
+  is_finite = tt;
+  so_far = making-first c.args.scenario.now (map view c.args.dealt.controls.items) c.args.dealt.hands.items (map given_of c.push.new.self.items) (into_iter_items c.into_iter-making-iterator.result)
+      (ap (map given_of) (c.in_ok-push.ensures.items ∙ ap (λ l. l ++ c.in_ok-broker.field-0 ∷ []) c.in_ok-tasks.ensures.items) ∙ ap (λ g. g ∷ []) c.in_ok-broker.ensures)
+      (subst (AreMade c.args.scenario.now 1 c.args.dealt.hands.items) (sym c.into_iter-making-iterator.ensures.into_iter_gives.0) c.in_ok-made.ensures);
+}
+
+pub loop-making-preserved : goal.loop-making-preserved
+loop-making-preserved g c =
     let s = c.args.scenario.now in
-    let items : into_iter_items c.into_iter-hand-iterator.result ≡ c.args.dealt.hands.items = c.into_iter-hand-iterator.ensures.into_iter_gives.0 in
+    let controls = map view c.args.dealt.controls.items in
+    let hands = c.args.dealt.hands.items in
+    let given = map given_of c.loop-making.tasks.items in
+    let more : c.push-in-loop-making.new.self.items ≡ c.loop-making.tasks.items ++ c.in_ok-task.field-0 ∷ [] = search rules in
     record {
       can_next = tt;
       is_finite = tt;
-      made = ap (λ l. map given_of l ++ given_from s 1 (into_iter_items c.into_iter-hand-iterator.result)) (c.in_ok-push.ensures.items ∙ ap (λ l. l ++ c.in_ok-broker.field-0 ∷ []) c.in_ok-tasks.ensures.items)
-          ∙ ap (λ g. g ∷ given_from s 1 (into_iter_items c.into_iter-hand-iterator.result)) c.in_ok-broker.ensures
-          ∙ ap (λ hands. broker_given (hub_of s) (awaited_by s) (map view c.args.dealt.controls.items) ∷ given_from s 1 hands) items;
-      left = subst (AreLeft s 1) (sym items) (all-left s c.args.dealt.hands.items c.requires.hands);
-      few = (let e = ap length items in let few = c.is_scenario.ensures.few_domains in omega (arith, e, few, c.requires.hands.0));
+      so_far = subst (λ l. IsMaking s controls hands l (into_iter_items c.next.new.self)) (sym (ap (map given_of) more ∙ map-append given_of c.loop-making.tasks.items (c.in_ok-task.field-0 ∷ [])))
+          (making-on s controls hands given c.in-Some.making c.in_ok-task.field-0 _ _ c.in-Some.ensures.steps.0 c.in_ok-task.ensures c.loop-making.invariant.so_far);
     }
 
 pub returns : goal.returns
-returns c =
-    let over : into_iter_items c.loop-hand.hand-iterator ≡ [] = none-left c.loop-hand.hand-iterator c.in-None.ensures.steps.0 in
-    are-tasks c.args.scenario.now (map view c.args.dealt.controls.items) c.args.dealt.hands.items (map given_of c.loop-hand.tasks.items)
-    (sym (append-nil (map given_of c.loop-hand.tasks.items)) ∙ ap (λ hands. map given_of c.loop-hand.tasks.items ++ given_from c.args.scenario.now (c.loop-hand.number + 1) hands) (sym over) ∙ c.loop-hand.invariant.made)
+returns g c =
+    let over : into_iter_items c.loop-making.making-iterator ≡ [] = none-left c.loop-making.making-iterator c.in-None.ensures.steps.0 in
+    are-tasks c.args.scenario.now (map view c.args.dealt.controls.items) c.args.dealt.hands.items (map given_of c.loop-making.tasks.items)
+    (making-over c.args.scenario.now (map view c.args.dealt.controls.items) c.args.dealt.hands.items (map given_of c.loop-making.tasks.items) (into_iter_items c.loop-making.making-iterator) over c.loop-making.invariant.so_far)
