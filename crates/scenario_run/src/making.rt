@@ -1,8 +1,9 @@
 //! Making the tasks of the domains, each by one of the workers of a run.
-ghost use Rattle.std.specs.Prelude.{◌≡◌, ◌+◌, ◌<◌, ◌^◌, ◌≤◌, length, map, IfOk};
+ghost use Rattle.std.specs.Prelude.{◌≡◌, ◌+◌, ◌<◌, ◌^◌, ◌≤◌, length, map, IfOk, IsOk};
 ghost use Rattle.scenario_run.specs.Tasks.{AreHandsOf};
 ghost use Rattle.scenario_run.specs.Making.{AreMade, HasMade, MayMake};
 ghost use Rattle.scenario_run.specs.declared.making.Making.TheVariants.{Ends};
+ghost use Rattle.domain_task.specs.declared.task.Task.{Task as Kept};
 
 use crate::tasks::{domain, is_scenario};
 use domain_task::Task;
@@ -38,13 +39,14 @@ impl<'p> Making<'p> {
         }
     }
 
-    /// The task, once it was to be made. Its error is want of memory.
+    /// The task, where it was made. Its error comes where memory ran out.
     pub(crate) fn task(self) -> Result<Task<'p>, Memory>
-        ensures { IfOk result (λ task. self.entry ≡ Making.Made task) }
+        ensures is { IfOk result (λ task. self.entry ≡ Making.Made task) }
+        ensures made { (task : Kept) → self.entry ≡ Making.Made task → IsOk result }
     {
         match self {
             Making::Made(task) => Ok(task),
-            _ => Err(Memory),
+            Making::Ends(_) | Making::NoMemory => Err(Memory),
         }
     }
 }

@@ -28,7 +28,7 @@ loop-making-preserved g c =
       can_next = tt;
       is_finite = tt;
       so_far = subst (λ l. IsMaking s controls hands l (into_iter_items c.next.new.self)) (sym (ap (map given_of) more ∙ map-append given_of c.loop-making.tasks.items (c.in_ok-task.field-0 ∷ [])))
-          (making-on s controls hands given c.in-Some.making c.in_ok-task.field-0 _ _ c.in-Some.ensures.steps.0 c.in_ok-task.ensures c.loop-making.invariant.so_far);
+          (making-on s controls hands given c.in-Some.making c.in_ok-task.field-0 _ _ c.in-Some.ensures.steps.0 c.in_ok-task.ensures.is c.loop-making.invariant.so_far);
     }
 
 pub returns : goal.returns
