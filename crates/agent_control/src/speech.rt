@@ -15,9 +15,10 @@ use vchan_io::Memory;
 use vchan_packet::SendAnswer;
 
 impl<'p> AgentControl<'p> {
-    /// Says what there is to say, as far as it has room: the ends of sessions, and then the triggers of
-    /// calls. After want of memory the end can still be retired, and no more is said of what went out.
-    pub fn say_on(&mut self, alloc: Global) -> Result<(), Memory>
+    /// Says what there is to say, as far as it has room: the ends of sessions, and then the triggers of at
+    /// most so many calls. After want of memory the end can still be retired, and no more is said of what
+    /// went out.
+    pub fn say_on(&mut self, alloc: Global, calls: usize) -> Result<(), Memory>
         requires can { CanSpeak self.old }
         ensures end { IsSameEnd self.old.port.end self.new.port.end }
         ensures open { IsOpen self.new.port.end }
@@ -26,7 +27,7 @@ impl<'p> AgentControl<'p> {
         if !self.say_ends()? {
             return Ok(());
         }
-        self.say_triggers(alloc)?;
+        self.say_triggers(alloc, calls)?;
         Ok(())
     }
 
@@ -86,14 +87,14 @@ impl<'p> AgentControl<'p> {
         }
     }
 
-    // Says the triggers of calls, as far as the limit and the room allow.
-    fn say_triggers(&mut self, alloc: Global) -> Result<(), Memory>
+    // Says the triggers of at most so many calls, as far as the limit and the room allow.
+    fn say_triggers(&mut self, alloc: Global, calls: usize) -> Result<(), Memory>
         requires can { CanSpeak self.old }
         ensures end { IsSameEnd self.old.port.end self.new.port.end }
         ensures open { IsOpen self.new.port.end }
         ensures more { OnOk result (SaysMore self.old self.new) }
     {
-        'triggers: for _ in 0..self.queue.count() {
+        'triggers: for _ in 0..calls {
             if !self.say_trigger(alloc)? {
                 return Ok(());
             }

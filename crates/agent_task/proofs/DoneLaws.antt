@@ -17,6 +17,7 @@ use Rattle.task_duties.specs.declared.place.PagePlace.TheVariants.{Control, Payl
 use Rattle.task_duties.specs.declared.done.ServedDone.{ServedDone}
 use Rattle.task_duties.specs.declared.done.ControlEnd.{ControlEnd}
 use Rattle.task_duties.specs.declared.ends.DataEnd.{DataEnd}
+use Rattle.task_duties.specs.declared.ends.DoneEnd.TheVariants.{Laid}
 use Rattle.task_duties.specs.declared.ends.RetiredEnd.{RetiredEnd}
 use Rattle.task_duties.specs.Pairwise.{EachPair}
 use Rattle.task_duties.specs.Places.{is_place}
@@ -175,7 +176,7 @@ pub record IsFinished (a : Agent) (retired : SeatedSide) (ends : List RetiredEnd
 
 pub done-owes : (how : ControlEnd) (a : Agent) (retired : SeatedSide) (ends : List RetiredEnd) (calls : List (Option CallOver)) (served : List ServedDone) (done : AgentDone) → IsOver how a → IsFinished a retired ends calls served
     → done.domain ≡ a.given.domain → done.calls.items ≡ call_dones (asked_by a.control.queue) calls → done.served.items ≡ served → done.control ≡ how
-    → done.ends.items ≡ record { place = Control a.given.domain; retired = retired } ∷ ends → IsOwed a.given done
+    → done.ends.items ≡ record { place = Control a.given.domain; retired = Laid retired } ∷ ends → IsOwed a.given done
 done-owes how a retired ends calls served done over finished domain_is calls_is served_is control_is ends_is = (
   end,
   domain_is,

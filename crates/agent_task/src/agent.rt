@@ -11,6 +11,14 @@ use std::thread;
 use task_duties::ControlEnd;
 use vchan_io::Memory;
 
+/// With how many sessions open on pages that are laid for them an agent asks for no more calls, since each
+/// holds the memory of a page. It serves on, so that no agent waits for another one's limit; and sessions
+/// with hostile domains don't count, so that these can't hold its calls back.
+const MOST_PAGES: usize = 8;
+
+/// For how many calls it asks in a turn.
+const MOST_ASKED: usize = 2;
+
 /// The agent of a domain: its control channel with its calls, and its data ends.
 #[derive(Drop)]
 pub(crate) struct Agent<'p> {
@@ -89,7 +97,8 @@ impl<'p> Agent<'p> {
         Ok(())
     }
 
-    // Says what there is to say, once both greetings have gone.
+    // Says what there is to say, once both greetings have gone. With many pages in use the agent asks for no
+    // more calls: what is open goes on without it.
     fn say(&mut self) -> Result<(), Memory>
         requires up { IsUp self.old }
         ensures up { OnOk result (IsUp self.new) }
@@ -97,7 +106,8 @@ impl<'p> Agent<'p> {
         ensures retire { CanGiveUp self.new }
     {
         if self.control.port.greeted() && self.control.port.version().is_some() {
-            self.control.say_on(self.alloc)?;
+            let more = MOST_PAGES.saturating_sub(self.slots.pages_in_use());
+            self.control.say_on(self.alloc, more.min(MOST_ASKED))?;
         }
         Ok(())
     }

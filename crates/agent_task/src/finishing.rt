@@ -13,7 +13,7 @@ use agent_control::AgentControl;
 use call_queue::{CallAnswer, CallQueue};
 use data_slots::{CallOver, DataDone};
 use std::alloc::Global;
-use task_duties::{CallDone, CallEnd, ControlEnd, PagePlace, RetiredEnd};
+use task_duties::{CallDone, CallEnd, ControlEnd, DoneEnd, PagePlace, RetiredEnd};
 use vchan_io::Memory;
 
 impl<'p> Agent<'p> {
@@ -43,6 +43,7 @@ impl<'p> Agent<'p> {
         let calls = call_dones(alloc, &queue, calls)?;
         let domain = given.domain;
         let place = PagePlace::Control { domain };
+        let retired = DoneEnd::Laid(retired);
         ends.insert(0, RetiredEnd { place, retired })?;
         Ok(AgentDone {
             domain,

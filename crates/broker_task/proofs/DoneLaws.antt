@@ -1,10 +1,8 @@
 -- A task whose domains are all settled owes what it gives.
-use Rattle.std.proofs.Common.{◌≡◌, ℕ, ◌+◌, ◌-◌, suc, zero, Bool, true, false, List, [], ◌∷◌, ◌++◌, None, length, map, refl, sym, ap, ◌∙◌, subst, arith, inl, inr}
+use Rattle.std.proofs.Common.{◌≡◌, ℕ, ◌+◌, ◌-◌, suc, zero, Bool, true, false, List, [], ◌∷◌, ◌++◌, length, map, refl, sym, ap, ◌∙◌, subst, arith, inl, inr}
 use Rattle.std.specs.Prelude.{IsPermutation, filter_map, slice_index_or}
 use Rattle.std.proofs.lemmas.List.{append-nil}
-use Rattle.ring_words.specs.declared.page.Role.TheVariants.{Client}
-use Rattle.vchan_protocol.specs.declared.call.EndState.TheVariants.{Shut}
-use Rattle.end_view.specs.EndView.{EndView}
+use Rattle.end_view.specs.EndView.{EndView, no_end}
 use Rattle.vchan_lifecycle.specs.Lifecycle.{retired_view}
 use Rattle.vchan_rule.specs.Seated.{view}
 use Rattle.qrexec_frame.specs.declared.message.Message.{Message}
@@ -86,25 +84,6 @@ pub idle-list : (ds : List Daemon) → EachAt (λ d x. (end_of x).idle ≡ true)
 idle-list ds idle = each-from (λ d x. (end_of x).idle ≡ true) (λ x. (end_of x).idle ≡ true) 1 ds (λ i x is. is) idle
 
 -- ---- the end of each domain
-
--- an end of no page, for a place where the task has none
-no_end : EndView
-no_end = record {
-  page = record { words = 0; slots = 0; views_name = 0; atom = 0; block = 0; offset = 0; slot_names = [] };
-  role = Client;
-  state = Shut;
-  idle = true;
-  sent = [];
-  got = [];
-  saw = false;
-  ended = None;
-  drained = false;
-  misled = false;
-  retired = true;
-  turned = false;
-  consumed = 0;
-  trail = [];
-}
 
 end_nth : List Daemon → ℕ → EndView
 end_nth [] i = no_end

@@ -4,10 +4,11 @@ use Rattle.std.specs.Prelude.{◌≡◌, ℕ, false, List, map}
 use Rattle.ring_words.specs.declared.page.Role.TheVariants.{Client}
 use Rattle.end_view.specs.EndView.{IsUnused}
 use Rattle.vchan_lifecycle.specs.Lifecycle.{retired_view}
-use Rattle.vchan_rule.specs.Seated.{SeatedEnd, view, last_view}
+use Rattle.vchan_rule.specs.Seated.{SeatedEnd, view}
 use Rattle.call_broker.specs.Domains.{Domains}
 use Rattle.task_duties.specs.declared.place.PagePlace.TheVariants.{Control}
 use Rattle.task_duties.specs.declared.ends.RetiredEnd.{RetiredEnd}
+use Rattle.task_duties.specs.GivenEnds.{done_view}
 use Rattle.task_duties.specs.TaskOwes.{EndAt, TaskGiven, Broker, broker_ends}
 use Rattle.broker_task.specs.declared.daemon.Daemon.{Daemon}
 use Rattle.broker_task.specs.declared.switchboard.Switchboard.{Switchboard}
@@ -38,5 +39,5 @@ IsNewClient e = IsUnused (view e) × ((view e).role ≡ Client)
 -- the end of a domain, once it is given back
 pub record IsRetiredOf (x : Daemon) (r : RetiredEnd) : Type 0 where
   pub place : r.place ≡ Control x.domain
-  pub retired : last_view r.retired ≡ retired_view (end_of x)
-  pub honest : (last_view r.retired).turned ≡ false
+  pub retired : done_view r.retired ≡ retired_view (end_of x)
+  pub honest : (done_view r.retired).turned ≡ false

@@ -18,7 +18,7 @@ use call_broker::Event;
 use control_port::{ControlPort, Talker};
 use qrexec_frame::Message;
 use std::alloc::Global;
-use task_duties::{PagePlace, RetiredEnd};
+use task_duties::{DoneEnd, PagePlace, RetiredEnd};
 use vchan_core::EndState;
 use vchan_io::Memory;
 use vchan_lifecycle::DrainAnswer;
@@ -221,10 +221,16 @@ impl<'p> Daemon<'p> {
         let place = PagePlace::Control { domain };
         if gone {
             let retired = port.rest();
-            return RetiredEnd { place, retired };
+            return RetiredEnd {
+                place,
+                retired: DoneEnd::Laid(retired),
+            };
         }
         let retired = port.retire();
-        RetiredEnd { place, retired }
+        RetiredEnd {
+            place,
+            retired: DoneEnd::Laid(retired),
+        }
     }
 
     /// Retires its end, and drops it.

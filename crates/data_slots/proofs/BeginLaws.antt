@@ -10,7 +10,7 @@ use Rattle.task_duties.specs.declared.place.PagePlace.{PagePlace}
 use Rattle.task_duties.specs.declared.place.PagePlace.TheVariants.{Payload}
 use Rattle.data_slots.specs.declared.slot.Slot.{Slot}
 use Rattle.data_slots.specs.declared.slot.Stage.{Stage}
-use Rattle.data_slots.specs.declared.slot.Stage.TheVariants.{Unused, Calls, Serves, CallIsOver, ServingIsOver, Taken}
+use Rattle.data_slots.specs.declared.slot.Stage.TheVariants.{Unused, Calls, Awaits, Serves, CallIsOver, ServingIsOver, Taken}
 use Rattle.data_slots.specs.Slots.{Held, Called, Serves as ServedHere, SlotsState, IsEndOf}
 use Rattle.data_slots.specs.Stages.{ForNothing, ForCall, ForServing, Frame, place_of, frame_of, use_of, end_of, IsStage, IsUnusedBy}
 use Rattle.data_slots.specs.Whole.{frames, held_in, IsUsedAt}
@@ -42,19 +42,23 @@ client-role domain f t p Client same h = refl
 
 unused-by : (version : ℕ) (role : Role) (stage : Stage) → IsStage version stage → use_of stage ≡ ForNothing → (end_of stage).role ≡ role → IsUnusedBy role stage
 unused-by version role (Unused end) h unused is = (h, is)
-unused-by version role (Calls number input session) h unused is = absurd (bad number input.value.items unused)
+unused-by version role (Calls number input side session) h unused is = absurd (bad number input.value.items unused)
   where
     bad : (n : ℕ) (bytes : List ℕ) → ForCall n bytes ≡ ForNothing → ⊥
     bad n bytes e = cc
-unused-by version role (Serves number service session) h unused is = absurd (bad number service.value unused)
+unused-by version role (Awaits number service serving side) h unused is = absurd (bad number service.value unused)
   where
     bad : (n : ℕ) (b : Builtin) → ForServing n b ≡ ForNothing → ⊥
     bad n b e = cc
-unused-by version role (CallIsOver number input ended) h unused is = absurd (bad number input.value.items unused)
+unused-by version role (Serves number service side session) h unused is = absurd (bad number service.value unused)
+  where
+    bad : (n : ℕ) (b : Builtin) → ForServing n b ≡ ForNothing → ⊥
+    bad n b e = cc
+unused-by version role (CallIsOver number input came end) h unused is = absurd (bad number input.value.items unused)
   where
     bad : (n : ℕ) (bytes : List ℕ) → ForCall n bytes ≡ ForNothing → ⊥
     bad n bytes e = cc
-unused-by version role (ServingIsOver number service ended) h unused is = absurd (bad number service.value unused)
+unused-by version role (ServingIsOver number service came end) h unused is = absurd (bad number service.value unused)
   where
     bad : (n : ℕ) (b : Builtin) → ForServing n b ≡ ForNothing → ⊥
     bad n b e = cc

@@ -2,6 +2,7 @@ pub mod ListLaws
 mod IndexLaws
 mod PlaceLaws
 mod OpenLaws
+mod SideLaws
 mod WholeLaws
 mod GivenLaws
 mod BeginLaws

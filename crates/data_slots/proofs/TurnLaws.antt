@@ -10,7 +10,7 @@ use Rattle.task_duties.specs.declared.place.PagePlace.TheVariants.{Control, Payl
 use Rattle.task_duties.specs.Pairwise.{SomeOf}
 use Rattle.data_slots.specs.declared.slot.Slot.{Slot}
 use Rattle.data_slots.specs.declared.slot.Stage.{Stage}
-use Rattle.data_slots.specs.declared.slot.Stage.TheVariants.{Unused, Calls, Serves, CallIsOver, ServingIsOver, Taken}
+use Rattle.data_slots.specs.declared.slot.Stage.TheVariants.{Unused, Calls, Awaits, Serves, CallIsOver, ServingIsOver, Taken}
 use Rattle.data_slots.specs.declared.note.CallNote.{CallNote}
 use Rattle.data_slots.specs.declared.note.ServedNote.{ServedNote}
 use Rattle.data_slots.specs.declared.ends.Ends.{Ends}
@@ -44,15 +44,16 @@ can-turn version (Unused end) h is = bad is
   where
     bad : false ≡ true → CanTurn (Unused end)
     bad e = cc
-can-turn version (Calls number input session) h is = h.0
-can-turn version (Serves number service session) h is = h.0
-can-turn version (CallIsOver number input ended) h is = bad is
+can-turn version (Calls number input side session) h is = h.0
+can-turn version (Awaits number service serving side) h is = h.0
+can-turn version (Serves number service side session) h is = h.0
+can-turn version (CallIsOver number input came end) h is = bad is
   where
-    bad : false ≡ true → CanTurn (CallIsOver number input ended)
+    bad : false ≡ true → CanTurn (CallIsOver number input came end)
     bad e = cc
-can-turn version (ServingIsOver number service ended) h is = bad is
+can-turn version (ServingIsOver number service came end) h is = bad is
   where
-    bad : false ≡ true → CanTurn (ServingIsOver number service ended)
+    bad : false ≡ true → CanTurn (ServingIsOver number service came end)
     bad e = cc
 can-turn version Taken h is = absurd h
 

@@ -11,7 +11,7 @@ use Rattle.task_duties.proofs.OutboxLaw.{same-self}
 use Rattle.task_duties.proofs.ServedLaw.{same-place}
 use Rattle.data_slots.specs.declared.slot.Slot.{Slot}
 use Rattle.data_slots.specs.declared.slot.Stage.{Stage}
-use Rattle.data_slots.specs.declared.slot.Stage.TheVariants.{Unused, Calls, Serves, CallIsOver, ServingIsOver, Taken}
+use Rattle.data_slots.specs.declared.slot.Stage.TheVariants.{Unused, Calls, Awaits, Serves, CallIsOver, ServingIsOver, Taken}
 use Rattle.data_slots.specs.declared.note.CallNote.{CallNote}
 use Rattle.data_slots.specs.declared.note.ServedNote.{ServedNote}
 use Rattle.data_slots.specs.Slots.{IsEndOf}
@@ -135,16 +135,20 @@ pub record IsPutTo (version : ℕ) (slot slot' : Slot) (used : Use) : Type 0 whe
 
 is-shut : (stage : Stage) → use_of stage ≡ ForNothing → is_session stage ≡ false
 is-shut (Unused end) h = refl
-is-shut (Calls number input session) h = absurd (never-call number input.value.items h)
+is-shut (Calls number input side session) h = absurd (never-call number input.value.items h)
   where
     never-call : (n : ℕ) (bytes : List ℕ) → ForCall n bytes ≡ ForNothing → ⊥
     never-call n bytes h = cc
-is-shut (Serves number service session) h = absurd (never-serving number service.value h)
+is-shut (Awaits number service serving side) h = absurd (never-serving number service.value h)
   where
     never-serving : (n : ℕ) (b : Builtin) → ForServing n b ≡ ForNothing → ⊥
     never-serving n b h = cc
-is-shut (CallIsOver number input ended) h = refl
-is-shut (ServingIsOver number service ended) h = refl
+is-shut (Serves number service side session) h = absurd (never-serving number service.value h)
+  where
+    never-serving : (n : ℕ) (b : Builtin) → ForServing n b ≡ ForNothing → ⊥
+    never-serving n b h = cc
+is-shut (CallIsOver number input came end) h = refl
+is-shut (ServingIsOver number service came end) h = refl
 is-shut Taken h = refl
 
 pub frames-set : (slots : List Slot) (at : ℕ) (slot slot' : Slot) (used : Use) → frame_of slot' ≡ record (frame_of slot) { used = used }

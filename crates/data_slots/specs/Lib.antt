@@ -1,6 +1,7 @@
 pub mod Slots
 pub mod Done
 pub mod Reports
+pub mod Sides
 pub mod Stages
 pub mod Index
 pub mod Given

@@ -1,29 +1,32 @@
 -- A data end, and what it is used for.
-use Rattle.std.specs.Prelude.{◌≡◌, ℕ, List, [], Bool, true, false, Some, None}
+use Rattle.std.specs.Prelude.{◌≡◌, ℕ, List, [], Bool, true, false, Option, Some, None}
 use Rattle.ring_words.specs.declared.page.Role.{Role}
-use Rattle.ring_words.specs.declared.page.Role.TheVariants.{Server}
-use Rattle.vchan_protocol.specs.declared.call.EndState.TheVariants.{Shut}
+use Rattle.ring_words.specs.declared.page.Role.TheVariants.{Client}
 use Rattle.service_gate.specs.Owing.{builtin_owes}
 use Rattle.service_gate.specs.declared.builtin.Builtin.{Builtin}
-use Rattle.vchan_rule.specs.Seated.{view, last_view, IsOpen}
-use Rattle.end_view.specs.EndView.{EndView, IsUnused}
+use Rattle.vchan_rule.specs.Seated.{view, IsOpen}
+use Rattle.end_view.specs.EndView.{EndView, IsUnused, no_end}
 use Rattle.task_duties.specs.declared.place.PagePlace.{PagePlace}
 use Rattle.task_duties.specs.declared.place.PagePlace.TheVariants.{Payload}
-use Rattle.task_duties.specs.Agent.Sessions.{chunk, CallerOwes, IsService, ServingOwes}
+use Rattle.page_offer.specs.declared.server.LaidPage.{LaidPage}
+use Rattle.page_offer.specs.Views.{unused_view}
+use Rattle.task_duties.specs.GivenEnds.{done_view, fresh_view}
+use Rattle.task_duties.specs.Agent.Sessions.{chunk, CallerDone, CallerOwes, IsService, ServingOwes}
 use Rattle.qrexec_data.specs.declared.outcome.Outcome.{Outcome}
 use Rattle.qrexec_data.specs.CallerSide.{CallerState, CallerStandsFor}
-use Rattle.qrexec_data.specs.ServingSide.{ServingState}
+use Rattle.qrexec_data.specs.ServingSide.{ServingState, ServingStandsFor}
 use Rattle.channel_session.specs.Calling.{IsCalling}
 use Rattle.channel_session.specs.Answering.{IsAnswering, IsAtWork}
-use Rattle.channel_session.specs.Ended.{done_of}
 use Rattle.data_slots.specs.declared.slot.Stage.{Stage}
-use Rattle.data_slots.specs.declared.slot.Stage.TheVariants.{Unused, Calls, Serves, CallIsOver, ServingIsOver, Taken}
+use Rattle.data_slots.specs.declared.slot.Stage.TheVariants.{Unused, Calls, Awaits, Serves, CallIsOver, ServingIsOver, Taken}
+use Rattle.data_slots.specs.declared.slot.CallerResult.{CallerResult}
 use Rattle.data_slots.specs.declared.slot.Slot.{Slot}
 use Rattle.data_slots.specs.declared.done.SessionOver.{SessionOver}
 use Rattle.data_slots.specs.declared.report.Report.{Report}
 use Rattle.data_slots.specs.declared.report.Report.TheVariants.{Call, Serving}
 use Rattle.data_slots.specs.Done.{caller_done}
 use Rattle.data_slots.specs.Slots.{Held, held_of}
+use Rattle.data_slots.specs.Sides.{HasLaid, IsSideOf, seen_under}
 
 -- what an end is used for: nothing, a call of the agent's own by its number, or what it serves by its number
 pub data Use : Type 0 where
@@ -37,70 +40,28 @@ is_nothing used = false
 
 abbrev pub use_of : Stage → Use
 use_of (Unused end) = ForNothing
-use_of (Calls number input session) = ForCall number input.value.items
-use_of (Serves number service session) = ForServing number service.value
-use_of (CallIsOver number input ended) = ForCall number input.value.items
-use_of (ServingIsOver number service ended) = ForServing number service.value
+use_of (Calls number input side session) = ForCall number input.value.items
+use_of (Awaits number service serving side) = ForServing number service.value
+use_of (Serves number service side session) = ForServing number service.value
+use_of (CallIsOver number input came end) = ForCall number input.value.items
+use_of (ServingIsOver number service came end) = ForServing number service.value
 use_of Taken = ForNothing
 
--- no end, which a slot has only while its stage changes
-unfoldable pub no_end : EndView
-no_end = record {
-  page = record { words = 0; slots = 0; views_name = 0; atom = 0; block = 0; offset = 0; slot_names = [] };
-  role = Server;
-  state = Shut;
-  idle = true;
-  sent = [];
-  got = [];
-  saw = false;
-  ended = None;
-  drained = false;
-  misled = false;
-  retired = true;
-  turned = false;
-  consumed = 0;
-  trail = [];
-}
-
 abbrev pub end_of : Stage → EndView
-end_of (Unused end) = view end
-end_of (Calls number input session) = view session.end
-end_of (Serves number service session) = view session.end
-end_of (CallIsOver number input ended) = last_view ended.retired
-end_of (ServingIsOver number service ended) = last_view ended.retired
+end_of (Unused end) = fresh_view end
+end_of (Calls number input side session) = seen_under side (view session.end)
+end_of (Awaits number service serving side) = unused_view side Client
+end_of (Serves number service side session) = seen_under side (view session.end)
+end_of (CallIsOver number input came end) = done_view end
+end_of (ServingIsOver number service came end) = done_view end
 end_of Taken = no_end
 
 -- whether a session is open
 abbrev pub is_session : Stage → Bool
-is_session (Calls number input session) = true
-is_session (Serves number service session) = true
+is_session (Calls number input side session) = true
+is_session (Awaits number service serving side) = true
+is_session (Serves number service side session) = true
 is_session _ = false
-
--- what stands of an end of an agent of this version
-abbrev pub IsStage : ℕ → Stage → Type 0
-IsStage version (Unused end) = IsUnused (view end)
-IsStage version (Calls number input session) =
-    IsCalling session.caller session.end × (session.caller.replies.own ≡ version) × (session.caller.requests.input ≡ input.value.items)
-IsStage version (Serves number service session) =
-    IsAtWork session.serving session.end × (session.serving.answering.own ≡ version) × IsAnswering (builtin_owes service.value) session.serving session.end
-IsStage version (CallIsOver number input ended) = CallerOwes version input.value.items (done_of ended) (last_view ended.retired)
-IsStage version (ServingIsOver number service ended) =
-    (name : List ℕ) → IsService name (builtin_owes service.value) → ServingOwes version name ended.outcome ended.got (last_view ended.retired)
-IsStage version Taken = ⊥
-
--- the end is between two calls, or it is retired and was given up to nobody
-abbrev pub CanRetire : Stage → Type 0
-CanRetire (Unused end) = (view end).idle ≡ true
-CanRetire (Calls number input session) = IsOpen session.end
-CanRetire (Serves number service session) = (view session.end).idle ≡ true
-CanRetire (CallIsOver number input ended) = (last_view ended.retired).turned ≡ false
-CanRetire (ServingIsOver number service ended) = (last_view ended.retired).turned ≡ false
-CanRetire Taken = ⊥
-
--- an end of this role that did nothing yet
-abbrev pub IsUnusedBy : Role → Stage → Type 0
-IsUnusedBy role (Unused end) = IsUnused (view end) × ((view end).role ≡ role)
-IsUnusedBy role _ = ⊥
 
 -- a caller, or a side that serves, that has read and sent nothing
 pub record IsNewCaller (caller : CallerState) : Type 0 where
@@ -114,16 +75,55 @@ pub record IsNewServing (serving : ServingState Builtin) : Type 0 where
   pub undecided : serving.answering.outcome ≡ None
   pub nothing : serving.inbox.got ≡ []
 
+-- what a caller has of a call that is over
+abbrev pub result_of : CallerResult → CallerDone
+result_of r = record { outcome = r.outcome; stdout = r.stdout; stderr = r.stderr; got = r.got }
+
+-- what stands of an end of an agent of this version
+abbrev pub IsStage : ℕ → Stage → Type 0
+IsStage version (Unused end) = IsUnused (fresh_view end)
+IsStage version (Calls number input side session) =
+    IsCalling session.caller session.end × (session.caller.replies.own ≡ version) × (session.caller.requests.input ≡ input.value.items)
+IsStage version (Awaits number service serving side) =
+    IsNewServing serving × (serving.answering.own ≡ version) × ServingStandsFor builtin_owes (builtin_owes service.value) serving []
+IsStage version (Serves number service side session) =
+    IsAtWork session.serving session.end × (session.serving.answering.own ≡ version) × IsAnswering (builtin_owes service.value) session.serving session.end
+IsStage version (CallIsOver number input came end) = CallerOwes version input.value.items (result_of came) (done_view end)
+IsStage version (ServingIsOver number service came end) =
+    (name : List ℕ) → IsService name (builtin_owes service.value) → ServingOwes version name came.outcome came.got (done_view end)
+IsStage version Taken = ⊥
+
+-- the end is between two calls, or it is retired and was given up to nobody
+abbrev pub CanRetire : Stage → Type 0
+CanRetire (Unused end) = (fresh_view end).idle ≡ true
+CanRetire (Calls number input side session) = IsOpen session.end × IsSideOf side (view session.end)
+CanRetire (Awaits number service serving side) = Unit {0}
+CanRetire (Serves number service side session) = ((view session.end).idle ≡ true) × IsSideOf side (view session.end)
+CanRetire (CallIsOver number input came end) = (done_view end).turned ≡ false
+CanRetire (ServingIsOver number service came end) = (done_view end).turned ≡ false
+CanRetire Taken = ⊥
+
+-- an end of this role that did nothing yet
+abbrev pub IsUnusedBy : Role → Stage → Type 0
+IsUnusedBy role (Unused end) = IsUnused (fresh_view end) × ((fresh_view end).role ≡ role)
+IsUnusedBy role _ = ⊥
+
+-- the page of an unused end is laid, where that is left to it
+abbrev pub HasPage : Stage → Option LaidPage → Type 0
+HasPage (Unused end) laid = HasLaid end laid
+HasPage _ laid = Unit {0}
+
 -- a session is open, and its two parts agree
 abbrev pub CanTurn : Stage → Type 0
-CanTurn (Calls number input session) = IsCalling session.caller session.end
-CanTurn (Serves number service session) = IsAtWork session.serving session.end
+CanTurn (Calls number input side session) = IsCalling session.caller session.end
+CanTurn (Awaits number service serving side) = IsNewServing serving
+CanTurn (Serves number service side session) = IsAtWork session.serving session.end
 CanTurn _ = ⊥
 
 -- a session that came out so can be finished
 abbrev pub HasComeOut : Outcome → Stage → Type 0
-HasComeOut outcome (Calls number input session) = IsCalling session.caller session.end × (session.caller.replies.outcome ≡ Some outcome)
-HasComeOut outcome (Serves number service session) = IsAtWork session.serving session.end × (session.serving.answering.outcome ≡ Some outcome)
+HasComeOut outcome (Calls number input side session) = IsCalling session.caller session.end × (session.caller.replies.outcome ≡ Some outcome)
+HasComeOut outcome (Serves number service side session) = IsAtWork session.serving session.end × (session.serving.answering.outcome ≡ Some outcome)
 HasComeOut outcome _ = ⊥
 
 -- what the broker is told of a session at this place

@@ -43,6 +43,9 @@ pub(crate) struct Ends<'p> {
     pub(crate) calls: Vec<Option<CallNote>>,
     /// What is served, in the order in which it was begun.
     pub(crate) served: Vec<ServedNote>,
+    /// Which of the ends may still await the other end of their page, whose memory is given back then.
+    /// An end that is missing here gives it back with all the others.
+    pub(crate) waiting: Vec<usize>,
 }
 
 impl<'p> Ends<'p> {
@@ -81,6 +84,7 @@ impl<'p> Ends<'p> {
             busy: Vec::new(alloc),
             calls: no_notes(alloc, calls)?,
             served: Vec::new(alloc),
+            waiting: Vec::new(alloc),
         })
     }
 
@@ -125,8 +129,10 @@ impl<'p> Ends<'p> {
         };
         let seen = Snapshot::of(&input);
         let caller = Caller::new(self.alloc, input, self.version, CHUNK)?;
-        self.busy.push(at)?;
-        self.slots[at].call(number, seen, caller);
+        self.busy.reserve(1)?;
+        let laid = self.slots[at].lay(self.alloc)?;
+        push_within(&mut self.busy, at);
+        self.slots[at].call(number, seen, caller, laid);
         self.calls[number] = Some(note);
         Ok(())
     }
@@ -165,12 +171,38 @@ impl<'p> Ends<'p> {
     }
 
     /// One turn of each open session. Those that are over now are put behind `over`. It answers whether any
-    /// moved bytes or is over.
+    /// moved bytes or is over. Pages of sessions that are over at both ends are given back before.
     pub(crate) fn turn(
         &mut self,
         scratch: &mut [u8],
         over: &mut Vec<SessionOver>,
     ) -> Result<bool, Memory>
+        requires whole { IsWhole self.old }
+        requires retire { Each (λ s. CanRetire s.stage) self.old.slots.items }
+        requires some { 0 < length scratch.old }
+        ensures turned { OnOk result (IsTurned self.old self.new over.old.items over.new.items) }
+        ensures same { HasSameEnds self.old self.new }
+        ensures retire { Each (λ s. CanRetire s.stage) self.new.slots.items }
+        ensures long { length scratch.new ≡ length scratch.old }
+    {
+        self.give_back();
+        self.turn_open(scratch, over)
+    }
+
+    // Gives back the pages of calls that are over at both ends.
+    fn give_back(&mut self)
+        requires whole { IsWhole self.old }
+        requires retire { Each (λ s. CanRetire s.stage) self.old.slots.items }
+        ensures turned { (over : _) → IsTurned self.old self.new over over }
+        ensures same { HasSameEnds self.old self.new }
+        ensures retire { Each (λ s. CanRetire s.stage) self.new.slots.items }
+    {
+        take_back_all(&mut self.slots, &mut self.waiting);
+    }
+
+    // One turn of each open session. Those that are over now are put behind `over`. It answers whether any
+    // moved bytes or is over.
+    fn turn_open(&mut self, scratch: &mut [u8], over: &mut Vec<SessionOver>) -> Result<bool, Memory>
         requires whole { IsWhole self.old }
         requires retire { Each (λ s. CanRetire s.stage) self.old.slots.items }
         requires some { 0 < length scratch.old }
@@ -190,6 +222,19 @@ impl<'p> Ends<'p> {
             }
         }
         Ok(moved)
+    }
+
+    /// How many open sessions are on pages that are laid when they are first used.
+    pub(crate) fn pages_in_use(&self) -> usize {
+        let mut count: usize = 0;
+        for at in &self.busy {
+            if let Some(slot) = self.slots.get(*at) {
+                if slot.is_offered() {
+                    count = count.saturating_add(1);
+                }
+            }
+        }
+        count
     }
 
     // Whether the last turn of the session of this place among the open ones moved bytes.
@@ -227,6 +272,7 @@ impl<'p> Ends<'p> {
         };
         over.push(told)?;
         self.busy.swap_remove(next);
+        await_other_end(&mut self.waiting, at);
         Ok(true)
     }
 
@@ -321,5 +367,36 @@ fn find_unused(index: &Index, slots: &[Slot], from: u32, to: u32, port: u32) -> 
         Some(at)
     } else {
         None
+    }
+}
+
+// Lists this end, which may await the other end of its page. Where there is no room it isn't listed.
+fn await_other_end(waiting: &mut Vec<usize>, at: usize) {
+    let _ = waiting.push(at);
+}
+
+// Takes the other ends of pages back where they are there, and drops these ends from the list.
+fn take_back_all(slots: &mut [Slot], waiting: &mut Vec<usize>)
+    ensures { slots.new ≡ slots.old }
+{
+    let mut next = 0;
+    while next < waiting.len() {
+        if take_back_at(slots, waiting[next]) {
+            next += 1;
+        } else {
+            waiting.swap_remove(next);
+        }
+    }
+}
+
+// Takes the other end of the page of this end back where it is there, and answers whether it is still
+// awaited.
+fn take_back_at(slots: &mut [Slot], at: usize) -> bool
+    ensures { slots.new ≡ slots.old }
+{
+    if at < slots.len() {
+        slots[at].take_back()
+    } else {
+        false
     }
 }

@@ -4,28 +4,34 @@ ghost use Rattle.ring_words.specs.declared.page.Role.TheVariants.{Server, Client
 ghost use Rattle.service_gate.specs.Triple.{Triple};
 ghost use Rattle.service_gate.specs.Owing.{builtin_owes};
 ghost use Rattle.qrexec_data.specs.ServingSide.{ServingStandsFor};
+ghost use Rattle.end_view.specs.EndView.{IsUnused};
 ghost use Rattle.vchan_rule.specs.Seated.{view, last_view, IsOpen};
 ghost use Rattle.vchan_rule.specs.Ends.{IsSameEnd};
+ghost use Rattle.page_offer.specs.Views.{unused_view};
 ghost use Rattle.task_duties.specs.declared.place.PagePlace.{PagePlace};
-ghost use Rattle.task_duties.specs.GivenEnds.{retired_at};
+ghost use Rattle.task_duties.specs.GivenEnds.{done_view, fresh_view, retired_at};
 ghost use Rattle.channel_session.specs.Calling.{IsCalling, IsSameCall};
 ghost use Rattle.channel_session.specs.Answering.{IsAnswering, IsAtWork};
 ghost use Rattle.channel_session.specs.Ended.{done_of};
 ghost use Rattle.data_slots.specs.Slots.{held_of, held_at};
 ghost use Rattle.data_slots.specs.Done.{caller_done};
-ghost use Rattle.data_slots.specs.Stages.{ForCall, ForServing, IsStage, CanRetire, CanTurn, IsUnusedBy, IsNewCaller, IsNewServing, HasComeOut, IsReportOf, Tells, is_nothing, is_session, use_of, framed, place_of, frame_of};
+ghost use Rattle.data_slots.specs.Sides.{HasLaid, IsSideOf, seen_under};
+ghost use Rattle.data_slots.specs.Stages.{ForCall, ForServing, IsStage, CanRetire, CanTurn, IsUnusedBy, IsNewCaller, IsNewServing, HasComeOut, IsReportOf, Tells, HasPage, is_nothing, is_session, use_of, result_of, framed, place_of, frame_of};
 
 use crate::done::{CallOver, SessionOver};
 use crate::report::Report;
+use crate::side::{Side, open_server, retire_unused};
 use channel_session::{CallerEnd, CallerSession, ServingEnd, ServingSession};
+use page_offer::{LaidPage, UnlaidClient};
 use qrexec_data::{Caller, Outcome, Serving};
+use qrexec_frame::Bytes;
 use service_gate::Builtin;
+use std::alloc::Global;
 use std::mem;
 use std::snapshot::Snapshot;
-use task_duties::{PagePlace, RetiredEnd, ServedDone};
+use task_duties::{DoneEnd, PagePlace, RetiredEnd, ServedDone, UnusedEnd};
 use vchan_io::Memory;
-use vchan_lifecycle::retire;
-use vchan_rule::{End, Retired};
+use vchan_rule::End;
 
 /// A data end, with its place.
 #[derive(Drop)]
@@ -41,34 +47,61 @@ pub(crate) struct Slot<'p> {
 pub(crate) enum Stage<'p> {
     /// Nothing yet.
     Unused {
-        end: End<'p>,
+        end: UnusedEnd<'p>,
     },
     /// A call of the agent's own.
     Calls {
         number: usize,
         input: Snapshot<Vec<u8>>,
+        side: Side,
         session: CallerSession<'p>,
+    },
+    /// A call that the agent serves, whose page its server hasn't offered yet.
+    Awaits {
+        number: usize,
+        service: Snapshot<Builtin>,
+        serving: Serving<Builtin>,
+        side: UnlaidClient,
     },
     /// A call that the agent serves.
     Serves {
         number: usize,
         service: Snapshot<Builtin>,
+        side: Side,
         session: ServingSession<'p>,
     },
     /// A call of the agent's own that is over.
     CallIsOver {
         number: usize,
         input: Snapshot<Vec<u8>>,
-        ended: CallerEnd,
+        came: CallerResult,
+        end: DoneEnd,
     },
     /// A call that the agent served and that is over.
     ServingIsOver {
         number: usize,
         service: Snapshot<Builtin>,
-        ended: ServingEnd,
+        came: ServingResult,
+        end: DoneEnd,
     },
     /// Its end is being put to another use. No call leaves a slot so.
     Taken,
+}
+
+/// What a caller has once its call is over.
+#[derive(Drop)]
+pub(crate) struct CallerResult {
+    outcome: Outcome,
+    stdout: Bytes,
+    stderr: Bytes,
+    got: Bytes,
+}
+
+/// What a side that serves has once its call is over.
+#[derive(Drop)]
+pub(crate) struct ServingResult {
+    outcome: Outcome,
+    got: Bytes,
 }
 
 impl<'p> Slot<'p> {
@@ -80,9 +113,27 @@ impl<'p> Slot<'p> {
         matches!(self.stage, Stage::Unused { .. })
     }
 
-    /// The end of the own call of this number, for which the caller has this input.
-    pub(crate) fn call(&mut self, number: usize, input: Snapshot<Vec<u8>>, caller: Caller)
+    /// Lays the page of an unused end, where that is left to it. Its error is want of memory.
+    pub(crate) fn lay(&self, alloc: Global) -> Result<Option<LaidPage>, Memory>
+        ensures { IfOk result (λ laid. HasPage self.now.stage laid) }
+    {
+        match &self.stage {
+            Stage::Unused { end } => lay(end, alloc),
+            _ => Ok(None),
+        }
+    }
+
+    /// The end of the own call of this number, for which the caller has this input, once its page is
+    /// laid.
+    pub(crate) fn call(
+        &mut self,
+        number: usize,
+        input: Snapshot<Vec<u8>>,
+        caller: Caller,
+        laid: Option<LaidPage>,
+    )
         requires unused { IsUnusedBy Server self.old.stage }
+        requires laid { HasPage self.old.stage laid }
         requires caller { IsNewCaller caller }
         requires input { caller.requests.input ≡ input.value.items }
         ensures frame { frame_of self.new ≡ record (frame_of self.old) { used = ForCall number input.value.items } }
@@ -91,7 +142,7 @@ impl<'p> Slot<'p> {
         ensures retire { CanRetire self.new.stage }
     {
         let stage = mem::replace(&mut self.stage, Stage::Taken);
-        self.stage = stage.call(number, input, caller);
+        self.stage = stage.call(number, input, caller, laid);
     }
 
     /// The end of what is served under this number, by a side that has this service.
@@ -114,9 +165,11 @@ impl<'p> Slot<'p> {
     }
 
     /// One turn of an open session. It answers what the broker is told of the session, where it is
-    /// over now. After want of memory the end can still be retired.
+    /// over now. After want of memory the end can still be retired; where the task at the other end ran
+    /// out of memory before it opened that end, so did the run.
     pub(crate) fn turn(&mut self, scratch: &mut [u8]) -> Result<Option<SessionOver>, Memory>
         requires open { CanTurn self.old.stage }
+        requires retire { CanRetire self.old.stage }
         requires some { 0 < length scratch.old }
         ensures frame { frame_of self.new ≡ frame_of self.old }
         ensures stage { (version : ℕ) → IsStage version self.old.stage → OnOk result (IsStage version self.new.stage) }
@@ -126,7 +179,12 @@ impl<'p> Slot<'p> {
         ensures retire { CanRetire self.new.stage }
     {
         match self.stage.turn(scratch)? {
-            None => Ok(None),
+            None => {
+                if self.stage.is_abandoned() {
+                    return Err(Memory);
+                }
+                Ok(None)
+            }
             Some(outcome) => {
                 let told = self.told();
                 let stage = mem::replace(&mut self.stage, Stage::Taken);
@@ -145,6 +203,27 @@ impl<'p> Slot<'p> {
         }
     }
 
+    /// Whether a session is open on a page that is laid when it is first used.
+    pub(crate) fn is_offered(&self) -> bool {
+        match &self.stage {
+            Stage::Calls { side, .. } => side.is_offered(),
+            Stage::Serves { side, .. } => side.is_offered(),
+            Stage::Awaits { .. } => true,
+            _ => false,
+        }
+    }
+
+    /// Takes the other end back, where the page was laid for a call of the agent's own that is over, so
+    /// that its memory is given back. It answers whether that end is still awaited.
+    pub(crate) fn take_back(&mut self) -> bool
+        ensures { self.new ≡ self.old }
+    {
+        match &mut self.stage {
+            Stage::CallIsOver { end, .. } => take_back(end),
+            _ => false,
+        }
+    }
+
     // What the broker is told of a session.
     fn told(&self) -> SessionOver
         requires session { is_session self.now.stage ≡ true }
@@ -156,7 +235,7 @@ impl<'p> Slot<'p> {
                 port: self.port,
                 number: Some(*number),
             },
-            Stage::Serves { .. } => SessionOver {
+            Stage::Awaits { .. } | Stage::Serves { .. } => SessionOver {
                 domain: self.from,
                 port: self.port,
                 number: None,
@@ -200,15 +279,27 @@ impl<'p> Slot<'p> {
         let place = PagePlace::Payload { from, to, port };
         match stage {
             Stage::Unused { end } => {
-                let retired = retire(end);
+                let retired = retire_unused(end);
                 (RetiredEnd { place, retired }, Report::Nothing)
             }
-            Stage::CallIsOver { number, ended, .. } => {
-                let (retired, over) = call_over(to, port, ended);
+            Stage::CallIsOver {
+                number,
+                came,
+                end,
+                ..
+            } => {
+                let over = call_over(to, port, came);
+                let retired = end;
                 (RetiredEnd { place, retired }, Report::Call { number, over })
             }
-            Stage::ServingIsOver { number, ended, .. } => {
-                let (retired, done) = served_done(from, port, ended);
+            Stage::ServingIsOver {
+                number,
+                came,
+                end,
+                ..
+            } => {
+                let done = served_done(from, port, came);
+                let retired = end;
                 (
                     RetiredEnd { place, retired },
                     Report::Serving { number, done },
@@ -220,9 +311,17 @@ impl<'p> Slot<'p> {
 }
 
 impl<'p> Stage<'p> {
-    // The end of the own call of this number, for which the caller has this input.
-    fn call(self, number: usize, input: Snapshot<Vec<u8>>, caller: Caller) -> Stage<'p>
+    // The end of the own call of this number, for which the caller has this input, once its page is
+    // laid.
+    fn call(
+        self,
+        number: usize,
+        input: Snapshot<Vec<u8>>,
+        caller: Caller,
+        laid: Option<LaidPage>,
+    ) -> Stage<'p>
         requires unused { IsUnusedBy Server self }
+        requires laid { HasPage self laid }
         requires caller { IsNewCaller caller }
         requires input { caller.requests.input ≡ input.value.items }
         ensures frame { (place : PagePlace) → framed place result ≡ record { held = (framed place self.entry).held; used = ForCall number input.value.items } }
@@ -231,11 +330,15 @@ impl<'p> Stage<'p> {
         ensures retire { CanRetire result }
     {
         match self {
-            Stage::Unused { end } => Stage::Calls {
-                number,
-                input,
-                session: CallerSession::new(caller, end),
-            },
+            Stage::Unused { end } => {
+                let (end, side) = open_server(end, laid);
+                Stage::Calls {
+                    number,
+                    input,
+                    side,
+                    session: CallerSession::new(caller, end),
+                }
+            }
             _ => unreachable!(),
         }
     }
@@ -256,11 +359,7 @@ impl<'p> Stage<'p> {
         ensures retire { CanRetire result }
     {
         match self {
-            Stage::Unused { end } => Stage::Serves {
-                number,
-                service,
-                session: ServingSession::start(serving, end),
-            },
+            Stage::Unused { end } => serve_unused(end, number, service, serving),
             _ => unreachable!(),
         }
     }
@@ -268,6 +367,7 @@ impl<'p> Stage<'p> {
     // One turn of an open session, and how it came out.
     fn turn(&mut self, scratch: &mut [u8]) -> Result<Option<Outcome>, Memory>
         requires open { CanTurn self.old }
+        requires retire { CanRetire self.old }
         requires some { 0 < length scratch.old }
         ensures session { is_session self.new ≡ true }
         ensures frame { (place : PagePlace) → framed place self.new ≡ framed place self.old }
@@ -276,31 +376,75 @@ impl<'p> Stage<'p> {
         ensures long { length scratch.new ≡ length scratch.old }
         ensures retire { CanRetire self.new }
     {
+        self.open_offered();
         match self {
             Stage::Calls { session, .. } => turn_caller(session, scratch),
             Stage::Serves { session, .. } => turn_serving(session, scratch),
+            Stage::Awaits { .. } => Ok(None),
             _ => unreachable!(),
         }
     }
 
-    // Retires the end.
-    fn give_up(self) -> Retired
+    // The session of an awaited page begins, where that is offered.
+    fn open_offered(&mut self)
+        requires open { CanTurn self.old }
+        requires retire { CanRetire self.old }
+        ensures open { CanTurn self.new }
+        ensures retire { CanRetire self.new }
+        ensures frame { (place : PagePlace) → framed place self.new ≡ framed place self.old }
+        ensures stage { (version : ℕ) → IsStage version self.old → IsStage version self.new }
+    {
+        if !matches!(self, Stage::Awaits { .. }) {
+            return;
+        }
+        let stage = mem::replace(self, Stage::Taken);
+        *self = stage.opened();
+    }
+
+    // The same, where the page is offered with its session.
+    fn opened(self) -> Stage<'p>
+        requires open { CanTurn self }
         requires retire { CanRetire self }
-        ensures held { (place : PagePlace) → held_of place (last_view result) ≡ (framed place self.entry).held }
-        ensures honest { (last_view result).turned ≡ false }
+        ensures open { CanTurn result }
+        ensures retire { CanRetire result }
+        ensures frame { (place : PagePlace) → framed place result ≡ framed place self.entry }
+        ensures stage { (version : ℕ) → IsStage version self.entry → IsStage version result }
     {
         match self {
-            Stage::Unused { end } => retire(end),
-            Stage::Calls { session, .. } => session.give_up(),
-            Stage::Serves { session, .. } => session.give_up(),
-            Stage::CallIsOver { ended, .. } => {
-                let CallerEnd { retired, .. } = ended;
-                retired
-            }
-            Stage::ServingIsOver { ended, .. } => {
-                let ServingEnd { retired, .. } = ended;
-                retired
-            }
+            Stage::Awaits {
+                number,
+                service,
+                serving,
+                side,
+            } => open_awaited(number, service, serving, side),
+            stage => stage,
+        }
+    }
+
+    // Whether the task at the other end was dropped before it opened its end of the page.
+    fn is_abandoned(&mut self) -> bool
+        ensures { self.new ≡ self.old }
+    {
+        match self {
+            Stage::Calls { side, .. } => side.is_abandoned(),
+            Stage::Awaits { side, .. } => side.is_abandoned(),
+            _ => false,
+        }
+    }
+
+    // Retires the end.
+    fn give_up(self) -> DoneEnd
+        requires retire { CanRetire self }
+        ensures held { (place : PagePlace) → held_of place (done_view result) ≡ (framed place self.entry).held }
+        ensures honest { (done_view result).turned ≡ false }
+    {
+        match self {
+            Stage::Unused { end } => retire_unused(end),
+            Stage::Calls { side, session, .. } => side.finish(session.give_up()),
+            Stage::Awaits { side, .. } => DoneEnd::Client(side.finish()),
+            Stage::Serves { side, session, .. } => side.finish(session.give_up()),
+            Stage::CallIsOver { end, .. } => end,
+            Stage::ServingIsOver { end, .. } => end,
             Stage::Taken => unreachable!(),
         }
     }
@@ -308,6 +452,7 @@ impl<'p> Stage<'p> {
     // A session that came out so is finished.
     fn finish(self, outcome: Outcome) -> Stage<'p>
         requires over { HasComeOut outcome self }
+        requires retire { CanRetire self }
         ensures frame { (place : PagePlace) → framed place result ≡ framed place self.entry }
         ensures stage { (version : ℕ) → IsStage version self.entry → IsStage version result }
         ensures session { is_session result ≡ false }
@@ -317,31 +462,127 @@ impl<'p> Stage<'p> {
             Stage::Calls {
                 number,
                 input,
+                side,
                 session,
-            } => Stage::CallIsOver {
-                number,
-                input,
-                ended: session.finish(outcome),
-            },
+            } => {
+                let (came, end) = caller_result(session.finish(outcome), side);
+                Stage::CallIsOver {
+                    number,
+                    input,
+                    came,
+                    end,
+                }
+            }
             Stage::Serves {
                 number,
                 service,
+                side,
                 session,
-            } => Stage::ServingIsOver {
-                number,
-                service,
-                ended: session.finish(outcome),
-            },
+            } => {
+                let (came, end) = serving_result(session.finish(outcome), side);
+                Stage::ServingIsOver {
+                    number,
+                    service,
+                    came,
+                    end,
+                }
+            }
             _ => unreachable!(),
         }
     }
 }
 
-// What a call came to, and its end.
-fn call_over(to: u32, port: u32, ended: CallerEnd) -> (Retired, CallOver)
-    ensures retired { result.0 ≡ ended.retired }
-    ensures place { (result.1.to ≡ to) × (result.1.port ≡ port) }
-    ensures done { caller_done result.1 ≡ done_of ended }
+// Lays the page of an unused end, where that is left to it.
+fn lay(end: &UnusedEnd, alloc: Global) -> Result<Option<LaidPage>, Memory>
+    ensures { IfOk result (λ laid. HasLaid end.now laid) }
+{
+    match end {
+        UnusedEnd::Server(side) => Ok(Some(side.lay(alloc)?)),
+        _ => Ok(None),
+    }
+}
+
+// An unused end of a client, put to what is served under this number.
+fn serve_unused<'p>(
+    end: UnusedEnd<'p>,
+    number: usize,
+    service: Snapshot<Builtin>,
+    serving: Serving<Builtin>,
+) -> Stage<'p>
+    requires unused { IsUnused (fresh_view end) × ((fresh_view end).role ≡ Client) }
+    requires serving { IsNewServing serving }
+    requires service { ServingStandsFor builtin_owes (builtin_owes service.value) serving [] }
+    ensures frame { (place : PagePlace) → framed place result ≡ record { held = held_of place (fresh_view end.entry); used = ForServing number service.value } }
+    ensures stage { IsStage serving.answering.own result }
+    ensures session { is_session result ≡ true }
+    ensures retire { CanRetire result }
+{
+    match end {
+        UnusedEnd::Laid(end) => serve_at(number, service, serving, Side::Laid, end),
+        UnusedEnd::Client(side) => Stage::Awaits {
+            number,
+            service,
+            serving,
+            side,
+        },
+        UnusedEnd::Server(_) => unreachable!(),
+    }
+}
+
+// What is served under this number once its page is offered.
+fn open_awaited<'p>(
+    number: usize,
+    service: Snapshot<Builtin>,
+    serving: Serving<Builtin>,
+    side: UnlaidClient,
+) -> Stage<'p>
+    requires { IsNewServing serving }
+    ensures open { CanTurn result }
+    ensures retire { CanRetire result }
+    ensures frame { (place : PagePlace) → framed place result ≡ record { held = held_of place (unused_view side Client); used = ForServing number service.value } }
+    ensures stage { ServingStandsFor builtin_owes (builtin_owes service.value) serving [] → IsStage serving.answering.own result }
+{
+    match side.open() {
+        Ok((end, side)) => serve_at(number, service, serving, Side::Client(side), end),
+        Err(side) => Stage::Awaits {
+            number,
+            service,
+            serving,
+            side,
+        },
+    }
+}
+
+// What is served under this number at this end, which did nothing yet.
+fn serve_at<'p>(
+    number: usize,
+    service: Snapshot<Builtin>,
+    serving: Serving<Builtin>,
+    side: Side,
+    end: End<'p>,
+) -> Stage<'p>
+    requires serving { IsNewServing serving }
+    requires unused { IsUnused (view end) × ((view end).role ≡ Client) }
+    requires side { IsSideOf side (view end) }
+    ensures open { CanTurn result }
+    ensures session { is_session result ≡ true }
+    ensures retire { CanRetire result }
+    ensures frame { (place : PagePlace) → framed place result ≡ record { held = held_of place (seen_under side (view end.entry)); used = ForServing number service.value } }
+    ensures stage { ServingStandsFor builtin_owes (builtin_owes service.value) serving [] → IsStage serving.answering.own result }
+{
+    Stage::Serves {
+        number,
+        service,
+        side,
+        session: ServingSession::start(serving, end),
+    }
+}
+
+// What a caller has once its call is over, and its end.
+fn caller_result(ended: CallerEnd, side: Side) -> (CallerResult, DoneEnd)
+    requires { IsSideOf side (last_view ended.retired) }
+    ensures result { result_of result.0 ≡ done_of ended }
+    ensures end { done_view result.1 ≡ seen_under side (last_view ended.retired) }
 {
     let CallerEnd {
         outcome,
@@ -350,34 +591,71 @@ fn call_over(to: u32, port: u32, ended: CallerEnd) -> (Retired, CallOver)
         got,
         retired,
     } = ended;
-    let over = CallOver {
-        to,
-        port,
+    let came = CallerResult {
         outcome,
         stdout,
         stderr,
         got,
     };
-    (retired, over)
+    (came, side.finish(retired))
 }
 
-// What a session that served came to, and its end.
-fn served_done(from: u32, port: u32, ended: ServingEnd) -> (Retired, ServedDone)
-    ensures retired { result.0 ≡ ended.retired }
-    ensures done { result.1 ≡ record { from = from; port = port; outcome = ended.outcome; got = ended.got } }
+// What a side that serves has once its call is over, and its end.
+fn serving_result(ended: ServingEnd, side: Side) -> (ServingResult, DoneEnd)
+    requires { IsSideOf side (last_view ended.retired) }
+    ensures result { result.0 ≡ record { outcome = ended.outcome; got = ended.got } }
+    ensures end { done_view result.1 ≡ seen_under side (last_view ended.retired) }
 {
     let ServingEnd {
         outcome,
         got,
         retired,
     } = ended;
-    let done = ServedDone {
+    (ServingResult { outcome, got }, side.finish(retired))
+}
+
+// Takes the other end of a page back, where it is its server's, and answers whether that is awaited.
+fn take_back(end: &mut DoneEnd) -> bool
+    ensures { end.new ≡ end.old }
+{
+    match end {
+        DoneEnd::Server(side) => side.take_back(),
+        _ => false,
+    }
+}
+
+// What a call came to.
+fn call_over(to: u32, port: u32, came: CallerResult) -> CallOver
+    ensures place { (result.to ≡ to) × (result.port ≡ port) }
+    ensures done { caller_done result ≡ result_of came }
+{
+    let CallerResult {
+        outcome,
+        stdout,
+        stderr,
+        got,
+    } = came;
+    CallOver {
+        to,
+        port,
+        outcome,
+        stdout,
+        stderr,
+        got,
+    }
+}
+
+// What a session that served came to.
+fn served_done(from: u32, port: u32, came: ServingResult) -> ServedDone
+    ensures { result ≡ record { from = from; port = port; outcome = came.outcome; got = came.got } }
+{
+    let ServingResult { outcome, got } = came;
+    ServedDone {
         from,
         port,
         outcome,
         got,
-    };
-    (retired, done)
+    }
 }
 
 // One turn of a caller that has no outcome yet, and how it came out.

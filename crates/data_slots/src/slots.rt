@@ -138,7 +138,8 @@ impl<'p> DataSlots<'p> {
     }
 
     /// One turn of each open session. Those that are over now are put behind `over`. It answers whether
-    /// any moved bytes or is over, of which nothing is promised.
+    /// any moved bytes or is over, of which nothing is promised. A session whose page its server hasn't
+    /// offered yet awaits that.
     ///
     /// After want of memory the ends can only be given up, and nothing is said of `over`.
     pub fn turn(&mut self, scratch: &mut [u8], over: &mut Vec<SessionOver>) -> Result<bool, Memory>
@@ -153,6 +154,12 @@ impl<'p> DataSlots<'p> {
         let turned = self.ends.turn(scratch, over);
         self.spent = Snapshot::of(&turned.is_err());
         turned
+    }
+
+    /// How many open sessions are on pages that are laid when they are first used. Nothing is promised of
+    /// the answer.
+    pub fn pages_in_use(&self) -> usize {
+        self.ends.pages_in_use()
     }
 
     /// Whether no session is open.

@@ -25,16 +25,25 @@ use Rattle.call_queue.specs.contracts.queue.CallQueue as queue
 use Rattle.call_queue.specs.contracts.queue.CallQueue.TheInside as queue_inside
 use Rattle.agent_control.proofs.control.SessionEnd.TheSendSync as session_end
 use Rattle.agent_control.specs.contracts.control.AgentControl as control
-use Rattle.channel_session.proofs.caller.CallerEnd.TheSendSync as caller_end
 use Rattle.channel_session.proofs.Sent.{caller_send, serving_send}
-use Rattle.channel_session.proofs.serving.ServingEnd.TheSendSync as serving_end
+use Rattle.qrexec_data.proofs.serving.Serving.TheSendSync as serving
+use Rattle.service_gate.proofs.builtin.Builtin.TheSendSync as builtin
+use Rattle.task_duties.proofs.done.CallDone.TheSendSync as call_done
+use Rattle.task_duties.proofs.done.ServedDone.TheSendSync as served_done
 use Rattle.task_duties.proofs.done.ControlEnd.TheSendSync as control_end
-use Rattle.task_duties.proofs.ends.RetiredEnd.TheSendSync as retired_end
+use Rattle.vchan_rule.proofs.turned.Retired.TheSendSync as retired
+use Rattle.page_offer.proofs.Sent.{server_send, client_send, open_server_send, open_client_send, done_server_send, done_client_send}
+use Rattle.task_duties.specs.contracts.ends.UnusedEnd as unused
+use Rattle.task_duties.specs.contracts.ends.DoneEnd as done
+use Rattle.task_duties.specs.contracts.ends.RetiredEnd as retired_end
 use Rattle.task_duties.proofs.place.PagePlace.TheSendSync as place
 use Rattle.task_duties.specs.contracts.ends.DataEnd as data_end
 use Rattle.data_slots.proofs.done.SessionOver.TheSendSync as session_over
 use Rattle.data_slots.specs.contracts.note.CallNote as call_note
 use Rattle.data_slots.specs.contracts.note.ServedNote as served_note
+use Rattle.data_slots.specs.contracts.side.Side as side
+use Rattle.data_slots.proofs.slot.CallerResult.TheSendSync as caller_result
+use Rattle.data_slots.proofs.slot.ServingResult.TheSendSync as serving_result
 use Rattle.data_slots.specs.contracts.slot.Stage as stage
 use Rattle.data_slots.specs.contracts.slot.Slot as slot
 use Rattle.data_slots.specs.contracts.ends.Ends as ends
@@ -42,12 +51,14 @@ use Rattle.data_slots.specs.contracts.slots.DataSlots as slots
 use Rattle.data_slots.specs.contracts.slots.DataSlots.TheInside as slots_inside
 use Rattle.agent_task.specs.contracts.given.Given as given
 use Rattle.agent_task.specs.contracts.agent.Agent as agent
+use Rattle.agent_task.specs.contracts.task.AgentDone as agent_done
 use Rattle.agent_task.specs.contracts.task.AgentTask as agent_task
 use Rattle.agent_task.specs.contracts.task.AgentTask.TheInside as agent_inside
 use Rattle.call_broker.proofs.broker.Broker.TheSendSync as broker
 use Rattle.broker_task.proofs.outbox.Outbox.TheSendSync as outbox
 use Rattle.broker_task.specs.contracts.daemon.Daemon as daemon
 use Rattle.broker_task.specs.contracts.switchboard.Switchboard as switchboard
+use Rattle.broker_task.specs.contracts.task.BrokerDone as broker_done
 use Rattle.broker_task.specs.contracts.task.BrokerTask as broker_task
 use Rattle.broker_task.specs.contracts.task.BrokerTask.TheInside as broker_inside
 use Rattle.hostile_seat.proofs.Hostile.TheSendSync as hostile
@@ -55,9 +66,29 @@ use Rattle.hostile_task.proofs.domain.HostileDomain.TheSendSync as domain
 use Rattle.hostile_task.proofs.progress.Progress.TheSendSync as progress
 use Rattle.hostile_task.specs.contracts.page.TurnedPage as page
 use Rattle.hostile_task.specs.contracts.pages.Pages as pages
+use Rattle.hostile_task.specs.contracts.task.HostileDone as hostile_done
 use Rattle.hostile_task.specs.contracts.task.HostileTask as hostile_task
 use Rattle.hostile_task.specs.contracts.task.HostileTask.TheInside as hostile_inside
 use Rattle.domain_task.specs.contracts.task.Task as task
+use Rattle.domain_task.specs.contracts.done.TaskDone as task_done
+
+-- ---- the ends of pages that are laid when they are first used
+
+unused_send : (κ : _) → IsSend (unused.the_row κ)
+unused_send κ = variants_send (unused.enum κ) ((end_send κ, tt), ((server_send κ, tt), ((client_send, tt), tt)))
+
+pub data_end_send : (κ : _) → IsSend (data_end.the_row κ)
+data_end_send κ =
+    let fields : FieldsHave IsSend (data_end.the_type κ).parts = (search sendable, (search sendable, (search sendable, (unused_send κ, tt)))) in
+    declared_send (data_end.the_type κ) fields
+
+done_send : IsSend done.the_row
+done_send = variants_send done.enum ((retired.the_send, tt), ((done_server_send, tt), ((done_client_send, tt), tt)))
+
+retired_end_send : IsSend retired_end.the_row
+retired_end_send =
+    let fields : FieldsHave IsSend retired_end.the_type.parts = (place.the_send, (done_send, tt)) in
+    declared_send retired_end.the_type fields
 
 -- ---- a control port
 
@@ -87,15 +118,24 @@ control_send κ =
 
 -- ---- the sessions of an agent, and its data ends
 
+side_send : IsSend side.the_row
+side_send = variants_send side.enum (tt, ((open_server_send, tt), ((open_client_send, tt), tt)))
+
 stage_send : (κ : _) → IsSend (stage.the_row κ)
 stage_send κ =
     let fields : VariantsHave IsSend (stage.enum κ).parts = (
-      (end_send κ, tt),
+      (unused_send κ, tt),
       (
-        (search sendable, (snapshot_send (vec.the_row u8 global.the_row ghosts), (caller_send κ, tt))),
+        (search sendable, (snapshot_send (vec.the_row u8 global.the_row ghosts), (side_send, (caller_send κ, tt)))),
         (
-          (search sendable, (snapshot_send service.the_row, (serving_send κ, tt))),
-          ((search sendable, (snapshot_send (vec.the_row u8 global.the_row ghosts), (caller_end.the_send, tt))), ((search sendable, (snapshot_send service.the_row, (serving_end.the_send, tt))), (tt, tt))),
+          (search sendable, (snapshot_send service.the_row, (search (sendable, serving.the_send, builtin.the_send), (client_send, tt)))),
+          (
+            (search sendable, (snapshot_send service.the_row, (side_send, (serving_send κ, tt)))),
+            (
+              (search sendable, (snapshot_send (vec.the_row u8 global.the_row ghosts), (caller_result.the_send, (done_send, tt)))),
+              ((search sendable, (snapshot_send service.the_row, (serving_result.the_send, (done_send, tt)))), (tt, tt)),
+            ),
+          ),
         ),
       ),
     ) in
@@ -128,7 +168,7 @@ ends_send κ =
             search (sendable, crosses, slot_send) depth 20,
             (
               search (sendable, crosses, HashMap-send) depth 20,
-              (search (sendable, crosses), (search (sendable, crosses, call_note_send) depth 20, (search (sendable, crosses, served_note_send) depth 20, tt))),
+              (search (sendable, crosses), (search (sendable, crosses, call_note_send) depth 20, (search (sendable, crosses, served_note_send) depth 20, (search (sendable, crosses), tt)))),
             ),
           ),
         ),
@@ -138,7 +178,7 @@ ends_send κ =
 
 slots_send : (κ : _) → IsSend (slots.the_row κ)
 slots_send κ =
-    let fields : FieldsHave IsSend (slots_inside.the_type κ).parts = (ends_send κ, (search (sendable, crosses, retired_end.the_send) depth 20, (snapshot_send bool, tt))) in
+    let fields : FieldsHave IsSend (slots_inside.the_type κ).parts = (ends_send κ, (search (sendable, crosses, retired_end_send) depth 20, (snapshot_send bool, tt))) in
     view_send (slots_inside.the_row κ) _ _ _ _ (declared_send (slots_inside.the_type κ) fields)
 
 -- ---- the task of an agent
@@ -196,3 +236,26 @@ hostile_task_send κ =
 
 pub task_send : (κ : _) → IsSend (task.the_row κ)
 task_send κ = variants_send (task.enum κ) ((agent_task_send κ, tt), ((broker_task_send κ, tt), ((hostile_task_send κ, tt), tt)))
+
+-- ---- what a task gives in the end
+
+agent_done_send : IsSend agent_done.the_row
+agent_done_send =
+    let fields : FieldsHave IsSend agent_done.the_type.parts = (
+      search sendable,
+      (search (sendable, crosses, call_done.the_send) depth 20, (search (sendable, crosses, served_done.the_send) depth 20, (control_end.the_send, (search (sendable, crosses, retired_end_send) depth 20, tt)))),
+    ) in
+    declared_send agent_done.the_type fields
+
+broker_done_send : IsSend broker_done.the_row
+broker_done_send =
+    let fields : FieldsHave IsSend broker_done.the_type.parts = (broker.the_send, (search (sendable, crosses, retired_end_send) depth 20, tt)) in
+    declared_send broker_done.the_type fields
+
+hostile_done_send : IsSend hostile_done.the_row
+hostile_done_send =
+    let fields : FieldsHave IsSend hostile_done.the_type.parts = (search sendable, (search (sendable, crosses, retired_end_send) depth 20, tt)) in
+    declared_send hostile_done.the_type fields
+
+pub task_done_send : IsSend task_done.the_row
+task_done_send = variants_send task_done.enum ((agent_done_send, tt), ((broker_done_send, tt), ((hostile_done_send, tt), (tt, tt))))

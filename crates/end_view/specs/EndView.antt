@@ -5,7 +5,7 @@ use Rattle.atomic_table.specs.Seated.{TableId}
 use Rattle.ring_words.specs.declared.page.Role.{Role}
 use Rattle.ring_words.specs.declared.page.Role.TheVariants.{Server, Client}
 use Rattle.vchan_protocol.specs.declared.call.EndState.{EndState}
-use Rattle.vchan_protocol.specs.declared.call.EndState.TheVariants.{Fresh, Open}
+use Rattle.vchan_protocol.specs.declared.call.EndState.TheVariants.{Fresh, Open, Shut}
 use Rattle.vchan_protocol.specs.declared.op.PastEvent.{PastEvent}
 use Rattle.vchan_protocol.specs.declared.side.EndedBy.{EndedBy}
 use Rattle.vchan_protocol.specs.declared.side.Side.{Side}
@@ -62,6 +62,29 @@ view_of page idle s = record {
 abbrev pub state_at_first : Role → EndState
 state_at_first Server = Open
 state_at_first Client = Fresh
+
+-- the view of an end of this page in this state that has done nothing
+abbrev pub untouched_view : TableId → Role → EndState → EndView
+untouched_view page role state = record {
+  page = page;
+  role = role;
+  state = state;
+  idle = true;
+  sent = [];
+  got = [];
+  saw = false;
+  ended = None;
+  drained = false;
+  misled = false;
+  retired = false;
+  turned = false;
+  consumed = 0;
+  trail = [];
+}
+
+-- what stands where there is no end: one of no page, and gone
+unfoldable pub no_end : EndView
+no_end = record (untouched_view (record { words = 0; slots = 0; views_name = 0; atom = 0; block = 0; offset = 0; slot_names = [] }) Server Shut) { retired = true }
 
 -- it has done nothing yet
 pub record IsUnused (e : EndView) : Type 0 where

@@ -10,8 +10,9 @@ use Rattle.ring_words.specs.declared.page.Role.TheVariants.{Server}
 use Rattle.vchan_protocol.specs.declared.op.PastEvent.{PastEvent}
 use Rattle.vchan_protocol.specs.Table.Ends.{written_ring, prod_word}
 use Rattle.end_view.specs.EndView.{EndView, hostile_trail}
-use Rattle.vchan_rule.specs.Seated.{view, last_view}
+use Rattle.vchan_rule.specs.Seated.{view}
 use Rattle.qrexec_frame.specs.Streams.{Each}
+use Rattle.hostile_seat.specs.Hostile.{strays_along}
 use Rattle.scenario_file.specs.declared.acts.Act.{Act}
 use Rattle.task_duties.specs.declared.place.PagePlace.{PagePlace}
 use Rattle.task_duties.specs.declared.place.PagePlace.TheVariants.{Control, Payload}
@@ -19,7 +20,7 @@ use Rattle.task_duties.specs.declared.ends.RetiredEnd.{RetiredEnd}
 use Rattle.task_duties.specs.Pairwise.{EachPair}
 use Rattle.task_duties.specs.Places.{is_place}
 use Rattle.task_duties.specs.TaskOwes.{EndAt, IsSameEnd, AreEnds}
-use Rattle.task_duties.specs.GivenEnds.{retired_at, all_retired}
+use Rattle.task_duties.specs.GivenEnds.{done_view, retired_at, all_retired}
 use Rattle.task_duties.specs.Hostile.Given.{HostilePlan}
 use Rattle.task_duties.specs.Hostile.Stores.{loaded, stores_of, role_at}
 use Rattle.task_duties.specs.Hostile.Trail.{words_of, first_voice, retiring, IsTrail}
@@ -97,14 +98,15 @@ trail_whole plan p (Control d) trail role all role_is t =
 trail_whole plan p (Payload from to port) trail role all role_is t =
     λ i. (t ∙ ap (λ (acts : List Act). flat_map (stores_of plan (Payload from to port)) acts) (past_all plan.acts p.acts all)) i ++ retiring (role_is i)
 
-page_turned : (plan : HostilePlan) (p : Progress) (page : TurnedPage) (r : RetiredEnd) → IsRetiredOf page r → IsPageSoFar plan p page → r.retired.side.turned ≡ true
-page_turned plan p page r retired so_far = ap (λ s. s.turned) retired.side ∙ along_turned page.end.side (retiring page.end.side.role) ∙ so_far.turned
+page_turned : (plan : HostilePlan) (p : Progress) (page : TurnedPage) (r : RetiredEnd) → IsRetiredOf page r → IsPageSoFar plan p page → (done_view r.retired).turned ≡ true
+page_turned plan p page r retired so_far = ap (λ (v : EndView). v.turned) retired.view ∙ along_turned page.end.side (retiring page.end.side.role) ∙ so_far.turned
 
-page_done : (plan : HostilePlan) (p : Progress) (page : TurnedPage) (r : RetiredEnd) → p.acts ≡ length plan.acts → IsRetiredOf page r → IsPageSoFar plan p page → IsTrail plan r.place (last_view r.retired).trail
+page_done : (plan : HostilePlan) (p : Progress) (page : TurnedPage) (r : RetiredEnd) → p.acts ≡ length plan.acts → IsRetiredOf page r → IsPageSoFar plan p page → IsTrail plan r.place (done_view r.retired).trail
 page_done plan p page r all retired so_far =
-    let trail : hostile_trail r.retired.side.turned r.retired.side.trail ≡ page.end.side.trail ++ retiring page.end.side.role =
-    ap (λ (test : Bool). hostile_trail test r.retired.side.trail) (page_turned plan p page r retired so_far)
-    ∙ ap (λ s. s.trail) retired.side ∙ along_trail page.end.side (retiring page.end.side.role) in
+    let last = strays_along page.end.side (retiring page.end.side.role) in
+    let turned : last.turned ≡ true = along_turned page.end.side (retiring page.end.side.role) ∙ so_far.turned in
+    let trail : (done_view r.retired).trail ≡ page.end.side.trail ++ retiring page.end.side.role =
+    ap (λ (v : EndView). v.trail) retired.view ∙ ap (λ (test : Bool). hostile_trail test last.trail) turned ∙ along_trail page.end.side (retiring page.end.side.role) in
     subst (λ (t : List PastEvent). IsTrail plan r.place t) (sym trail)
     (subst (λ (place : PagePlace). IsTrail plan place (page.end.side.trail ++ retiring page.end.side.role)) (sym retired.place)
     (trail_whole plan p page.place page.end.side.trail page.end.side.role all so_far.role so_far.trail))
@@ -112,8 +114,8 @@ page_done plan p page r all retired so_far =
 page_same : (plan : HostilePlan) (p : Progress) (page : TurnedPage) (r : RetiredEnd) → IsRetiredOf page r → IsPageSoFar plan p page → IsSameEnd (given_of page) (retired_at r)
 page_same plan p page r retired so_far = record {
   place = retired.place;
-  page = retired.page ∙ so_far.same;
-  role = ap (λ s. s.role) retired.side ∙ along_role page.end.side (retiring page.end.side.role) ∙ so_far.role ∙ sym so_far.same_role;
+  page = ap (λ (v : EndView). v.page) retired.view ∙ so_far.same;
+  role = ap (λ (v : EndView). v.role) retired.view ∙ along_role page.end.side (retiring page.end.side.role) ∙ so_far.role ∙ sym so_far.same_role;
 }
 
 -- ---- the whole task
@@ -129,10 +131,10 @@ done_pays domain pages p spelled (turn.Done done) way all finishes = (
     same = pairs_of_pairs IsRetiredOf (IsPageSoFar plan p) IsSameEnd given_of retired_at every done.ends.items (λ page r retired so_far. page_same plan p page r retired so_far) finishes.1 way.so_far;
     are = are_at (view pages.control.given.value) ends (subst (λ (ps : List PagePlace). AreApart ps) (sym places) way.apart);
     turned_are = each_mapped (λ e. e.view.turned ≡ true) retired_at done.ends.items
-        (each_of_pairs IsRetiredOf (IsPageSoFar plan p) (λ r. r.retired.side.turned ≡ true) every done.ends.items (λ page r retired so_far. page_turned plan p page r retired so_far) finishes.1 way.so_far);
+        (each_of_pairs IsRetiredOf (IsPageSoFar plan p) (λ r. (done_view r.retired).turned ≡ true) every done.ends.items (λ page r retired so_far. page_turned plan p page r retired so_far) finishes.1 way.so_far);
   },
   each_mapped (λ e. IsTrail plan e.place e.view.trail) retired_at done.ends.items
-      (each_of_pairs IsRetiredOf (IsPageSoFar plan p) (λ r. IsTrail plan r.place (last_view r.retired).trail) every done.ends.items (λ page r retired so_far. page_done plan p page r all retired so_far) finishes.1 way.so_far),
+      (each_of_pairs IsRetiredOf (IsPageSoFar plan p) (λ r. IsTrail plan r.place (done_view r.retired).trail) every done.ends.items (λ page r retired so_far. page_done plan p page r all retired so_far) finishes.1 way.so_far),
 )
   where
     plan : HostilePlan

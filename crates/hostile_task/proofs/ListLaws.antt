@@ -1,5 +1,8 @@
 -- Lists that are changed in place, and lists in step.
-use Rattle.std.proofs.Common.{◌≡◌, ℕ, ◌+◌, ◌<◌, ◌≤◌, suc, zero, List, [], ◌∷◌, ◌++◌, length, take, drop, map, slice_index_or, slice_set, refl, sym, subst, ap, ◌∙◌, arith, add-one}
+use Rattle.std.proofs.Common.{◌≡◌, ℕ, ◌+◌, ◌<◌, ◌≤◌, suc, zero, List, [], ◌∷◌, ◌++◌, length, take, drop, map, slice_index_or, slice_set, refl, sym, subst, ap, ◌∙◌, arith, add-one, append-nil}
+use Rattle.std.specs.declared.vec.IntoIter.{IntoIter}
+use Rattle.std.specs.Vec.Iter.{into_iter_items, into_iter_len}
+use Rattle.std.proofs.lemmas.Grind.{common_steps}
 use Rattle.std.proofs.Math.Seq.{take-append_seam}
 use Rattle.qrexec_frame.specs.Streams.{Each}
 use Rattle.task_duties.specs.Pairwise.{EachPair}
@@ -77,3 +80,12 @@ pairs_push R (a ∷ others) (b ∷ bs) x y all one = (all.0, pairs_push R others
 -- what was written through a vector's elements is what it has
 pub written_back : {A : Type 0} (n : ℕ) (items old : List A) → length items ≡ n → take n (items ++ drop (length items) old) ≡ items
 written_back {A} n items old is = subst (λ (k : ℕ). take k (items ++ drop (length items) old) ≡ items) is (take-append_seam items (drop (length items) old))
+
+-- an iterator with nothing left has no items
+pub none_left : {X Z : Type 0} (it : IntoIter X Z) → into_iter_len it ≡ 0 → length (into_iter_items it) ≡ 0
+none_left it none = grind (arith, common_steps, none)
+
+-- a list whose rest is empty is the whole
+pub whole_list : {A : Type 0} (xs ys all : List A) → xs ++ ys ≡ all → length ys ≡ 0 → xs ≡ all
+whole_list xs [] all is none = sym (append-nil xs) ∙ is
+whole_list xs (y ∷ ys) all is none = absurd (omega (arith, none))

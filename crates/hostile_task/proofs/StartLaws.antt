@@ -10,10 +10,11 @@ use Rattle.qrexec_frame.specs.Streams.{Each}
 use Rattle.task_duties.specs.declared.place.PagePlace.{PagePlace}
 use Rattle.task_duties.specs.declared.place.PagePlace.TheVariants.{Control, Payload}
 use Rattle.task_duties.specs.declared.ends.DataEnd.{DataEnd}
+use Rattle.task_duties.specs.declared.ends.UnusedEnd.TheVariants.{Laid}
 use Rattle.task_duties.specs.Pairwise.{EachPair}
 use Rattle.task_duties.specs.Places.{is_place}
 use Rattle.task_duties.specs.TaskOwes.{all_ends, places_in}
-use Rattle.task_duties.specs.GivenEnds.{all_given}
+use Rattle.task_duties.specs.GivenEnds.{all_given, fresh_view}
 use Rattle.task_duties.specs.Hostile.Given.{HostilePlan}
 use Rattle.ring_words.specs.declared.page.Role.TheVariants.{Server}
 use Rattle.task_duties.specs.Hostile.Stores.{role_at, orders_at}
@@ -24,7 +25,7 @@ use Rattle.hostile_task.specs.declared.pages.Pages.{Pages}
 use Rattle.hostile_task.specs.declared.progress.Progress.{Progress}
 use Rattle.hostile_task.specs.Plan.{plan_of, AreApart, IsControlOf, IsDataOf, AreDataOf}
 use Rattle.hostile_task.specs.Pages as pages
-use Rattle.hostile_task.specs.Pages.{IsTurnedOver, IsDataTurnedOver, given_of, given_in}
+use Rattle.hostile_task.specs.Pages.{IsTurnedOver, IsDataTurnedOver, IsLaid, given_of, given_in}
 use Rattle.hostile_task.specs.UnderWay.{words_at, IsPageSoFar, IsControl, IsPayload, IsUnderWay, IsTrailSoFar}
 use Rattle.hostile_task.proofs.TrailLaws.{begins}
 use Rattle.hostile_task.proofs.WayLaws.{not_begun, with_control}
@@ -60,16 +61,22 @@ start_control domain plan e page end value own number orders over control same s
     order : (place : PagePlace) → place ≡ Control domain.number → orders_at plan place ≡ plan.control
     order place is = ap (λ (p : PagePlace). orders_at plan p) is
 
+laid_is : (a b : SeatedEnd) → Laid a ≡ Laid b → a ≡ b
+laid_is a b is = cc
+
 -- a data page
 start_payload : (domain : HostileDomain) (plan : HostilePlan) (own : ℕ) (d : DataEnd) (page : TurnedPage) → plan.domain ≡ domain.number → plan.payload ≡ domain.payload → IsDataTurnedOver d page → IsDataOf domain d → IsPageSoFar plan (first_progress own) page
-start_payload domain plan own d page number orders over fits =
+start_payload domain plan own d page number orders turned fits =
     let place = Payload d.from d.to d.port in
+    let over = turned.over in
+    let same = laid_is turned.end fits.end (sym turned.laid ∙ fits.laid) in
     let role : role_at plan.domain page.place ≡ role_at domain.number place = λ i. role_at (number i) (over.place_is i) in
+    let fits_role = ap (λ (s : SeatedEnd). s.side.role) same ∙ fits.role in
     record {
       same = over.page ∙ ap (λ (s : SeatedEnd). s.page) (sym over.given_is);
-      same_role = ap (λ (s : SeatedEnd). s.side.role) over.given_is ∙ fits.role ∙ sym role;
-      role = over.role ∙ fits.role ∙ sym role;
-      orders = over.orders ∙ fits.orders ∙ sym orders ∙ ap (λ (p : PagePlace). orders_at plan p) (sym over.place_is);
+      same_role = ap (λ (s : SeatedEnd). s.side.role) over.given_is ∙ fits_role ∙ sym role;
+      role = over.role ∙ fits_role ∙ sym role;
+      orders = over.orders ∙ ap (λ (s : SeatedEnd). s.side.orders) same ∙ fits.orders ∙ sym orders ∙ ap (λ (p : PagePlace). orders_at plan p) (sym over.place_is);
       turned = over.turned;
       trail = subst (λ (p : PagePlace). IsTrailSoFar plan p (first_progress own) page.end.side.trail) (sym over.place_is) over.trail;
     }
@@ -80,19 +87,21 @@ places_are : (ends : List DataEnd) (ps : List TurnedPage) → EachPair IsDataTur
 places_are [] [] pairs = refl
 places_are [] (p ∷ ps) pairs = absurd pairs
 places_are (d ∷ ends) [] pairs = absurd pairs
-places_are (d ∷ ends) (p ∷ ps) pairs = λ i. pairs.0.place_is i ∷ places_are ends ps pairs.1 i
+places_are (d ∷ ends) (p ∷ ps) pairs = λ i. pairs.0.over.place_is i ∷ places_are ends ps pairs.1 i
 
 given_are : (ends : List DataEnd) (ps : List TurnedPage) → EachPair IsDataTurnedOver ends ps → map given_of ps ≡ all_given ends
 given_are [] [] pairs = refl
 given_are [] (p ∷ ps) pairs = absurd pairs
 given_are (d ∷ ends) [] pairs = absurd pairs
-given_are (d ∷ ends) (p ∷ ps) pairs = λ i. record { place = pairs.0.place_is i; view = view (pairs.0.given_is i) } ∷ given_are ends ps pairs.1 i
+given_are (d ∷ ends) (p ∷ ps) pairs =
+    let same = ap view pairs.0.over.given_is ∙ sym (ap fresh_view pairs.0.laid) in
+    λ i. record { place = pairs.0.over.place_is i; view = same i } ∷ given_are ends ps pairs.1 i
 
 payloads : (ends : List DataEnd) (ps : List TurnedPage) → EachPair IsDataTurnedOver ends ps → Each (λ p. IsPayload p.place) ps
 payloads [] [] pairs = tt
 payloads [] (p ∷ ps) pairs = absurd pairs
 payloads (d ∷ ends) [] pairs = absurd pairs
-payloads (d ∷ ends) (p ∷ ps) pairs = (subst IsPayload (sym pairs.0.place_is) tt, payloads ends ps pairs.1)
+payloads (d ∷ ends) (p ∷ ps) pairs = (subst IsPayload (sym pairs.0.over.place_is) tt, payloads ends ps pairs.1)
 
 pages_so_far : (domain : HostileDomain) (plan : HostilePlan) (own : ℕ) (ends : List DataEnd) (ps : List TurnedPage) → plan.domain ≡ domain.number → plan.payload ≡ domain.payload → EachPair IsDataTurnedOver ends ps → AreDataOf domain ends → Each (IsPageSoFar plan (first_progress own)) ps
 pages_so_far domain plan own [] [] number orders pairs fits = tt
@@ -129,3 +138,8 @@ start_way domain e ends ps end value own spelled control payload control_fits fi
       apart = subst (λ (places : List PagePlace). AreApart places) (sym (start_places domain e ends ps control payload)) (apart_from_control domain.number ends, apart);
       so_far = (start_control domain plan e ps.control end value own refl refl control control_fits same side index, pages_so_far domain plan own ends ps.payload.items refl refl payload fits);
     }
+
+-- the data ends of a domain are laid
+pub are_laid : (domain : HostileDomain) (ends : List DataEnd) → AreDataOf domain ends → Each IsLaid ends
+are_laid domain [] fits = tt
+are_laid domain (d ∷ ends) fits = ((fits.0.end, fits.0.laid), are_laid domain ends fits.1)

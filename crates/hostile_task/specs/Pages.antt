@@ -3,11 +3,14 @@
 use Rattle.std.specs.Prelude.{◌≡◌, true, List, [], ◌∷◌, map}
 use Rattle.vchan_protocol.specs.declared.op.PastEvent.{PastEvent}
 use Rattle.vchan_rule.specs.Seated.{SeatedEnd, view}
+use Rattle.end_view.specs.EndView.{view_of}
 use Rattle.hostile_seat.specs.Hostile.{strays_along}
 use Rattle.task_duties.specs.declared.place.PagePlace.{PagePlace}
 use Rattle.task_duties.specs.declared.place.PagePlace.TheVariants.{Payload}
 use Rattle.task_duties.specs.declared.ends.DataEnd.{DataEnd}
+use Rattle.task_duties.specs.declared.ends.UnusedEnd.TheVariants.{Laid}
 use Rattle.task_duties.specs.declared.ends.RetiredEnd.{RetiredEnd}
+use Rattle.task_duties.specs.GivenEnds.{done_view}
 use Rattle.task_duties.specs.TaskOwes.{EndAt}
 use Rattle.task_duties.specs.Hostile.Trail.{retiring}
 use Rattle.hostile_task.specs.Saying.{side_after}
@@ -26,9 +29,15 @@ pub record IsTurnedOver (place : PagePlace) (given : SeatedEnd) (p : TurnedPage)
   pub turned : p.end.side.turned ≡ true
   pub trail : p.end.side.trail ≡ []
 
--- the same of a data end
-abbrev pub IsDataTurnedOver : DataEnd → TurnedPage → Type 0
-IsDataTurnedOver d p = IsTurnedOver (Payload d.from d.to d.port) d.end p
+-- the same of the end of a data page, which is laid
+pub record IsDataTurnedOver (d : DataEnd) (p : TurnedPage) : Type 0 where
+  pub end : SeatedEnd
+  pub laid : d.end ≡ Laid end
+  pub over : IsTurnedOver (Payload d.from d.to d.port) end p
+
+-- its page is laid
+abbrev pub IsLaid : DataEnd → Type 0
+IsLaid d = (end : SeatedEnd) × (d.end ≡ Laid end)
 
 -- a page after these events of its hostile user
 abbrev pub after_events : TurnedPage → List PastEvent → TurnedPage
@@ -37,8 +46,7 @@ after_events p events = record p { end = side_after p.end events }
 -- a page whose end has retired
 pub record IsRetiredOf (p : TurnedPage) (r : RetiredEnd) : Type 0 where
   pub place : r.place ≡ p.place
-  pub page : r.retired.page ≡ p.end.page
-  pub side : r.retired.side ≡ strays_along p.end.side (retiring p.end.side.role)
+  pub view : done_view r.retired ≡ view_of p.end.page true (strays_along p.end.side (retiring p.end.side.role))
 
 -- the end of a page as it was given
 abbrev pub given_of : TurnedPage → EndAt

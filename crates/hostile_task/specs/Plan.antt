@@ -7,6 +7,7 @@ use Rattle.qrexec_frame.specs.Streams.{Each}
 use Rattle.task_duties.specs.declared.place.PagePlace.{PagePlace}
 use Rattle.task_duties.specs.declared.place.PagePlace.TheVariants.{Payload}
 use Rattle.task_duties.specs.declared.ends.DataEnd.{DataEnd}
+use Rattle.task_duties.specs.declared.ends.UnusedEnd.TheVariants.{Laid}
 use Rattle.task_duties.specs.Hostile.Stores.{role_at}
 use Rattle.task_duties.specs.Places.{is_place}
 use Rattle.task_duties.specs.Hostile.Given.{HostilePlan}
@@ -27,10 +28,12 @@ pub record IsControlOf (d : HostileDomain) (end : SeatedEnd) : Type 0 where
   pub role : end.side.role ≡ Server
   pub orders : end.side.orders ≡ d.control
 
--- ends of its data pages
+-- an end of a data page of it: the page is laid
 pub record IsDataOf (d : HostileDomain) (data_end : DataEnd) : Type 0 where
-  pub role : data_end.end.side.role ≡ role_at d.number (Payload data_end.from data_end.to data_end.port)
-  pub orders : data_end.end.side.orders ≡ d.payload
+  pub end : SeatedEnd
+  pub laid : data_end.end ≡ Laid end
+  pub role : end.side.role ≡ role_at d.number (Payload data_end.from data_end.to data_end.port)
+  pub orders : end.side.orders ≡ d.payload
 
 abbrev pub AreDataOf : HostileDomain → List DataEnd → Type 0
 AreDataOf d ends = Each (IsDataOf d) ends

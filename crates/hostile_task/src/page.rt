@@ -7,7 +7,7 @@ use hostile_seat::{Hostile, turn};
 use ring_words::WordName;
 use scenario_file::ActPage;
 use std::snapshot::Snapshot;
-use task_duties::{DataEnd, PagePlace, RetiredEnd};
+use task_duties::{DataEnd, DoneEnd, PagePlace, RetiredEnd, UnusedEnd};
 use vchan_rule::End;
 
 /// A page, whose end the domain has.
@@ -22,7 +22,7 @@ pub struct TurnedPage<'p> {
 impl<'p> TurnedPage<'p> {
     ghost use Rattle.task_duties.specs.Hostile.Stores.{orders_at, poked, stored, is_named};
     ghost use Rattle.hostile_task.specs.Plan.{plan_of};
-    ghost use Rattle.hostile_task.specs.Pages.{after_events, IsTurnedOver, IsDataTurnedOver, IsRetiredOf};
+    ghost use Rattle.hostile_task.specs.Pages.{after_events, IsTurnedOver, IsDataTurnedOver, IsLaid, IsRetiredOf};
 
     /// Turns an end over to the domain.
     pub fn turn(place: PagePlace, end: End<'p>) -> TurnedPage<'p>
@@ -36,8 +36,9 @@ impl<'p> TurnedPage<'p> {
         }
     }
 
-    /// The same of a data end.
+    /// The same of the end of a data page, which is laid.
     pub fn of_data(given: DataEnd<'p>) -> TurnedPage<'p>
+        requires { IsLaid given }
         ensures { IsDataTurnedOver given.entry result }
     {
         let DataEnd {
@@ -46,7 +47,10 @@ impl<'p> TurnedPage<'p> {
             port,
             end,
         } = given;
-        TurnedPage::turn(PagePlace::Payload { from, to, port }, end)
+        match end {
+            UnusedEnd::Laid(end) => TurnedPage::turn(PagePlace::Payload { from, to, port }, end),
+            _ => unreachable!(),
+        }
     }
 
     /// Stores a value to a word, where an act that names it means this page, and the word is one that a
@@ -97,7 +101,7 @@ impl<'p> TurnedPage<'p> {
         let TurnedPage { place, end, .. } = self;
         RetiredEnd {
             place,
-            retired: end.retire(),
+            retired: DoneEnd::Laid(end.retire()),
         }
     }
 }

@@ -43,7 +43,8 @@ impl<'p> Pages<'p> {
     ghost use Rattle.hostile_task.specs.Plan.{plan_of, AreApart};
     ghost use Rattle.task_duties.specs.Pairwise.{EachPair};
     ghost use Rattle.task_duties.specs.declared.place.PagePlace.TheVariants.{Control};
-    ghost use Rattle.hostile_task.specs.Pages.{AreAfter, places_in, IsTurnedOver, IsDataTurnedOver, IsRetiredOf};
+    ghost use Rattle.hostile_task.specs.Pages.{AreAfter, places_in, IsTurnedOver, IsDataTurnedOver, IsLaid, IsRetiredOf};
+    ghost use Rattle.qrexec_frame.specs.Streams.{Each};
     ghost use Rattle.hostile_task.specs.UnderWay.{HaveOrders, HaveRoles};
 
     /// Turns the ends of a domain over to it, that of its control page first.
@@ -53,6 +54,7 @@ impl<'p> Pages<'p> {
         control: End<'p>,
         payload: Vec<DataEnd<'p>>,
     ) -> Result<Pages<'p>, Memory>
+        requires { Each IsLaid payload.items }
         ensures control { IfOk result (λ pages. IsTurnedOver (Control domain) control.entry pages.control) }
         ensures payload { IfOk result (λ pages. EachPair IsDataTurnedOver payload.entry.items pages.payload.items) }
     {

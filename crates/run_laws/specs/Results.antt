@@ -1,12 +1,10 @@
 -- A run from what its tasks answered and from its settled pages.
 -- Source: this project's own.
-use Rattle.std.specs.Prelude.{◌≡◌, ◌≢◌, ℕ, ◌≤◌, true, false, List, [], ◌∷◌, length, map, slice_index_or, None, Contains, IsPermutation, AllPairs, if◌then◌else◌}
+use Rattle.std.specs.Prelude.{◌≡◌, ◌≢◌, ℕ, ◌≤◌, true, false, List, [], ◌∷◌, length, map, slice_index_or, Contains, IsPermutation, AllPairs, if◌then◌else◌}
 use Rattle.ring_words.specs.declared.order.Orders.{Orders}
-use Rattle.ring_words.specs.declared.page.Role.TheVariants.{Server}
-use Rattle.vchan_protocol.specs.declared.call.EndState.TheVariants.{Shut}
 use Rattle.qrexec_frame.specs.Streams.{Each}
 use Rattle.call_broker.specs.declared.decision.Entry.{Entry}
-use Rattle.end_view.specs.EndView.{EndView}
+use Rattle.end_view.specs.EndView.{EndView, no_end}
 use Rattle.end_view.specs.Settled.{Settled, IsSettled}
 use Rattle.scenario_file.specs.Scenario.{Plan as Scenario, IsScenario, hostile_at}
 use Rattle.task_duties.specs.declared.place.PagePlace.{PagePlace}
@@ -57,25 +55,6 @@ control_of (AgentDone report) = report.control
 control_of done = Drained
 
 -- ---- the run
-
--- the view where there is no end
-unfoldable pub no_end : EndView
-no_end = record {
-  page = record { words = 0; slots = 0; views_name = 0; atom = 0; block = 0; offset = 0; slot_names = [] };
-  role = Server;
-  state = Shut;
-  idle = true;
-  sent = [];
-  got = [];
-  saw = false;
-  ended = None;
-  drained = false;
-  misled = false;
-  retired = true;
-  turned = false;
-  consumed = 0;
-  trail = [];
-}
 
 -- the view of the end at a place
 abbrev pub view_in : List EndAt → PagePlace → EndView

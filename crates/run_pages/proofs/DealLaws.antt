@@ -22,8 +22,9 @@ use Rattle.run_pages.specs.declared.deal.Hand.{Hand}
 use Rattle.scenario_file.specs.Scenario.{Plan as Scenario}
 use Rattle.run_laws.specs.Results.{orders_of}
 use Rattle.run_pages.specs.Pages.{IsLaidFor, PageAt, new_end, end_on, new_ends}
-use Rattle.run_pages.specs.Dealt.{hand_ends, HandsDealt, ControlsDealt, AreDealt, AddsHand, Gives}
-use Rattle.run_pages.proofs.ListLaws.{get-set}
+use Rattle.qrexec_frame.specs.Streams.{Each}
+use Rattle.run_pages.specs.Dealt.{hand_ends, HandsDealt, ControlsDealt, AreDealt, AddsHand, FitsDomain, Gives, HasOrders, HaveOrders}
+use Rattle.run_pages.proofs.ListLaws.{each-more, get-more, get-set}
 
 same-test : (a b : ℕ) → a ≡ b → (a == b) ≡ true
 same-test a b e = eq-eqb a b e
@@ -51,6 +52,45 @@ gives-set old number h h' end some at control payload = record { count = length-
               (rw (same-test (k + 1) number (omega (arith, e.0, some))) (ends-of (k + 1))),
         )
         by (inr e) = (hand, e.1, rw (ne_eqb (k + 1) number (λ s. e.0 (omega (arith, s)))) (sym (append-nil (hand_ends (k + 1) hand))))
+
+-- the ends of all hands still fit once a hand has an end more that fits
+pub orders-set : (s : Scenario) (old : List Hand) (number : ℕ) (h h' : Hand) (end : DataEnd) → 1 ≤ number → slice_get old (number - 1) ≡ Some h
+    → h'.control ≡ h.control → h'.payload.items ≡ h.payload.items ++ end ∷ [] → FitsDomain s number end.end → HaveOrders s old → HaveOrders s (set old (number - 1) h')
+orders-set s old number h h' end some at control payload fits ordered k hand is = by (get-set old (number - 1) k h' hand is)
+  where
+    by : ((k ≡ number - 1) × (h' ≡ hand)) ⊎ ((k ≢ number - 1) × (slice_get old k ≡ Some hand)) → HasOrders s (k + 1) hand
+    by (inr e) = ordered k hand e.1
+    by (inl e) =
+        let up : number - 1 + 1 ≡ k + 1 = omega (arith, e.0) in
+        let now : number ≡ k + 1 = omega (arith, e.0, some) in
+        let has : HasOrders s (k + 1) h = subst (λ n. HasOrders s n h) up (ordered (number - 1) h at) in
+        subst (λ x. HasOrders s (k + 1) x) e.1 (record {
+          of_control = ap (λ (c : SeatedEnd). c.side.orders) control ∙ has.of_control;
+          of_payload = subst (Each (λ (e : DataEnd). FitsDomain s (k + 1) e.end)) (sym payload)
+              (each-more (λ (e : DataEnd). FitsDomain s (k + 1) e.end) h.payload.items end has.of_payload (subst (λ n. FitsDomain s n end.end) now fits));
+        })
+
+-- a hand that has a control end alone comes behind the others
+pub adds-hand : (old : List Hand) (h : Hand) → h.payload.items ≡ [] → AddsHand h.control old (old ++ h ∷ [])
+adds-hand old h none = record { count = length-append old (h ∷ []); each = each }
+  where
+    each : (k : ℕ) (hand : Hand) → slice_get (old ++ h ∷ []) k ≡ Some hand → (slice_get old k ≡ Some hand) ⊎ ((k ≡ length old) × (hand.control ≡ h.control) × (hand.payload.items ≡ []))
+    each k hand is = by (get-more old h hand k is)
+      where
+        by : (slice_get old k ≡ Some hand) ⊎ ((k ≡ length old) × (h ≡ hand)) → (slice_get old k ≡ Some hand) ⊎ ((k ≡ length old) × (hand.control ≡ h.control) × (hand.payload.items ≡ []))
+        by (inl e) = inl e
+        by (inr e) = inr (e.0, ap (λ (x : Hand). x.control) (sym e.1), ap (λ (x : Hand). x.payload.items) (sym e.1) ∙ none)
+
+-- and the ends of all hands still fit then
+pub orders-more : (s : Scenario) (old : List Hand) (h : Hand) → h.control.side.orders ≡ s.control → h.payload.items ≡ [] → HaveOrders s old → HaveOrders s (old ++ h ∷ [])
+orders-more s old h control payload ordered k hand is = by (get-more old h hand k is)
+  where
+    by : (slice_get old k ≡ Some hand) ⊎ ((k ≡ length old) × (h ≡ hand)) → HasOrders s (k + 1) hand
+    by (inl e) = ordered k hand e
+    by (inr e) = subst (λ x. HasOrders s (k + 1) x) e.1 (record {
+      of_control = control;
+      of_payload = subst (Each (λ (e : DataEnd). FitsDomain s (k + 1) e.end)) (sym payload) tt;
+    })
 
 -- ---- the ends of a page on which nothing has happened
 

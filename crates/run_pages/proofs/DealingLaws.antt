@@ -7,7 +7,7 @@ use Rattle.task_duties.specs.declared.place.PagePlace.TheVariants.{Control, Payl
 use Rattle.run_pages.specs.declared.lay.PageSeats.{PageSeats}
 use Rattle.run_pages.specs.declared.deal.Hand.{Hand}
 use Rattle.run_pages.specs.Pages.{PageAt, AreLaid, HasSeats}
-use Rattle.run_pages.specs.Dealt.{Follows, AreDealt, HandsDealt, IsDealing, controls_in, hands_after}
+use Rattle.run_pages.specs.Dealt.{Follows, AreDealt, HandsDealt, HaveOrders, IsDealing, controls_in, hands_after}
 use Rattle.scenario_file.specs.Scenario.{Plan as Scenario}
 use Rattle.run_pages.proofs.FollowLaws.{controls-laid, laid-follows}
 
@@ -99,3 +99,6 @@ none-dealt s pages seats laid seated = record {
       where
         none-some : None ≡ Some hand → ⊥
         none-some e = cc
+
+pub none-ordered : (s : Scenario) → HaveOrders s []
+none-ordered s k hand is = absurd (let e : None ≡ Some hand = is in cc)

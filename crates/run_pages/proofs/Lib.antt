@@ -8,3 +8,5 @@ pub mod SettleLaws
 pub mod FollowLaws
 pub mod DealingLaws
 pub mod PlaceLaws
+pub mod HostileLaws
+pub mod Sent

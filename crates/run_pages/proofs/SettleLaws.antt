@@ -16,9 +16,8 @@ use Rattle.std.proofs.lemmas.Bool.Decides.{eqb_tells}
 use Rattle.run_laws.specs.Laid.{server_of, client_of}
 use Rattle.run_pages.specs.Pages.{AreLaid, IsLaidFor, PageAt, new_end, new_ends}
 use Rattle.run_pages.specs.Dealt.{Follows, controls_in}
-use Rattle.run_pages.specs.Settling.{AreSettledBy, GivesUp, GivesUpBoth, HandsBack, HasEnd, IsSettledBy, IsSettling, hand_of}
+use Rattle.run_pages.specs.Settling.{AreSettledBy, GivesUp, GivesUpBoth, HandsBack, HasEnd, IsJoinedBy, IsSettledBy, IsSettling, hand_of}
 use Rattle.qrexec_frame.specs.Streams.{Each}
-use Rattle.end_view.specs.Settled.{IsSettled}
 use Rattle.run_laws.specs.Results.{orders_of}
 use Rattle.scenario_file.specs.Scenario.{Plan as Scenario}
 use Rattle.run_laws.specs.Report.{SettledPage}
@@ -254,25 +253,17 @@ still-there number end old new first gives within k hand is =
     let before = within k (hand ++ s) (gives.each k hand is) in
     (s ++ before.0, before.1 ∙ ap Some (append_assoc hand s before.0))
 
--- a page as it was settled by these two ends
-pub record IsJoinedBy (p : PageAt) (server client : EndAt) (page : SettledPage) : Type 0 where
-  pub place : page.place ≡ p.place
-  pub orders : page.settled.orders ≡ p.page.orders
-  pub server_is : page.settled.server ≡ server.view
-  pub client_is : page.settled.client ≡ client.view
-  pub settled : IsSettled page.settled
-
 settled-by : (s : Scenario) (p : PageAt) (server client : EndAt) (page : SettledPage) (hands between first : List (List EndAt)) → IsLaidFor s p → GaveBoth p server client hands between
     → GivesUp (server_of p.place) server hands between
     → ((k : ℕ) (hand : List EndAt) → slice_get hands k ≡ Some hand → (taken : List EndAt) × (slice_get first k ≡ Some (hand ++ taken)))
     → IsJoinedBy p server client page → IsSettledBy s first page
 settled-by s p server client page hands between first laid gave gives within joined = record {
   settled = joined.settled;
-  orders = joined.orders ∙ laid.orders ∙ ap (orders_of s) (sym joined.place);
-  server = subst (λ place. Contains (hand_of first (server_of place)) (record { place = place; view = page.settled.server })) (sym joined.place)
+  orders = joined.orders_are ∙ laid.orders ∙ ap (orders_of s) (sym joined.place_is);
+  server = subst (λ place. Contains (hand_of first (server_of place)) (record { place = place; view = page.settled.server })) (sym joined.place_is)
       (subst (λ e. Contains (hand_of first (server_of p.place)) e) (ap (λ place. record { place = place; view = server.view }) gave.server_gave.same.place ∙ ap (λ v. record { place = p.place; view = v }) (sym joined.server_is))
       (gave-back p Server (server_of p.place) server hands first gave.server_gave within));
-  client = subst (λ place. Contains (hand_of first (client_of place)) (record { place = place; view = page.settled.client })) (sym joined.place)
+  client = subst (λ place. Contains (hand_of first (client_of place)) (record { place = place; view = page.settled.client })) (sym joined.place_is)
       (subst (λ e. Contains (hand_of first (client_of p.place)) e) (ap (λ place. record { place = place; view = client.view }) gave.client_gave.same.place ∙ ap (λ v. record { place = p.place; view = v }) (sym joined.client_is))
       (gave-back p Client (client_of p.place) client between first gave.client_gave (still-there (server_of p.place) server hands between first gives within)));
 }
@@ -280,6 +271,11 @@ settled-by s p server client page hands between first laid gave gives within joi
 each-first : {A : Type 0} (P : A → Type 0) (xs : List A) (x : A) → Each P (xs ++ x ∷ []) → Each P xs × P x
 each-first P [] x e = (tt, e.0)
 each-first P (y ∷ xs) x e = let r = each-first P xs x e.1 in ((e.0, r.0), r.1)
+
+-- the last page is made for its place
+pub last-laid : (s : Scenario) (left all before : List PageAt) (p : PageAt) (hands first : List (List EndAt)) (settled : List SettledPage) → left ≡ before ++ p ∷ []
+    → IsSettling s left all hands first settled → IsLaidFor s p
+last-laid s left all before p hands first settled is inv = (each-first (IsLaidFor s) before p (subst (Each (IsLaidFor s)) is inv.laid)).1
 
 pub settles-on : (s : Scenario) (left all before : List PageAt) (p : PageAt) (server client : EndAt) (page : SettledPage) (hands hands' first : List (List EndAt)) (settled : List SettledPage)
     → left ≡ before ++ p ∷ [] → IsSettling s left all hands first settled → GivesUpBoth p.place server client hands hands' → IsJoinedBy p server client page
@@ -298,7 +294,7 @@ settles-on s left all before p server client page hands hands' first settled is 
       places =
           ap (λ l. map (λ p. p.place) before ++ reverse l) (map-append (λ p. p.place) settled (page ∷ []))
           ∙ ap (λ l. map (λ p. p.place) before ++ l) (reverse-append (map (λ p. p.place) settled) (page.place ∷ []))
-          ∙ ap (λ place. map (λ p. p.place) before ++ place ∷ reverse (map (λ p. p.place) settled)) joined.place
+          ∙ ap (λ place. map (λ p. p.place) before ++ place ∷ reverse (map (λ p. p.place) settled)) joined.place_is
           ∙ sym (append_assoc (map (λ p. p.place) before) (p.place ∷ []) (reverse (map (λ p. p.place) settled)))
           ∙ ap (λ l. l ++ reverse (map (λ p. p.place) settled)) (sym at) ∙ inv.places;
       each = each-more (IsSettledBy s first) settled page inv.each (settled-by s p server client page hands gives.0 first laid.1 gave gives.1 inv.within joined);

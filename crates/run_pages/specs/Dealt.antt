@@ -1,16 +1,22 @@
 -- What is dealt to the tasks of a run, and in which order.
 -- Source: this project's own.
-use Rattle.std.specs.Prelude.{◌≡◌, ◌≢◌, ◌⊎◌, ℕ, suc, ◌+◌, ◌<◌, ◌≤◌, ◌==◌, List, [], ◌∷◌, ◌++◌, length, map, slice_get, Some, if◌then◌else◌}
+use Rattle.std.specs.Prelude.{◌≡◌, ◌≢◌, ◌⊎◌, ℕ, suc, ◌+◌, ◌<◌, ◌≤◌, ◌==◌, false, List, [], ◌∷◌, ◌++◌, length, map, slice_get, Some, if◌then◌else◌}
+use Rattle.ring_words.specs.declared.page.Role.TheVariants.{Server, Client}
+use Rattle.ring_words.specs.declared.order.Orders.{Orders}
+use Rattle.end_view.specs.EndView.{EndView}
 use Rattle.vchan_rule.specs.Seated.{SeatedEnd, view}
 use Rattle.qrexec_frame.specs.Streams.{Each}
-use Rattle.scenario_file.specs.Scenario.{Plan as Scenario}
+use Rattle.scenario_file.specs.Scenario.{Plan as Scenario, hostile_at}
+use Rattle.task_duties.specs.declared.ends.DataEnd.{DataEnd}
+use Rattle.task_duties.specs.declared.ends.UnusedEnd.{UnusedEnd}
+use Rattle.task_duties.specs.declared.ends.UnusedEnd.TheVariants as unused
 use Rattle.task_duties.specs.declared.place.PagePlace.{PagePlace}
 use Rattle.task_duties.specs.declared.place.PagePlace.TheVariants.{Control, Payload}
 use Rattle.task_duties.specs.TaskOwes.{EndAt, all_ends, broker_ends}
 use Rattle.task_duties.specs.GivenEnds.{all_given}
 use Rattle.run_pages.specs.declared.deal.Hand.{Hand}
 use Rattle.run_pages.specs.declared.lay.PageSeats.{PageSeats}
-use Rattle.run_pages.specs.Pages.{PageAt, HasSeats, new_ends}
+use Rattle.run_pages.specs.Pages.{PageAt, HasSeats, new_end, new_ends}
 
 -- ---- what is dealt
 
@@ -26,13 +32,31 @@ ControlsDealt pages controls = broker_ends 1 (map view controls) ≡ new_ends pa
 abbrev pub HandsDealt : List PageAt → List Hand → Type 0
 HandsDealt pages hands = (k : ℕ) (hand : Hand) → slice_get hands k ≡ Some hand → hand_ends (k + 1) hand ≡ new_ends pages (k + 1)
 
--- the ends of a hand have the orders of a control page and of a data page
-pub record HasOrders (s : Scenario) (hand : Hand) : Type 0 where
+-- a data end fits a domain: its page is laid with the orders of a data page, or is offered, and then the domain isn't hostile
+abbrev pub FitsDomain : Scenario → ℕ → UnusedEnd → Type 0
+FitsDomain s domain (unused.Laid end) = end.side.orders ≡ s.payload
+FitsDomain s domain (unused.Server side) = hostile_at s domain ≡ false
+FitsDomain s domain (unused.Client side) = hostile_at s domain ≡ false
+
+-- the ends of a domain's hand have the orders of a control page and of a data page, or fit the domain
+pub record HasOrders (s : Scenario) (domain : ℕ) (hand : Hand) : Type 0 where
   pub of_control : hand.control.side.orders ≡ s.control
-  pub of_payload : Each (λ e. e.end.side.orders ≡ s.payload) hand.payload.items
+  pub of_payload : Each (λ e. FitsDomain s domain e.end) hand.payload.items
 
 abbrev pub HaveOrders : Scenario → List Hand → Type 0
-HaveOrders s hands = Each (HasOrders s) hands
+HaveOrders s hands = (k : ℕ) (hand : Hand) → slice_get hands k ≡ Some hand → HasOrders s (k + 1) hand
+
+-- a data end of a page that is laid with these orders
+pub record IsLaidWith (orders : Orders) (e : DataEnd) : Type 0 where
+  pub end : SeatedEnd
+  pub is : e.end ≡ unused.Laid end
+  pub orders_are : end.side.orders ≡ orders
+
+-- these are the ends of a page at a place
+pub record AreEndsOf (p : PageAt) (place : PagePlace) (server client : EndView) : Type 0 where
+  pub at : p.place ≡ place
+  pub server_is : server ≡ (new_end p Server).view
+  pub client_is : client ≡ (new_end p Client).view
 
 -- ---- in which order
 

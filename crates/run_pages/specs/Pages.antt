@@ -1,43 +1,62 @@
 -- The pages of a run, and their ends before anything has happened.
 -- Source: this project's own.
-use Rattle.std.specs.Prelude.{◌≡◌, ℕ, ◌==◌, true, List, map, filter_map, Option, Some, None, if◌then◌else◌}
+use Rattle.std.specs.Prelude.{◌≡◌, ℕ, ◌==◌, ◌&&◌, not, Bool, true, false, List, map, filter_map, Option, Some, None, if◌then◌else◌}
 use Rattle.ring_words.specs.declared.page.Role.{Role}
 use Rattle.ring_words.specs.declared.page.Role.TheVariants.{Server, Client}
 use Rattle.vchan_protocol.specs.History.Core.{new_side}
 use Rattle.qrexec_frame.specs.Streams.{Each}
 use Rattle.end_view.specs.EndView.{view_of, state_at_first}
 use Rattle.vchan_rule.specs.Seated.{PageView}
-use Rattle.scenario_file.specs.Scenario.{Plan as Scenario}
+use Rattle.scenario_file.specs.Scenario.{Plan as Scenario, hostile_at}
 use Rattle.task_duties.specs.declared.place.PagePlace.{PagePlace}
+use Rattle.task_duties.specs.declared.place.PagePlace.TheVariants.{Control, Payload}
 use Rattle.task_duties.specs.Pairwise.{EachPair}
 use Rattle.task_duties.specs.TaskOwes.{EndAt}
 use Rattle.run_laws.specs.Laid.{laid, server_of, client_of}
 use Rattle.run_laws.specs.Results.{orders_of}
-use Rattle.run_pages.specs.declared.lay.LaidPage.{LaidPage}
+use Rattle.run_pages.specs.declared.lay.RunPage.{RunPage}
+use Rattle.run_pages.specs.declared.lay.RunPage.TheVariants as page
 use Rattle.run_pages.specs.declared.lay.PageSeats.{PageSeats}
+use Rattle.run_pages.specs.declared.lay.PageSeats.TheVariants as seats
 
--- a page, and where it lies
+-- a page, and where it lies; the table of a page that is laid when it is first used, and so is offered, is its name
 pub record PageAt : Type 0 where
   pub place : PagePlace
   pub page : PageView
+  pub offered : Bool
 
-abbrev pub page_at : LaidPage → PageAt
-page_at p = record { place = p.place; page = p.page }
+abbrev pub page_at : RunPage → PageAt
+page_at (page.Laid place page) = record { place = place; page = page; offered = false }
+page_at (page.Offered o) = record {
+  place = Payload o.from o.to o.port;
+  page = record { table = o.client.value; orders = o.orders; start = o.start };
+  offered = true;
+}
 
--- a page has the orders of its place, and the first index of the scenario
+-- whether the data pages between two domains are offered: neither of them is hostile
+abbrev pub are_offered : Scenario → ℕ → ℕ → Bool
+are_offered s from to = not (hostile_at s from) && not (hostile_at s to)
+
+abbrev pub is_offered : Scenario → PagePlace → Bool
+is_offered s (Control domain) = false
+is_offered s (Payload from to port) = are_offered s from to
+
+-- a page has the orders of its place, and the first index of the scenario, and is offered where its place says so
 pub record IsLaidFor (s : Scenario) (p : PageAt) : Type 0 where
   pub orders : p.page.orders ≡ orders_of s p.place
   pub start : p.page.start ≡ s.start
+  pub when : p.offered ≡ is_offered s p.place
 
 -- these are the pages that are laid for a scenario
 pub record AreLaid (s : Scenario) (pages : List PageAt) : Type 0 where
   pub places : map (λ p. p.place) pages ≡ laid s
   pub each : Each (IsLaidFor s) pages
 
--- the seats of a page
-pub record AreSeatsOf (p : PageAt) (seats : PageSeats) : Type 0 where
-  pub server : seats.server ≡ record { page = p.page; role = Server }
-  pub client : seats.client ≡ record { page = p.page; role = Client }
+-- the seats of a page that is laid, or the sides of one that is offered
+abbrev pub AreSeatsOf : PageAt → PageSeats → Type 0
+AreSeatsOf p (seats.Laid server client) =
+    (p.offered ≡ false) × (server ≡ record { page = p.page; role = Server }) × (client ≡ record { page = p.page; role = Client })
+AreSeatsOf p (seats.Offered server client) = (p.offered ≡ true) × (server ≡ p.page) × (client ≡ p.page.table)
 
 abbrev pub HasSeats : List PageAt → List PageSeats → Type 0
 HasSeats pages seats = EachPair AreSeatsOf pages seats

@@ -4,14 +4,22 @@ use Rattle.std.specs.Prelude.{◌≡◌, List, [], ◌∷◌, ◌++◌, map, IfO
 use Rattle.vchan_io.specs.declared.memory.Memory.{Memory}
 use Rattle.scenario_file.specs.Scenario.{Plan as Scenario}
 use Rattle.task_duties.specs.declared.place.PagePlace.{PagePlace}
+use Rattle.run_pages.specs.declared.lay.RunPage.{RunPage}
+use Rattle.run_pages.specs.declared.lay.PageSeats.{PageSeats}
 use Rattle.run_pages.specs.declared.parts.Part.{Part}
-use Rattle.run_pages.specs.declared.parts.RunStarts.{RunStarts}
-use Rattle.run_pages.specs.Pages.{IsLaying, page_at}
+use Rattle.run_pages.specs.declared.starts.RunStarts.{RunStarts}
+use Rattle.run_pages.specs.Pages.{AreSeatsOf, IsLaidFor, IsLaying, page_at}
 
 -- the start words of the control pages and the data pages of a scenario
 pub record AreStartsOf (s : Scenario) (r : RunStarts) : Type 0 where
   pub control : (r.control.orders ≡ s.control) × (r.control.start ≡ s.start)
   pub payload : (r.payload.orders ≡ s.payload) × (r.payload.start ≡ s.start)
+
+-- the page at this place was made, with its seats or sides
+pub record IsMadeFor (s : Scenario) (place : PagePlace) (page : RunPage) (seats : PageSeats) : Type 0 where
+  pub at : (page_at page).place ≡ place
+  pub laid : IsLaidFor s (page_at page)
+  pub seated : AreSeatsOf (page_at page) seats
 
 -- a part has the pages at these places, with their seats
 abbrev pub IsPartOf : Scenario → List PagePlace → Part → Type 0

@@ -1,6 +1,8 @@
 -- What the tasks of a run give back, and the pages that are settled by it.
 -- Source: this project's own.
 use Rattle.std.specs.Prelude.{◌≡◌, ℕ, ◌<◌, ◌==◌, List, [], ◌∷◌, ◌++◌, length, map, reverse, slice_get, slice_index_or, Some, Contains, if◌then◌else◌}
+use Rattle.ring_words.specs.declared.order.Orders.{Orders}
+use Rattle.end_view.specs.EndView.{EndView}
 use Rattle.end_view.specs.Settled.{IsSettled}
 use Rattle.qrexec_frame.specs.Streams.{Each}
 use Rattle.scenario_file.specs.Scenario.{Plan as Scenario}
@@ -41,6 +43,17 @@ pub record IsSettledBy (s : Scenario) (hands : List (List EndAt)) (page : Settle
   pub orders : page.settled.orders ≡ orders_of s page.place
   pub server : Contains (hand_of hands (server_of page.place)) (record { place = page.place; view = page.settled.server })
   pub client : Contains (hand_of hands (client_of page.place)) (record { place = page.place; view = page.settled.client })
+
+-- a page of these orders as it was settled by two ends that are seen so
+pub record IsSettledAs (place : PagePlace) (orders : Orders) (server client : EndView) (page : SettledPage) : Type 0 where
+  pub place_is : page.place ≡ place
+  pub orders_are : page.settled.orders ≡ orders
+  pub server_is : page.settled.server ≡ server
+  pub client_is : page.settled.client ≡ client
+  pub settled : IsSettled page.settled
+
+abbrev pub IsJoinedBy : PageAt → EndAt → EndAt → SettledPage → Type 0
+IsJoinedBy p server client page = IsSettledAs p.place p.page.orders server.view client.view page
 
 -- all pages are settled, in order
 pub record AreSettledBy (s : Scenario) (pages : List PageAt) (hands : List (List EndAt)) (settled : List SettledPage) : Type 0 where

@@ -1,35 +1,85 @@
 //! Laying the pages of a run.
-ghost use Rattle.std.specs.Prelude.{◌≤◌, IfOk};
-ghost use Rattle.run_pages.specs.Pages.{AreLaid, HasSeats};
+ghost use Rattle.std.specs.Prelude.{◌≡◌, ◌≤◌, IfOk};
+ghost use Rattle.page_offer.specs.Names.{IsNameOf};
 
-use crate::parts::{Part, RunStarts, lay_parts};
+use crate::parts::{Part, lay_parts};
 use crate::places::places;
+use crate::starts::RunStarts;
+use page_offer::{UnlaidClient, UnlaidServer};
+use ring_words::Orders;
 use scenario_file::Scenario;
 use std::alloc::Global;
 use std::marker::Model;
+use std::snapshot::Snapshot;
 use std::thread::Threads;
 use task_duties::PagePlace;
 use vchan_io::Memory;
 use vchan_rule::{IdleSeat, Page};
 
-/// A page, and where it lies.
+/// A page of a run, and where it lies.
 #[derive(Drop)]
-pub(crate) struct LaidPage {
-    pub(crate) place: PagePlace,
-    pub(crate) page: Page,
+pub(crate) enum RunPage {
+    /// A page that is laid before the first turn.
+    Laid { place: PagePlace, page: Page },
+    /// A data page that is laid when it is first used.
+    Offered(Offering),
 }
 
-/// The two seats of a page, whose ends have done nothing.
+/// A data page that is laid when it is first used: where it lies, and its client's side as it was made,
+/// for the proof alone.
 #[derive(Drop)]
-pub struct PageSeats {
-    pub(crate) server: IdleSeat,
-    pub(crate) client: IdleSeat,
+pub(crate) struct Offering {
+    pub(crate) from: u32,
+    pub(crate) to: u32,
+    pub(crate) port: u32,
+    pub(crate) orders: Orders,
+    pub(crate) start: u32,
+    pub(crate) client: Snapshot<UnlaidClient>,
+    ghost named: { IsNameOf orders client.value },
 }
 
-/// The pages of a run, in the order in which they are laid.
+impl RunPage {
+    ghost use Rattle.run_pages.specs.Pages.{page_at};
+
+    /// Where it lies.
+    pub(crate) fn place(&self) -> PagePlace
+        ensures { result ≡ (page_at self.now).place }
+    {
+        match self {
+            RunPage::Laid { place, .. } => *place,
+            RunPage::Offered(Offering { from, to, port, .. }) => PagePlace::Payload {
+                from: *from,
+                to: *to,
+                port: *port,
+            },
+        }
+    }
+}
+
+/// The two seats of a page whose ends have done nothing, or the two sides of one that isn't laid yet.
+#[derive(Drop)]
+pub enum PageSeats<'p> {
+    /// The seats of a page that is laid.
+    Laid {
+        /// The server's.
+        server: IdleSeat,
+        /// The client's.
+        client: IdleSeat,
+    },
+    /// The sides of a page that is laid when it is first used.
+    Offered {
+        /// The server's.
+        server: UnlaidServer<'p>,
+        /// The client's.
+        client: UnlaidClient,
+    },
+}
+
+/// The pages of a run, in the order of their places. Contracts see a page that is laid when it is first
+/// used by the name that it has before that.
 #[derive(Drop)]
 pub struct RunPages {
-    pub(crate) pages: Vec<LaidPage>,
+    pub(crate) pages: Vec<RunPage>,
 }
 
 impl Model for RunPages {
@@ -42,21 +92,27 @@ impl Model for RunPages {
 }
 
 impl RunPages {
-    /// Lays all pages of a scenario by this many workers, and gives the seats of each. The places are
-    /// cut into parts, one a worker; with one worker no thread is made. Its error is want of memory.
-    pub fn lay<R: Threads + Sync>(
+    ghost use Rattle.run_pages.specs.Pages.{AreLaid, HasSeats};
+    ghost use Rattle.run_pages.specs.Parts.{AreStartsOf};
+
+    /// The pages of a scenario, made by this many workers, with the seats or the sides of each: a page
+    /// with a hostile domain at one end, and each control page, is laid; any other is laid when it is
+    /// first used. The places are cut into parts, one a worker; with one worker no thread is made. Its
+    /// error is want of memory.
+    pub fn lay<'s, R: Threads + Sync>(
         rt: &R,
         alloc: Global,
+        starts: &'s RunStarts,
         scenario: &Scenario,
         workers: u32,
-    ) -> Result<(RunPages, Vec<PageSeats>), Memory>
-        requires { 1 ≤ workers }
+    ) -> Result<(RunPages, Vec<PageSeats<'s>>), Memory>
+        requires some_worker { 1 ≤ workers }
+        requires starts { AreStartsOf scenario.now starts.now }
         ensures laid { IfOk result (λ p. AreLaid scenario.now p.0) }
         ensures seats { IfOk result (λ p. HasSeats p.0 p.1.items) }
     {
         let places = places(alloc, scenario)?;
-        let starts = RunStarts::new(alloc, scenario)?;
-        let parts = lay_parts(rt, alloc, &starts, places.as_slice(), workers)?;
+        let parts = lay_parts(rt, alloc, starts, scenario, places.as_slice(), workers)?;
         let Part { pages, seats } = Part::join(alloc, places.len(), parts)?;
         Ok((RunPages { pages }, seats))
     }

@@ -1,17 +1,21 @@
-//! The pages of a run: laid for a scenario, dealt to its tasks, and settled once the tasks are done.
+//! The pages of a run: made for a scenario, dealt to its tasks, and settled once the tasks are done.
 //!
 //! It serves whoever runs a scenario. Each domain has a control page with the broker, and each call a
-//! data page between its caller and its target; a hostile caller has as many as it has ports. Where
-//! the pages lie is this project's own.
+//! data page between its caller and its target; a hostile caller has as many as it has ports. A data
+//! page between two honest domains is laid when it is first used, and each other page before the first
+//! turn. Where the pages lie, and when they are laid, is this project's own.
 #![tactic(auto)]
 
 mod deal;
+mod hostile;
 mod lay;
 mod parts;
 mod places;
 mod routes;
 mod settle;
+mod starts;
 
 pub use deal::{Dealt, Hand};
 pub use lay::{PageSeats, RunPages};
 pub use places::page_table;
+pub use starts::RunStarts;

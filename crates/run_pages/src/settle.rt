@@ -1,30 +1,38 @@
 //! Settling the pages of a run.
 ghost use Rattle.std.specs.Prelude.{◌≡◌, ◌≢◌, ◌+◌, length, map, IfOk};
 ghost use Rattle.run_laws.specs.Laid.{server_of, client_of};
-ghost use Rattle.run_pages.specs.Settling.{AreSettledBy, GivesUp, GivesUpBoth, HandsBack, HasEnd};
-ghost use Rattle.run_pages.specs.Pages.{AreLaid, new_end, page_at};
-ghost use Rattle.end_view.specs.Settled.{IsSettled};
+ghost use Rattle.scenario_file.specs.Scenario.{Plan};
+ghost use Rattle.run_pages.specs.Parts.{AreStartsOf};
+ghost use Rattle.run_pages.specs.Settling.{AreSettledBy, GivesUp, GivesUpBoth, HandsBack, HasEnd, IsJoinedBy, IsSettledAs};
+ghost use Rattle.run_pages.specs.Pages.{AreLaid, IsLaidFor, new_end, page_at};
 ghost use Rattle.ring_words.specs.declared.page.Role.TheVariants.{Server, Client};
-ghost use Rattle.task_duties.specs.GivenEnds.{all_retired, retired_at};
+ghost use Rattle.task_duties.specs.GivenEnds.{all_retired, done_view, retired_at};
+ghost use Rattle.task_duties.specs.declared.place.PagePlace.TheVariants.{Payload};
 ghost use Rattle.task_duties.specs.TaskOwes.{IsSameEnd};
 
-use crate::lay::{LaidPage, RunPages};
-use run_report::SettledPage;
+use crate::lay::{Offering, RunPage, RunPages};
+use crate::starts::RunStarts;
+use page_offer::{DoneClient, DoneServer, settle};
+use run_report::{SettledPage, Standing};
 use scenario_file::Scenario;
 use std::alloc::Global;
-use task_duties::{PagePlace, RetiredEnd};
+use task_duties::{DoneEnd, PagePlace, RetiredEnd};
 use vchan_io::Memory;
+use vchan_rule::{Page, Retired};
 
 impl RunPages {
-    /// Settles all pages, in the order in which they were laid, by the ends that the tasks give back:
-    /// those of the broker first, then those of each domain, each in the order in which they were
-    /// dealt. Its error is want of memory, and drops the pages and all ends.
+    /// Settles all pages, in the order of their places, by the ends that the tasks give back: those of
+    /// the broker first, then those of each domain, each in the order in which they were dealt. The
+    /// start words are those by which the pages were made. Its error is want of memory, and drops the
+    /// pages and all ends.
     pub fn settle(
         self,
         alloc: Global,
+        starts: &RunStarts,
         scenario: &Scenario,
         mut given_back: Vec<Vec<RetiredEnd>>,
     ) -> Result<Vec<SettledPage>, Memory>
+        requires starts { AreStartsOf scenario.now starts.now }
         requires laid { AreLaid scenario.now self }
         requires all { length given_back.items ≡ length scenario.now.domains + 1 }
         requires back { HandsBack self (map (λ h. all_retired h.items) given_back.items) }
@@ -34,8 +42,9 @@ impl RunPages {
         let left = given_back.as_mut_slice();
         let mut settled = Vec::with_capacity(alloc, pages.len())?;
         while let Some(page) = pages.pop() {
-            let (server, client) = take_ends(left, page.place);
-            settled.push(settle_page(page, server, client))?;
+            let place = page.place();
+            let (server, client) = take_ends(left, place);
+            settled.push(settle_page(alloc, starts, page, server, client)?)?;
         }
         settled.reverse();
         Ok(settled)
@@ -43,18 +52,101 @@ impl RunPages {
 }
 
 /// A page that is settled by its two ends.
-fn settle_page(page: LaidPage, server: RetiredEnd, client: RetiredEnd) -> SettledPage
+fn settle_page(
+    alloc: Global,
+    starts: &RunStarts,
+    page: RunPage,
+    server: RetiredEnd,
+    client: RetiredEnd,
+) -> Result<SettledPage, Memory>
+    requires made { (s : Plan) × AreStartsOf s starts.now × IsLaidFor s (page_at page) }
     requires server { IsSameEnd (new_end (page_at page) Server) (retired_at server) }
     requires client { IsSameEnd (new_end (page_at page) Client) (retired_at client) }
-    ensures place { result.place ≡ page.place }
-    ensures orders { result.settled.orders ≡ page.page.orders }
-    ensures ends { (result.settled.server ≡ (retired_at server).view) × (result.settled.client ≡ (retired_at client).view) }
-    ensures settled { IsSettled result.settled }
+    ensures { IfOk result (IsJoinedBy (page_at page) (retired_at server) (retired_at client)) }
 {
-    let LaidPage { place, page } = page;
-    let settled = page.finish(server.retired, client.retired);
+    match page {
+        RunPage::Laid { place, page } => settle_laid(place, page, server.retired, client.retired),
+        RunPage::Offered(page) => {
+            settle_offered(alloc, starts, page, server.retired, client.retired)
+        }
+    }
+}
+
+/// A page that was laid before the first turn, settled by its two ends. They are ends of a laid page too:
+/// a table has words, and the name of a page that is laid when it is first used has none.
+fn settle_laid(
+    place: PagePlace,
+    page: Page,
+    server: DoneEnd,
+    client: DoneEnd,
+) -> Result<SettledPage, Memory>
+    requires server { ((done_view server).page ≡ page.table) × ((done_view server).role ≡ Server) }
+    requires client { ((done_view client).page ≡ page.table) × ((done_view client).role ≡ Client) }
+    ensures { IfOk result (IsSettledAs place page.orders (done_view server) (done_view client)) }
+{
+    let server = laid_end(server)?;
+    let client = laid_end(client)?;
+    let settled = page.finish(server, client);
     settled.promise();
-    SettledPage { place, settled }
+    Ok(SettledPage {
+        place,
+        settled: Standing::laid(settled),
+    })
+}
+
+/// The end of a page that was laid before the first turn.
+fn laid_end(done: DoneEnd) -> Result<Retired, Memory>
+    ensures { IfOk result (λ end. done ≡ DoneEnd.Laid end) }
+{
+    match done {
+        DoneEnd::Laid(end) => Ok(end),
+        DoneEnd::Server(_) | DoneEnd::Client(_) => Err(Memory),
+    }
+}
+
+/// A page that was laid when it was first used, settled by its two sides.
+fn settle_offered(
+    alloc: Global,
+    starts: &RunStarts,
+    page: Offering,
+    server: DoneEnd,
+    client: DoneEnd,
+) -> Result<SettledPage, Memory>
+    requires starts { starts.now.payload.orders ≡ page.orders }
+    requires server { (done_view server).page ≡ page.client.value }
+    requires client { (done_view client).page ≡ page.client.value }
+    ensures { IfOk result (IsSettledAs (Payload page.from page.to page.port) page.orders (done_view server) (done_view client)) }
+{
+    let server = server_side(server)?;
+    let client = client_side(client)?;
+    server.promise();
+    let settled = settle(alloc, &starts.payload, server, client)?;
+    settled.promise();
+    let Offering { from, to, port, .. } = page;
+    Ok(SettledPage {
+        place: PagePlace::Payload { from, to, port },
+        settled: Standing::offered(settled),
+    })
+}
+
+/// The server's side of a page that was laid when it was first used.
+fn server_side(done: DoneEnd) -> Result<DoneServer, Memory>
+    ensures { IfOk result (λ side. done ≡ DoneEnd.Server side) }
+{
+    match done {
+        DoneEnd::Server(side) => Ok(side),
+        DoneEnd::Laid(_) | DoneEnd::Client(_) => Err(Memory),
+    }
+}
+
+/// The client's side of such a page.
+fn client_side(done: DoneEnd) -> Result<DoneClient, Memory>
+    ensures { IfOk result (λ side. done ≡ DoneEnd.Client side) }
+{
+    match done {
+        DoneEnd::Client(side) => Ok(side),
+        DoneEnd::Laid(_) | DoneEnd::Server(_) => Err(Memory),
+    }
 }
 
 /// The server's and the client's end of the page at a place, which are the last ones of their tasks.

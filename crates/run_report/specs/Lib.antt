@@ -1,3 +1,4 @@
 pub mod Lines
 pub mod Summary
 pub mod Summing
+pub mod Standing

@@ -7,12 +7,14 @@
 
 mod lines;
 mod report;
+mod standing;
 mod summary;
 mod text;
 
 pub use lines::{push_bytes, push_number};
 pub use report::{Report, SettledPage};
 pub use run_laws::{CallLine, CallResult, MixedOutcome, ServedLine};
+pub use standing::Standing;
 pub use summary::summary_text;
 pub use text::report_text;
 

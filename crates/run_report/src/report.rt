@@ -1,8 +1,8 @@
 //! The report of a run.
+use crate::standing::Standing;
 use run_laws::{CallLine, ServedLine};
 use std::marker::Model;
 use task_duties::PagePlace;
-use vchan_rule::Settled;
 
 /// A page that is done with, and where it lay.
 #[derive(Drop)]
@@ -10,7 +10,7 @@ pub struct SettledPage {
     /// Where it lay.
     pub place: PagePlace,
     /// What stands of it.
-    pub settled: Settled,
+    pub settled: Standing,
 }
 
 impl Model for SettledPage {

@@ -13,7 +13,7 @@ use Rattle.task_duties.specs.declared.place.PagePlace.TheVariants.{Control, Payl
 use Rattle.task_duties.specs.declared.ends.DataEnd.{DataEnd}
 use Rattle.task_duties.specs.Places.{numbers}
 use Rattle.task_duties.specs.TaskOwes.{Broker, EndAt, broker_ends, places_in}
-use Rattle.task_duties.specs.GivenEnds.{all_given}
+use Rattle.task_duties.specs.GivenEnds.{all_given, fresh_view}
 use Rattle.task_duties.proofs.Elements.{Differ, Has, each-of, has-filter_map, has-map-back}
 use Rattle.broker_task.specs.Given.{IsNewClient}
 use Rattle.data_slots.specs.Slots.{IsEndOf, IsGiven}
@@ -94,7 +94,7 @@ data-given s d [] each = tt
 data-given s d (x ∷ payload) each = (record { of_domain = by each.0.which; unused = each.0.unused }, data-given s d payload each.1)
   where
     role : Role
-    role = (view x.end).role
+    role = (fresh_view x.end).role
 
     by : ((x.from ≡ d) × (role ≡ Server)) ⊎ ((x.from ≢ d) × (x.to ≡ d) × (role ≡ Client)) → IsEndOf d (Payload x.from x.to x.port) role
     by (inl server) = subst (IsEndOf d (Payload x.from x.to x.port)) (sym server.1) (server.0, (λ e. each.0.lies.0 (server.0 ∙ sym e)))
@@ -111,7 +111,7 @@ new-hand s pages d hand some are dealt = record {
   places = ap places_in dealt ∙ places-dealt s pages d some are;
 }
 
-hand-fits : (s : Scenario) (d : ℕ) (hand : Hand) → IsNewHand s d hand → HasOrders s hand → IsHandOf s d hand
+hand-fits : (s : Scenario) (d : ℕ) (hand : Hand) → IsNewHand s d hand → HasOrders s d hand → IsHandOf s d hand
 hand-fits s d hand new orders = record {
   server = by new.new.0.which;
   unused = new.new.0.unused;
@@ -130,7 +130,7 @@ hand-fits s d hand new orders = record {
 
 pub hands-fit : (s : Scenario) (pages : List PageAt) (hands : List Hand) → AreLaid s pages → HandsDealt pages hands → HaveOrders s hands → length hands ≡ length s.domains → AreHandsOf s hands
 hands-fit s pages hands are dealt orders count =
-    (count, λ k hand is. hand-fits s (k + 1) hand (new-hand s pages (k + 1) hand (omega arith) are (dealt k hand is)) (each-get (HasOrders s) hands k hand orders is))
+    (count, λ k hand is. hand-fits s (k + 1) hand (new-hand s pages (k + 1) hand (omega arith) are (dealt k hand is)) (orders k hand is))
 
 -- ---- what the tasks are given
 

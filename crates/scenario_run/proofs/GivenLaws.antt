@@ -14,10 +14,12 @@ use Rattle.scenario_file.specs.Scenario.{Plan as Scenario, DomainFits, IsScenari
 use Rattle.scenario_file.specs.declared.scenario.CallPlan.{CallPlan}
 use Rattle.scenario_file.specs.declared.scenario.Domain.{Domain}
 use Rattle.task_duties.specs.declared.ends.DataEnd.{DataEnd}
+use Rattle.task_duties.specs.declared.ends.UnusedEnd.{UnusedEnd}
+use Rattle.run_pages.specs.Dealt.{IsLaidWith}
 use Rattle.task_duties.specs.declared.place.PagePlace.TheVariants.{Control, Payload}
 use Rattle.task_duties.specs.Hostile.Stores.{role_at}
 use Rattle.task_duties.specs.Places.{numbers}
-use Rattle.task_duties.specs.GivenEnds.{all_given}
+use Rattle.task_duties.specs.GivenEnds.{all_given, fresh_view}
 use Rattle.task_duties.specs.Words.{ident_of}
 use Rattle.task_duties.proofs.Elements.{Differ, each-at, each-of, has-filter}
 use Rattle.data_slots.specs.Slots.{IsEndOf, IsGiven}
@@ -125,10 +127,12 @@ server-role d from to port Client is = let other : (from == d) ≡ false = no-te
         by true is' = absurd (differ (grind (arith, nat_tests, is')))
         by false is' = is'
 
-pub data-of : (h : HostileDomain) (payload : List DataEnd) → Each (IsGiven h.number) (all_given payload) → Each (λ e. e.end.side.orders ≡ h.payload) payload → AreDataOf h payload
-data-of h [] given orders = tt
-data-of h (x ∷ payload) given orders =
-    (record { role = server-role h.number x.from x.to x.port x.end.side.role given.0.of_domain; orders = orders.0 }, data-of h payload given.1 orders.1)
+pub data-of : (h : HostileDomain) (payload : List DataEnd) → Each (IsGiven h.number) (all_given payload) → Each (IsLaidWith h.payload) payload → AreDataOf h payload
+data-of h [] given laid = tt
+data-of h (x ∷ payload) given laid =
+    let end = laid.0.end in
+    let of_domain = subst (λ (e : UnusedEnd). IsEndOf h.number (Payload x.from x.to x.port) (fresh_view e).role) laid.0.is given.0.of_domain in
+    (record { end = end; laid = laid.0.is; role = server-role h.number x.from x.to x.port end.side.role of_domain; orders = laid.0.orders_are }, data-of h payload given.1 laid.1)
 
 -- ---- the pages
 

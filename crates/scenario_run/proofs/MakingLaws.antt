@@ -97,3 +97,22 @@ no-more s controls hands given d (hand ∷ rest) so_far left = absurd left
 pub making-over : (s : Scenario) (controls : List EndView) (hands : List Hand) (given : List TaskGiven) (all : List Making)
     → all ≡ [] → IsMaking s controls hands given all → given ≡ broker_given (hub_of s) (awaited_by s) controls ∷ given_from s 1 hands
 making-over s controls hands given all is so_far = no-more s controls hands given so_far.number so_far.rest so_far.so_far (subst (AreMade s so_far.number so_far.rest) is so_far.left)
+
+-- ---- the ends before a task is made
+
+-- an iterator with nothing left has no items
+none_left : {X Z : Type 0} (it : IntoIter X Z) → into_iter_len it ≡ 0 → length (into_iter_items it) ≡ 0
+none_left it none = grind (arith, common_steps, none)
+
+-- one hand more is put behind the others
+pub one-hand-more : (made now : List Making) (hand : Hand) (old rest hands : List Hand) → now ≡ made ++ Ends hand ∷ [] → old ≡ hand ∷ rest → made ++ map Ends old ≡ map Ends hands → now ++ map Ends rest ≡ map Ends hands
+one-hand-more made now hand old rest hands is step all =
+    ap (λ (z : List Making). z ++ map Ends rest) is ∙ append_assoc made (Ends hand ∷ []) (map Ends rest) ∙ ap (λ (z : List Hand). made ++ map Ends z) (sym step) ∙ all
+
+-- and in the end all are there
+pub all-there : (made : List Making) (it : IntoIter Hand Global) (hands : List Hand) → made ++ map Ends (into_iter_items it) ≡ map Ends hands → into_iter_len it ≡ 0 → made ≡ map Ends hands
+all-there made it hands all none = by (into_iter_items it) all (none_left it none)
+  where
+    by : (rest : List Hand) → made ++ map Ends rest ≡ map Ends hands → length rest ≡ 0 → made ≡ map Ends hands
+    by [] all none = sym (append-nil made) ∙ all
+    by (h ∷ rest) all none = absurd (omega (arith, none))

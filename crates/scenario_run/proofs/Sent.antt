@@ -3,15 +3,9 @@ use denote.Param.Send.{IsSend, sendable}
 use denote.Param.SendFields.{FieldsHave, declared_send, variants_send}
 use Rattle.std.proofs.Crossing.{crosses}
 use Rattle.vchan_rule.proofs.Sent.{end_send}
-use Rattle.task_duties.specs.contracts.ends.DataEnd as data_end
 use Rattle.run_pages.specs.contracts.deal.Hand as hand
-use Rattle.domain_task.proofs.Sent.{task_send}
+use Rattle.domain_task.proofs.Sent.{data_end_send, task_send}
 use Rattle.scenario_run.specs.contracts.making.Making as making
-
-data_end_send : (κ : _) → IsSend (data_end.the_row κ)
-data_end_send κ =
-    let fields : FieldsHave IsSend (data_end.the_type κ).parts = (search sendable, (search sendable, (search sendable, (end_send κ, tt)))) in
-    declared_send (data_end.the_type κ) fields
 
 hand_send : (κ : _) → IsSend (hand.the_row κ)
 hand_send κ =

@@ -31,7 +31,7 @@ pub record IsHandOf (s : Scenario) (d : ℕ) (hand : Hand) : Type 0 where
   pub given : Each (IsGiven d) (all_given hand.payload.items)
   pub apart : AreApart (places_in (all_given hand.payload.items))
   pub all_apart : AreAllApart (places_in (all_given hand.payload.items))
-  pub orders : HasOrders s hand
+  pub orders : HasOrders s d hand
 
 abbrev pub AreHandsOf : Scenario → List Hand → Type 0
 AreHandsOf s hands = (length hands ≡ length s.domains) × ((k : ℕ) (hand : Hand) → slice_get hands k ≡ Some hand → IsHandOf s (k + 1) hand)

@@ -3,6 +3,7 @@ ghost use Rattle.std.specs.Prelude.{◌≤◌, map, IfOk};
 ghost use Rattle.domain_task.specs.Owes.{answer_of};
 ghost use Rattle.run_laws.specs.Lawful.{IsLawful};
 ghost use Rattle.run_pages.specs.Pages.{AreLaid, HasSeats};
+ghost use Rattle.run_pages.specs.Parts.{AreStartsOf};
 ghost use Rattle.scenario_run.specs.Answering.{AreAnswers};
 
 use crate::answers::{Answers, take_apart};
@@ -11,7 +12,7 @@ use crate::page_index::PageIndex;
 use crate::sessions::served_lines;
 use crate::tasks::{is_scenario, tasks};
 use domain_task::TaskDone;
-use run_pages::{PageSeats, RunPages};
+use run_pages::{PageSeats, RunPages, RunStarts};
 use run_report::Report;
 use scenario_file::Scenario;
 use service_gate::Gate;
@@ -21,8 +22,8 @@ use std::thread::Threads;
 use task_pool::run_pool;
 use vchan_io::Memory;
 
-/// Runs a scenario with this many workers, from 1 to 16: its pages are laid and its tasks made, each worker
-/// laying and making some of them; the tasks, one for each domain and one of the broker, take turns until
+/// Runs a scenario with this many workers, from 1 to 16: its pages are made and its tasks, each worker making some of
+/// them; the tasks, one for each domain and one of the broker, take turns until
 /// all are done, and each page is settled. A worker enters the gate with the place of the task before each
 /// turn: 0 is the broker's, k that of domain k.
 ///
@@ -38,20 +39,21 @@ pub fn run_scenario<G: Gate, R: Threads + Wait + Sync>(
     requires few_workers { workers ≤ 16 }
     ensures { IfOk result (λ report. IsLawful scenario.now report) }
 {
-    let (pages, seats) = RunPages::lay(rt, alloc, scenario, workers)?;
+    let starts = RunStarts::new(alloc, scenario)?;
+    let (pages, seats) = RunPages::lay(rt, alloc, &starts, scenario, workers)?;
     let dones = run_tasks(rt, alloc, scenario, workers, gate, &pages, seats)?;
-    report(alloc, scenario, pages, dones)
+    report(alloc, scenario, &starts, pages, dones)
 }
 
 // Runs the tasks of a scenario over its pages.
-fn run_tasks<G: Gate, R: Threads + Wait + Sync>(
+fn run_tasks<'p, G: Gate, R: Threads + Wait + Sync>(
     rt: &R,
     alloc: Global,
     scenario: &Scenario,
     workers: u32,
     gate: &G,
-    pages: &RunPages,
-    seats: Vec<PageSeats>,
+    pages: &'p RunPages,
+    seats: Vec<PageSeats<'p>>,
 ) -> Result<Vec<TaskDone>, Memory>
     requires some_worker { 1 ≤ workers }
     requires few_workers { workers ≤ 16 }
@@ -69,16 +71,18 @@ fn run_tasks<G: Gate, R: Threads + Wait + Sync>(
 fn report(
     alloc: Global,
     scenario: &Scenario,
+    starts: &RunStarts,
     pages: RunPages,
     dones: Vec<TaskDone>,
 ) -> Result<Report, Memory>
+    requires starts { AreStartsOf scenario.now starts.now }
     requires laid { AreLaid scenario.now pages }
     requires answers { AreAnswers scenario.now pages (map answer_of dones.items) }
     ensures { IfOk result (λ report. IsLawful scenario.now report) }
 {
     is_scenario(scenario);
     let Answers { ends, mut reports } = take_apart(alloc, dones)?;
-    let pages = pages.settle(alloc, scenario, ends)?;
+    let pages = pages.settle(alloc, starts, scenario, ends)?;
     let index = PageIndex::of(alloc, pages.as_slice())?;
     let calls = call_lines(alloc, scenario, reports.as_mut_slice(), &index)?;
     let served = served_lines(alloc, scenario, reports)?;

@@ -1,6 +1,18 @@
 //! The ends that a task is given, and those that it gives back.
 use crate::place::PagePlace;
+use page_offer::{DoneClient, DoneServer, UnlaidClient, UnlaidServer};
 use vchan_rule::{End, Retired};
+
+/// An end of a data page that nothing was done on.
+#[derive(Drop)]
+pub enum UnusedEnd<'p> {
+    /// An end of a page that is laid.
+    Laid(End<'p>),
+    /// The server's side of a page that is laid when it is first used.
+    Server(UnlaidServer<'p>),
+    /// The client's side of such a page.
+    Client(UnlaidClient),
+}
 
 /// An end of a data page, with the place of the page.
 #[derive(Drop)]
@@ -12,7 +24,18 @@ pub struct DataEnd<'p> {
     /// The port, which is the page's own among those from the one domain to the other.
     pub port: u32,
     /// The end: a server's at the domain that calls, else a client's.
-    pub end: End<'p>,
+    pub end: UnusedEnd<'p>,
+}
+
+/// An end that makes no event any more.
+#[derive(Drop)]
+pub enum DoneEnd {
+    /// An end of a page that was laid before the tasks began.
+    Laid(Retired),
+    /// The server's side of a page that is laid when it is first used.
+    Server(DoneServer),
+    /// The client's side of such a page.
+    Client(DoneClient),
 }
 
 /// An end that makes no event any more, with the place of its page.
@@ -21,5 +44,5 @@ pub struct RetiredEnd {
     /// The place.
     pub place: PagePlace,
     /// The end.
-    pub retired: Retired,
+    pub retired: DoneEnd,
 }

@@ -13,5 +13,5 @@ pub mod laws;
 mod place;
 
 pub use done::{CallDone, CallEnd, ControlEnd, ServedDone};
-pub use ends::{DataEnd, RetiredEnd};
+pub use ends::{DataEnd, DoneEnd, RetiredEnd, UnusedEnd};
 pub use place::PagePlace;

@@ -3,6 +3,7 @@ use Rattle.std.proofs.Common.{◌≡◌, ℕ, true, false, length, zero, suc, Li
 use mathlib.Core.Option.{some, some-ne-none}
 use lib.ListN.{get_elem?}
 use lib.Seq.{set-get_or}
+use Rattle.atomic_table.proofs.Lists.{set_again}
 use Rattle.atomic_table.specs.Table.{Me, Allows, Splits, Joins, Final, Seen, keeps, opening}
 use Rattle.ring_words.specs.declared.order.Orders.{Orders}
 use Rattle.ring_words.specs.declared.page.Role.{Role}
@@ -235,3 +236,12 @@ last_kept key words views id a b (done key2 words2 views2 x y is k) at = done_ke
 pub settles : (key : Opening) (id : ℕ) (a b : Side) (v : View) (words : List ℕ) (slots : List (Unit {0})) → Final (Seen (Ruled key) id v) words slots → v ≡ Both a b → Settles key v
 settles key id a b v words slots f is =
     subst (Settles key) (sym is) (page_settles (core key f.0.words a b) (last_kept key f.0.words f.0.views id a b f.1.0.shown (f.1.1 ∙ ap some is)))
+
+-- a load by the seat that knows both ends shows what stands of them
+pub settled_at : (key told : Opening) (slots id : ℕ) (me : Me (Unit {0}) View) (a b : Side) → me ≡ (Both a b, []) → told ≡ key →
+    Allows (Ruled key) slots id me 0 (λ n. n) (λ n m'. (m' ≡ me) × Settles told me.0)
+settled_at key told slots id me a b is same =
+    subst (λ (z : Me (Unit {0}) View × Opening). Allows (Ruled key) slots id z.0 0 (λ n. n) (λ n m'. (m' ≡ z.0) × Settles z.1 z.0.0)) (λ i. (sym is i, sym same i))
+    (λ st l deep at small.
+    let stays = subst (λ (z : List ℕ × List View). Shown key z.0 z.1) (λ i. (sym (set-get_or st.words 0 0) i, sym (set_again st.views id (Both a b) at) i)) l.shown in
+    (Both a b, keeps, tt, record { shown = stays }, (refl, page_settles (core key st.words a b) (last_kept key st.words st.views id a b l.shown at))))

@@ -5,3 +5,4 @@ pub mod Along
 pub mod Going
 pub mod Called
 pub mod Done
+pub mod Words

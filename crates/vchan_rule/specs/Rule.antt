@@ -65,6 +65,9 @@ least = record { number = 12; in_range = (lit≤ tt, lit≤ tt) }
 abbrev pub nobody : Side
 nobody = new_server (record { left = least; right = least; distinct = λ _. lit≤ tt }) 0
 
+abbrev pub nothing_told : Opening
+nothing_told = record { orders = record { left = least; right = least; distinct = λ _. lit≤ tt }; start = 0 }
+
 abbrev pub server_half : View → View
 server_half (Whole orders start) = One (new_server orders start)
 server_half _ = Spent

@@ -21,8 +21,9 @@ ghost use Rattle.vchan_rule.specs.Called.{MayMake, HasCalled};
 ghost use Rattle.vchan_rule.specs.Ends.{Pays, IsSameEnd, seen};
 
 use crate::end_seat::{DRAINS, EndSeat, OTHERWISE, READS, WRITES};
-use crate::rule::{PageWords, Place};
+use crate::rule::Place;
 use crate::turned::{Retired, TurnedEnd};
+use crate::words::EndWords;
 use ring_words::{Orders, Role};
 use std::marker::{Brand, Model};
 use std::sync::ledger::{Blank, Ledger};
@@ -32,7 +33,7 @@ use vchan_core::{Answer, Call, EndState, Machine, Steps};
 /// event, each of which is one atomic step on one word of the page.
 #[derive(Drop)]
 pub struct End<'p> {
-    words: &'p PageWords,
+    words: EndWords<'p>,
     seat: EndSeat,
     machine: Machine,
 }
@@ -43,22 +44,22 @@ impl<'p> Model for End<'p> {
 
     ghost Value = { SeatedEnd };
 
-    ghost view = { λ e. driven e.words.now.key.start e.seat e.machine };
+    ghost view = { λ e. driven e.words.key.start e.seat e.machine };
 
-    ghost invariant = { λ e. Agrees e.words.now.key.start e.seat.begun e.machine e.seat.side × AreWordsOf e.words.now.table_id e.words.now.key e.seat };
+    ghost invariant = { λ e. Agrees e.words.key.start e.seat.begun e.machine e.seat.side × AreWordsOf e.words.table e.words.key e.seat };
 }
 
 impl<'p> End<'p> {
     /// The end of a seat that has done nothing.
     pub(crate) fn new(
-        words: &'p PageWords,
+        words: EndWords<'p>,
         seat: Place,
         role: Role,
         orders: Orders,
         state: EndState,
         start: u32,
     ) -> End<'p>
-        requires page { (seat.table_id ≡ words.now.table_id) × (words.now.table_id.words ≡ word_count orders) × (words.now.key.orders ≡ orders) × (words.now.key.start ≡ start) }
+        requires page { (seat.table_id ≡ words.table) × (words.table.words ≡ word_count orders) × (words.key.orders ≡ orders) × (words.key.start ≡ start) }
         requires state { role ≡ Role.Server → state ≢ EndState.Fresh }
         requires fresh { seat.me ≡ (One (new_side role orders start state), []) }
         ensures { (result.page ≡ seat.table_id) × (result.side ≡ new_side role orders start state) × (result.start ≡ start) × (result.begun ≡ None) × IsIdle result.machine }
@@ -159,7 +160,8 @@ impl<'p> End<'p> {
         ensures out { payload_needed self.new.machine ≤ payload_needed self.old.machine }
         ensures into { buffer_needed self.new.machine ≤ buffer_needed self.old.machine }
     {
-        self.seat.event(self.words, &mut self.machine, payload, buf)
+        let words = self.words.get();
+        self.seat.event(words, &mut self.machine, payload, buf)
     }
 
     /// The events that come next as long as they are on bytes of a ring. It answers how many they
@@ -179,8 +181,8 @@ impl<'p> End<'p> {
         ensures out { payload_needed self.new.machine ≤ payload_needed self.old.machine }
         ensures into { buffer_needed self.new.machine ≤ buffer_needed self.old.machine }
     {
-        self.seat
-            .move_bytes(self.words, &mut self.machine, payload, buf)
+        let words = self.words.get();
+        self.seat.move_bytes(words, &mut self.machine, payload, buf)
     }
 
     /// Begins a call, and makes the first events of a write, a read or a drain, on a machine of its
@@ -198,7 +200,7 @@ impl<'p> End<'p> {
         ensures honest { self.old.side.turned ≡ false }
         ensures steps { steps.new ≡ steps.old + length (seen self.new payload.now).trail }
     {
-        let words = self.words;
+        let words = self.words.get();
         let mut machine = self.machine.inside(call);
         self.seat.begin(call);
         let first = self

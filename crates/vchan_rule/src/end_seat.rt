@@ -23,6 +23,7 @@ ghost use Rattle.vchan_rule.specs.Going.{IsReady, Goes};
 use crate::rule::{PageWords, Place};
 use crate::steps::{give_up, perform, put_bytes, take_bytes};
 use crate::turned::{Retired, TurnedEnd};
+use crate::words::EndWords;
 use ring_words::{Layout, Orders, Role, WordName};
 use std::marker::{Brand, Model};
 use std::snapshot::Snapshot;
@@ -406,8 +407,8 @@ impl EndSeat {
     }
 
     /// Gives the end up, with one event: a load of the consumer index of the ring that it writes.
-    pub(crate) fn turn<'p>(self, words: &'p PageWords) -> TurnedEnd<'p>
-        requires words { AreWordsOf words.now.table_id words.now.key self }
+    pub(crate) fn turn<'p>(self, words: EndWords<'p>) -> TurnedEnd<'p>
+        requires words { AreWordsOf words.table words.key self }
         requires honest { self.side.turned ≡ false }
         ensures page { result.page ≡ self.page }
         ensures side { (consumed : ℕ) × (result.side ≡ turns self.side consumed) }
@@ -420,7 +421,7 @@ impl EndSeat {
             begun: _,
         } = self;
         let word = cons_word(written_ring(role));
-        give_up::<Brand>(words, &mut seat, &layout, word);
+        give_up::<Brand>(words.get(), &mut seat, &layout, word);
         TurnedEnd {
             words,
             seat,

@@ -9,11 +9,14 @@
 
 mod end;
 mod end_seat;
+mod held;
 mod page;
 mod rule;
 mod steps;
 mod turned;
+mod words;
 
 pub use end::End;
+pub use held::HeldPage;
 pub use page::{IdleSeat, Page, Settled, StartWords};
 pub use turned::{Retired, TurnedEnd};

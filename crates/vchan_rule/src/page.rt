@@ -1,6 +1,7 @@
 //! A page with its two seats, and what is known once both ends are done.
 ghost use Rattle.std.specs.Prelude.{◌≡◌, None, IfOk};
 ghost use Rattle.ring_words.specs.declared.page.Role.TheVariants.{Server, Client};
+ghost use Rattle.ring_words.specs.Page.{word_count};
 ghost use Rattle.end_view.specs.EndView.{state_at_first};
 ghost use Rattle.end_view.specs.Settled.{IsSettled};
 ghost use Rattle.vchan_protocol.specs.History.Core.{new_side};
@@ -10,6 +11,7 @@ ghost use Rattle.vchan_rule.specs.Seated.{settled_page};
 use crate::end::End;
 use crate::rule::{Halves, Opening, PageTable, Place};
 use crate::turned::Retired;
+use crate::words::EndWords;
 use ring_words::{Orders, Role, Words};
 use std::alloc::Global;
 use std::marker::Model;
@@ -89,6 +91,7 @@ impl Model for IdleSeat {
     ghost use Rattle.std.specs.Prelude.{◌≡◌, [], ◌∷◌};
     ghost use Rattle.vchan_protocol.specs.History.Core.{new_side};
     ghost use Rattle.vchan_rule.specs.Seated.{SeatView};
+    ghost use Rattle.ring_words.specs.Page.{word_count};
     ghost use Rattle.end_view.specs.EndView.{state_at_first};
     ghost use Rattle.vchan_rule.specs.declared.rule.View.TheVariants.{One};
 
@@ -97,6 +100,29 @@ impl Model for IdleSeat {
     ghost view = { λ s. record { page = record { table = s.seat.table_id; orders = s.orders; start = s.start }; role = s.role } };
 
     ghost invariant = { λ s. s.seat.me ≡ (One (new_side s.role s.orders s.start (state_at_first s.role)), []) };
+}
+
+impl IdleSeat {
+    /// The end of this seat, by the words of its page.
+    pub(crate) fn attach<'p>(self, words: EndWords<'p>, orders: Orders, start: u32) -> End<'p>
+        requires page { (self.page.table ≡ words.table) × (self.page.orders ≡ orders) × (self.page.start ≡ start) }
+        requires words { (words.table.words ≡ word_count orders) × (words.key.orders ≡ orders) × (words.key.start ≡ start) }
+        ensures page { (result.page ≡ self.page.table) × (result.start ≡ start) }
+        ensures side { result.side ≡ new_side self.role orders start (state_at_first self.role) }
+        ensures idle { IsIdle result.machine × (result.begun ≡ None) }
+    {
+        let IdleSeat {
+            seat,
+            role,
+            orders: _,
+            start: _,
+        } = self;
+        let state = match role {
+            Role::Server => EndState::Open,
+            Role::Client => EndState::Fresh,
+        };
+        End::new(words, seat, role, orders, state, start)
+    }
 }
 
 impl Page {
@@ -153,24 +179,20 @@ impl Page {
         ensures side { result.side ≡ new_side seat.role self.now.orders self.now.start (state_at_first seat.role) }
         ensures idle { IsIdle result.machine × (result.begun ≡ None) }
     {
-        let IdleSeat {
-            seat,
-            role,
-            orders: _,
-            start: _,
-        } = seat;
-        let state = match role {
-            Role::Server => EndState::Open,
-            Role::Client => EndState::Fresh,
-        };
-        End::new(
-            &self.table.shared,
-            seat,
-            role,
-            self.orders,
-            state,
-            self.start,
-        )
+        seat.attach(EndWords::lent(&self.table.shared), self.orders, self.start)
+    }
+
+    /// Its table, its orders and its first index.
+    pub(crate) fn into_parts(self) -> (PageTable, Orders, u32)
+        ensures parts { (result.0.shared.table_id ≡ self.table) × (result.1 ≡ self.orders) × (result.2 ≡ self.start) }
+        ensures words { (result.0.shared.table_id.words ≡ word_count self.orders) × (result.0.shared.key.orders ≡ self.orders) × (result.0.shared.key.start ≡ self.start) }
+    {
+        let Page {
+            table,
+            orders,
+            start,
+        } = self;
+        (table, orders, start)
     }
 
     /// Closes the page, once both its ends are done. Both come from the two seats of this page. What is
@@ -207,13 +229,14 @@ impl Page {
     }
 }
 
-/// A page that is done with, and what stands of it. Only `Page::finish` makes one.
+/// A page that is done with, and what stands of it. Only `Page::finish` and `HeldPage::settle`
+/// make one.
 #[derive(Drop)]
 pub struct Settled {
-    seen: Snapshot<Place>,
-    orders: Orders,
-    server_turned: bool,
-    client_turned: bool,
+    pub(crate) seen: Snapshot<Place>,
+    pub(crate) orders: Orders,
+    pub(crate) server_turned: bool,
+    pub(crate) client_turned: bool,
 }
 
 impl Model for Settled {

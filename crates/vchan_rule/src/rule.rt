@@ -108,6 +108,30 @@ impl<E: Event> Play<(), View> for Strays<E> {
     ghost then = { wanders E.before E.op };
 }
 
+/// What the table was told, for the proof alone. A call at `Brand` picks it.
+pub trait Told {
+    ghost use Rattle.vchan_rule.specs.declared.rule.Opening.{Opening};
+
+    ghost key: { Opening };
+}
+
+impl Told for Brand {
+    ghost use Rattle.vchan_rule.specs.Rule.{nothing_told};
+
+    ghost key = { nothing_told };
+}
+
+/// The step shows what stands of a page whose ends are both done.
+pub struct Settling<T> {
+    told: PhantomData<T>,
+}
+
+impl<T: Told> Play<(), View> for Settling<T> {
+    ghost use Rattle.vchan_rule.specs.Done.{shows_settled};
+
+    ghost then = { shows_settled T.key };
+}
+
 /// The two seats of a page.
 pub struct Halves;
 

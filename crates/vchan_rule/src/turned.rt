@@ -3,8 +3,9 @@ ghost use Rattle.std.specs.Prelude.{◌≡◌, true};
 ghost use Rattle.vchan_protocol.specs.Table.Ends.{peer_pending as peer_pending_of, own_gone as own_gone_of};
 ghost use Rattle.vchan_protocol.specs.Hostile.Turned.{strays, MayPoke};
 
-use crate::rule::{PageWords, Place};
+use crate::rule::Place;
 use crate::steps::{stray_load, stray_store};
+use crate::words::EndWords;
 use ring_words::{Layout, Orders, Role, WordName};
 use std::marker::{Brand, Model};
 use vchan_core::Op;
@@ -14,7 +15,7 @@ use vchan_core::words::{own_gone, peer_pending};
 /// shared page or in its rings, and may signal the peer. It stays given up.
 #[derive(Drop)]
 pub struct TurnedEnd<'p> {
-    pub(crate) words: &'p PageWords,
+    pub(crate) words: EndWords<'p>,
     pub(crate) seat: Place,
     pub(crate) layout: Layout,
     pub(crate) role: Role,
@@ -31,7 +32,7 @@ impl<'p> Model for TurnedEnd<'p> {
 
     ghost view = { λ e. record { page = e.seat.table_id; side = end_in e.seat.me.0 } };
 
-    ghost invariant = { λ e. (e.seat.table_id ≡ e.words.now.table_id) × (e.words.now.table_id.words ≡ word_count e.layout.orders) × (e.words.now.key.orders ≡ e.layout.orders) × (e.seat.me ≡ (One (end_in e.seat.me.0), [])) × ((end_in e.seat.me.0).orders ≡ e.layout.orders) × ((end_in e.seat.me.0).role ≡ e.role) × ((end_in e.seat.me.0).turned ≡ true) };
+    ghost invariant = { λ e. (e.seat.table_id ≡ e.words.table) × (e.words.table.words ≡ word_count e.layout.orders) × (e.words.key.orders ≡ e.layout.orders) × (e.seat.me ≡ (One (end_in e.seat.me.0), [])) × ((end_in e.seat.me.0).orders ≡ e.layout.orders) × ((end_in e.seat.me.0).role ≡ e.role) × ((end_in e.seat.me.0).turned ≡ true) };
 }
 
 impl<'p> TurnedEnd<'p> {
@@ -55,7 +56,7 @@ impl<'p> TurnedEnd<'p> {
         ensures same { self.new.page ≡ self.old.page }
         ensures event { self.new.side ≡ strays self.old.side (Op.Load word) result }
     {
-        stray_load::<Brand>(self.words, &mut self.seat, &self.layout, word)
+        stray_load::<Brand>(self.words.get(), &mut self.seat, &self.layout, word)
     }
 
     /// A store to such a word.
@@ -64,7 +65,7 @@ impl<'p> TurnedEnd<'p> {
         ensures same { self.new.page ≡ self.old.page }
         ensures event { self.new.side ≡ strays self.old.side (Op.Store word value) 0 }
     {
-        stray_store::<Brand>(self.words, &mut self.seat, &self.layout, word, value);
+        stray_store::<Brand>(self.words.get(), &mut self.seat, &self.layout, word, value);
     }
 
     /// Sets the peer's pending word.
@@ -73,7 +74,7 @@ impl<'p> TurnedEnd<'p> {
         ensures event { self.new.side ≡ strays self.old.side (Op.Store (peer_pending_of self.old.side.role) 1) 0 }
     {
         let word = peer_pending(self.role);
-        stray_store::<Brand>(self.words, &mut self.seat, &self.layout, word, 1);
+        stray_store::<Brand>(self.words.get(), &mut self.seat, &self.layout, word, 1);
     }
 
     /// Sets its gone word, and signals its peer.
@@ -88,8 +89,8 @@ impl<'p> TurnedEnd<'p> {
             layout,
             role,
         } = self;
-        stray_store::<Brand>(words, &mut seat, &layout, own_gone(role), 1);
-        stray_store::<Brand>(words, &mut seat, &layout, peer_pending(role), 1);
+        stray_store::<Brand>(words.get(), &mut seat, &layout, own_gone(role), 1);
+        stray_store::<Brand>(words.get(), &mut seat, &layout, peer_pending(role), 1);
         Retired {
             seat,
             role,

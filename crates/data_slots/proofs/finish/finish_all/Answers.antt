@@ -5,7 +5,7 @@ use Rattle.std.proofs.lemmas.Grind.{common_steps}
 use Rattle.qrexec_frame.specs.Streams.{Each}
 use Rattle.data_slots.specs.declared.slot.Slot.{Slot}
 use Rattle.data_slots.specs.Stages.{is_session, IsStage}
-use Rattle.data_slots.proofs.FinishLaws.{AreRetiring, ReportsOn, one-more, report-more, report-all}
+use Rattle.data_slots.proofs.FinishLaws.{AreRetiring, ReportsOn, all-held, one-more, report-more, report-all}
 use Rattle.data_slots.proofs.finish.finish_all.Goals as goal
 
 pub loop-slot-preserved : goal.loop-slot-preserved
@@ -35,6 +35,11 @@ loop-slot-preserved c =
           (subst (λ ys. ReportsOn version all rest (c.loop-slot.retired.items ++ x ∷ []) ys) (sym told)
           (report-more version all rest slot c.loop-slot.retired.items c.loop-slot.reports.items x r c.finish-end.ensures.held (c.finish-end.ensures.report version stage) on));
     }
+
+pub returns-clause-held : goal.returns-clause-held
+returns-clause-held c =
+    let over : into_iter_items c.loop-slot.slot-iterator ≡ [] = grind (arith, common_steps) in
+    all-held c.args.slots.items c.loop-slot.retired.items (subst (λ rs. AreRetiring c.args.slots.items rs c.loop-slot.retired.items) over c.loop-slot.invariant.retiring)
 
 pub returns-clause-reported : goal.returns-clause-reported
 returns-clause-reported c = λ version each.

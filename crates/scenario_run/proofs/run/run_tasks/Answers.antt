@@ -1,7 +1,7 @@
 use Rattle.std.proofs.Common.{Result, Ok, Err, IfOk, arith}
 use denote.Param.Send.{sendable}
 use Rattle.domain_task.specs.Given.{given_of}
-use Rattle.domain_task.proofs.Sent.{task_send}
+use Rattle.domain_task.proofs.Sent.{task_done_send, task_send}
 use Rattle.run_pages.proofs.DealLaws.{map-length}
 use Rattle.scenario_run.proofs.AnswerLaws.{answers-are}
 use Rattle.scenario_run.proofs.DealtLaws.{controls-fit, hands-fit}
@@ -19,6 +19,9 @@ tasks-requires-clause-hands g c κs within = hands-fit c.args.scenario.now c.arg
 
 pub run_pool-requires-send-T : goal.run_pool-requires-send-T
 run_pool-requires-send-T g c κs within = search (sendable, task_send)
+
+pub run_pool-requires-send-T-Done : goal.run_pool-requires-send-T-Done
+run_pool-requires-send-T-Done g c κs within = search (sendable, task_done_send)
 
 pub run_pool-requires-clause-few_tasks : goal.run_pool-requires-clause-few_tasks
 run_pool-requires-clause-few_tasks g c κs within =

@@ -1,11 +1,13 @@
-use Rattle.std.proofs.Common.{ap, sym, ◌∙◌, subst, ◌∷◌, [], length, refl, arith, map, set, length-append}
+use Rattle.std.proofs.Common.{◌+◌, ap, sym, ◌∙◌, subst, ◌∷◌, [], length, refl, arith, map, set, length-append}
 use Rattle.std.specs.Prelude.{None, Some, false, option_map}
 use Rattle.std.proofs.lemmas.Option.{slice_get_within}
 use Rattle.std.proofs.lemmas.List.{map-set}
 use Rattle.task_duties.specs.declared.place.PagePlace.TheVariants.{Payload}
 use Rattle.data_slots.specs.declared.note.CallNote.{CallNote}
-use Rattle.data_slots.specs.Stages.{ForNothing, ForCall, frame_of, IsStage}
+use Rattle.data_slots.specs.declared.slot.Slot.{Slot}
+use Rattle.data_slots.specs.Stages.{ForNothing, ForCall, HasPage, frame_of, IsStage}
 use Rattle.data_slots.specs.Whole.{frames, called_of, IsUsedAt}
+use Rattle.data_slots.proofs.ListLaws.{same-read}
 use Rattle.data_slots.proofs.WholeLaws.{IsPutTo, begins-call, held-set, unused-now}
 use Rattle.data_slots.proofs.BeginLaws.{is-free, free-server, same-state, call-used}
 use Rattle.data_slots.proofs.ends.Ends.call.Goals as goal
@@ -15,6 +17,15 @@ call-requires-clause-unused c =
     let e = c.args.self.now in
     let free = is-free e.slots.items c.in-Some.at (Payload e.domain c.args.to c.args.port) c.index_mut.result.now (subst (λ ss. IsUsedAt (frames ss) c.in-Some.at (Payload e.domain c.args.to c.args.port) ForNothing) c.deref.ensures.value c.in-Some.ensures.found) c.index_mut.ensures.value in
     free-server e.domain e.version c.args.to c.args.port e.slots.items c.in-Some.at c.index_mut.result.now c.requires.whole.stages c.requires.whole.of_domain free
+
+pub call-requires-clause-laid : goal.call-requires-clause-laid
+call-requires-clause-laid c =
+    let e = c.args.self.now in
+    let at = c.in-Some.at in
+    let slot = c.index_mut.result.now in
+    let free = is-free e.slots.items at (Payload e.domain c.args.to c.args.port) slot (subst (λ ss. IsUsedAt (frames ss) at (Payload e.domain c.args.to c.args.port) ForNothing) c.deref.ensures.value c.in-Some.ensures.found) c.index_mut.ensures.value in
+    let same = same-read e.slots.items at c.index.result.now slot (slice_get_within e.slots.items at slot free.here) c.index.ensures c.index_mut.ensures.value in
+    subst (λ (s : Slot). HasPage s.stage c.in_ok-laid.laid) same c.in_ok-laid.ensures
 
 pub index_mut-requires-2 : goal.index_mut-requires-2
 index_mut-requires-2 c =
@@ -32,7 +43,7 @@ returns-clause-whole c =
       stage = subst (λ v. IsStage v c.call.new.self.stage) c.in_ok-caller.ensures.asked.2 c.call.ensures.stage;
       session = c.call.ensures.session;
     } in
-    rw c.in_ok-push.ensures.items
+    rw (c.push_within.ensures.items, c.in_ok-reserve.ensures.items)
     (begins-call e.domain e.version e.slots.items e.index e.busy.items e.calls.items e.served.items c.args.number note c.index_mut.result.now c.call.new.self c.requires.whole free.here free.unused free.lies c.requires.number put)
 
 pub returns-clause-ok : goal.returns-clause-ok
@@ -47,4 +58,4 @@ returns-clause-ok c =
     (map-set (option_map called_of) e.calls.items c.args.number (Some note)
     ∙ ap (λ v. set (map (option_map called_of) e.calls.items) c.args.number (Some (record { to = c.args.to; port = c.args.port; input = v.items }))) c.of.ensures)
     refl
-    (ap length c.in_ok-push.ensures.items ∙ length-append e.busy.items (c.in-Some.at ∷ []))
+    (ap length c.push_within.ensures.items ∙ (length-append c.reserve.new.self.items (c.in-Some.at ∷ []) ∙ ap (λ b. length b + 1) c.in_ok-reserve.ensures.items))

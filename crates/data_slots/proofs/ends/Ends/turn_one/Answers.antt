@@ -1,7 +1,7 @@
 use Rattle.std.proofs.Common.{ap, sym, ◌∙◌, subst, ◌∷◌, [], length, refl, arith, set, length-append}
 use Rattle.std.specs.Prelude.{false, is_none, IfSome}
 use Rattle.std.specs.List.{swap_remove}
-use Rattle.data_slots.specs.Stages.{IsStage, Tells, place_of, use_of, frame_of}
+use Rattle.data_slots.specs.Stages.{CanRetire, IsStage, Tells, place_of, use_of, frame_of}
 use Rattle.data_slots.specs.Whole.{AreWhole, unused_in, state_of}
 use Rattle.data_slots.proofs.ListLaws.{each-get, map-set-same, same-read}
 use Rattle.data_slots.proofs.WholeLaws.{held-set}
@@ -21,6 +21,13 @@ turn-requires-clause-open c =
     let slot = c.index_mut.result.now in
     let is = busy-slot e.slots.items e.busy.items c.args.next c.index-at.result.now slot c.requires.whole.are_open c.requires.next c.index-at.ensures c.index_mut.ensures.value in
     can-turn e.version slot.stage (each-get (λ s. IsStage e.version s.stage) e.slots.items c.index-at.result.now slot c.requires.whole.stages is.here) is.session
+
+pub turn-requires-clause-retire : goal.turn-requires-clause-retire
+turn-requires-clause-retire c =
+    let e = c.args.self.now in
+    let slot = c.index_mut.result.now in
+    let is = busy-slot e.slots.items e.busy.items c.args.next c.index-at.result.now slot c.requires.whole.are_open c.requires.next c.index-at.ensures c.index_mut.ensures.value in
+    each-get (λ s. CanRetire s.stage) e.slots.items c.index-at.result.now slot c.requires.retire is.here
 
 pub returns-in_err-told-clause-same : goal.returns-in_err-told-clause-same
 returns-in_err-told-clause-same c =

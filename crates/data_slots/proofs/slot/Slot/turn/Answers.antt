@@ -7,8 +7,20 @@ use Rattle.data_slots.proofs.slot.Slot.turn.Goals as goal
 pub returns-in_err-turn-clause-frame : goal.returns-in_err-turn-clause-frame
 returns-in_err-turn-clause-frame c = c.turn.ensures.frame (Payload c.args.self.now.from c.args.self.now.to c.args.self.now.port)
 
-pub returns-in-None-clause-frame : goal.returns-in-None-clause-frame
-returns-in-None-clause-frame c = c.turn.ensures.frame (Payload c.args.self.now.from c.args.self.now.to c.args.self.now.port)
+pub returns-then-is_abandoned-clause-frame : goal.returns-then-is_abandoned-clause-frame
+returns-then-is_abandoned-clause-frame c =
+    let place = Payload c.args.self.now.from c.args.self.now.to c.args.self.now.port in
+    ap (framed place) c.is_abandoned.ensures ∙ c.turn.ensures.frame place
+
+pub returns-else-is_abandoned-clause-frame : goal.returns-else-is_abandoned-clause-frame
+returns-else-is_abandoned-clause-frame c =
+    let place = Payload c.args.self.now.from c.args.self.now.to c.args.self.now.port in
+    ap (framed place) c.is_abandoned.ensures ∙ c.turn.ensures.frame place
+
+pub returns-else-is_abandoned-clause-stage : goal.returns-else-is_abandoned-clause-stage
+returns-else-is_abandoned-clause-stage c = λ version stage.
+    let P : Stage → Type 0 = IsStage version in
+    subst P (sym c.is_abandoned.ensures) (c.in_ok-turn.ensures.stage version stage)
 
 pub returns-in-Some-clause-frame : goal.returns-in-Some-clause-frame
 returns-in-Some-clause-frame c =

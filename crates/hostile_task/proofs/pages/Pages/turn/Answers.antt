@@ -5,14 +5,16 @@ use Rattle.std.proofs.Common.{arith}
 use Rattle.task_duties.specs.Pairwise.{EachPair}
 use Rattle.task_duties.specs.declared.ends.DataEnd.{DataEnd}
 use Rattle.hostile_task.specs.declared.page.TurnedPage.{TurnedPage}
-use Rattle.hostile_task.specs.Pages.{IsDataTurnedOver}
-use Rattle.hostile_task.proofs.ListLaws.{pairs_push}
+use Rattle.qrexec_frame.specs.Streams.{Each}
+use Rattle.hostile_task.specs.Pages.{IsDataTurnedOver, IsLaid}
+use Rattle.hostile_task.proofs.ListLaws.{none_left, pairs_push, whole_list}
 use Rattle.hostile_task.proofs.pages.Pages.turn.Goals as goal
 
 pub loop-given-init : goal.loop-given-init
 loop-given-init c = record {
   left = grind (arith, common_steps);
   room = grind (arith, common_steps);
+  laid = subst (Each IsLaid) (sym c.into_iter-given-iterator.ensures.into_iter_gives.0) c.requires;
   pairs = subst (λ (ps : List TurnedPage). EachPair IsDataTurnedOver [] ps) (sym c.in_ok-turned.ensures.items) tt;
 }
 
@@ -20,11 +22,15 @@ pub loop-given-preserved : goal.loop-given-preserved
 loop-given-preserved c = record {
   left = grind (arith, common_steps);
   room = grind (arith, common_steps);
+  laid = (subst (Each IsLaid) c.in-Some.ensures.steps.0 c.loop-given.invariant.laid).1;
   pairs = subst (λ (ps : List TurnedPage). EachPair IsDataTurnedOver (c.loop-given.yielded ++ c.in-Some.given ∷ []) ps) (sym c.push_reserved.ensures.items)
       (pairs_push IsDataTurnedOver c.loop-given.yielded c.loop-given.turned.items c.in-Some.given c.of_data.result c.loop-given.invariant.pairs c.of_data.ensures);
 }
 
 pub returns-clause-payload : goal.returns-clause-payload
 returns-clause-payload c =
-    let all : c.loop-given.yielded ≡ c.args.payload.items = grind (arith, common_steps) in
+    let all : c.loop-given.yielded ≡ c.args.payload.items = whole_list _ _ _ c.loop-given.invariant.left (none_left c.loop-given.given-iterator c.in-None.ensures.steps.0) in
     subst (λ (ends : List DataEnd). EachPair IsDataTurnedOver ends c.loop-given.turned.items) all c.loop-given.invariant.pairs
+
+pub of_data-requires : goal.of_data-requires
+of_data-requires c = (subst (Each IsLaid) c.in-Some.ensures.steps.0 c.loop-given.invariant.laid).0

@@ -5,7 +5,7 @@ use Rattle.hostile_task.specs.declared.progress.Progress.{Progress}
 use Rattle.hostile_task.specs.Plan.{plan_of}
 use Rattle.hostile_task.specs.UnderWay.{IsUnderWay}
 use Rattle.hostile_task.proofs.WayLaws.{with_control}
-use Rattle.hostile_task.proofs.StartLaws.{start_way, start_places, start_given}
+use Rattle.hostile_task.proofs.StartLaws.{are_laid, start_way, start_places, start_given}
 use Rattle.hostile_task.proofs.task.HostileTask.new.Goals as goal
 
 pub invariant_of-result : goal.invariant_of-result
@@ -20,3 +20,6 @@ returns-clause-plan c =
 
 pub returns-clause-ends : goal.returns-clause-ends
 returns-clause-ends c = start_given c.args.domain c.args.control c.args.payload.items c.in_ok-pages.pages c.in_ok-pages.ensures.control c.in_ok-pages.ensures.payload
+
+pub turn-requires : goal.turn-requires
+turn-requires c = are_laid c.args.domain c.args.payload.items c.requires.payload

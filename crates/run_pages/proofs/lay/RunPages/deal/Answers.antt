@@ -2,7 +2,7 @@ use Rattle.std.proofs.Common.{◌≡◌, ◌<◌, ◌+◌, [], ◌∙◌, arith,
 use Rattle.std.specs.Vec.Iter.{into_iter_items}
 use Rattle.run_pages.specs.Pages.{HasSeats, IsLaidFor, page_at}
 use Rattle.run_pages.specs.Dealt.{AreDealt, HaveOrders, IsDealing}
-use Rattle.run_pages.proofs.DealingLaws.{IsNext, all-dealt, dealing-on, get-map, is-next, next-follows, none-dealt, take-all, within-seats}
+use Rattle.run_pages.proofs.DealingLaws.{IsNext, all-dealt, dealing-on, get-map, is-next, next-follows, none-dealt, none-ordered, take-all, within-seats}
 use Rattle.std.proofs.lemmas.Grind.{common_steps}
 use Rattle.run_pages.proofs.DealLaws.{map-length}
 use Rattle.run_pages.proofs.ListLaws.{each-here}
@@ -16,7 +16,7 @@ loop-seats-init c =
       dealing = subst (λ seats. IsDealing [] c.args.self.now seats c.in_ok-with_capacity.field-0.items c.in_ok-with_capacity-2.field-0.items all) (sym c.into_iter-seats-iterator.ensures.into_iter_gives.0)
           (subst (λ controls. IsDealing [] c.args.self.now c.args.seats.items controls c.in_ok-with_capacity-2.field-0.items all) (sym c.in_ok-with_capacity.ensures.items)
           (subst (λ hands. IsDealing [] c.args.self.now c.args.seats.items [] hands all) (sym c.in_ok-with_capacity-2.ensures.items) first));
-      ordered = subst (HaveOrders c.args.scenario.now) (sym c.in_ok-with_capacity-2.ensures.items) tt;
+      ordered = subst (HaveOrders c.args.scenario.now) (sym c.in_ok-with_capacity-2.ensures.items) (none-ordered c.args.scenario.now);
     }
 
 pub index-requires : goal.index-requires
@@ -39,7 +39,7 @@ pub deal_page-requires-clause-seats : goal.deal_page-requires-clause-seats
 deal_page-requires-clause-seats c = (next c).dealing.seated.0
 
 pub deal_page-requires-clause-follows : goal.deal_page-requires-clause-follows
-deal_page-requires-clause-follows c = next-follows (length c.loop-seats.dealt.hands.items) c.index.result.now.place (map (λ p. p.place) (drop (c.loop-seats.index + 1) c.args.self.now)) (next c).dealing.follows
+deal_page-requires-clause-follows c = next-follows (length c.loop-seats.dealt.hands.items) (page_at c.index.result.now).place (map (λ p. p.place) (drop (c.loop-seats.index + 1) c.args.self.now)) (next c).dealing.follows
 
 pub loop-seats-preserved : goal.loop-seats-preserved
 loop-seats-preserved c =

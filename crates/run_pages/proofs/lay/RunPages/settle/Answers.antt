@@ -1,11 +1,12 @@
-use Rattle.std.proofs.Common.{◌≡◌, ◌∙◌, ◌∷◌, [], sym, ap, subst, arith, map}
+use Rattle.std.proofs.Common.{◌≡◌, ◌≢◌, ◌∙◌, ◌∷◌, [], sym, ap, subst, arith, map}
 use Rattle.task_duties.specs.GivenEnds.{all_retired, retired_at}
+use Rattle.run_laws.specs.Laid.{server_of, client_of}
 use Rattle.run_pages.specs.Pages.{page_at}
-use Rattle.run_pages.specs.Settling.{AreSettledBy, IsSettling}
+use Rattle.run_pages.specs.Settling.{AreSettledBy, GivesUpBoth, HasEnd, IsSettling}
 use Rattle.std.proofs.lemmas.Grind.{common_steps}
 use Rattle.run_pages.proofs.DealLaws.{map-length}
 use Rattle.std.proofs.lemmas.List.{map-append}
-use Rattle.run_pages.proofs.SettleLaws.{GaveBoth, IsLastPage, gave-both, last-page, settles-all, settles-first, settles-on}
+use Rattle.run_pages.proofs.SettleLaws.{GaveBoth, IsLastPage, gave-both, last-laid, last-page, settles-all, settles-first, settles-on}
 use Rattle.run_pages.proofs.lay.RunPages.settle.Goals as goal
 
 pub loop-page-init : goal.loop-page-init
@@ -24,23 +25,42 @@ last c =
     (ap (map page_at) c.in-Some.ensures.items ∙ map-append page_at c.pop.new.self.items (c.in-Some.page ∷ [])) c.loop-page.invariant
 
 pub take_ends-server-requires-clause-apart : goal.take_ends-server-requires-clause-apart
-take_ends-server-requires-clause-apart c = (last c).apart
+take_ends-server-requires-clause-apart c = subst (λ place. server_of place ≢ client_of place) (sym c.place-place.ensures) (last c).apart
 
 pub take_ends-server-requires-clause-server : goal.take_ends-server-requires-clause-server
-take_ends-server-requires-clause-server c = let e = (last c).server in (e.rest, e.end, e.at)
+take_ends-server-requires-clause-server c =
+    let e = (last c).server in
+    subst (λ place. HasEnd (server_of place) (map (λ h. all_retired h.items) c.loop-page.left)) (sym c.place-place.ensures) (e.rest, e.end, e.at)
 
 pub take_ends-server-requires-clause-client : goal.take_ends-server-requires-clause-client
-take_ends-server-requires-clause-client c = let e = (last c).client in (e.rest, e.end, e.at)
+take_ends-server-requires-clause-client c =
+    let e = (last c).client in
+    subst (λ place. HasEnd (client_of place) (map (λ h. all_retired h.items) c.loop-page.left)) (sym c.place-place.ensures) (e.rest, e.end, e.at)
 
 -- what the two tasks gave up
+gives : (c : goal.After-settled-in-Some-1) → GivesUpBoth (page_at c.in-Some.page).place (retired_at c.take_ends-server.result.0) (retired_at c.take_ends-server.result.1)
+    (map (λ h. all_retired h.items) c.loop-page.left) (map (λ h. all_retired h.items) c.take_ends-server.new.hands)
+gives c =
+    subst (λ place. GivesUpBoth place (retired_at c.take_ends-server.result.0) (retired_at c.take_ends-server.result.1) (map (λ h. all_retired h.items) c.loop-page.left) (map (λ h. all_retired h.items) c.take_ends-server.new.hands))
+    c.place-place.ensures c.take_ends-server.ensures
+
 gave : (c : goal.After-settled-in-Some-1) → GaveBoth (page_at c.in-Some.page) (retired_at c.take_ends-server.result.0) (retired_at c.take_ends-server.result.1)
-    (map (λ h. all_retired h.items) c.loop-page.left) c.take_ends-server.ensures.0
+    (map (λ h. all_retired h.items) c.loop-page.left) (gives c).0
 gave c =
     let before = map page_at c.pop.new.self.items in
     let hands = map (λ h. all_retired h.items) c.loop-page.left in
     let last = last-page c.args.scenario.now (map page_at c.loop-page.pages.items) c.args.self before (page_at c.in-Some.page) hands (map (λ h. all_retired h.items) c.args.given_back.items) c.loop-page.settled.items
     (ap (map page_at) c.in-Some.ensures.items ∙ map-append page_at c.pop.new.self.items (c.in-Some.page ∷ [])) c.loop-page.invariant in
-    gave-both before (page_at c.in-Some.page) (retired_at c.take_ends-server.result.0) (retired_at c.take_ends-server.result.1) hands (map (λ h. all_retired h.items) c.take_ends-server.new.hands) last c.take_ends-server.ensures
+    gave-both before (page_at c.in-Some.page) (retired_at c.take_ends-server.result.0) (retired_at c.take_ends-server.result.1) hands (map (λ h. all_retired h.items) c.take_ends-server.new.hands) last (gives c)
+
+pub settle_page-requires-clause-made : goal.settle_page-requires-clause-made
+settle_page-requires-clause-made c = (
+  c.args.scenario.now,
+  c.requires.starts,
+  last-laid c.args.scenario.now (map page_at c.loop-page.pages.items) c.args.self (map page_at c.pop.new.self.items) (page_at c.in-Some.page) (map (λ h. all_retired h.items) c.loop-page.left)
+      (map (λ h. all_retired h.items) c.args.given_back.items) c.loop-page.settled.items
+      (ap (map page_at) c.in-Some.ensures.items ∙ map-append page_at c.pop.new.self.items (c.in-Some.page ∷ [])) c.loop-page.invariant,
+)
 
 pub settle_page-requires-clause-server : goal.settle_page-requires-clause-server
 settle_page-requires-clause-server c = (gave c).server_gave.same
@@ -52,12 +72,12 @@ pub loop-page-preserved : goal.loop-page-preserved
 loop-page-preserved c =
     let hands' = map (λ h. all_retired h.items) c.take_ends-server.new.hands in
     let first = map (λ h. all_retired h.items) c.args.given_back.items in
-    let e = c.settle_page.ensures in
+    let gives = subst (λ place. GivesUpBoth place (retired_at c.take_ends-server.result.0) (retired_at c.take_ends-server.result.1) (map (λ h. all_retired h.items) c.loop-page.left) hands')
+    c.place-place.ensures c.take_ends-server.ensures in
     subst (λ settled. IsSettling c.args.scenario.now (map page_at c.pop.new.self.items) c.args.self hands' first settled) (sym c.in_ok-push.ensures.items)
     (settles-on c.args.scenario.now (map page_at c.loop-page.pages.items) c.args.self (map page_at c.pop.new.self.items) (page_at c.in-Some.page)
-    (retired_at c.take_ends-server.result.0) (retired_at c.take_ends-server.result.1) c.settle_page.result (map (λ h. all_retired h.items) c.loop-page.left) hands' first c.loop-page.settled.items
-    (ap (map page_at) c.in-Some.ensures.items ∙ map-append page_at c.pop.new.self.items (c.in-Some.page ∷ [])) c.loop-page.invariant c.take_ends-server.ensures
-    (record { place = e.place; orders = e.orders; server_is = e.ends.0; client_is = e.ends.1; settled = e.settled }))
+    (retired_at c.take_ends-server.result.0) (retired_at c.take_ends-server.result.1) c.in_ok-settle_page.field-0 (map (λ h. all_retired h.items) c.loop-page.left) hands' first c.loop-page.settled.items
+    (ap (map page_at) c.in-Some.ensures.items ∙ map-append page_at c.pop.new.self.items (c.in-Some.page ∷ [])) c.loop-page.invariant gives c.in_ok-settle_page.ensures)
 
 pub returns : goal.returns
 returns c =

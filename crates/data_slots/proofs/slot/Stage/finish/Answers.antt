@@ -1,0 +1,22 @@
+use Rattle.std.proofs.Common.{ap, ◌∙◌, subst}
+use Rattle.vchan_rule.specs.Seated.{last_view}
+use Rattle.service_gate.specs.Owing.{builtin_owes}
+use Rattle.qrexec_data.specs.declared.outcome.Outcome.{Outcome}
+use Rattle.task_duties.specs.Agent.Sessions.{ServingOwes}
+use Rattle.data_slots.specs.declared.slot.Stage.{Stage}
+use Rattle.data_slots.specs.declared.slot.Stage.TheVariants.{Serves}
+use Rattle.data_slots.specs.declared.slot.ServingResult.{ServingResult}
+use Rattle.data_slots.specs.Stages.{IsStage}
+use Rattle.data_slots.proofs.SideLaws.{serving-over}
+use Rattle.data_slots.proofs.slot.Stage.finish.Goals as goal
+
+pub returns-in-Serves-clause-stage : goal.returns-in-Serves-clause-stage
+returns-in-Serves-clause-stage c = λ version stage name is_service.
+    let P : Stage → Type 0 = IsStage version in
+    let ended = c.finish-in-Serves.result in
+    let was : IsStage version (Serves c.in-Serves.number c.in-Serves.service c.in-Serves.side c.in-Serves.session) = subst P c.in-Serves.is stage in
+    let owed = c.finish-in-Serves.ensures.owed name (builtin_owes c.in-Serves.service.value) is_service was.2 in
+    let with_outcome : Outcome → ServingResult = λ o. record { outcome = o; got = ended.got } in
+    serving-over version name c.in-Serves.side c.serving_result-came.result.0 c.serving_result-came.result.1 c.args.outcome ended.got (last_view ended.retired)
+    (c.serving_result-came.ensures.result ∙ ap with_outcome c.finish-in-Serves.ensures.outcome) c.serving_result-came.ensures.end
+    (subst (λ v. ServingOwes v name c.args.outcome ended.got (last_view ended.retired)) was.1 owed)

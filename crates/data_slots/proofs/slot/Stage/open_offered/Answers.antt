@@ -1,0 +1,12 @@
+use Rattle.std.proofs.Common.{ap, sym, ◌∙◌, subst}
+use Rattle.data_slots.specs.declared.slot.Stage.{Stage}
+use Rattle.data_slots.specs.Stages.{framed, IsStage}
+use Rattle.data_slots.proofs.slot.Stage.open_offered.Goals as goal
+
+pub returns-clause-frame : goal.returns-clause-frame
+returns-clause-frame c = λ place. c.opened.ensures.frame place ∙ ap (framed place) c.replace-stage.ensures.value
+
+pub returns-clause-stage : goal.returns-clause-stage
+returns-clause-stage c = λ version stage.
+    let P : Stage → Type 0 = IsStage version in
+    c.opened.ensures.stage version (subst P (sym c.replace-stage.ensures.value) stage)

@@ -1,0 +1,29 @@
+-- An end of a page that is laid when it is first used is seen under the page's name.
+-- The forms are this project's own.
+use Rattle.std.specs.Prelude.{◌≡◌, Option, Some, None}
+use Rattle.ring_words.specs.declared.page.Role.TheVariants.{Server, Client}
+use Rattle.end_view.specs.EndView.{EndView}
+use Rattle.page_offer.specs.declared.server.LaidPage.{LaidPage}
+use Rattle.page_offer.specs.Views.{named}
+use Rattle.task_duties.specs.declared.ends.UnusedEnd.{UnusedEnd}
+use Rattle.task_duties.specs.declared.ends.UnusedEnd.TheVariants as unused
+use Rattle.data_slots.specs.declared.side.Side.{Side}
+use Rattle.data_slots.specs.declared.side.Side.TheVariants as side
+
+-- how an end in use is seen
+abbrev pub seen_under : Side → EndView → EndView
+seen_under side.Laid end = end
+seen_under (side.Server s) end = named s.name end
+seen_under (side.Client c) end = named c.name end
+
+-- what keeps the end's place is of this end
+abbrev pub IsSideOf : Side → EndView → Type 0
+IsSideOf side.Laid end = Unit {0}
+IsSideOf (side.Server s) end = (end.page ≡ s.table) × (end.role ≡ Server)
+IsSideOf (side.Client c) end = (end.page ≡ c.table) × (end.role ≡ Client)
+
+-- the page of an unused end is laid, where it is the server that lays it
+abbrev pub HasLaid : UnusedEnd → Option LaidPage → Type 0
+HasLaid (unused.Server s) (Some laid) = laid.page.orders ≡ s.orders
+HasLaid (unused.Server s) None = ⊥
+HasLaid end laid = Unit {0}

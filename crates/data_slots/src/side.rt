@@ -1,0 +1,89 @@
+//! How the page of an end in use was laid.
+ghost use Rattle.std.specs.Prelude.{◌≡◌, true, false};
+ghost use Rattle.ring_words.specs.declared.page.Role.TheVariants.{Server};
+ghost use Rattle.end_view.specs.EndView.{IsUnused};
+ghost use Rattle.vchan_rule.specs.Seated.{view, last_view};
+ghost use Rattle.vchan_lifecycle.specs.Lifecycle.{retired_view};
+ghost use Rattle.task_duties.specs.GivenEnds.{done_view, fresh_view};
+ghost use Rattle.data_slots.specs.Sides.{HasLaid, IsSideOf, seen_under};
+
+use page_offer::{LaidPage, OpenClient, OpenServer};
+use task_duties::{DoneEnd, UnusedEnd};
+use vchan_lifecycle::retire;
+use vchan_rule::{End, Retired};
+
+/// What keeps the place of an end while it is in use: nothing where its page was laid before the first
+/// turn, else the end's side of the page.
+#[derive(Drop)]
+pub(crate) enum Side {
+    /// The page was laid before the first turn.
+    Laid,
+    /// The end is a server's, which has laid the page.
+    Server(OpenServer),
+    /// The end is a client's, to which the page was offered.
+    Client(OpenClient),
+}
+
+impl Side {
+    /// Whether the page is one that is laid when it is first used.
+    pub(crate) fn is_offered(&self) -> bool {
+        match self {
+            Side::Laid => false,
+            Side::Server(_) | Side::Client(_) => true,
+        }
+    }
+
+    /// Whether the page was offered to a client whose task was dropped. Nothing is promised of the answer.
+    pub(crate) fn is_abandoned(&mut self) -> bool
+        ensures { self.new ≡ self.old }
+    {
+        match self {
+            Side::Server(side) => side.is_abandoned(),
+            Side::Laid | Side::Client(_) => false,
+        }
+    }
+
+    /// The end once it is retired.
+    pub(crate) fn finish(self, retired: Retired) -> DoneEnd
+        requires { IsSideOf self (last_view retired) }
+        ensures { done_view result ≡ seen_under self (last_view retired) }
+    {
+        match self {
+            Side::Laid => DoneEnd::Laid(retired),
+            Side::Server(side) => DoneEnd::Server(side.finish(retired)),
+            Side::Client(side) => DoneEnd::Client(side.finish(retired)),
+        }
+    }
+}
+
+/// An unused end of a server, whose page is laid, and what keeps its place.
+pub(crate) fn open_server<'p>(end: UnusedEnd<'p>, laid: Option<LaidPage>) -> (End<'p>, Side)
+    requires unused { IsUnused (fresh_view end) × ((fresh_view end).role ≡ Server) }
+    requires laid { HasLaid end laid }
+    ensures unused { IsUnused (view result.0) × ((view result.0).role ≡ Server) }
+    ensures seen { seen_under result.1 (view result.0) ≡ fresh_view end.entry }
+    ensures side { IsSideOf result.1 (view result.0) }
+{
+    match end {
+        UnusedEnd::Laid(end) => (end, Side::Laid),
+        UnusedEnd::Server(side) => {
+            let Some(laid) = laid else { unreachable!() };
+            let (end, side) = side.open(laid);
+            (end, Side::Server(side))
+        }
+        UnusedEnd::Client(_) => unreachable!(),
+    }
+}
+
+/// Retires an end that was never used.
+pub(crate) fn retire_unused(end: UnusedEnd) -> DoneEnd
+    requires { (fresh_view end).idle ≡ true }
+    ensures view { done_view result ≡ retired_view (fresh_view end.entry) }
+    ensures honest { (done_view result).turned ≡ false }
+{
+    match end {
+        UnusedEnd::Laid(end) => DoneEnd::Laid(retire(end)),
+        UnusedEnd::Server(side) => DoneEnd::Server(side.finish()),
+        UnusedEnd::Client(side) => DoneEnd::Client(side.finish()),
+    }
+}

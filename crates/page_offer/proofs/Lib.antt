@@ -1,0 +1,4 @@
+mod OfferLaws
+mod SettleLaws
+pub mod NameLaws
+pub mod Sent

@@ -1,0 +1,13 @@
+use Rattle.std.proofs.Common.{refl, subst, sym}
+use Rattle.atomic_table.specs.Seated.{TableId}
+use Rattle.page_offer.specs.Names.{IsNameOf, name_of}
+use Rattle.page_offer.specs.Views.{DoneEnd}
+use Rattle.page_offer.proofs.NameLaws.{server_page}
+use Rattle.page_offer.proofs.server.DoneServer.promise.Goals as goal
+
+pub returns : goal.returns
+returns c =
+    let name = name_of c.self.inside.offers.end c.self.inside.orders in
+    let is : IsNameOf c.self.inside.orders name = record { no_words = refl; left = refl; right = refl } in
+    subst (λ (d : DoneEnd). IsNameOf d.orders d.end.page) c.self.view_is
+    (subst (λ (n : TableId). IsNameOf c.self.inside.orders n) (sym (server_page name c.self.inside.last)) is)

@@ -1,0 +1,31 @@
+-- By what a page is known before it is laid.
+-- The names are this project's own.
+use Rattle.std.specs.Prelude.{◌≡◌, ℕ, List, [], ◌∷◌}
+use denote.RawPtr.{Ptr, block_ptr, null_ptr}
+use Rattle.atomic_table.specs.Seated.{TableId}
+use Rattle.rtrb.specs.declared.end.End.{End}
+use Rattle.ring_words.specs.Rings.{number_of}
+use Rattle.ring_words.specs.declared.order.Orders.{Orders}
+
+-- an address as numbers, before others
+abbrev pub address : Ptr → List ℕ → List ℕ
+address (block_ptr block offset) rest = 1 ∷ block ∷ offset ∷ rest
+address null_ptr rest = 0 ∷ rest
+
+-- the name of a page that has these orders and is offered through the ring of this end: no table has it, since a table of a page has words
+abbrev pub name_of : {T A P : Type 0} → End T A P → Orders → TableId
+name_of e orders = record {
+  words = 0;
+  slots = e.names.0;
+  views_name = e.names.1.0;
+  atom = e.names.1.1;
+  block = number_of orders.left;
+  offset = number_of orders.right;
+  slot_names = address e.words (address e.slots []);
+}
+
+-- a name is that of a page of these orders, and of no table
+pub record IsNameOf (orders : Orders) (name : TableId) : Type 0 where
+  pub no_words : name.words ≡ 0
+  pub left : name.block ≡ number_of orders.left
+  pub right : name.offset ≡ number_of orders.right

@@ -1,0 +1,70 @@
+-- What the two sides of an offered page hold, and what they have said to each other.
+-- The forms are this project's own.
+use Rattle.std.specs.Prelude.{◌≡◌, List, [], ◌∷◌}
+use Rattle.std.specs.declared.snapshot.Snapshot.{Snapshot}
+use Rattle.atomic_table.specs.Seated.{TableId}
+use Rattle.ring_words.specs.declared.order.Orders.{Orders}
+use Rattle.ring_words.specs.declared.page.Role.TheVariants.{Server, Client}
+use Rattle.rtrb.specs.Ring.{sent, received, IsPair}
+use Rattle.rtrb.specs.Ends.{SameRing}
+use Rattle.end_view.specs.EndView.{EndView}
+use Rattle.end_view.specs.Settled.{Settled}
+use Rattle.vchan_rule.specs.Seated.{PageView, SeatedSide, last_view}
+use Rattle.page_offer.specs.declared.back.Back.TheVariants.{Of, Done}
+use Rattle.page_offer.specs.Backs.{BackSender, BackReceiver}
+use Rattle.page_offer.specs.declared.offer.Offer.{Offer}
+use Rattle.page_offer.specs.declared.server.ServerLast.{ServerLast}
+use Rattle.page_offer.specs.declared.server.ServerLast.TheVariants as server
+use Rattle.page_offer.specs.declared.client.ClientLast.{ClientLast}
+use Rattle.page_offer.specs.declared.client.ClientLast.TheVariants as client
+use Rattle.page_offer.specs.Views.{idle_view, named}
+
+-- this one offer was made, of this page, whose client's end comes back by this way
+pub record IsOffered (offers : List Offer) (page : PageView) (back : BackReceiver) : Type 0 where
+  pub offer : Offer
+  pub is : offers ≡ offer ∷ []
+  pub of_page : offer.page ≡ page
+  pub pair : IsPair offer.back back
+
+-- nothing but the page's mark came back yet
+pub record IsAwaited (page : PageView) (back : BackReceiver) : Type 0 where
+  pub mark : Snapshot PageView
+  pub of_page : mark.value ≡ page
+  pub got : received back ≡ Of mark ∷ []
+
+-- the client's end came back, and is that of the settled page
+pub record IsReturned (settled : Settled) (back : BackReceiver) : Type 0 where
+  pub mark : Snapshot PageView
+  pub end : SeatedSide
+  pub got : received back ≡ Of mark ∷ Done end ∷ []
+  pub client : settled.client ≡ last_view end
+
+-- ---- an end that is done
+
+-- what is seen of a server's end that is done
+abbrev pub server_end : TableId → ServerLast → EndView
+server_end name server.Unlaid = idle_view name Server
+server_end name (server.Waits page own back) = named name (last_view own)
+server_end name (server.Settled settled back) = named name settled.server
+
+-- and what stands of it
+abbrev pub StandsServer : Orders → List Offer → ServerLast → Type 0
+StandsServer orders offers server.Unlaid = offers ≡ []
+StandsServer orders offers (server.Waits page own back) =
+    (page.orders ≡ orders) × (own.page ≡ page.table) × (own.side.role ≡ Server) × IsOffered offers page back × IsAwaited page back
+StandsServer orders offers (server.Settled settled back) =
+    (settled.orders ≡ orders) × ((page : PageView) × IsOffered offers page back) × IsReturned settled back
+
+-- the client has put its end behind the page's mark
+pub record HasReturned (offer : Offer) (end : SeatedSide) (back : BackSender) : Type 0 where
+  pub same : SameRing offer.back.end back.end
+  pub mark : Snapshot PageView
+  pub said : sent back ≡ Of mark ∷ Done end ∷ []
+
+abbrev pub client_end : TableId → ClientLast → EndView
+client_end name client.Unlaid = idle_view name Client
+client_end name (client.Returned end back) = named name (last_view end.value)
+
+abbrev pub StandsClient : List Offer → ClientLast → Type 0
+StandsClient taken client.Unlaid = taken ≡ []
+StandsClient taken (client.Returned end back) = (offer : Offer) × (taken ≡ offer ∷ []) × HasReturned offer end.value back

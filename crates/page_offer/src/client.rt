@@ -1,0 +1,200 @@
+//! The client's side of a page that is laid when it is first used.
+ghost use Rattle.std.specs.Prelude.{◌≡◌, [], ◌∷◌, IfOk, IfErr};
+ghost use Rattle.ring_words.specs.declared.page.Role.TheVariants.{Client};
+ghost use Rattle.rtrb.specs.Ring.{received};
+ghost use Rattle.end_view.specs.EndView.{IsUnused};
+ghost use Rattle.vchan_rule.specs.Seated.{view, last_view};
+ghost use Rattle.page_offer.specs.Names.{name_of};
+ghost use Rattle.page_offer.specs.Views.{idle_view, named, unused_view};
+
+use crate::back::{Back, BackSender};
+use crate::left::Left;
+use crate::offer::Offer;
+use ring_words::Orders;
+use rtrb::Consumer;
+use std::marker::Model;
+use std::snapshot::Snapshot;
+use vchan_lifecycle::retire;
+use vchan_rule::{End, Retired};
+
+/// The client's side of a page that wasn't offered to it yet.
+#[derive(Drop)]
+pub struct UnlaidClient {
+    offers: Consumer<Offer>,
+    orders: Orders,
+    left: Left,
+}
+
+impl Model for UnlaidClient {
+    ghost use Rattle.std.specs.Prelude.{◌≡◌, []};
+    ghost use Rattle.atomic_table.specs.Seated.{TableId};
+    ghost use Rattle.rtrb.specs.Ring.{received};
+    ghost use Rattle.page_offer.specs.Names.{name_of};
+
+    ghost Value = { TableId };
+
+    ghost view = { λ c. name_of c.offers.end c.orders };
+
+    ghost invariant = { λ c. received c.offers ≡ [] };
+}
+
+/// The client's side of a page whose client's end is in use.
+#[derive(Drop)]
+pub struct OpenClient {
+    offers: Consumer<Offer>,
+    orders: Orders,
+    back: BackSender,
+    offer: Snapshot<Offer>,
+}
+
+impl Model for OpenClient {
+    ghost use Rattle.std.specs.Prelude.{◌≡◌, [], ◌∷◌};
+    ghost use Rattle.rtrb.specs.Ring.{received};
+    ghost use Rattle.page_offer.specs.Names.{name_of};
+    ghost use Rattle.page_offer.specs.Views.{InUse};
+
+    ghost Value = { InUse };
+
+    ghost view = { λ c. record { name = name_of c.offers.end c.orders; table = c.offer.value.page.table } };
+
+    ghost invariant = { λ c. (received c.offers ≡ c.offer.value ∷ []) × (c.back ≡ c.offer.value.back) };
+}
+
+/// What a client's side that is done has.
+#[derive(Drop)]
+pub(crate) enum ClientLast {
+    /// No offer was taken.
+    Unlaid,
+    /// The client's end went back to the server.
+    Returned {
+        end: Snapshot<Retired>,
+        back: BackSender,
+    },
+}
+
+/// The client's side of a page with which its client is done.
+#[derive(Drop)]
+pub struct DoneClient {
+    pub(crate) offers: Consumer<Offer>,
+    pub(crate) orders: Orders,
+    pub(crate) last: ClientLast,
+}
+
+impl Model for DoneClient {
+    ghost use Rattle.rtrb.specs.Ring.{received};
+    ghost use Rattle.page_offer.specs.Names.{name_of};
+    ghost use Rattle.page_offer.specs.Views.{DoneEnd};
+    ghost use Rattle.page_offer.specs.Offers.{StandsClient, client_end};
+
+    ghost Value = { DoneEnd };
+
+    ghost view = { λ c. record { end = client_end (name_of c.offers.end c.orders) c.last; orders = c.orders } };
+
+    ghost invariant = { λ c. StandsClient (received c.offers) c.last };
+}
+
+impl UnlaidClient {
+    /// The side of a page of these orders, which is offered through this ring.
+    pub(crate) fn new(offers: Consumer<Offer>, orders: Orders, left: Left) -> UnlaidClient
+        requires { received offers ≡ [] }
+        ensures { result ≡ name_of offers.end orders }
+    {
+        UnlaidClient {
+            offers,
+            orders,
+            left,
+        }
+    }
+
+    /// The client's end, where the page is offered. Else the side comes back as it was.
+    pub fn open<'p>(self) -> Result<(End<'p>, OpenClient), UnlaidClient>
+        ensures end { IfOk result (λ opened. IsUnused (view opened.0) × (named self (view opened.0) ≡ unused_view self Client)) }
+        ensures side { IfOk result (λ opened. (opened.1.name ≡ self) × (opened.1.table ≡ (view opened.0).page)) }
+        ensures none { IfErr result (λ side. side ≡ self) }
+    {
+        let UnlaidClient {
+            mut offers,
+            orders,
+            left,
+        } = self;
+        let Ok(taken) = offers.pop() else {
+            return Err(UnlaidClient {
+                offers,
+                orders,
+                left,
+            });
+        };
+        let offer = Snapshot::of(&taken);
+        let Offer {
+            page,
+            seat,
+            back,
+            ..
+        } = taken;
+        let side = OpenClient {
+            offers,
+            orders,
+            back,
+            offer,
+        };
+        Ok((page.attach(seat), side))
+    }
+
+    /// Whether no offer comes any more: the server's side is done without having laid the page, or was
+    /// dropped, as where its task ran out of memory. Nothing is promised of the answer.
+    pub fn is_abandoned(&mut self) -> bool
+        ensures { self.new ≡ self.old }
+    {
+        self.offers.is_abandoned() || self.left.has_left()
+    }
+
+    /// The side of a client that doesn't use its end. An end that was offered retires at once, so that its
+    /// peer finds it gone.
+    pub fn finish(self) -> DoneClient
+        ensures { result.end ≡ idle_view self Client }
+    {
+        match self.open() {
+            Ok((end, side)) => side.finish(retire(end)),
+            Err(side) => side.leave(),
+        }
+    }
+
+    // The same, where no offer was made so far.
+    fn leave(self) -> DoneClient
+        ensures { result.end ≡ idle_view self Client }
+    {
+        let UnlaidClient {
+            offers,
+            orders,
+            left,
+        } = self;
+        left.leave();
+        DoneClient {
+            offers,
+            orders,
+            last: ClientLast::Unlaid,
+        }
+    }
+}
+
+impl OpenClient {
+    /// The side once the client's end is done, which goes back to the server.
+    pub fn finish(self, own: Retired) -> DoneClient
+        requires { (own.page ≡ self.table) × (own.side.role ≡ Client) }
+        ensures { result.end ≡ named self.name (last_view own) }
+    {
+        let OpenClient {
+            offers,
+            orders,
+            mut back,
+            ..
+        } = self;
+        let end = Snapshot::of(&own);
+        back.push_reserved(Back::Done(own));
+        DoneClient {
+            offers,
+            orders,
+            last: ClientLast::Returned { end, back },
+        }
+    }
+}

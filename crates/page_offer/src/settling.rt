@@ -1,0 +1,172 @@
+//! A page that was laid when it was first used, once both its sides are done.
+ghost use Rattle.std.specs.Prelude.{◌≡◌, ◌∷◌, [], List, IfOk};
+ghost use Rattle.ring_words.specs.declared.page.Role.TheVariants.{Server, Client};
+ghost use Rattle.rtrb.specs.Ring.{IsPair, sent, received, known_items};
+ghost use Rattle.end_view.specs.Settled.{IsSettled};
+ghost use Rattle.vchan_rule.specs.Seated.{SeatedSide, last_view};
+ghost use Rattle.page_offer.specs.declared.back.Back.TheVariants.{Of, Done};
+ghost use Rattle.page_offer.specs.Views.{idle_view, named, named_page};
+ghost use Rattle.page_offer.specs.Offers.{IsAwaited, IsReturned};
+
+use crate::back::{Back, BackReceiver, BackSender};
+use crate::client::{ClientLast, DoneClient};
+use crate::offer::Offer;
+use crate::server::{DoneServer, ServerLast};
+use std::alloc::Global;
+use std::marker::Model;
+use std::snapshot::Snapshot;
+use vchan_io::Memory;
+use vchan_lifecycle::retire;
+use vchan_rule::{HeldPage, Retired, Settled, StartWords};
+
+/// A settled page, under the name by which it was known before it was laid.
+#[derive(Drop)]
+pub struct OfferedPage {
+    settled: Settled,
+    server: Snapshot<DoneServer>,
+}
+
+impl Model for OfferedPage {
+    ghost use Rattle.end_view.specs.Settled.{Settled as SettledPage};
+    ghost use Rattle.page_offer.specs.Views.{named_page};
+
+    ghost Value = { SettledPage };
+
+    ghost view = { λ p. named_page p.server.value.end.page p.settled };
+}
+
+impl OfferedPage {
+    /// What stands of the page, as `Settled::promise` says of a page that was laid.
+    pub fn promise(&self)
+        ensures { IsSettled self.now }
+    {
+        self.settled.promise();
+    }
+}
+
+/// What stands of a page of these start words, once both its sides are done with it. Its error is want
+/// of memory, and comes only where the page was never laid.
+pub fn settle(
+    alloc: Global,
+    start: &StartWords,
+    server: DoneServer,
+    client: DoneClient,
+) -> Result<OfferedPage, Memory>
+    requires page { client.end.page ≡ server.end.page }
+    requires orders { start.now.orders ≡ server.orders }
+    ensures { IfOk result (λ page. page ≡ record { orders = server.orders; server = server.end; client = client.end }) }
+{
+    let kept = Snapshot::of(&server);
+    let settled = settle_sides(alloc, start, server, client)?;
+    Ok(OfferedPage {
+        settled,
+        server: kept,
+    })
+}
+
+// The same, without the name.
+fn settle_sides(
+    alloc: Global,
+    start: &StartWords,
+    server: DoneServer,
+    client: DoneClient,
+) -> Result<Settled, Memory>
+    requires page { client.end.page ≡ server.end.page }
+    requires orders { start.now.orders ≡ server.orders }
+    ensures { IfOk result (λ page. named_page server.end.page page ≡ record { orders = server.orders; server = server.end; client = client.end }) }
+{
+    let DoneServer {
+        offers: mut sender,
+        last: server,
+        ..
+    } = server;
+    let DoneClient {
+        offers: mut receiver,
+        last: client,
+        ..
+    } = client;
+    receiver.slots_beside(&mut sender);
+    match server {
+        ServerLast::Unlaid => settle_unused(alloc, start),
+        ServerLast::Waits { page, own, back } => match client {
+            ClientLast::Unlaid => Ok(settle_untaken(page, own, receiver.pop_known())),
+            ClientLast::Returned { back: sender, .. } => {
+                Ok(settle_returned(page, own, back, sender))
+            }
+        },
+        ServerLast::Settled { settled, back } => match client {
+            ClientLast::Unlaid => {
+                was_taken(back, receiver.pop_known());
+                Ok(settled)
+            }
+            ClientLast::Returned { back: sender, .. } => {
+                was_returned(back, sender);
+                Ok(settled)
+            }
+        },
+    }
+}
+
+// A page that neither side used: it is laid for its two ends to retire.
+fn settle_unused(alloc: Global, start: &StartWords) -> Result<Settled, Memory>
+    ensures { (name : _) → IfOk result (λ page. named_page name page ≡ record { orders = start.now.orders; server = idle_view name Server; client = idle_view name Client }) }
+{
+    let (page, server, client) = HeldPage::lay(alloc, start)?;
+    let (for_server, for_client) = (page.hold()?, page.hold()?);
+    let server = retire(for_server.attach(server));
+    let client = retire(for_client.attach(client));
+    Ok(page.settle(server, client))
+}
+
+// A page whose client didn't take the offer: its end retires now.
+fn settle_untaken(page: HeldPage, own: Retired, offer: Offer) -> Settled
+    requires offer { offer.page ≡ page }
+    requires own { (own.page ≡ page.table) × (own.side.role ≡ Server) }
+    ensures own { (result.orders ≡ page.orders) × (result.server ≡ last_view own) }
+    ensures client { (name : _) → named name result.client ≡ idle_view name Client }
+{
+    let Offer {
+        page: theirs,
+        seat,
+        ..
+    } = offer;
+    let client = retire(theirs.attach(seat));
+    page.settle(own, client)
+}
+
+// A page whose client's end is on its way back.
+fn settle_returned(
+    page: HeldPage,
+    own: Retired,
+    mut back: BackReceiver,
+    mut sender: BackSender,
+) -> Settled
+    requires pair { IsPair sender back }
+    requires own { (own.page ≡ page.table) × (own.side.role ≡ Server) }
+    requires awaited { IsAwaited page back }
+    requires said { (mark : _) × (end : _) × (sent sender ≡ Of mark ∷ Done end ∷ []) }
+    ensures own { (result.orders ≡ page.orders) × (result.server ≡ last_view own) }
+    ensures client { (mark : _) (end : SeatedSide) → sent sender ≡ Of mark ∷ Done end ∷ [] → result.client ≡ last_view end }
+{
+    back.slots_beside(&mut sender);
+    match back.pop_known() {
+        Back::Done(theirs) => page.settle(own, theirs),
+        Back::Of(_) => unreachable!(),
+    }
+}
+
+// What came back is what the client sent.
+fn was_returned(mut back: BackReceiver, mut sender: BackSender)
+    requires pair { IsPair sender back }
+    ensures { (settled : _) → IsReturned settled back → (mark : _) (end : SeatedSide) → sent sender ≡ Of mark ∷ Done end ∷ [] → settled.client ≡ last_view end }
+{
+    back.slots_beside(&mut sender);
+}
+
+// An offer whose client's end came back isn't on its way any more.
+fn was_taken(mut back: BackReceiver, mut offer: Offer)
+    requires pair { IsPair offer.back back }
+    ensures { (settled : _) → IsReturned settled back → ⊥ }
+{
+    back.slots_beside(&mut offer.back);
+}

@@ -1,0 +1,25 @@
+//! Which domains of a scenario are hostile.
+ghost use Rattle.std.specs.Prelude.{◌≡◌};
+ghost use Rattle.scenario_file.specs.Scenario.{hostile_among, hostile_at};
+
+use scenario_file::{Domain, Scenario};
+
+/// Whether the domain of a number is hostile.
+pub(crate) fn is_hostile(scenario: &Scenario, number: u32) -> bool
+    ensures { result ≡ hostile_at scenario.now number }
+{
+    is_hostile_among(&scenario.domains, number)
+}
+
+/// Whether the domain of a number is hostile, among these.
+fn is_hostile_among(domains: &[Domain], number: u32) -> bool
+    ensures { result ≡ hostile_among domains.now number }
+{
+    if number == 0 {
+        return false;
+    }
+    match domains.get(number as usize - 1) {
+        Some(domain) => domain.is_hostile(),
+        None => false,
+    }
+}
