@@ -16,6 +16,9 @@ use vchan_io::Memory;
 /// How the line of a MSG_EXEC_CMDLINE for a service begins.
 const USER: &[u8] = b"DEFAULT:QUBESRPC ";
 
+/// How much room a line begins with, in bytes: a usual one fits.
+const USUAL_LINE: usize = 64;
+
 /// The messages that follow from a decision.
 #[derive(Drop)]
 pub(crate) enum Reply {
@@ -88,7 +91,7 @@ fn line_of(alloc: Global, service: &Text, from: &Text) -> Result<Text, Memory>
     ensures line { IfOk result (λ line. line ≡ exec_line service.now from.now) }
     ensures no_nul { IfOk result (λ line. HasNoNul line) }
 {
-    let mut line = Vec::new(alloc);
+    let mut line = Vec::with_capacity(alloc, USUAL_LINE)?;
     line.extend_from_slice(USER)?;
     line.extend_from_slice(service.bytes())?;
     line.push(b' ')?;

@@ -18,6 +18,9 @@ const TRIGGER_LEN: usize = 136;
 /// an ident of 32, and the NUL at the end.
 const TRIGGER3_LEN: usize = 105;
 
+/// How long the ident of a call is at most: `call-` and the ten digits of a number below 2^32.
+const LONGEST_IDENT: usize = 15;
+
 /// The ident by which the call of a number is asked for.
 pub(crate) fn ident_text(alloc: Global, number: u32) -> Result<Text, Memory>
     ensures is { IfOk result (λ ident. ident ≡ ident_of number) }
@@ -35,7 +38,8 @@ pub(crate) fn ident_text(alloc: Global, number: u32) -> Result<Text, Memory>
 fn ident_bytes(alloc: Global, number: u32) -> Result<Vec<u8>, Memory>
     ensures { IfOk result (λ bytes. bytes.items ≡ ident_of number) }
 {
-    let mut bytes = Vec::from_slice(alloc, b"call-")?;
+    let mut bytes = Vec::with_capacity(alloc, LONGEST_IDENT)?;
+    bytes.extend_from_slice(b"call-")?;
     let mut buffer = Buffer::new();
     bytes.extend_from_slice(buffer.format(number).as_bytes())?;
     Ok(bytes)

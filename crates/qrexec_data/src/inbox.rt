@@ -4,6 +4,7 @@ ghost use Rattle.qrexec_frame.specs.declared.channel.Channel.TheVariants.{Data};
 ghost use Rattle.qrexec_frame.specs.Bodies.{StandsAtFront};
 ghost use Rattle.qrexec_data.specs.Reading.{unread};
 
+use crate::room::SHORT_CALL;
 use qrexec_frame::{Body, Channel, FrameFault};
 use std::alloc::Global;
 use std::marker::Model;
@@ -42,6 +43,9 @@ impl Inbox {
         ensures ok { OnOk result (self.new ≡ record self.old { got = self.old.got ++ piece.now }) }
         ensures err { OnErr result (self.new ≡ self.old) }
     {
+        if self.got.is_empty() {
+            self.got.reserve(SHORT_CALL)?;
+        }
         self.got.extend_from_slice(piece)?;
         Ok(())
     }

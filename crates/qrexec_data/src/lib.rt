@@ -16,6 +16,7 @@ mod outbox;
 mod outcome;
 mod replies;
 mod requests;
+mod room;
 mod serving;
 
 pub use caller::{Caller, CallerParts};

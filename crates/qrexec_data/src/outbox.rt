@@ -5,6 +5,7 @@ ghost use Rattle.qrexec_frame.specs.Fronts.{made};
 ghost use Rattle.qrexec_frame.specs.Messages.{Fits, written};
 ghost use Rattle.qrexec_frame.specs.declared.message.Message.TheVariants as message;
 
+use crate::room::SHORT_CALL;
 use qrexec_frame::{Kind, Message, encode, encode_data};
 use qrexec_hello::Hello;
 use std::alloc::Global;
@@ -67,7 +68,7 @@ impl Outbox {
         ensures ok { OnOk result (self.new ≡ self.old ++ written (made kind bytes.now)) }
         ensures err { OnErr result (self.new ≡ self.old) }
     {
-        self.drop_gone();
+        self.begin_anew()?;
         encode_data(kind, bytes, &mut self.bytes)
     }
 
@@ -93,17 +94,19 @@ impl Outbox {
         ensures ok { OnOk result (self.new ≡ self.old ++ written message.now) }
         ensures err { OnErr result (self.new ≡ self.old) }
     {
-        self.drop_gone();
+        self.begin_anew()?;
         encode(message, &mut self.bytes)
     }
 
     // Begins the list anew where all its bytes have gone.
-    fn drop_gone(&mut self)
+    fn begin_anew(&mut self) -> Result<(), Memory>
         ensures { self.new ≡ self.old }
     {
         if self.gone == self.bytes.len() {
             self.bytes.clear();
             self.gone = 0;
+            self.bytes.reserve(SHORT_CALL)?;
         }
+        Ok(())
     }
 }
