@@ -5,7 +5,7 @@ ghost use Rattle.scenario_file.specs.Scenario.{hostile_among, hostile_at};
 use scenario_file::{Domain, Scenario};
 
 /// Whether the domain of a number is hostile.
-pub(crate) fn is_hostile(scenario: &Scenario, number: u32) -> bool
+pub fn is_hostile(scenario: &Scenario, number: u32) -> bool
     ensures { result ≡ hostile_at scenario.now number }
 {
     is_hostile_among(&scenario.domains, number)

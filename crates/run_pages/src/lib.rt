@@ -16,6 +16,7 @@ mod settle;
 mod starts;
 
 pub use deal::{Dealt, Hand};
+pub use hostile::is_hostile;
 pub use lay::{PageSeats, RunPages};
 pub use places::page_table;
 pub use starts::RunStarts;

@@ -1,6 +1,6 @@
 //! The lines of the calls of a run.
 ghost use Rattle.std.specs.Prelude.{◌≡◌, ◌+◌, ◌∷◌, [], List, length, map, IfOk};
-ghost use Rattle.scenario_file.specs.Scenario.{is_mixed, name_at, targets_hostile, hostile_at};
+ghost use Rattle.scenario_file.specs.Scenario.{is_mixed, name_at, targets_hostile};
 ghost use Rattle.task_duties.specs.Words.{ident_of};
 ghost use Rattle.task_duties.specs.declared.place.PagePlace.{PagePlace as Place};
 ghost use Rattle.task_duties.specs.Agent.Owes.{caller_done};
@@ -17,6 +17,7 @@ use itoa::Buffer;
 use qrexec_data::Outcome;
 use qrexec_frame::{Bytes, Text, TextError};
 use run_laws::{CallLine, CallResult, MixedOutcome};
+use run_pages::is_hostile;
 use scenario_file::{CallPlan, LineCause, Scenario, number_named};
 use std::alloc::{AllocError, Global};
 use task_duties::CallEnd;
@@ -78,19 +79,6 @@ fn is_mixed(scenario: &Scenario, call: &CallPlan) -> bool
 {
     match number_named(&scenario.domains, call.to.bytes()) {
         Some(number) => is_hostile(scenario, number),
-        None => false,
-    }
-}
-
-/// Whether the domain of a number is hostile.
-pub(crate) fn is_hostile(scenario: &Scenario, number: u32) -> bool
-    ensures { result ≡ hostile_at scenario.now number }
-{
-    if number == 0 {
-        return false;
-    }
-    match scenario.domains.get(number as usize - 1) {
-        Some(domain) => domain.is_hostile(),
         None => false,
     }
 }

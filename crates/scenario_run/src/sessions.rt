@@ -6,10 +6,11 @@ ghost use Rattle.run_laws.specs.HostileSessions.{HostileSession, hostile_session
 ghost use Rattle.scenario_run.specs.Sessions.{HaveServed, seen, sessions_from, sessions_of, sessions_with};
 
 use crate::answers::TaskReport;
-use crate::lines::{is_hostile, mixed_outcome, name_of};
+use crate::lines::{mixed_outcome, name_of};
 use crate::tasks::is_scenario;
 use qrexec_frame::Bytes;
 use run_laws::{MixedOutcome, ServedLine};
+use run_pages::is_hostile;
 use scenario_file::Scenario;
 use std::alloc::{AllocError, Global};
 use task_duties::ServedDone;
