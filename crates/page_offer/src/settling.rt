@@ -12,6 +12,7 @@ use crate::back::{Back, BackReceiver, BackSender};
 use crate::client::{ClientLast, DoneClient};
 use crate::offer::Offer;
 use crate::server::{DoneServer, ServerLast};
+use rtrb::{Consumer, Producer};
 use std::alloc::Global;
 use std::marker::Model;
 use std::snapshot::Snapshot;
@@ -24,6 +25,15 @@ use vchan_rule::{HeldPage, Retired, Settled, StartWords};
 pub struct OfferedPage {
     settled: Settled,
     server: Snapshot<DoneServer>,
+    // They go with the page: who settles many pages doesn't give back each one's memory on the way.
+    rings: Option<Rings>,
+}
+
+/// The rings of a page through which its sides passed all that they had for each other.
+#[derive(Drop)]
+struct Rings {
+    offers: (Producer<Offer>, Consumer<Offer>),
+    backs: (BackSender, BackReceiver),
 }
 
 impl Model for OfferedPage {
@@ -57,23 +67,24 @@ pub fn settle(
     ensures { IfOk result (λ page. page ≡ record { orders = server.orders; server = server.end; client = client.end }) }
 {
     let kept = Snapshot::of(&server);
-    let settled = settle_sides(alloc, start, server, client)?;
+    let (settled, rings) = settle_sides(alloc, start, server, client)?;
     Ok(OfferedPage {
         settled,
         server: kept,
+        rings,
     })
 }
 
-// The same, without the name.
+// The same, without the name, and the rings where both sides have used them.
 fn settle_sides(
     alloc: Global,
     start: &StartWords,
     server: DoneServer,
     client: DoneClient,
-) -> Result<Settled, Memory>
+) -> Result<(Settled, Option<Rings>), Memory>
     requires page { client.end.page ≡ server.end.page }
     requires orders { start.now.orders ≡ server.orders }
-    ensures { IfOk result (λ page. named_page server.end.page page ≡ record { orders = server.orders; server = server.end; client = client.end }) }
+    ensures { IfOk result (λ page. named_page server.end.page page.0 ≡ record { orders = server.orders; server = server.end; client = client.end }) }
 {
     let DoneServer {
         offers: mut sender,
@@ -89,33 +100,40 @@ fn settle_sides(
     match server {
         ServerLast::Unlaid => settle_unused(alloc, start),
         ServerLast::Waits { page, own, back } => match client {
-            ClientLast::Unlaid => Ok(settle_untaken(page, own, receiver.pop_known())),
-            ClientLast::Returned { back: sender, .. } => {
-                Ok(settle_returned(page, own, back, sender))
+            ClientLast::Unlaid => Ok((settle_untaken(page, own, receiver.pop_known()), None)),
+            ClientLast::Returned { back: theirs, .. } => {
+                Ok((settle_returned(page, own, back, theirs), None))
             }
         },
-        ServerLast::Settled { settled, back } => match client {
+        ServerLast::Settled { settled, mut back } => match client {
             ClientLast::Unlaid => {
                 was_taken(back, receiver.pop_known());
-                Ok(settled)
+                Ok((settled, None))
             }
-            ClientLast::Returned { back: sender, .. } => {
-                was_returned(back, sender);
-                Ok(settled)
+            ClientLast::Returned {
+                back: mut theirs,
+                ..
+            } => {
+                was_returned(&mut back, &mut theirs);
+                let rings = Rings {
+                    offers: (sender, receiver),
+                    backs: (theirs, back),
+                };
+                Ok((settled, Some(rings)))
             }
         },
     }
 }
 
-// A page that neither side used: it is laid for its two ends to retire.
-fn settle_unused(alloc: Global, start: &StartWords) -> Result<Settled, Memory>
-    ensures { (name : _) → IfOk result (λ page. named_page name page ≡ record { orders = start.now.orders; server = idle_view name Server; client = idle_view name Client }) }
+// A page that neither side used, and so without rings to keep: it is laid for its two ends to retire.
+fn settle_unused(alloc: Global, start: &StartWords) -> Result<(Settled, Option<Rings>), Memory>
+    ensures { (name : _) → IfOk result (λ page. named_page name page.0 ≡ record { orders = start.now.orders; server = idle_view name Server; client = idle_view name Client }) }
 {
     let (page, server, client) = HeldPage::lay(alloc, start)?;
     let (for_server, for_client) = (page.hold()?, page.hold()?);
     let server = retire(for_server.attach(server));
     let client = retire(for_client.attach(client));
-    Ok(page.settle(server, client))
+    Ok((page.settle(server, client), None))
 }
 
 // A page whose client didn't take the offer: its end retires now.
@@ -156,11 +174,11 @@ fn settle_returned(
 }
 
 // What came back is what the client sent.
-fn was_returned(mut back: BackReceiver, mut sender: BackSender)
-    requires pair { IsPair sender back }
-    ensures { (settled : _) → IsReturned settled back → (mark : _) (end : SeatedSide) → sent sender ≡ Of mark ∷ Done end ∷ [] → settled.client ≡ last_view end }
+fn was_returned(back: &mut BackReceiver, sender: &mut BackSender)
+    requires pair { IsPair sender.old back.old }
+    ensures { (settled : _) → IsReturned settled back.old → (mark : _) (end : SeatedSide) → sent sender.old ≡ Of mark ∷ Done end ∷ [] → settled.client ≡ last_view end }
 {
-    back.slots_beside(&mut sender);
+    back.slots_beside(sender);
 }
 
 // An offer whose client's end came back isn't on its way any more.
