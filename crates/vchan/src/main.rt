@@ -23,6 +23,7 @@ use command::command_words;
 use progress::Progress;
 pub use run_end::RunEnd;
 pub use run_report::Report;
+use runs::leave_to_exit;
 pub use runs::load_text;
 use service_gate::Gate;
 pub use status::{Bad, Status, exit_number};
@@ -80,7 +81,16 @@ fn carry_out<S: Source, K: Sink, E: Sink, G: Gate, R: Threads + Wait + Clock + S
 ) -> Status {
     match about_in(words) {
         Some(about) => tell(about.text(), out, err),
-        None => top(rt, alloc, words, source, out, err, gate).status,
+        None => {
+            let RunEnd {
+                status,
+                report,
+                settled,
+            } = top(rt, alloc, words, source, out, err, gate);
+            leave_to_exit(report);
+            leave_to_exit(settled);
+            status
+        }
     }
 }
 

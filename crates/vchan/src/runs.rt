@@ -9,6 +9,7 @@ use scenario_file::{Scenario, generate};
 use scenario_run::run_scenario;
 use service_gate::{Gate, OpenGate};
 use std::alloc::Global;
+use std::mem;
 use std::sync::Wait;
 use std::thread::Threads;
 use vchan_io::Memory;
@@ -53,5 +54,12 @@ pub fn load_text<R: Threads + Wait + Sync>(
     let scenario = generate(alloc, number, calls)?;
     let report = run_scenario(rt, alloc, &scenario, WORKERS_OF_LOAD, &OpenGate)?;
     let text = summary_text(alloc, &scenario, &report)?;
+    leave_to_exit(scenario);
     Ok((text, report))
+}
+
+/// Leaves what a run is done with to the end of the process, which is near and gives all memory back at
+/// once: to give back tens of thousands of small pieces, one after the other, takes a few milliseconds.
+pub(crate) fn leave_to_exit<T: Drop>(done_with: T) {
+    mem::forget(done_with);
 }

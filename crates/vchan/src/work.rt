@@ -7,7 +7,7 @@ ghost use Rattle.vchan.specs.Top.{greatest_input};
 use crate::channels::{pipe_input, relay_input};
 use crate::clients::persist_input;
 use crate::command::Command;
-use crate::runs::{load_text, run_text};
+use crate::runs::{leave_to_exit, load_text, run_text};
 use crate::status::{Bad, Status};
 use run_report::Report;
 use scenario_file::{ScenarioError, read};
@@ -137,7 +137,10 @@ fn run<G: Gate, R: Threads + Wait + Sync>(
         Err(ScenarioError::Memory) => return Err(Status::OutOfMemory),
     };
     match run_text(rt, alloc, &scenario, workers, gate) {
-        Ok((text, report)) => Ok(Work::of(alloc, text, Some(report))),
+        Ok((text, report)) => {
+            leave_to_exit(scenario);
+            Ok(Work::of(alloc, text, Some(report)))
+        }
         Err(Memory) => Err(Status::OutOfMemory),
     }
 }
