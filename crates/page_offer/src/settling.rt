@@ -1,5 +1,5 @@
 //! A page that was laid when it was first used, once both its sides are done.
-ghost use Rattle.std.specs.Prelude.{◌≡◌, ◌∷◌, [], List, IfOk};
+ghost use Rattle.std.specs.Prelude.{◌≡◌, ◌∷◌, [], List, IfOk, OnErr};
 ghost use Rattle.ring_words.specs.declared.page.Role.TheVariants.{Server, Client};
 ghost use Rattle.rtrb.specs.Ring.{IsPair, sent, received, known_items};
 ghost use Rattle.end_view.specs.Settled.{IsSettled};
@@ -55,7 +55,7 @@ impl OfferedPage {
 }
 
 /// What stands of a page of these start words, once both its sides are done with it. Its error is want
-/// of memory, and comes only where the page was never laid.
+/// of memory, and comes only where the page was never laid: its server's end was retired unused.
 pub fn settle(
     alloc: Global,
     start: &StartWords,
@@ -64,7 +64,8 @@ pub fn settle(
 ) -> Result<OfferedPage, Memory>
     requires page { client.end.page ≡ server.end.page }
     requires orders { start.now.orders ≡ server.orders }
-    ensures { IfOk result (λ page. page ≡ record { orders = server.orders; server = server.end; client = client.end }) }
+    ensures settled { IfOk result (λ page. page ≡ record { orders = server.orders; server = server.end; client = client.end }) }
+    ensures unused { OnErr result (server.end ≡ idle_view server.end.page Server) }
 {
     let kept = Snapshot::of(&server);
     let (settled, rings) = settle_sides(alloc, start, server, client)?;
@@ -84,7 +85,8 @@ fn settle_sides(
 ) -> Result<(Settled, Option<Rings>), Memory>
     requires page { client.end.page ≡ server.end.page }
     requires orders { start.now.orders ≡ server.orders }
-    ensures { IfOk result (λ page. named_page server.end.page page.0 ≡ record { orders = server.orders; server = server.end; client = client.end }) }
+    ensures settled { IfOk result (λ page. named_page server.end.page page.0 ≡ record { orders = server.orders; server = server.end; client = client.end }) }
+    ensures unused { OnErr result (server.end ≡ idle_view server.end.page Server) }
 {
     let DoneServer {
         offers: mut sender,

@@ -10,8 +10,8 @@ use Rattle.page_offer.specs.Offers.{StandsServer, StandsClient}
 use Rattle.page_offer.proofs.SettleLaws.{server_named, client_named, settled_as}
 use Rattle.page_offer.proofs.settling.settle_sides.Goals as goal
 
-pub returns-in-Unlaid-client : goal.returns-in-Unlaid-client
-returns-in-Unlaid-client c =
+pub returns-in-Unlaid-client-clause-settled : goal.returns-in-Unlaid-client-clause-settled
+returns-in-Unlaid-client-clause-settled c =
     let name = c.args.server.end.page in
     let w = subst (λ (l : ServerLast). StandsServer c.server.inside.orders (sent c.server.inside.offers) l) c.in-Waits.is c.server.invariant in
     let s = server_named _ _ _ _ _ c.server.view_is c.in-Waits.is in
@@ -24,8 +24,8 @@ settle_returned-requires-clause-said c =
     let w = subst (λ (l : ClientLast). StandsClient (received c.client.inside.offers) l) c.in-Returned.is c.client.invariant in
     (w.2.mark, c.in-Returned.end.value, w.2.said)
 
-pub returns-in-Waits : goal.returns-in-Waits
-returns-in-Waits c =
+pub returns-in-Waits-clause-settled : goal.returns-in-Waits-clause-settled
+returns-in-Waits-clause-settled c =
     let name = c.args.server.end.page in
     let w = subst (λ (l : ServerLast). StandsServer c.server.inside.orders (sent c.server.inside.offers) l) c.in-Waits.is c.server.invariant in
     let r = subst (λ (l : ClientLast). StandsClient (received c.client.inside.offers) l) c.in-Returned.is c.client.invariant in
@@ -35,13 +35,13 @@ returns-in-Waits c =
     let end = o.client r.2.mark c.in-Returned.end.value r.2.said in
     settled_as name _ c.settle_returned.result _ _ (o.own.0 ∙ w.0 ∙ ap (λ (d : DoneEnd). d.orders) c.server.view_is) (ap (named name) o.own.1 ∙ s) (ap (named name) end ∙ ap (λ (n : TableId). named n (last_view c.in-Returned.end.value)) (sym c.requires.page) ∙ k)
 
-pub returns-in-Unlaid-client-2 : goal.returns-in-Unlaid-client-2
-returns-in-Unlaid-client-2 c =
+pub returns-in-Unlaid-client-2-clause-settled : goal.returns-in-Unlaid-client-2-clause-settled
+returns-in-Unlaid-client-2-clause-settled c =
     let w = subst (λ (l : ServerLast). StandsServer c.server.inside.orders (sent c.server.inside.offers) l) c.in-Settled.is c.server.invariant in
     absurd (c.was_taken.ensures c.in-Settled.settled w.2)
 
-pub returns : goal.returns
-returns c =
+pub returns-clause-settled : goal.returns-clause-settled
+returns-clause-settled c =
     let name = c.args.server.end.page in
     let w = subst (λ (l : ServerLast). StandsServer c.server.inside.orders (sent c.server.inside.offers) l) c.in-Settled.is c.server.invariant in
     let r = subst (λ (l : ClientLast). StandsClient (received c.client.inside.offers) l) c.in-Returned-client.is c.client.invariant in
