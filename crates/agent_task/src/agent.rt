@@ -16,8 +16,9 @@ use vchan_io::Memory;
 /// with hostile domains don't count, so that these can't hold its calls back.
 const MOST_PAGES: usize = 8;
 
-/// For how many calls it asks in a turn.
-const MOST_ASKED: usize = 2;
+/// For how many calls it asks in a turn. One that isn't answered yet isn't counted above, and holds a page as
+/// soon as it is let through.
+const MOST_ASKED: usize = 1;
 
 /// The agent of a domain: its control channel with its calls, and its data ends.
 #[derive(Drop)]
