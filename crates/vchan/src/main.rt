@@ -2,8 +2,8 @@
 //!
 //! `top` is the whole program over any source and any two sinks, and its contract is what the program
 //! promises. `main` only makes the real source and sinks: standard input, standard output and standard
-//! error. What the program says of itself, as for `--help`, and the line of progress are all that it does
-//! above `top`.
+//! error. What the program says of itself, as for `--help`, the line of progress, and leaving what `top`
+//! hands out to the end of the process are all that it does above `top`.
 #![tactic(auto)]
 
 mod about;
