@@ -17,7 +17,7 @@ returns c =
     let side = c.in_ok-server.server in
     let name : side.end.page ≡ c.args.page.client.value = sym (ap (λ (d : DoneEnd). (done_view d).page) c.in_ok-server.ensures) ∙ c.requires.server in
     let orders : c.args.page.orders ≡ side.orders = same_orders c.args.page.orders side.orders side.end.page (subst (λ n. IsNameOf c.args.page.orders n) (sym name) c.args.page.named) c.promise.ensures in
-    let is = c.offered.ensures ∙ c.in_ok-settled.ensures in
+    let is = c.offered.ensures ∙ c.in_ok-settled.ensures.settled in
     record {
       place_is = refl;
       orders_are = ap (λ (s : Settled). s.orders) is ∙ sym orders;
