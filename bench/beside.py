@@ -19,18 +19,18 @@ OWN = os.path.join(ROOT, "crates/vchan/out/vchan")
 INPUT = bytes(k * k % 251 for k in range(1 << 16)) * 64
 
 
-def run(program, words, path, out):
+def run(program, words, path, out, environment=None):
     with open(path, "rb") as source:
-        ran = subprocess.run([program, *words], stdin=source, stdout=out)
+        ran = subprocess.run([program, *words], stdin=source, stdout=out, env={**os.environ, **(environment or {})})
     if ran.returncode != 0:
         sys.exit(f"{program} {' '.join(words)} ended with status {ran.returncode}")
     return ran.stdout
 
 
-def measured(program, words, path):
+def measured(program, words, path, environment=None):
     """Wall and processor seconds of a run."""
     before, begun = resource.getrusage(resource.RUSAGE_CHILDREN), time.perf_counter()
-    run(program, words, path, subprocess.DEVNULL)
+    run(program, words, path, subprocess.DEVNULL, environment)
     wall, after = time.perf_counter() - begun, resource.getrusage(resource.RUSAGE_CHILDREN)
     return wall, after.ru_utime + after.ru_stime - before.ru_utime - before.ru_stime
 
