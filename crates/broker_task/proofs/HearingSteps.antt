@@ -79,6 +79,15 @@ read-port x y events port domain h =
     read-still x y events domain (ap (λ (q : PortState). (view q.end).got) port) (ap (λ (q : PortState). is_shut (view q.end).state) port) (ap (λ (q : PortState). q.fault) port)
     (λ heard g. subst (λ (q : PortState). HasHeard q heard) (sym port) g) h
 
+-- what was read of a domain stands where its port has heard the same
+pub reads-heard : (x y : Daemon) (events : List Event) → y.domain ≡ x.domain → y.port.fault ≡ x.port.fault → ((heard : List Message) → HasHeard x.port heard → HasHeard y.port heard) → ReadsOn x events → ReadsOn y events
+reads-heard x y events domain fault hears r = record {
+  heard = r.heard;
+  hears_them = hears r.heard r.hears_them;
+  are = r.are ∙ ap (λ d. filter_map (event_of d) r.heard) (sym domain);
+  fine = fault ∙ r.fine;
+}
+
 pub reads-port : (x y : Daemon) (events : List Event) → y.port ≡ x.port → y.domain ≡ x.domain → ReadsOn x events → ReadsOn y events
 reads-port x y events port domain h = record {
   heard = h.heard;

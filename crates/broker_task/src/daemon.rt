@@ -1,5 +1,5 @@
 //! One domain at the broker.
-ghost use Rattle.std.specs.Prelude.{◌≡◌, ℕ, ◌+◌, ◌<◌, ◌≤◌, ◌++◌, ◌∷◌, List, [], false, true, None, Some, Ok, OnOk, IfOk, IfSome, length, is_none, ◌↔◌, IsTrue};
+ghost use Rattle.std.specs.Prelude.{◌≡◌, ℕ, ◌+◌, ◌<◌, ◌≤◌, ◌++◌, ◌∷◌, List, [], false, true, None, Some, Ok, OnOk, IfOk, IfSome, length, is_none, ◌↔◌, IsTrue, IsSome};
 ghost use Rattle.ring_words.specs.declared.page.Role.TheVariants.{Client};
 ghost use Rattle.vchan_rule.specs.Seated.{view, IsOpen};
 ghost use Rattle.end_view.specs.EndView.{IsUnused};
@@ -77,8 +77,33 @@ impl<'p> Daemon<'p> {
         self.port.fault().is_none()
     }
 
-    /// Takes what has come, after the connect of the first turn. While the outbox is full it only asks
-    /// whether the domain is gone. It answers whether the domain is still there.
+    // Connects in the first turn. It answers whether the page has the orders that it should.
+    fn is_connected(&mut self) -> bool
+        requires line { IsLine self.old.domain self.old }
+        requires up { is_gone self.old ≡ false }
+        ensures port { OnlyPort self.old self.new }
+        ensures line { IsLine self.new.domain self.new }
+        ensures up { is_gone self.new ≡ false }
+        ensures open { result ≡ true → IsOpen self.new.port.end }
+        ensures cause { result ≡ false → MayDrop (end_of self.new) }
+        ensures got { (end_of self.new).got ≡ (end_of self.old).got }
+        ensures said { (said : List Said) → HasSaid self.old.port said → HasSaid self.new.port said }
+        ensures read { (events : List Told) → ReadsOn self.old events → ReadsOn self.new events }
+        ensures same { IsSameDaemon self.old self.new × (self.new.port.version ≡ self.old.port.version) }
+    {
+        self.port.state() != EndState::Fresh || self.port.connect().is_ok()
+    }
+
+    // Whether the domain isn't read, since its outbox is full. One that hasn't greeted is read on: nothing
+    // that waits for it may go before its greeting was read.
+    fn is_unread(&self) -> bool
+        ensures { IsTrue result ↔ IsSome self.now.port.version × (64 ≤ length self.now.outbox.letters.items) }
+    {
+        self.port.version().is_some() && self.outbox.is_full()
+    }
+
+    /// Takes what has come, after the connect of the first turn. While a domain that has greeted has a
+    /// full outbox it only asks whether that is gone. It answers whether the domain is still there.
     pub(crate) fn listen(&mut self, buf: &mut [u8]) -> Result<bool, Memory>
         requires line { IsLine self.old.domain self.old }
         requires up { is_gone self.old ≡ false }
@@ -90,15 +115,15 @@ impl<'p> Daemon<'p> {
         ensures up { OnOk result (is_gone self.new ≡ false) }
         ensures open { result ≡ Ok true → IsOpen self.new.port.end }
         ensures cause { result ≡ Ok false → MayDrop (end_of self.new) }
-        ensures full { 64 ≤ length self.old.outbox.letters.items → (end_of self.new).got ≡ (end_of self.old).got }
+        ensures full { IsSome self.old.port.version → 64 ≤ length self.old.outbox.letters.items → (end_of self.new).got ≡ (end_of self.old).got }
         ensures said { (said : List Said) → HasSaid self.old.port said → OnOk result (HasSaid self.new.port said) }
         ensures read { (events : List Told) → ReadsOn self.old events → OnOk result (ReadsOn self.new events) }
         ensures same { OnOk result (IsSameDaemon self.old self.new) }
     {
-        if self.port.state() == EndState::Fresh && self.port.connect().is_err() {
+        if !self.is_connected() {
             return Ok(false);
         }
-        if self.outbox.is_full() {
+        if self.is_unread() {
             return Ok(!self.port.peer_gone());
         }
         match self.port.drain(buf)? {

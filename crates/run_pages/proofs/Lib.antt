@@ -3,10 +3,8 @@ pub mod RouteLaws
 pub mod ListLaws
 pub mod DealLaws
 pub mod LayLaws
-pub mod PartLaws
 pub mod SettleLaws
 pub mod FollowLaws
 pub mod DealingLaws
 pub mod PlaceLaws
 pub mod HostileLaws
-pub mod Sent

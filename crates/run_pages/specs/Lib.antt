@@ -1,5 +1,5 @@
 pub mod Routes
 pub mod Pages
-pub mod Parts
+pub mod Starts
 pub mod Dealt
 pub mod Settling

@@ -1,8 +1,7 @@
 //! Laying the pages of a run.
-ghost use Rattle.std.specs.Prelude.{◌≡◌, ◌≤◌, IfOk};
+ghost use Rattle.std.specs.Prelude.{◌≡◌, IfOk};
 ghost use Rattle.page_offer.specs.Names.{IsNameOf};
 
-use crate::parts::{Part, lay_parts};
 use crate::places::places;
 use crate::starts::RunStarts;
 use page_offer::{UnlaidClient, UnlaidServer};
@@ -11,7 +10,6 @@ use scenario_file::Scenario;
 use std::alloc::Global;
 use std::marker::Model;
 use std::snapshot::Snapshot;
-use std::thread::Threads;
 use task_duties::PagePlace;
 use vchan_io::Memory;
 use vchan_rule::{IdleSeat, Page};
@@ -93,27 +91,22 @@ impl Model for RunPages {
 
 impl RunPages {
     ghost use Rattle.run_pages.specs.Pages.{AreLaid, HasSeats};
-    ghost use Rattle.run_pages.specs.Parts.{AreStartsOf};
+    ghost use Rattle.run_pages.specs.Starts.{AreStartsOf};
 
-    /// The pages of a scenario, made by this many workers, with the seats or the sides of each: a page
-    /// with a hostile domain at one end, and each control page, is laid; any other is laid when it is
-    /// first used. The places are cut into parts, one a worker; with one worker no thread is made. Its
-    /// error is want of memory.
-    pub fn lay<'s, R: Threads + Sync>(
-        rt: &R,
+    /// The pages of a scenario, with the seats or the sides of each: a page with a hostile domain at one
+    /// end, and each control page, is laid; any other is laid when it is first used. Its error is want
+    /// of memory.
+    pub fn lay<'s>(
         alloc: Global,
         starts: &'s RunStarts,
         scenario: &Scenario,
-        workers: u32,
     ) -> Result<(RunPages, Vec<PageSeats<'s>>), Memory>
-        requires some_worker { 1 ≤ workers }
         requires starts { AreStartsOf scenario.now starts.now }
         ensures laid { IfOk result (λ p. AreLaid scenario.now p.0) }
         ensures seats { IfOk result (λ p. HasSeats p.0 p.1.items) }
     {
         let places = places(alloc, scenario)?;
-        let parts = lay_parts(rt, alloc, starts, scenario, places.as_slice(), workers)?;
-        let Part { pages, seats } = Part::join(alloc, places.len(), parts)?;
+        let (pages, seats) = starts.pages(alloc, scenario, places.as_slice())?;
         Ok((RunPages { pages }, seats))
     }
 }

@@ -9,7 +9,6 @@
 mod deal;
 mod hostile;
 mod lay;
-mod parts;
 mod places;
 mod routes;
 mod settle;

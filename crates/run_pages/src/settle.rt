@@ -2,7 +2,7 @@
 ghost use Rattle.std.specs.Prelude.{◌≡◌, ◌≢◌, ◌+◌, length, map, IfOk};
 ghost use Rattle.run_laws.specs.Laid.{server_of, client_of};
 ghost use Rattle.scenario_file.specs.Scenario.{Plan};
-ghost use Rattle.run_pages.specs.Parts.{AreStartsOf};
+ghost use Rattle.run_pages.specs.Starts.{AreStartsOf};
 ghost use Rattle.run_pages.specs.Settling.{AreSettledBy, GivesUp, GivesUpBoth, HandsBack, HasEnd, IsJoinedBy, IsSettledAs};
 ghost use Rattle.run_pages.specs.Pages.{AreLaid, IsLaidFor, new_end, page_at};
 ghost use Rattle.ring_words.specs.declared.page.Role.TheVariants.{Server, Client};

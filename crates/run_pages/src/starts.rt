@@ -1,5 +1,5 @@
 //! The words with which pages begin, and making a page by them.
-ghost use Rattle.std.specs.Prelude.{◌≡◌, true, false, IfOk};
+ghost use Rattle.std.specs.Prelude.{◌≡◌, true, false, map, IfOk};
 
 use crate::hostile::is_hostile;
 use crate::lay::{Offering, PageSeats, RunPage};
@@ -27,8 +27,8 @@ impl RunStarts {
     ghost use Rattle.run_laws.specs.Results.{orders_of};
     ghost use Rattle.scenario_file.specs.Scenario.{Plan};
     ghost use Rattle.task_duties.specs.declared.place.PagePlace.TheVariants.{Payload};
-    ghost use Rattle.run_pages.specs.Pages.{are_offered, is_offered};
-    ghost use Rattle.run_pages.specs.Parts.{AreStartsOf, IsMadeFor};
+    ghost use Rattle.run_pages.specs.Pages.{IsLaying, are_offered, is_offered, page_at};
+    ghost use Rattle.run_pages.specs.Starts.{AreStartsOf, IsMadeFor};
 
     /// The start words of a scenario's control pages, and those of its data pages. Its error is want of
     /// memory.
@@ -43,8 +43,27 @@ impl RunStarts {
         })
     }
 
-    /// The page at a place, with its seats or sides.
-    pub(crate) fn page<'s>(
+    /// The pages at these places, with the seats or sides of each.
+    pub(crate) fn pages<'s>(
+        &'s self,
+        alloc: Global,
+        scenario: &Scenario,
+        places: &[PagePlace],
+    ) -> Result<(Vec<RunPage>, Vec<PageSeats<'s>>), Memory>
+        ensures { AreStartsOf scenario.now self.now → IfOk result (λ p. IsLaying scenario.now places.now (map page_at p.0.items) p.1.items) }
+    {
+        let mut pages = Vec::with_capacity(alloc, places.len())?;
+        let mut seats = Vec::with_capacity(alloc, places.len())?;
+        for place in places {
+            let (page, seats_of_page) = self.page(alloc, scenario, *place)?;
+            pages.push(page)?;
+            seats.push(seats_of_page)?;
+        }
+        Ok((pages, seats))
+    }
+
+    // The page at a place, with its seats or sides.
+    fn page<'s>(
         &'s self,
         alloc: Global,
         scenario: &Scenario,

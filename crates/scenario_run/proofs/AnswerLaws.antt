@@ -7,10 +7,8 @@ use Rattle.qrexec_frame.specs.Streams.{Each}
 use Rattle.scenario_file.specs.Scenario.{Plan as Scenario, IsScenario}
 use Rattle.task_duties.specs.Pairwise.{EachPair}
 use Rattle.task_duties.specs.TaskOwes.{Agent, AgentDone, Broker, BrokerDone, EndAt, Hostile, HostileDone, IsSameEnd, NoMemory, TaskDone as Answer, TaskGiven, TaskOwes, broker_given}
-use Rattle.domain_task.specs.declared.task.Task.{Task}
 use Rattle.domain_task.specs.declared.done.TaskDone.{TaskDone}
-use Rattle.domain_task.specs.Given.{given_of}
-use Rattle.domain_task.specs.Owes.{Owes, answer_of}
+use Rattle.domain_task.specs.Owes.{answer_of}
 use Rattle.run_laws.specs.Laid.{awaited_by, client_of, hub_of, server_of}
 use Rattle.run_laws.specs.Report.{SettledPage}
 use Rattle.run_laws.specs.Results.{AreResults, IsJoined, answer_at, ends_of}
@@ -20,6 +18,7 @@ use Rattle.run_pages.specs.Dealt.{ControlsDealt, HandsDealt, hand_ends}
 use Rattle.run_pages.specs.Settling.{AreSettledBy, HandsBack, IsSettledBy, hand_of}
 use Rattle.run_pages.proofs.DealLaws.{map-length}
 use Rattle.scenario_run.specs.Tasks.{AreTasksOf, domain_given}
+use Rattle.scenario_run.specs.Owing.{Owes}
 use Rattle.scenario_run.specs.Answering.{Answers, AreAnswers, ends_given}
 use Rattle.scenario_run.proofs.DealtLaws.{broker-given, domain-given}
 
@@ -29,13 +28,13 @@ none-some x e = cc
 -- ---- what the pool answers
 
 -- the task at a place owed the answer there
-owed-at : (tasks : List Task) (dones : List TaskDone) (k : ℕ) (given : TaskGiven) → AllZip Owes tasks dones → slice_get (map given_of tasks) k ≡ Some given → TaskOwes given (answer_at (map answer_of dones) k)
+owed-at : (tasks : List TaskGiven) (dones : List TaskDone) (k : ℕ) (given : TaskGiven) → AllZip Owes tasks dones → slice_get tasks k ≡ Some given → TaskOwes given (answer_at (map answer_of dones) k)
 owed-at [] dones k given owes is = absurd (none-some given is)
 owed-at (t ∷ tasks) [] k given owes is = absurd owes
-owed-at (t ∷ tasks) (d ∷ dones) zero given owes is = subst (λ g. TaskOwes g (answer_of d)) (let e : Some (given_of t) ≡ Some given = is in cc) owes.0
+owed-at (t ∷ tasks) (d ∷ dones) zero given owes is = subst (λ g. TaskOwes g (answer_of d)) (let e : Some t ≡ Some given = is in cc) owes.0
 owed-at (t ∷ tasks) (d ∷ dones) (suc k) given owes is = owed-at tasks dones k given owes.1 is
 
-as-many : (tasks : List Task) (dones : List TaskDone) → AllZip Owes tasks dones → length dones ≡ length tasks
+as-many : (tasks : List TaskGiven) (dones : List TaskDone) → AllZip Owes tasks dones → length dones ≡ length tasks
 as-many [] [] owes = refl
 as-many [] (d ∷ dones) owes = absurd owes
 as-many (t ∷ tasks) [] owes = absurd owes
@@ -46,11 +45,11 @@ get-there [] k less = absurd (omega (arith, less))
 get-there (x ∷ xs) zero less = (x, refl)
 get-there (x ∷ xs) (suc k) less = get-there xs k (omega (arith, less))
 
-pub answers-are : (s : Scenario) (pages : List PageAt) (controls : List SeatedEnd) (hands : List Hand) (tasks : List Task) (dones : List TaskDone)
+pub answers-are : (s : Scenario) (pages : List PageAt) (controls : List SeatedEnd) (hands : List Hand) (tasks : List TaskGiven) (dones : List TaskDone)
     → AreLaid s pages → ControlsDealt pages controls → HandsDealt pages hands → length controls ≡ length s.domains → length hands ≡ length s.domains
-    → AreTasksOf s (map view controls) hands (map given_of tasks) → AllZip Owes tasks dones → AreAnswers s pages (map answer_of dones)
+    → AreTasksOf s (map view controls) hands tasks → AllZip Owes tasks dones → AreAnswers s pages (map answer_of dones)
 answers-are s pages controls hands tasks dones are by_controls by_hands many all given owes = record {
-  count = map-length answer_of dones ∙ as-many tasks dones owes ∙ sym (map-length given_of tasks) ∙ given.count ∙ ap (λ n. n + 1) all;
+  count = map-length answer_of dones ∙ as-many tasks dones owes ∙ given.count ∙ ap (λ n. n + 1) all;
   each = each;
 }
   where
@@ -62,7 +61,7 @@ answers-are s pages controls hands tasks dones are by_controls by_hands many all
         let next : suc k ≡ k + 1 = omega arith in
         let dealt : hand_ends (suc k) hand ≡ new_ends pages (suc k) = subst (λ d. hand_ends d hand ≡ new_ends pages d) (sym next) (by_hands k hand h.1) in
         let is = domain-given s pages (suc k) hand (omega arith) within are dealt in
-        let at : slice_get (map given_of tasks) (suc k) ≡ Some (domain_given s (suc k) hand) = subst (λ d. slice_get (map given_of tasks) d ≡ Some (domain_given s d hand)) (sym next) (given.domains k hand h.1) in
+        let at : slice_get tasks (suc k) ≡ Some (domain_given s (suc k) hand) = subst (λ d. slice_get tasks d ≡ Some (domain_given s d hand)) (sym next) (given.domains k hand h.1) in
         (domain_given s (suc k) hand, is.0, is.1, owed-at tasks dones (suc k) (domain_given s (suc k) hand) owes at)
 
 -- ---- the ends come back

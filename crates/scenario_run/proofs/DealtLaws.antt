@@ -26,7 +26,6 @@ use Rattle.run_laws.proofs.Reports.WholeReport.{laid-place}
 use Rattle.run_pages.specs.declared.deal.Hand.{Hand}
 use Rattle.run_pages.specs.Pages.{AreLaid, PageAt, end_on, new_end, new_ends}
 use Rattle.run_pages.specs.Dealt.{ControlsDealt, HandsDealt, HasOrders, HaveOrders, hand_ends}
-use Rattle.run_pages.proofs.ListLaws.{each-get}
 use Rattle.run_pages.proofs.DealLaws.{map-length}
 use Rattle.run_pages.proofs.PlaceLaws.{broker-places, places-dealt}
 use Rattle.scenario_run.specs.Tasks.{AreControlsOf, AreHandsOf, IsHandOf, domain_given}

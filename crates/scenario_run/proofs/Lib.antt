@@ -3,7 +3,6 @@ pub mod PlaceLaws
 pub mod DealtLaws
 pub mod AnswerLaws
 pub mod TaskLaws
-pub mod MakingLaws
 pub mod Sent
 pub mod ReportLaws
 pub mod IndexLaws

@@ -1,12 +1,17 @@
 -- The tasks of a run, one more at a time.
-use Rattle.std.proofs.Common.{◌≡◌, ℕ, zero, suc, ◌+◌, List, [], ◌∷◌, length, refl, ap, ◌∙◌, subst, arith, Some, None}
+use Rattle.std.proofs.Common.{◌≡◌, ℕ, zero, suc, ◌+◌, ◌≤◌, List, [], ◌∷◌, ◌++◌, length, refl, ap, sym, ◌∙◌, subst, arith, append_assoc, Some, None}
 use Rattle.std.specs.Prelude.{slice_get}
+use Rattle.std.specs.Global.{Global}
+use Rattle.std.specs.declared.vec.IntoIter.{IntoIter}
+use Rattle.std.specs.Vec.Iter.{into_iter_items, into_iter_len}
+use Rattle.std.proofs.lemmas.Grind.{common_steps}
+use Rattle.std.proofs.lemmas.List.{append-nil}
 use Rattle.end_view.specs.EndView.{EndView}
 use Rattle.scenario_file.specs.Scenario.{Plan as Scenario}
 use Rattle.task_duties.specs.TaskOwes.{TaskGiven, broker_given}
 use Rattle.run_laws.specs.Laid.{awaited_by, hub_of}
 use Rattle.run_pages.specs.declared.deal.Hand.{Hand}
-use Rattle.scenario_run.specs.Tasks.{AreTasksOf, domain_given}
+use Rattle.scenario_run.specs.Tasks.{AreHandsOf, AreTasksOf, IsHandOf, domain_given}
 
 -- the tasks of these hands, from a number on
 abbrev pub given_from : Scenario → ℕ → List Hand → List TaskGiven
@@ -31,3 +36,54 @@ are-tasks s controls hands given is = record {
   where
     next : (k : ℕ) (hand : Hand) → slice_get hands k ≡ Some hand → slice_get (broker_given (hub_of s) (awaited_by s) controls ∷ given_from s 1 hands) (k + 1) ≡ Some (domain_given s (k + 1) hand)
     next k hand at = subst (λ n. slice_get (broker_given (hub_of s) (awaited_by s) controls ∷ given_from s 1 hands) n ≡ Some (domain_given s (k + 1) hand)) (let e : suc k ≡ k + 1 = omega arith in e) (given-at s 1 hands k hand at)
+
+-- ---- while hands are left
+
+-- these were given so far, and of the hands from a number on a task may be made each
+pub record AreLeft (s : Scenario) (controls : List EndView) (hands : List Hand) (given : List TaskGiven) (number : ℕ) (rest : List Hand) : Type 0 where
+  pub so_far : given ++ given_from s number rest ≡ broker_given (hub_of s) (awaited_by s) controls ∷ given_from s 1 hands
+  pub some : 1 ≤ number
+  pub count : number + length rest ≡ length s.domains + 1
+  pub each : (k : ℕ) (hand : Hand) → slice_get rest k ≡ Some hand → IsHandOf s (k + number) hand
+
+-- the broker's alone
+pub left-first : (s : Scenario) (controls : List EndView) (hands : List Hand) (given : List TaskGiven) → AreHandsOf s hands
+    → given ≡ broker_given (hub_of s) (awaited_by s) controls ∷ [] → AreLeft s controls hands given 1 hands
+left-first s controls hands given are is = record {
+  so_far = ap (λ l. l ++ given_from s 1 hands) is;
+  some = omega arith;
+  count = omega (arith, are.0);
+  each = are.1;
+}
+
+-- a task may be made of the next
+pub left-hand : (s : Scenario) (controls : List EndView) (hands : List Hand) (given : List TaskGiven) (number : ℕ) (left rest : List Hand) (hand : Hand)
+    → left ≡ hand ∷ rest → AreLeft s controls hands given number left → (number ≤ length s.domains) × IsHandOf s number hand
+left-hand s controls hands given number left rest hand is are = (
+  (let n = ap length is in omega (arith, n, are.count)),
+  subst (λ n. IsHandOf s n hand) (let e : 0 + number ≡ number = omega arith in e) (are.each 0 hand (ap (λ l. slice_get l 0) is)),
+)
+
+-- and one task more
+pub left-on : (s : Scenario) (controls : List EndView) (hands : List Hand) (given now : List TaskGiven) (number : ℕ) (left rest : List Hand) (hand : Hand)
+    → left ≡ hand ∷ rest → now ≡ given ++ domain_given s number hand ∷ [] → AreLeft s controls hands given number left → AreLeft s controls hands now (number + 1) rest
+left-on s controls hands given now number left rest hand is more are = record {
+  so_far = ap (λ l. l ++ given_from s (number + 1) rest) more ∙ append_assoc given (domain_given s number hand ∷ []) (given_from s (number + 1) rest)
+      ∙ ap (λ l. given ++ given_from s number l) (sym is) ∙ are.so_far;
+  some = omega arith;
+  count = (let n = ap length is in omega (arith, n, are.count));
+  each = λ k h at. subst (λ n. IsHandOf s n h) (let e : suc k + number ≡ k + (number + 1) = omega arith in e) (are.each (suc k) h (ap (λ l. slice_get l (suc k)) is ∙ at));
+}
+
+none_left : {X Z : Type 0} (it : IntoIter X Z) → into_iter_len it ≡ 0 → length (into_iter_items it) ≡ 0
+none_left it none = grind (arith, common_steps, none)
+
+no-more : (s : Scenario) (controls : List EndView) (hands : List Hand) (given : List TaskGiven) (number : ℕ) (left : List Hand)
+    → length left ≡ 0 → AreLeft s controls hands given number left → given ≡ broker_given (hub_of s) (awaited_by s) controls ∷ given_from s 1 hands
+no-more s controls hands given number [] none are = sym (append-nil given) ∙ are.so_far
+no-more s controls hands given number (hand ∷ left) none are = absurd (omega (arith, none))
+
+-- all of them
+pub left-none : (s : Scenario) (controls : List EndView) (hands : List Hand) (given : List TaskGiven) (number : ℕ) (it : IntoIter Hand Global)
+    → into_iter_len it ≡ 0 → AreLeft s controls hands given number (into_iter_items it) → AreTasksOf s controls hands given
+left-none s controls hands given number it none are = are-tasks s controls hands given (no-more s controls hands given number (into_iter_items it) (none_left it none) are)

@@ -1,5 +1,6 @@
 pub mod Tasks
-pub mod Making
+pub mod Stages
+pub mod Owing
 pub mod Answering
 pub mod Parts
 pub mod Lines

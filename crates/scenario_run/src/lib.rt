@@ -8,9 +8,9 @@
 mod answers;
 mod copies;
 mod lines;
-mod making;
 mod page_index;
 mod run;
+mod run_task;
 mod sessions;
 mod tasks;
 

@@ -3,7 +3,7 @@ ghost use Rattle.std.specs.Prelude.{◌≤◌, map, IfOk};
 ghost use Rattle.domain_task.specs.Owes.{answer_of};
 ghost use Rattle.run_laws.specs.Lawful.{IsLawful};
 ghost use Rattle.run_pages.specs.Pages.{AreLaid, HasSeats};
-ghost use Rattle.run_pages.specs.Parts.{AreStartsOf};
+ghost use Rattle.run_pages.specs.Starts.{AreStartsOf};
 ghost use Rattle.scenario_run.specs.Answering.{AreAnswers};
 
 use crate::answers::{Answers, take_apart};
@@ -18,13 +18,14 @@ use scenario_file::Scenario;
 use service_gate::Gate;
 use std::alloc::Global;
 use std::sync::Wait;
+use std::sync::atomic::AtomicBool;
 use std::thread::Threads;
 use task_pool::run_pool;
 use vchan_io::Memory;
 
-/// Runs a scenario with this many workers, from 1 to 16: its pages are made and its tasks, each worker making some of
-/// them; the tasks, one for each domain and one of the broker, take turns until
-/// all are done, and each page is settled. A worker enters the gate with the place of the task before each
+/// Runs a scenario with this many workers, from 1 to 16: its pages are made; its tasks, one for each domain
+/// and one of the broker, are made at their first turns and take turns until all are done; and each page
+/// is settled. A worker enters the gate with the place of the task before each
 /// turn: 0 is the broker's, k that of domain k.
 ///
 /// The report is lawful whatever the order of all steps. The error is want of memory.
@@ -40,7 +41,7 @@ pub fn run_scenario<G: Gate, R: Threads + Wait + Sync>(
     ensures { IfOk result (λ report. IsLawful scenario.now report) }
 {
     let starts = RunStarts::new(alloc, scenario)?;
-    let (pages, seats) = RunPages::lay(rt, alloc, &starts, scenario, workers)?;
+    let (pages, seats) = RunPages::lay(alloc, &starts, scenario)?;
     let dones = run_tasks(rt, alloc, scenario, workers, gate, &pages, seats)?;
     report(alloc, scenario, &starts, pages, dones)
 }
@@ -63,7 +64,8 @@ fn run_tasks<'p, G: Gate, R: Threads + Wait + Sync>(
 {
     is_scenario(scenario);
     let dealt = pages.deal(alloc, scenario, seats)?;
-    let tasks = tasks(rt, alloc, scenario, workers, dealt)?;
+    let no_memory = AtomicBool::new(false);
+    let tasks = tasks(alloc, scenario, &no_memory, dealt)?;
     run_pool(rt, alloc, tasks, workers, gate)
 }
 

@@ -9,43 +9,46 @@ ghost use Rattle.domain_task.specs.Given.{given_of};
 ghost use Rattle.scenario_run.specs.Tasks.{AreHandsOf, AreControlsOf, AreTasksOf, IsHandOf, domain_given, awaited_from};
 
 use crate::copies::{calls_from, copy_of_acts, entries_of, names_of};
-use crate::making::make_all;
+use crate::run_task::{RunTask, Stage};
 use call_broker::Broker;
 use domain_task::Task;
 use hostile_task::HostileDomain;
 use run_pages::{Dealt, Hand, page_table};
 use scenario_file::{Acts, Domain, Scenario};
 use std::alloc::{AllocError, Global};
-use std::thread::Threads;
+use std::sync::atomic::AtomicBool;
 use vchan_io::Memory;
 use vchan_rule::End;
 
 /// The tasks of a scenario with the ends that were dealt: the broker's first, then those of the domains
-/// in order, which are made by this many workers. Its error is want of memory, and drops the ends.
-pub(crate) fn tasks<'p, R: Threads + Sync>(
-    rt: &R,
+/// in order. Each is made at its first turn; `no_memory` is what they tell one another. Its error is
+/// want of memory, and drops the ends.
+pub(crate) fn tasks<'p, 's>(
     alloc: Global,
-    scenario: &Scenario,
-    workers: u32,
+    scenario: &'s Scenario,
+    no_memory: &'s AtomicBool,
     dealt: Dealt<'p>,
-) -> Result<Vec<Task<'p>>, Memory>
-    requires some_worker { 1 ≤ workers }
+) -> Result<Vec<RunTask<'p, 's>>, AllocError>
     requires controls { AreControlsOf scenario.now dealt.controls.items }
     requires hands { AreHandsOf scenario.now dealt.hands.items }
-    ensures { IfOk result (λ tasks. AreTasksOf scenario.now (map view dealt.entry.controls.items) dealt.entry.hands.items (map given_of tasks.items)) }
+    ensures { IfOk result (λ tasks. AreTasksOf scenario.now (map view dealt.entry.controls.items) dealt.entry.hands.items tasks.items) }
 {
+    is_scenario(scenario);
     let Dealt { controls, hands } = dealt;
-    let made = make_all(rt, alloc, scenario, workers, hands)?;
-    let mut tasks = Vec::with_capacity(alloc, made.len() + 1)?;
-    tasks.push(broker(alloc, scenario, controls)?)?;
-    for making in made {
-        tasks.push(making.task()?)?;
+    let mut tasks = Vec::with_capacity(alloc, hands.len() + 1)?;
+    let broker = Stage::Broker(controls);
+    tasks.push(RunTask::new(alloc, scenario, no_memory, broker))?;
+    let mut number = 1;
+    for hand in hands {
+        let domain = Stage::Domain(number, hand);
+        tasks.push(RunTask::new(alloc, scenario, no_memory, domain))?;
+        number += 1;
     }
     Ok(tasks)
 }
 
-// The task of the broker.
-fn broker<'p>(
+/// The task of the broker. Its error is want of memory, and drops the ends.
+pub(crate) fn broker<'p>(
     alloc: Global,
     scenario: &Scenario,
     controls: Vec<End<'p>>,
@@ -92,7 +95,7 @@ fn count_from(scenario: &Scenario, from: u32) -> u32
     count
 }
 
-/// The task of a domain.
+/// The task of a domain. Its error is want of memory, and drops the ends.
 pub(crate) fn domain<'p>(
     alloc: Global,
     scenario: &Scenario,

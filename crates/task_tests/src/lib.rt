@@ -11,4 +11,6 @@ mod held_back;
 #[cfg(test)]
 mod in_order;
 #[cfg(test)]
+mod late;
+#[cfg(test)]
 mod runs;

@@ -1,8 +1,11 @@
 //! Runs of scenarios in stated orders of turns.
 use crate::in_order::InOrder;
+use crate::late::Late;
 use run_report::report_text;
 use scenario_file::read;
 use scenario_run::run_scenario;
+use service_gate::Gate;
+use std::alloc::Global;
 use std::process::Abort;
 use std::sync::Wait;
 use std::test::Fail;
@@ -51,14 +54,14 @@ const ROWS: [Row; 5] = [
     ),
 ];
 
-/// The text of the report of a scenario whose tasks take turns in this order.
-fn told<R: Threads + Wait + Sync + AllocGlobal>(
+/// The text of the report of a scenario whose tasks this gate lets in.
+fn told<G: Gate, R: Threads + Wait + Sync + AllocGlobal>(
     rt: &R,
-    file: &str,
-    order: &'static [u32],
+    file: &[u8],
+    gate: &G,
 ) -> Result<Vec<u8>, Fail> {
-    let scenario = read(rt.alloc(), file.as_bytes())?;
-    let report = run_scenario(rt, rt.alloc(), &scenario, WORKERS, &InOrder::of(order))?;
+    let scenario = read(rt.alloc(), file)?;
+    let report = run_scenario(rt, rt.alloc(), &scenario, WORKERS, gate)?;
     Ok(report_text(rt.alloc(), &report)?)
 }
 
@@ -67,7 +70,7 @@ fn check_rows<R: Threads + Wait + Sync + AllocGlobal + Abort>(
     rows: &[Row],
 ) -> Result<(), Fail> {
     for (file, order, lines) in rows {
-        let text = told(rt, *file, *order)?;
+        let text = told(rt, file.as_bytes(), &InOrder::of(*order))?;
         assert!(rt; text.as_slice() == lines.as_bytes(), "{order:?} of {file}");
     }
     Ok(())
@@ -76,4 +79,29 @@ fn check_rows<R: Threads + Wait + Sync + AllocGlobal + Abort>(
 #[test]
 fn runs_end_as_they_should_in_stated_orders(rt: HostRuntime) -> Result<(), Fail> {
     check_rows(&rt, &ROWS)
+}
+
+/// How many calls wait for the domain that comes late: more than fill its outbox at the broker.
+const CALLS: u32 = 100;
+
+/// A scenario of two domains, the first of which calls the second so often, and its report.
+fn calls_to_one(alloc: Global) -> Result<(Vec<u8>, Vec<u8>), Fail> {
+    let mut file = Vec::from_slice(alloc, b"domain = [{name = \"work\"}, {name = \"vault\"}]\n")?;
+    let mut lines = Vec::new(alloc);
+    for number in 1..=CALLS {
+        file.extend_from_slice(b"[[call]]\nfrom = \"work\"\nto = \"vault\"\nservice = \"echo\"\n")?;
+        let line = format!(in alloc; "call {number} work vault echo done 0 - -\n")?;
+        lines.extend_from_slice(line.as_bytes())?;
+    }
+    let last = format!(in alloc; "calls {CALLS}\n")?;
+    lines.extend_from_slice(last.as_bytes())?;
+    Ok((file, lines))
+}
+
+#[test]
+fn a_domain_that_comes_late_serves_all_calls(rt: HostRuntime) -> Result<(), Fail> {
+    let (file, lines) = calls_to_one(rt.alloc())?;
+    let text = told(&rt, &file, &Late::of(2, 10_000))?;
+    assert!(rt; text == lines);
+    Ok(())
 }

@@ -1,10 +1,9 @@
 use Rattle.std.proofs.Common.{Result, Ok, Err, IfOk, arith}
 use denote.Param.Send.{sendable}
-use Rattle.domain_task.specs.Given.{given_of}
-use Rattle.domain_task.proofs.Sent.{task_done_send, task_send}
-use Rattle.run_pages.proofs.DealLaws.{map-length}
+use Rattle.domain_task.proofs.Sent.{task_done_send}
 use Rattle.scenario_run.proofs.AnswerLaws.{answers-are}
 use Rattle.scenario_run.proofs.DealtLaws.{controls-fit, hands-fit}
+use Rattle.scenario_run.proofs.Sent.{run_task_send}
 use Rattle.scenario_run.proofs.run.run_tasks.Goals as goal
 
 if-ok : {T E : Type 0} (r : Result T E) (P Q : T → Type 0) → ((x : T) → P x → Q x) → IfOk r P → IfOk r Q
@@ -12,13 +11,13 @@ if-ok (Ok x) P Q f p = f x p
 if-ok (Err e) P Q f p = tt
 
 pub tasks-requires-clause-controls : goal.tasks-requires-clause-controls
-tasks-requires-clause-controls g c κs within = controls-fit c.args.scenario.now c.args.pages.now c.in_ok-dealt.dealt.controls.items c.requires.laid c.in_ok-dealt.ensures.controls c.in_ok-dealt.ensures.as_many
+tasks-requires-clause-controls g c = controls-fit c.args.scenario.now c.args.pages.now c.in_ok-dealt.dealt.controls.items c.requires.laid c.in_ok-dealt.ensures.controls c.in_ok-dealt.ensures.as_many
 
 pub tasks-requires-clause-hands : goal.tasks-requires-clause-hands
-tasks-requires-clause-hands g c κs within = hands-fit c.args.scenario.now c.args.pages.now c.in_ok-dealt.dealt.hands.items c.requires.laid c.in_ok-dealt.ensures.hands c.in_ok-dealt.ensures.orders c.in_ok-dealt.ensures.all
+tasks-requires-clause-hands g c = hands-fit c.args.scenario.now c.args.pages.now c.in_ok-dealt.dealt.hands.items c.requires.laid c.in_ok-dealt.ensures.hands c.in_ok-dealt.ensures.orders c.in_ok-dealt.ensures.all
 
 pub run_pool-requires-send-T : goal.run_pool-requires-send-T
-run_pool-requires-send-T g c κs within = search (sendable, task_send)
+run_pool-requires-send-T g c κs within = search (sendable, run_task_send)
 
 pub run_pool-requires-send-T-Done : goal.run_pool-requires-send-T-Done
 run_pool-requires-send-T-Done g c κs within = search (sendable, task_done_send)
@@ -27,8 +26,7 @@ pub run_pool-requires-clause-few_tasks : goal.run_pool-requires-clause-few_tasks
 run_pool-requires-clause-few_tasks g c κs within =
     let few = c.is_scenario.ensures.few_domains in
     let count = c.in_ok-tasks.ensures.count in
-    let many = map-length given_of c.in_ok-tasks.tasks.items in
-    omega (arith, few, count, many, c.in_ok-dealt.ensures.all, c.in_ok-tasks.tasks.ok.0)
+    omega (arith, few, count, c.in_ok-dealt.ensures.all, c.in_ok-tasks.tasks.ok.0)
 
 pub returns : goal.returns
 returns g c =

@@ -1,4 +1,4 @@
-use Rattle.std.proofs.Common.{◌≡◌, false, Option, ap, ◌∙◌, subst, sym}
+use Rattle.std.proofs.Common.{false, Option, ap, ◌∙◌, subst, sym}
 use Rattle.std.specs.Prelude.{is_some}
 use Rattle.std.specs.Option.{option_map_or}
 use Rattle.qrexec_frame.specs.Streams.{Each}

@@ -4,7 +4,7 @@ use Rattle.std.proofs.lemmas.Grind.{common_steps}
 use Rattle.run_pages.specs.Pages.{IsLaying, page_at}
 use Rattle.run_pages.proofs.LayLaws.{lay-more}
 use Rattle.std.proofs.lemmas.List.{map-append}
-use Rattle.run_pages.proofs.starts.RunStarts.part.Goals as goal
+use Rattle.run_pages.proofs.starts.RunStarts.pages.Goals as goal
 
 pub loop-place-preserved : goal.loop-place-preserved
 loop-place-preserved c = λ starts.
