@@ -10,13 +10,21 @@ const PATIENCE: u32 = 20_000;
 const MOST_LOOKS: u32 = 100_000_000;
 
 /// Lets tasks in by the order of their places, over and over, each only once the turn before is
-/// over. A turn is over when its task comes again, so each task needs a worker of its own. The turn of a
-/// task that doesn't come for long is left out.
+/// over. A turn is over when its task comes again, so each task needs a worker of its own, and there are
+/// at most 64. Behind the first round the turn of a task that doesn't come for long is left out, and so
+/// are its later ones until it comes.
 #[derive(Drop)]
 pub struct InOrder {
     order: &'static [u32],
     // Twice the number of the turns that were let in before, and one more while the next one goes on.
     turns: AtomicU64,
+    // A bit for each task that wasn't waited for any longer and hasn't come since.
+    away: AtomicU64,
+}
+
+/// The bit of a task.
+fn bit(task: u32) -> u64 {
+    1u64.rotate_left(task)
 }
 
 impl InOrder {
@@ -25,14 +33,27 @@ impl InOrder {
         InOrder {
             order,
             turns: AtomicU64::new(0),
+            away: AtomicU64::new(0),
         }
     }
 
-    /// Whether it is this task that is let in, or is in.
-    fn is_next(&self, task: u32, turns: u64) -> bool {
+    /// The task that is let in next, or is in.
+    fn task_at(&self, turns: u64) -> Option<u32> {
         let length = self.order.len().max(1) as u64;
-        let at = (turns / 2 % length) as usize;
-        at < self.order.len() && self.order[at] == task
+        self.order.get((turns / 2 % length) as usize).copied()
+    }
+
+    /// Whether the task isn't waited for whose turn it is.
+    fn is_away(&self, turns: u64) -> bool {
+        let away = self.away.load(Ordering::SeqCst);
+        self.task_at(turns)
+            .is_some_and(|task| away & bit(task) != 0)
+    }
+
+    /// Whether a turn may be left out. None of the first round may: no task is done then, and a worker may
+    /// start late.
+    fn may_leave_out(&self, turns: u64) -> bool {
+        turns / 2 >= self.order.len() as u64
     }
 
     /// Goes on to the turn behind, where nothing has changed since.
@@ -43,10 +64,18 @@ impl InOrder {
             .compare_exchange(turns, next, Ordering::SeqCst, Ordering::SeqCst);
     }
 
+    /// Leaves a turn out.
+    fn leave_out(&self, turns: u64) {
+        if let Some(task) = self.task_at(turns) {
+            self.away.fetch_or(bit(task), Ordering::SeqCst);
+        }
+        self.pass(turns);
+    }
+
     /// Lets the task in if it is its turn. It tells whether it is in.
     fn lets_in(&self, task: u32, turns: u64) -> bool {
         turns % 2 == 0
-            && self.is_next(task, turns)
+            && self.task_at(turns) == Some(task)
             && self
                 .turns
                 .compare_exchange(turns, turns | 1, Ordering::SeqCst, Ordering::SeqCst)
@@ -56,8 +85,9 @@ impl InOrder {
 
 impl Gate for InOrder {
     fn enter(&self, task: u32) {
+        self.away.fetch_and(!bit(task), Ordering::SeqCst);
         let mut seen = self.turns.load(Ordering::SeqCst);
-        if seen % 2 == 1 && self.is_next(task, seen) {
+        if seen % 2 == 1 && self.task_at(seen) == Some(task) {
             self.pass(seen);
         }
         let mut looks = 0u32;
@@ -66,14 +96,14 @@ impl Gate for InOrder {
             if self.lets_in(task, turns) {
                 return;
             }
-            if turns == seen && looks == PATIENCE {
-                self.pass(turns);
-            }
             looks = if turns == seen {
                 looks.saturating_add(1)
             } else {
                 0
             };
+            if self.may_leave_out(turns) && (looks > PATIENCE || self.is_away(turns)) {
+                self.leave_out(turns);
+            }
             seen = turns;
             thread::yield_now();
         }
