@@ -24,6 +24,3 @@ pub use receiving::{BlockRecv, recv};
 pub use ring::fits_ring;
 pub use sending::{BlockSend, send};
 pub use writing::{BlockWrite, write};
-
-#[cfg(test)]
-mod tests;

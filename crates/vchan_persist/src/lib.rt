@@ -23,6 +23,3 @@ pub use client::{Client, parse_clients};
 pub use epoch::{EpochDone, EpochResult};
 pub use error::{ClientsError, ClientsKind};
 pub use serve::serve_clients;
-
-#[cfg(test)]
-mod tests;

@@ -22,6 +22,3 @@ mod writer;
 pub use relay::{Relay, RelayRefused};
 pub use run::{Relayed, relay_run};
 pub use turn::RelayTurn;
-
-#[cfg(test)]
-mod tests;

@@ -1,5 +1,5 @@
 use Rattle.vchan_rule.specs.Seated.{IsOpen}
-use Rattle.vchan_block.proofs.tests.client_writes.Given as goal
+use Rattle.channel_tests.proofs.waiting.client_writes.Given as goal
 
 abbrev pub invariant-pieces : goal.invariant-pieces
 invariant-pieces g l = IsOpen l.end

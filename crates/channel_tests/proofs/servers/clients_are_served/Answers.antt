@@ -1,6 +1,6 @@
 use Rattle.std.proofs.Common.{refl}
 use Rattle.service_gate.specs.ServiceResult.{service}
-use Rattle.vchan_persist.proofs.tests.clients_are_served.Goals as goal
+use Rattle.channel_tests.proofs.servers.clients_are_served.Goals as goal
 
 pub answers-text-requires-after_bounds : goal.answers-text-requires-after_bounds
 unfolding service

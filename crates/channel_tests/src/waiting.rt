@@ -1,13 +1,13 @@
-//! Two threads over one page.
+//! Calls that wait, and pipes, by two threads over one page.
 ghost use Rattle.std.specs.Prelude.{◌≡◌, ◌<◌, ◌^◌};
 ghost use Rattle.ring_words.specs.declared.page.Role.TheVariants.{Server, Client};
 
-use super::*;
 use ring_words::check_orders;
 use std::sync::Wait;
 use std::test::Fail;
 use std::thread::{Threads, join};
 use std::time::Clock;
+use vchan_block::{BlockRead, BlockRecv, BlockSend, BlockWrite, pipe, read, recv, send, write};
 use vchan_lifecycle::{close, connect};
 use vchan_rule::{IdleSeat, Page};
 

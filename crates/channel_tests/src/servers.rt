@@ -2,12 +2,12 @@
 ghost use Rattle.std.specs.Prelude.{ℕ, List, IsSome};
 ghost use Rattle.service_gate.specs.ServiceResult.{service as service_of};
 
-use super::*;
 use ring_words::check_orders;
 use std::process::Abort;
 use std::sync::Wait;
 use std::test::Fail;
 use std::thread::Threads;
+use vchan_persist::{EpochResult, parse_clients, serve_clients};
 
 /// What is told of a list, and behind that line the list.
 const CASES: &str = "\

@@ -1,0 +1,11 @@
+//! Relays, calls that wait and servers for one client after another, as tests of their public calls.
+//!
+//! They stand here and not beside what they test, since a crate with tests is proved twice.
+#![tactic(auto)]
+
+#[cfg(test)]
+mod relays;
+#[cfg(test)]
+mod servers;
+#[cfg(test)]
+mod waiting;
