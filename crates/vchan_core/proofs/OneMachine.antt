@@ -1,2 +1,3 @@
--- How a machine goes on.
+-- How a machine goes on, and what its numbers tell.
 pub mod PhaseLaws
+pub mod KeepLaws

@@ -2,3 +2,4 @@
 pub mod Phases
 pub mod Ahead
 pub mod Refusals
+pub mod Keeping

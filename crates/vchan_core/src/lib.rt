@@ -8,6 +8,7 @@
 #![tactic(auto)]
 
 mod carry;
+mod kept;
 mod machine;
 mod phase;
 mod plain;
@@ -18,6 +19,7 @@ mod totals;
 mod whole_call;
 pub mod words;
 
+pub use kept::{AnswerNumbers, Kept, role_of, state_of};
 pub use machine::{Ahead, Machine, Span};
 pub use plain::Plain;
 pub use refusal::Refusal;

@@ -58,6 +58,23 @@ impl Machine {
         }
     }
 
+    /// An end between two calls, in this state, with these two counts: of one that joins a page that
+    /// was used before. A server is never fresh.
+    pub fn resumed(role: Role, orders: Orders, state: EndState, prod: u32, cons: u32) -> Machine
+        requires { role ≡ Role.Server → state ≢ EndState.Fresh }
+        ensures idle { IsIdle result }
+        ensures standing { standing result ≡ record { role = role; orders = orders; state = state; prod = prod; cons = cons } }
+    {
+        Machine {
+            role,
+            orders,
+            state,
+            prod,
+            cons,
+            phase: None,
+        }
+    }
+
     /// Which end it is.
     pub fn role(&self) -> Role
         ensures { result ≡ (standing self.now).role }
