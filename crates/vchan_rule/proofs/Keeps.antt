@@ -1,10 +1,10 @@
 -- Each step of the table keeps the rule, since it is an event of the core.
 use Rattle.std.proofs.Common.{◌≡◌, ℕ, true, false, length, zero, suc, List, [], ◌∷◌, ◌++◌, set, sym, refl, ap, ◌∙◌, subst, ⊎_elim, slice_index}
-use mathlib.Core.Option.{some, some-ne-none}
+use mathlib.Core.Option.{some, none, some-ne-none}
 use lib.ListN.{get_elem?}
 use lib.Seq.{set-get_or}
 use Rattle.atomic_table.proofs.Lists.{set_again}
-use Rattle.atomic_table.specs.Table.{Me, Allows, Splits, Joins, Final, Seen, keeps, opening}
+use Rattle.atomic_table.specs.Table.{State, Me, Allows, Splits, Joins, Final, Seen, keeps, opening, step}
 use Rattle.ring_words.specs.declared.order.Orders.{Orders}
 use Rattle.ring_words.specs.declared.page.Role.{Role}
 use Rattle.ring_words.specs.declared.page.Role.TheVariants.{Server, Client}
@@ -24,10 +24,10 @@ use Rattle.vchan_protocol.specs.Always.Invariant.{Invariant}
 use Rattle.vchan_rule.specs.declared.rule.View.{View}
 use Rattle.vchan_rule.specs.declared.rule.View.TheVariants.{Whole, One, Both, Spent}
 use Rattle.vchan_rule.specs.declared.rule.Opening.{Opening}
-use Rattle.vchan_rule.specs.Rule.{core, setup_at, said_of, Shown, whole, parted, done, Ruled, new_server, new_client, server_half, client_half, joined}
+use Rattle.vchan_rule.specs.Rule.{core, setup_at, said_of, Shown, whole, parted, done, Ruled, operand, IsStepOf, makes, last_look, gives_up, wanders, new_server, new_client, server_half, client_half, joined}
 use Rattle.vchan_rule.specs.Done.{Settles}
 use Rattle.vchan_protocol.specs.OneEnd.OneEnd.{between, Enters}
-use Rattle.vchan_protocol.proofs.OneEnd.OneEndSteps.{role_is, enters_kept, event_kept, turn_kept, stray_kept}
+use Rattle.vchan_protocol.proofs.OneEnd.OneEndSteps.{role_is, orders_are, enters_kept, event_kept, turn_kept, stray_kept}
 
 -- ---- the views
 
@@ -83,6 +83,33 @@ shows_at : (key : Opening) (words words' : List ℕ) (views : List View) (id : �
 shows_at key words words' views id v w at k =
     subst (λ (z : List View × ℕ). Shown key words' (set z.0 z.1 (One w))) (λ i. (sym at.views_are i, sym at.id_is i)) (shows key words' at.who v w at.theirs k)
 
+-- ---- which word a step is on
+
+-- a step tells also what holds wherever the rule does
+also : (key : Opening) (slots id i : ℕ) (me : Me (Unit {0}) View) (f : ℕ → ℕ) (X : Type 0) (then : ℕ → Me (Unit {0}) View → Type 0) →
+    ((st : State (Unit {0}) View) → Ruled key st → get_elem? st.views id ≡ some me.0 → X) → Allows (Ruled key) slots id me i f then → Allows (Ruled key) slots id me i f (λ n m'. X × then n m')
+also key slots id i me f X then holds may st l deep at small = let t = may st l deep at small in (t.0, t.1, t.2, t.3, (holds st l at, t.4))
+
+-- the orders of an end at the table are those that the table was told
+page_orders : (key : Opening) (id : ℕ) (v : Side) (st : State (Unit {0}) View) → Ruled key st → get_elem? st.views id ≡ some (One v) → v.orders ≡ key.orders
+page_orders key id v st l at =
+    let here = sits key st.words st.views id v l.shown at in
+    orders_are (setup_at key) st.words here.who v here.theirs here.kept
+
+-- an end that enters a call is of the same page
+same_orders : (v s : Side) → Enters v s → s.orders ≡ v.orders
+same_orders v s e = ⊎_elim
+    (λ (t : s ≡ v). ap (λ (z : Side). z.orders) t)
+    (λ (t : (call : Call) × (payload : List ℕ) × (s ≡ begins v call payload) × MayBegin v.role v call payload). ap (λ (z : Side). z.orders) t.2)
+    e
+
+-- a step on the word that this op is on by the orders of the table is on the word that it is on by those of the end
+is_step_of : (key : Opening) (slots id i first : ℕ) (me : Me (Unit {0}) View) (v : Side) (orders : Orders) (payload : List ℕ) (op : Op) → me ≡ (One v, []) → orders ≡ v.orders → i ≡ word_of key.orders op → first ≡ operand payload op →
+    (st : State (Unit {0}) View) → Ruled key st → get_elem? st.views id ≡ some me.0 → IsStepOf orders payload op (step slots i first 0 none)
+is_step_of key slots id i first me v orders payload op is same here given st l at =
+    let page = page_orders key id v st l (at ∙ ap (λ (z : Me (Unit {0}) View). some z.0) is) in
+    record { word = here ∙ ap (λ (o : Orders). word_of o op) (sym (same ∙ page)); first = given }
+
 -- ---- the next event of an honest end
 
 -- an end that enters a call is no other than it was
@@ -102,7 +129,7 @@ allows key slots id v s e fair more st l deep at small =
     (One w, keeps, tt, record { shown = shows_at key st.words (words_after key.orders st.words s.payload (op_next s)) st.views id v w here now }, refl)
 
 -- The same for a seat, a word and an op that are known by equations. `f` is what the step leaves in the word, and `g` what it is told of the number that it found.
-pub allows_at : (key : Opening) (slots id : ℕ) (me : Me (Unit {0}) View) (s : Side) (op : Op) (i : ℕ) (f g : ℕ → ℕ) → ((v : Side) × (me ≡ (One v, [])) × Enters v s) → s.turned ≡ false → GoesOn (plan_left s) →
+allows_at : (key : Opening) (slots id : ℕ) (me : Me (Unit {0}) View) (s : Side) (op : Op) (i : ℕ) (f g : ℕ → ℕ) → ((v : Side) × (me ≡ (One v, [])) × Enters v s) → s.turned ≡ false → GoesOn (plan_left s) →
     op ≡ op_next s → i ≡ word_of key.orders op → ((n : ℕ) → f n ≡ leaves s.payload op n) → ((n : ℕ) → takes op (g n) ≡ takes op n) →
     Allows (Ruled key) slots id me i f (λ n m'. m' ≡ (One (side_after s (takes (op_next s) (g n))), []))
 allows_at key slots id me s op i f g at fair more is here leaves_it takes_it =
@@ -113,6 +140,16 @@ allows_at key slots id me s op i f g at fair more is here leaves_it takes_it =
     let three : Allows (Ruled key) slots id me i f (λ n m'. m' ≡ (One (side_after s (takes op (g n))), [])) =
     subst (λ (z : ℕ × ((ℕ → ℕ) × (ℕ → ℕ))). Allows (Ruled key) slots id me z.0 z.1.0 (λ n m'. m' ≡ (One (side_after s (z.1.1 n)), []))) (λ k. (sym here k, (λ n. sym (leaves_it n) k, λ n. sym (takes_it n) k))) two in
     subst (λ (o : Op). Allows (Ruled key) slots id me i f (λ n m'. m' ≡ (One (side_after s (takes o (g n))), []))) is three
+
+-- and the step is on the word of the event, with its operand
+pub makes_at : (key : Opening) (slots id : ℕ) (me : Me (Unit {0}) View) (s : Side) (op : Op) (i first : ℕ) (f g : ℕ → ℕ) → ((v : Side) × (me ≡ (One v, [])) × Enters v s) → s.turned ≡ false → GoesOn (plan_left s) →
+    op ≡ op_next s → i ≡ word_of key.orders op → first ≡ operand s.payload op → ((n : ℕ) → f n ≡ leaves s.payload op n) → ((n : ℕ) → takes op (g n) ≡ takes op n) →
+    Allows (Ruled key) slots id me i f (λ n. makes s (step slots i first 0 none) me (g n))
+makes_at key slots id me s op i first f g at fair more is here given leaves_it takes_it =
+    also key slots id i me f (IsStepOf s.orders s.payload (op_next s) (step slots i first 0 none)) (λ n m'. m' ≡ (One (side_after s (takes (op_next s) (g n))), []))
+    (subst (λ (o : Op). (st : State (Unit {0}) View) → Ruled key st → get_elem? st.views id ≡ some me.0 → IsStepOf s.orders s.payload o (step slots i first 0 none)) is
+    (is_step_of key slots id i first me at.0 s.orders s.payload op at.1 (same_orders at.0 s at.2) here given))
+    (allows_at key slots id me s op i f g at fair more is here leaves_it takes_it)
 
 -- ---- two seats of one
 
@@ -158,9 +195,9 @@ opens_at orders start a b words one two is k =
 -- ---- an end that is given up
 
 -- the step at which an end is given up, a load of the word i
-pub turns_at : (key : Opening) (slots id i : ℕ) (me : Me (Unit {0}) View) (v : Side) → me ≡ (One v, []) → v.turned ≡ false →
+turns_on : (key : Opening) (slots id i : ℕ) (me : Me (Unit {0}) View) (v : Side) → me ≡ (One v, []) → v.turned ≡ false →
     Allows (Ruled key) slots id me i (λ n. n) (λ n m'. (consumed : ℕ) × (m' ≡ (One (turns v consumed), [])))
-turns_at key slots id i me v is fair =
+turns_on key slots id i me v is fair =
     subst (λ (z : Me (Unit {0}) View). Allows (Ruled key) slots id z i (λ n. n) (λ n m'. (consumed : ℕ) × (m' ≡ (One (turns v consumed), [])))) (sym is)
     (λ st l deep at small.
     let here = sits key st.words st.views id v l.shown at in
@@ -169,6 +206,13 @@ turns_at key slots id i me v is fair =
     let now = subst (λ (z : List ℕ). Invariant (between (setup_at key) z here.who (turns v consumed) here.theirs)) (sym same) (turn_kept (setup_at key) st.words here.who v here.theirs fair here.kept) in
     (One (turns v consumed), keeps, tt, record { shown = shows_at key st.words (set st.words i (slice_index st.words i)) st.views id v (turns v consumed) here now }, (consumed, refl)))
 
+pub turns_at : (key : Opening) (slots id i : ℕ) (me : Me (Unit {0}) View) (v : Side) (op : Op) → me ≡ (One v, []) → v.turned ≡ false → op ≡ last_look v → i ≡ word_of key.orders op →
+    Allows (Ruled key) slots id me i (λ n. n) (gives_up v (step slots i 0 0 none) me)
+turns_at key slots id i me v op is fair same here =
+    also key slots id i me (λ n. n) (IsStepOf v.orders v.payload (last_look v) (step slots i 0 0 none)) (λ n m'. (consumed : ℕ) × (m' ≡ (One (turns v consumed), [])))
+    (is_step_of key slots id i 0 me v v.orders v.payload (last_look v) is refl (here ∙ ap (λ (o : Op). word_of key.orders o) same) refl)
+    (turns_on key slots id i me v is fair)
+
 strays_on : (key : Opening) (slots id : ℕ) (v : Side) (op : Op) → v.turned ≡ true →
     Allows (Ruled key) slots id (One v, []) (word_of key.orders op) (leaves [] op) (λ n m'. m' ≡ (One (strays v op (takes op n)), []))
 strays_on key slots id v op foul st l deep at small =
@@ -176,14 +220,22 @@ strays_on key slots id v op foul st l deep at small =
     let here = sits key st.words st.views id v l.shown at in
     (One w, keeps, tt, record { shown = shows_at key st.words (words_after key.orders st.words [] op) st.views id v w here (stray_kept (setup_at key) st.words here.who v here.theirs op foul here.kept) }, refl)
 
-pub strays_at : (key : Opening) (slots id : ℕ) (me : Me (Unit {0}) View) (v : Side) (op made_op : Op) (i : ℕ) (f g : ℕ → ℕ) → me ≡ (One v, []) → v.turned ≡ true → op ≡ made_op → i ≡ word_of key.orders op →
+strays_by : (key : Opening) (slots id : ℕ) (me : Me (Unit {0}) View) (v : Side) (op made_op : Op) (i : ℕ) (f g : ℕ → ℕ) → me ≡ (One v, []) → v.turned ≡ true → op ≡ made_op → i ≡ word_of key.orders op →
     ((n : ℕ) → f n ≡ leaves [] op n) → ((n : ℕ) → takes op (g n) ≡ takes op n) → Allows (Ruled key) slots id me i f (λ n m'. m' ≡ (One (strays v made_op (takes made_op (g n))), []))
-strays_at key slots id me v op made_op i f g is foul same here leaves_it takes_it =
+strays_by key slots id me v op made_op i f g is foul same here leaves_it takes_it =
     let one : Allows (Ruled key) slots id me (word_of key.orders op) (leaves [] op) (λ n m'. m' ≡ (One (strays v op (takes op n)), [])) =
     subst (λ (z : Me (Unit {0}) View). Allows (Ruled key) slots id z (word_of key.orders op) (leaves [] op) (λ n m'. m' ≡ (One (strays v op (takes op n)), []))) (sym is) (strays_on key slots id v op foul) in
     let two : Allows (Ruled key) slots id me i f (λ n m'. m' ≡ (One (strays v op (takes op (g n))), [])) =
     subst (λ (z : ℕ × ((ℕ → ℕ) × (ℕ → ℕ))). Allows (Ruled key) slots id me z.0 z.1.0 (λ n m'. m' ≡ (One (strays v op (z.1.1 n)), []))) (λ k. (sym here k, (λ n. sym (leaves_it n) k, λ n. sym (takes_it n) k))) one in
     subst (λ (o : Op). Allows (Ruled key) slots id me i f (λ n m'. m' ≡ (One (strays v o (takes o (g n))), []))) same two
+
+pub strays_at : (key : Opening) (slots id : ℕ) (me : Me (Unit {0}) View) (v : Side) (op made_op : Op) (i first : ℕ) (f g : ℕ → ℕ) → me ≡ (One v, []) → v.turned ≡ true → op ≡ made_op → i ≡ word_of key.orders op → first ≡ operand [] op →
+    ((n : ℕ) → f n ≡ leaves [] op n) → ((n : ℕ) → takes op (g n) ≡ takes op n) → Allows (Ruled key) slots id me i f (λ n. wanders v made_op (step slots i first 0 none) me (g n))
+strays_at key slots id me v op made_op i first f g is foul same here given leaves_it takes_it =
+    also key slots id i me f (IsStepOf v.orders [] made_op (step slots i first 0 none)) (λ n m'. m' ≡ (One (strays v made_op (takes made_op (g n))), []))
+    (subst (λ (o : Op). (st : State (Unit {0}) View) → Ruled key st → get_elem? st.views id ≡ some me.0 → IsStepOf v.orders [] o (step slots i first 0 none)) same
+    (is_step_of key slots id i first me v v.orders [] op is refl here given))
+    (strays_by key slots id me v op made_op i f g is foul same here leaves_it takes_it)
 
 -- ---- the end of a page
 

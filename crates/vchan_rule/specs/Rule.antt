@@ -1,5 +1,5 @@
 -- The rule of a page's table: the words and the views make up a core state of which holds what holds of a page at each moment.
-use Rattle.std.specs.Prelude.{◌≡◌, ℕ, List, [], ◌∷◌}
+use Rattle.std.specs.Prelude.{◌≡◌, ℕ, List, [], ◌∷◌, slice_index}
 use lib.Dec.{lit≤}
 use Rattle.atomic_table.specs.Table.{State, Me, Step}
 use Rattle.ring_words.specs.Rings.{number_of}
@@ -7,9 +7,11 @@ use Rattle.ring_words.specs.declared.order.Order.{Order}
 use Rattle.ring_words.specs.declared.order.Orders.{Orders}
 use Rattle.ring_words.specs.declared.page.Role.TheVariants.{Server, Client}
 use Rattle.vchan_protocol.specs.declared.op.Op.{Op}
+use Rattle.vchan_protocol.specs.declared.op.Op.TheVariants.{Load, LoadByte, Store, StoreByte, Or, And, Swap, Nothing}
 use Rattle.vchan_protocol.specs.declared.call.EndState.TheVariants.{Open, Fresh}
 use Rattle.vchan_protocol.specs.declared.side.Side.{Side}
-use Rattle.vchan_protocol.specs.Table.Apply.{takes}
+use Rattle.vchan_protocol.specs.Table.Ends.{cons_word, written_ring}
+use Rattle.vchan_protocol.specs.Table.Apply.{word_of, takes}
 use Rattle.vchan_protocol.specs.History.Core.{Core, new_side, side_after, op_next}
 use Rattle.vchan_protocol.specs.OneEnd.OneEnd.{Setup, between}
 use Rattle.vchan_protocol.specs.Hostile.Turned.{turns, strays}
@@ -46,17 +48,39 @@ pub data Shown : Opening → List ℕ → List View → Type 0 where
 pub record Ruled (key : Opening) (s : State (Unit {0}) View) : Type 0 where
   pub shown : Shown key s.words s.views
 
+-- ---- what each step tells its seat
+
+-- the operand of an event, where the call has this payload: the value of a store or a swap, the byte of the payload, the bits of an or or an and, and 0 of a load
+abbrev pub operand : List ℕ → Op → ℕ
+operand payload (Load word) = 0
+operand payload (LoadByte word at) = 0
+operand payload (Store word value) = value
+operand payload (StoreByte word at) = slice_index payload at
+operand payload (Or word bits) = bits
+operand payload (And word bits) = bits
+operand payload (Swap word value) = value
+operand payload Nothing = 0
+
+-- the step is on the word of this event, with its operand
+pub record IsStepOf (orders : Orders) (payload : List ℕ) (op : Op) (st : Step (Unit {0})) : Type 0 where
+  pub word : st.word ≡ word_of orders op
+  pub first : st.first ≡ operand payload op
+
 -- the next event of an end, which took what it found
 abbrev pub makes : Side → Step (Unit {0}) → Me (Unit {0}) View → ℕ → Me (Unit {0}) View → Type 0
-makes s st m n m' = m' ≡ (One (side_after s (takes (op_next s) n)), [])
+makes s st m n m' = IsStepOf s.orders s.payload (op_next s) st × (m' ≡ (One (side_after s (takes (op_next s) n)), []))
+
+-- the event at which an end is given up: a load of the consumer index of the ring that it writes
+abbrev pub last_look : Side → Op
+last_look s = Load (cons_word (written_ring s.role))
 
 -- the end is given up, where its reader has got some number of bytes
 abbrev pub gives_up : Side → Step (Unit {0}) → Me (Unit {0}) View → ℕ → Me (Unit {0}) View → Type 0
-gives_up s st m n m' = (consumed : ℕ) × (m' ≡ (One (turns s consumed), []))
+gives_up s st m n m' = IsStepOf s.orders s.payload (last_look s) st × ((consumed : ℕ) × (m' ≡ (One (turns s consumed), [])))
 
--- an event of a hostile user
+-- an event of a hostile user, whose stores are of any number and of no payload
 abbrev pub wanders : Side → Op → Step (Unit {0}) → Me (Unit {0}) View → ℕ → Me (Unit {0}) View → Type 0
-wanders s op st m n m' = m' ≡ (One (strays s op (takes op n)), [])
+wanders s op st m n m' = IsStepOf s.orders [] op st × (m' ≡ (One (strays s op (takes op n)), []))
 
 -- an end that is shown only where no other is there
 abbrev pub least : Order

@@ -9,6 +9,7 @@ ghost use Rattle.vchan_protocol.specs.Hostile.Turned.{turns, strays};
 ghost use Rattle.vchan_core.specs.OneMachine.Ahead.{IsPut, IsTake, put_at, take_at};
 ghost use Rattle.vchan_core.specs.Page.StandsFor.{HasPayload};
 ghost use Rattle.vchan_rule.specs.Ends.{end_in, Agrees};
+ghost use Rattle.vchan_rule.specs.Rule.{last_look};
 ghost use Rattle.vchan_rule.specs.Along.{GoesAlong};
 ghost use Rattle.vchan_rule.specs.declared.rule.View.TheVariants.{One};
 
@@ -194,8 +195,8 @@ pub(crate) fn give_up<E: Event>(
     word: WordName,
 )
     requires seat { (seat.old.table_id ≡ words.now.table_id) × (seat.old.me ≡ (One E.before, [])) × (E.before.turned ≡ false) }
-    requires page { words.now.table_id.words ≡ word_count layout.now.orders }
-    requires word { Has layout.now.orders word }
+    requires page { (words.now.table_id.words ≡ word_count layout.now.orders) × (words.now.key.orders ≡ layout.now.orders) }
+    requires word { Op.Load word ≡ last_look E.before }
     ensures seat { (seat.new.table_id ≡ seat.old.table_id) × (seat.new.id ≡ seat.old.id) }
     ensures event { (consumed : ℕ) × (seat.new.me ≡ (One (turns E.before consumed), [])) }
 {
