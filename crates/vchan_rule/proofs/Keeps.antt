@@ -1,4 +1,4 @@
--- Each step of the table keeps the rule, since it is an event of the core.
+-- Each step of the table keeps the rule, since it is an event of the protocol.
 use Rattle.std.proofs.Common.{◌≡◌, ℕ, true, false, length, zero, suc, List, [], ◌∷◌, ◌++◌, set, sym, refl, ap, ◌∙◌, subst, ⊎_elim, slice_index}
 use mathlib.Core.Option.{some, none, some-ne-none}
 use lib.ListN.{get_elem?}
@@ -19,15 +19,15 @@ use Rattle.vchan_protocol.specs.declared.call.EndState.TheVariants.{Fresh}
 use Rattle.ring_words.specs.Rings.{number_of}
 use Rattle.vchan_protocol.specs.Honest.Reached.{MayBegin}
 use Rattle.vchan_protocol.specs.Hostile.Turned.{turns, strays}
-use Rattle.vchan_protocol.proofs.Always.InvariantSteps.{page_settles}
-use Rattle.vchan_protocol.specs.Always.Invariant.{Invariant}
+use Rattle.vchan_protocol.proofs.Always.InvariantSteps.{each_has_invariant, page_settles}
+use Rattle.vchan_protocol.specs.Always.Invariant.{MayCome}
 use Rattle.vchan_rule.specs.declared.rule.View.{View}
 use Rattle.vchan_rule.specs.declared.rule.View.TheVariants.{Whole, One, Both, Spent}
 use Rattle.vchan_rule.specs.declared.rule.Opening.{Opening}
 use Rattle.vchan_rule.specs.Rule.{core, setup_at, said_of, Shown, whole, parted, done, Ruled, operand, IsStepOf, makes, last_look, gives_up, wanders, new_server, new_client, server_half, client_half, joined}
 use Rattle.vchan_rule.specs.Done.{Settles}
 use Rattle.vchan_protocol.specs.OneEnd.OneEnd.{between, Enters}
-use Rattle.vchan_protocol.proofs.OneEnd.OneEndSteps.{role_is, orders_are, enters_kept, event_kept, turn_kept, stray_kept}
+use Rattle.vchan_rule.proofs.Comes.{came_role, came_orders, enters_comes, event_comes, turn_comes, stray_comes}
 
 -- ---- the views
 
@@ -48,15 +48,15 @@ record Sits (key : Opening) (words : List ℕ) (views : List View) (id : ℕ) (v
   theirs : Side
   views_are : views ≡ views_of who v theirs
   id_is : id ≡ seat_of who
-  kept : Invariant (between (setup_at key) words who v theirs)
+  came : MayCome (between (setup_at key) words who v theirs)
 
-sits_parted : (key : Opening) (words : List ℕ) (id : ℕ) (v server client : Side) → Invariant (core key words server client) → get_elem? (One server ∷ One client ∷ []) id ≡ some (One v) → Sits key words (One server ∷ One client ∷ []) id v
+sits_parted : (key : Opening) (words : List ℕ) (id : ℕ) (v server client : Side) → MayCome (core key words server client) → get_elem? (One server ∷ One client ∷ []) id ≡ some (One v) → Sits key words (One server ∷ One client ∷ []) id v
 sits_parted key words zero v server client k at =
     let e = one_is server v at in
-    record { who = Server; theirs = client; views_are = ap (λ (z : Side). One z ∷ One client ∷ []) e; id_is = refl; kept = subst (λ (z : Side). Invariant (core key words z client)) e k }
+    record { who = Server; theirs = client; views_are = ap (λ (z : Side). One z ∷ One client ∷ []) e; id_is = refl; came = subst (λ (z : Side). MayCome (core key words z client)) e k }
 sits_parted key words (suc zero) v server client k at =
     let e = one_is client v at in
-    record { who = Client; theirs = server; views_are = ap (λ (z : Side). One server ∷ One z ∷ []) e; id_is = refl; kept = subst (λ (z : Side). Invariant (core key words server z)) e k }
+    record { who = Client; theirs = server; views_are = ap (λ (z : Side). One server ∷ One z ∷ []) e; id_is = refl; came = subst (λ (z : Side). MayCome (core key words server z)) e k }
 sits_parted key words (suc (suc n)) v server client k at = absurd (some-ne-none (One v) (sym at))
 
 no_one_whole : (key : Opening) (id : ℕ) (v : Side) → get_elem? (Whole key.orders key.start ∷ []) id ≡ some (One v) → ⊥
@@ -75,11 +75,11 @@ sits key words views id v (parted key2 words2 views2 server client is k) at =
 sits key words views id v (done key2 words2 views2 server client is k) at = absurd (no_one_done id v server client (subst (λ (z : List View). get_elem? z id ≡ some (One v)) is at))
 
 -- the end of this seat is another now
-shows : (key : Opening) (words : List ℕ) (who : Role) (v w theirs : Side) → Invariant (between (setup_at key) words who w theirs) → Shown key words (set (views_of who v theirs) (seat_of who) (One w))
+shows : (key : Opening) (words : List ℕ) (who : Role) (v w theirs : Side) → MayCome (between (setup_at key) words who w theirs) → Shown key words (set (views_of who v theirs) (seat_of who) (One w))
 shows key words Server v w theirs k = parted key words _ w theirs refl k
 shows key words Client v w theirs k = parted key words _ theirs w refl k
 
-shows_at : (key : Opening) (words words' : List ℕ) (views : List View) (id : ℕ) (v w : Side) → (at : Sits key words views id v) → Invariant (between (setup_at key) words' at.who w at.theirs) → Shown key words' (set views id (One w))
+shows_at : (key : Opening) (words words' : List ℕ) (views : List View) (id : ℕ) (v w : Side) → (at : Sits key words views id v) → MayCome (between (setup_at key) words' at.who w at.theirs) → Shown key words' (set views id (One w))
 shows_at key words words' views id v w at k =
     subst (λ (z : List View × ℕ). Shown key words' (set z.0 z.1 (One w))) (λ i. (sym at.views_are i, sym at.id_is i)) (shows key words' at.who v w at.theirs k)
 
@@ -94,7 +94,7 @@ also key slots id i me f X then holds may st l deep at small = let t = may st l 
 page_orders : (key : Opening) (id : ℕ) (v : Side) (st : State (Unit {0}) View) → Ruled key st → get_elem? st.views id ≡ some (One v) → v.orders ≡ key.orders
 page_orders key id v st l at =
     let here = sits key st.words st.views id v l.shown at in
-    orders_are (setup_at key) st.words here.who v here.theirs here.kept
+    came_orders (setup_at key) st.words here.who v here.theirs here.came
 
 -- an end that enters a call is of the same page
 same_orders : (v s : Side) → Enters v s → s.orders ≡ v.orders
@@ -125,7 +125,7 @@ allows key slots id v s e fair more st l deep at small =
     let i = word_of key.orders (op_next s) in
     let w : Side = side_after s (takes (op_next s) (slice_index st.words i)) in
     let here = sits key st.words st.views id v l.shown at in
-    let now = event_kept (setup_at key) st.words here.who s here.theirs fair more (enters_kept (setup_at key) st.words here.who v s here.theirs (was_honest v s e fair) e here.kept) in
+    let now = event_comes (setup_at key) st.words here.who s here.theirs (enters_comes (setup_at key) st.words here.who v here.theirs here.came s (was_honest v s e fair) e) fair more in
     (One w, keeps, tt, record { shown = shows_at key st.words (words_after key.orders st.words s.payload (op_next s)) st.views id v w here now }, refl)
 
 -- The same for a seat, a word and an op that are known by equations. `f` is what the step leaves in the word, and `g` what it is told of the number that it found.
@@ -163,7 +163,7 @@ no_whole_done zero o n a b at = cc
 no_whole_done (suc zero) o n a b at = cc
 no_whole_done (suc (suc k)) o n a b at = some-ne-none (Whole o n) (sym at)
 
-parts : (key : Opening) (words : List ℕ) (id : ℕ) (o : Orders) (n : ℕ) → get_elem? (Whole key.orders key.start ∷ []) id ≡ some (Whole o n) → Invariant (core key words (new_server key.orders key.start) (new_client key.orders key.start)) →
+parts : (key : Opening) (words : List ℕ) (id : ℕ) (o : Orders) (n : ℕ) → get_elem? (Whole key.orders key.start ∷ []) id ≡ some (Whole o n) → MayCome (core key words (new_server key.orders key.start) (new_client key.orders key.start)) →
     Shown key words (set (Whole key.orders key.start ∷ []) id (server_half (Whole o n)) ++ client_half (Whole o n) ∷ [])
 parts key words zero o n at k =
     let os : key.orders ≡ o = cc in
@@ -185,12 +185,12 @@ splits_at key id v o n is =
 
 -- ---- the opening
 
-pub opens_at : (orders : Orders) (start a b : ℕ) (words : List ℕ) → a ≡ number_of orders.left → b ≡ number_of orders.right → words ≡ start_words orders start (a, b) Fresh → Invariant (opened orders start (a, b) Fresh) →
+pub opens_at : (orders : Orders) (start a b : ℕ) (words : List ℕ) → a ≡ number_of orders.left → b ≡ number_of orders.right → words ≡ start_words orders start (a, b) Fresh → MayCome (opened orders start (a, b) Fresh) →
     Ruled (record { orders = orders; start = start }) (opening words [] (Whole orders start))
 opens_at orders start a b words one two is k =
-    let said : Invariant (opened orders start (said_of orders) Fresh) = subst (λ (z : ℕ × ℕ). Invariant (opened orders start z Fresh)) (λ i. (one i, two i)) k in
+    let said : MayCome (opened orders start (said_of orders) Fresh) = subst (λ (z : ℕ × ℕ). MayCome (opened orders start z Fresh)) (λ i. (one i, two i)) k in
     let same : words ≡ start_words orders start (said_of orders) Fresh = is ∙ ap (λ (z : ℕ × ℕ). start_words orders start z Fresh) (λ i. (one i, two i)) in
-    record { shown = whole (record { orders = orders; start = start }) _ _ refl (subst (λ (z : List ℕ). Invariant (core (record { orders = orders; start = start }) z (new_server orders start) (new_client orders start))) (sym same) said) }
+    record { shown = whole (record { orders = orders; start = start }) _ _ refl (subst (λ (z : List ℕ). MayCome (core (record { orders = orders; start = start }) z (new_server orders start) (new_client orders start))) (sym same) said) }
 
 -- ---- an end that is given up
 
@@ -203,7 +203,7 @@ turns_on key slots id i me v is fair =
     let here = sits key st.words st.views id v l.shown at in
     let consumed = length here.theirs.got in
     let same : set st.words i (slice_index st.words i) ≡ st.words = set-get_or st.words i 0 in
-    let now = subst (λ (z : List ℕ). Invariant (between (setup_at key) z here.who (turns v consumed) here.theirs)) (sym same) (turn_kept (setup_at key) st.words here.who v here.theirs fair here.kept) in
+    let now = subst (λ (z : List ℕ). MayCome (between (setup_at key) z here.who (turns v consumed) here.theirs)) (sym same) (turn_comes (setup_at key) st.words here.who v here.theirs here.came fair) in
     (One (turns v consumed), keeps, tt, record { shown = shows_at key st.words (set st.words i (slice_index st.words i)) st.views id v (turns v consumed) here now }, (consumed, refl)))
 
 pub turns_at : (key : Opening) (slots id i : ℕ) (me : Me (Unit {0}) View) (v : Side) (op : Op) → me ≡ (One v, []) → v.turned ≡ false → op ≡ last_look v → i ≡ word_of key.orders op →
@@ -218,7 +218,7 @@ strays_on : (key : Opening) (slots id : ℕ) (v : Side) (op : Op) → v.turned �
 strays_on key slots id v op foul st l deep at small =
     let w : Side = strays v op (value_taken key.orders st.words op) in
     let here = sits key st.words st.views id v l.shown at in
-    (One w, keeps, tt, record { shown = shows_at key st.words (words_after key.orders st.words [] op) st.views id v w here (stray_kept (setup_at key) st.words here.who v here.theirs op foul here.kept) }, refl)
+    (One w, keeps, tt, record { shown = shows_at key st.words (words_after key.orders st.words [] op) st.views id v w here (stray_comes (setup_at key) st.words here.who v here.theirs here.came op foul) }, refl)
 
 strays_by : (key : Opening) (slots id : ℕ) (me : Me (Unit {0}) View) (v : Side) (op made_op : Op) (i : ℕ) (f g : ℕ → ℕ) → me ≡ (One v, []) → v.turned ≡ true → op ≡ made_op → i ≡ word_of key.orders op →
     ((n : ℕ) → f n ≡ leaves [] op n) → ((n : ℕ) → takes op (g n) ≡ takes op n) → Allows (Ruled key) slots id me i f (λ n m'. m' ≡ (One (strays v made_op (takes made_op (g n))), []))
@@ -239,20 +239,20 @@ strays_at key slots id me v op made_op i first f g is foul same here given leave
 
 -- ---- the end of a page
 
-merged : (key : Opening) (words : List ℕ) (other : ℕ) (a b c : Side) → Invariant (core key words a c) → ¬ (other ≡ 0) → get_elem? (Both a b ∷ One c ∷ []) other ≡ some (One b) →
+merged : (key : Opening) (words : List ℕ) (other : ℕ) (a b c : Side) → MayCome (core key words a c) → ¬ (other ≡ 0) → get_elem? (Both a b ∷ One c ∷ []) other ≡ some (One b) →
     Shown key words (set (Both a b ∷ One c ∷ []) other Spent)
 merged key words zero a b c k apart there = absurd (apart refl)
-merged key words (suc zero) a b c k apart there = done key words _ a b refl (subst (λ (z : Side). Invariant (core key words a z)) (one_is c b there) k)
+merged key words (suc zero) a b c k apart there = done key words _ a b refl (subst (λ (z : Side). MayCome (core key words a z)) (one_is c b there) k)
 merged key words (suc (suc n)) a b c k apart there = absurd (some-ne-none (One b) (sym there))
 
 merges : (key : Opening) (words : List ℕ) (views : List View) (id other : ℕ) (a b : Side) → Shown key words views → get_elem? views id ≡ some (One a) → ¬ (other ≡ id) → get_elem? (set views id (Both a b)) other ≡ some (One b) →
     a.role ≡ Server → Shown key words (set (set views id (Both a b)) other Spent)
 merges key words views id other a b l at apart there first =
     let here = sits key words views id a l at in
-    let who : here.who ≡ Server = sym (role_is (setup_at key) words here.who a here.theirs here.kept) ∙ first in
+    let who : here.who ≡ Server = sym (came_role (setup_at key) words here.who a here.theirs here.came) ∙ first in
     let vs : views ≡ One a ∷ One here.theirs ∷ [] = here.views_are ∙ ap (λ (r : Role). views_of r a here.theirs) who in
     let ids : id ≡ 0 = here.id_is ∙ ap seat_of who in
-    let k : Invariant (core key words a here.theirs) = subst (λ (r : Role). Invariant (between (setup_at key) words r a here.theirs)) who here.kept in
+    let k : MayCome (core key words a here.theirs) = subst (λ (r : Role). MayCome (between (setup_at key) words r a here.theirs)) who here.came in
     subst (λ (z : List View × ℕ). Shown key words (set (set z.0 z.1 (Both a b)) other Spent)) (λ i. (sym vs i, sym ids i))
     (merged key words other a b here.theirs k (λ e. apart (e ∙ sym ids)) (subst (λ (z : List View × ℕ). get_elem? (set z.0 z.1 (Both a b)) other ≡ some (One b)) (λ i. (vs i, ids i)) there))
 
@@ -274,20 +274,20 @@ no_both_parted zero x y a b at = cc
 no_both_parted (suc zero) x y a b at = cc
 no_both_parted (suc (suc k)) x y a b at = some-ne-none (Both a b) (sym at)
 
-done_kept : (key : Opening) (words : List ℕ) (id : ℕ) (x y a b : Side) → get_elem? (Both x y ∷ Spent ∷ []) id ≡ some (Both a b) → Invariant (core key words x y) → Invariant (core key words a b)
-done_kept key words zero x y a b at k = let e = both_is x a y b at in subst (λ (z : Side × Side). Invariant (core key words z.0 z.1)) (λ i. (e.0 i, e.1 i)) k
-done_kept key words (suc zero) x y a b at k = absurd (cc)
-done_kept key words (suc (suc n)) x y a b at k = absurd (some-ne-none (Both a b) (sym at))
+done_came : (key : Opening) (words : List ℕ) (id : ℕ) (x y a b : Side) → get_elem? (Both x y ∷ Spent ∷ []) id ≡ some (Both a b) → MayCome (core key words x y) → MayCome (core key words a b)
+done_came key words zero x y a b at k = let e = both_is x a y b at in subst (λ (z : Side × Side). MayCome (core key words z.0 z.1)) (λ i. (e.0 i, e.1 i)) k
+done_came key words (suc zero) x y a b at k = absurd (cc)
+done_came key words (suc (suc n)) x y a b at k = absurd (some-ne-none (Both a b) (sym at))
 
-last_kept : (key : Opening) (words : List ℕ) (views : List View) (id : ℕ) (a b : Side) → Shown key words views → get_elem? views id ≡ some (Both a b) → Invariant (core key words a b)
-last_kept key words views id a b (whole key2 words2 views2 is k) at = absurd (no_both_whole _ _ id a b (subst (λ (z : List View). get_elem? z id ≡ some (Both a b)) is at))
-last_kept key words views id a b (parted key2 words2 views2 x y is k) at = absurd (no_both_parted id x y a b (subst (λ (z : List View). get_elem? z id ≡ some (Both a b)) is at))
-last_kept key words views id a b (done key2 words2 views2 x y is k) at = done_kept key words id x y a b (subst (λ (z : List View). get_elem? z id ≡ some (Both a b)) is at) k
+last_came : (key : Opening) (words : List ℕ) (views : List View) (id : ℕ) (a b : Side) → Shown key words views → get_elem? views id ≡ some (Both a b) → MayCome (core key words a b)
+last_came key words views id a b (whole key2 words2 views2 is k) at = absurd (no_both_whole _ _ id a b (subst (λ (z : List View). get_elem? z id ≡ some (Both a b)) is at))
+last_came key words views id a b (parted key2 words2 views2 x y is k) at = absurd (no_both_parted id x y a b (subst (λ (z : List View). get_elem? z id ≡ some (Both a b)) is at))
+last_came key words views id a b (done key2 words2 views2 x y is k) at = done_came key words id x y a b (subst (λ (z : List View). get_elem? z id ≡ some (Both a b)) is at) k
 
 -- what the last state of the table promises
 pub settles : (key : Opening) (id : ℕ) (a b : Side) (v : View) (words : List ℕ) (slots : List (Unit {0})) → Final (Seen (Ruled key) id v) words slots → v ≡ Both a b → Settles key v
 settles key id a b v words slots f is =
-    subst (Settles key) (sym is) (page_settles (core key f.0.words a b) (last_kept key f.0.words f.0.views id a b f.1.0.shown (f.1.1 ∙ ap some is)))
+    subst (Settles key) (sym is) (page_settles (core key f.0.words a b) (each_has_invariant (core key f.0.words a b) (last_came key f.0.words f.0.views id a b f.1.0.shown (f.1.1 ∙ ap some is))))
 
 -- a load by the seat that knows both ends shows what stands of them
 pub settled_at : (key told : Opening) (slots id : ℕ) (me : Me (Unit {0}) View) (a b : Side) → me ≡ (Both a b, []) → told ≡ key →
@@ -296,4 +296,4 @@ settled_at key told slots id me a b is same =
     subst (λ (z : Me (Unit {0}) View × Opening). Allows (Ruled key) slots id z.0 0 (λ n. n) (λ n m'. (m' ≡ z.0) × Settles z.1 z.0.0)) (λ i. (sym is i, sym same i))
     (λ st l deep at small.
     let stays = subst (λ (z : List ℕ × List View). Shown key z.0 z.1) (λ i. (sym (set-get_or st.words 0 0) i, sym (set_again st.views id (Both a b) at) i)) l.shown in
-    (Both a b, keeps, tt, record { shown = stays }, (refl, page_settles (core key st.words a b) (last_kept key st.words st.views id a b l.shown at))))
+    (Both a b, keeps, tt, record { shown = stays }, (refl, page_settles (core key st.words a b) (each_has_invariant (core key st.words a b) (last_came key st.words st.views id a b l.shown at)))))

@@ -15,7 +15,7 @@ use Rattle.vchan_protocol.specs.Table.Apply.{word_of, takes}
 use Rattle.vchan_protocol.specs.History.Core.{Core, new_side, side_after, op_next}
 use Rattle.vchan_protocol.specs.OneEnd.OneEnd.{Setup, between}
 use Rattle.vchan_protocol.specs.Hostile.Turned.{turns, strays}
-use Rattle.vchan_protocol.specs.Always.Invariant.{Invariant}
+use Rattle.vchan_protocol.specs.Always.Invariant.{MayCome}
 use Rattle.vchan_rule.specs.declared.rule.View.{View}
 use Rattle.vchan_rule.specs.declared.rule.View.TheVariants.{Whole, One, Both, Spent}
 use Rattle.vchan_rule.specs.declared.rule.Opening.{Opening}
@@ -38,12 +38,12 @@ setup_at key = record { start = key.start; said = said_of key.orders; orders = k
 abbrev pub core : Opening → List ℕ → Side → Side → Core
 core key words server client = between (setup_at key) words Server server client
 
--- The words and the views show a core state of which all holds that holds of a page at each moment. There is one seat at the opening, then one for each
--- end, and when the page is done with, one that knows both.
+-- The words and the views show a core state that may come: the opening and the steps of the protocol lead to it, and no other store does. There is one seat
+-- at the opening, then one for each end, and when the page is done with, one that knows both.
 pub data Shown : Opening → List ℕ → List View → Type 0 where
-  whole : (key : Opening) (words : List ℕ) (views : List View) → views ≡ Whole key.orders key.start ∷ [] → Invariant (core key words (new_server key.orders key.start) (new_client key.orders key.start)) → Shown key words views
-  parted : (key : Opening) (words : List ℕ) (views : List View) (server client : Side) → views ≡ One server ∷ One client ∷ [] → Invariant (core key words server client) → Shown key words views
-  done : (key : Opening) (words : List ℕ) (views : List View) (server client : Side) → views ≡ Both server client ∷ Spent ∷ [] → Invariant (core key words server client) → Shown key words views
+  whole : (key : Opening) (words : List ℕ) (views : List View) → views ≡ Whole key.orders key.start ∷ [] → MayCome (core key words (new_server key.orders key.start) (new_client key.orders key.start)) → Shown key words views
+  parted : (key : Opening) (words : List ℕ) (views : List View) (server client : Side) → views ≡ One server ∷ One client ∷ [] → MayCome (core key words server client) → Shown key words views
+  done : (key : Opening) (words : List ℕ) (views : List View) (server client : Side) → views ≡ Both server client ∷ Spent ∷ [] → MayCome (core key words server client) → Shown key words views
 
 pub record Ruled (key : Opening) (s : State (Unit {0}) View) : Type 0 where
   pub shown : Shown key s.words s.views

@@ -36,8 +36,8 @@ pub struct Opening {
     pub start: u32,
 }
 
-/// The rule of a page: its words and the views make up a core state of which all holds that holds
-/// of a page at each moment.
+/// The rule of a page: its words and the views make up a core state that may come, so that all
+/// holds of it that holds of a page at each moment.
 pub struct PageRule;
 
 impl TableRule<(), View, Opening> for PageRule {
