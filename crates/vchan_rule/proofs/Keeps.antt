@@ -289,11 +289,15 @@ pub settles : (key : Opening) (id : ℕ) (a b : Side) (v : View) (words : List �
 settles key id a b v words slots f is =
     subst (Settles key) (sym is) (page_settles (core key f.0.words a b) (each_has_invariant (core key f.0.words a b) (last_came key f.0.words f.0.views id a b f.1.0.shown (f.1.1 ∙ ap some is))))
 
+-- a step that leaves a view as it was leaves all views so
+pub view_stays : (key : Opening) (id : ℕ) (v : View) (st : State (Unit {0}) View) → Ruled key st → get_elem? st.views id ≡ some v → Shown key st.words (set st.views id v)
+view_stays key id v st l at = subst (λ (z : List View). Shown key st.words z) (sym (set_again st.views id v at)) l.shown
+
 -- a load by the seat that knows both ends shows what stands of them
 pub settled_at : (key told : Opening) (slots id : ℕ) (me : Me (Unit {0}) View) (a b : Side) → me ≡ (Both a b, []) → told ≡ key →
     Allows (Ruled key) slots id me 0 (λ n. n) (λ n m'. (m' ≡ me) × Settles told me.0)
 settled_at key told slots id me a b is same =
     subst (λ (z : Me (Unit {0}) View × Opening). Allows (Ruled key) slots id z.0 0 (λ n. n) (λ n m'. (m' ≡ z.0) × Settles z.1 z.0.0)) (λ i. (sym is i, sym same i))
     (λ st l deep at small.
-    let stays = subst (λ (z : List ℕ × List View). Shown key z.0 z.1) (λ i. (sym (set-get_or st.words 0 0) i, sym (set_again st.views id (Both a b) at) i)) l.shown in
+    let stays = subst (λ (z : List ℕ). Shown key z (set st.views id (Both a b))) (sym (set-get_or st.words 0 0)) (view_stays key id (Both a b) st l at) in
     (Both a b, keeps, tt, record { shown = stays }, (refl, page_settles (core key st.words a b) (each_has_invariant (core key st.words a b) (last_came key st.words st.views id a b l.shown at)))))
