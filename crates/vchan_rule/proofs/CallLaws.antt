@@ -1,17 +1,25 @@
 -- A call of an end, one event at a time, whatever its peer does between them.
-use Rattle.std.proofs.Common.{◌≡◌, ℕ, ◌+◌, ◌<◌, ◌≤◌, Bool, false, not, Option, Some, None, List, [], ◌∷◌, ◌++◌, length, take, subst, sym, ap, ◌∙◌, arith}
+use Rattle.std.proofs.Common.{◌≡◌, ℕ, ◌+◌, ◌<◌, ◌≤◌, ◌||◌, Bool, false, not, Option, Some, None, List, [], ◌∷◌, ◌++◌, length, take, refl, subst, sym, ap, ◌∙◌, arith}
 use Rattle.std.proofs.lemmas.List.{length-append}
+use Rattle.vchan_protocol.specs.declared.op.Op.{Op}
+use Rattle.vchan_protocol.specs.declared.op.Op.TheVariants.{Load}
 use Rattle.vchan_protocol.specs.declared.op.PastEvent.{PastEvent}
 use Rattle.vchan_protocol.specs.declared.call.Answer.{Answer}
 use Rattle.vchan_protocol.specs.declared.call.Call.{Call}
+use Rattle.vchan_protocol.specs.declared.call.Call.TheVariants.{Write, Send, Read, Recv, Drain}
 use Rattle.vchan_protocol.specs.declared.side.Side.{Side}
 use Rattle.vchan_protocol.specs.Table.Plan.{answers, after, past, GoesOn}
-use Rattle.vchan_protocol.specs.Table.Calls.{plan_of, payload_of, loaded_most, most_events}
-use Rattle.vchan_protocol.specs.History.Core.{standing_of, plan_left, op_next, made, side_after, answer_in}
-use Rattle.vchan_protocol.specs.OneEnd.OneCall.{landed, OnWay, IsOver, IsThen}
+use Rattle.vchan_protocol.specs.Table.Ends.{Standing, standing_after, write_size, read_size}
+use Rattle.vchan_protocol.specs.Table.Calls.{plan_of, payload_of, stored_most, loaded_most, most_events}
+use Rattle.vchan_protocol.specs.History.Core.{begins, standing_of, plan_left, op_next, made, side_after, answer_in, saw_after, is_shut}
+use Rattle.vchan_protocol.specs.OneEnd.EndingLaw.{notices, has_noticed}
+use Rattle.vchan_protocol.specs.OneEnd.OneCall.{landed, side_along, OnWay, IsOver, IsThen}
 use Rattle.vchan_protocol.proofs.OneEnd.OneCallBytes.{answers_tell}
 use Rattle.vchan_protocol.proofs.OneEnd.OneCallWay.{way_goes_on, landed-length, over_tells}
 use Rattle.vchan_protocol.proofs.Table.Bounds.{ends_call, length-Leads}
+use Rattle.vchan_protocol.proofs.Table.Counted.{counts_within}
+use Rattle.vchan_protocol.proofs.Answering.AnswerTrails.{unnoticed}
+use Rattle.vchan_protocol.proofs.Honest.LifeTrails.{or_false, or_assoc}
 use Rattle.vchan_protocol.proofs.History.EventLaws.{settled-trail}
 use Rattle.vchan_core.specs.OneMachine.Phases.{IsIdle, payload_needed, buffer_needed}
 use Rattle.vchan_core.specs.Page.StandsFor.{HasPayload}
@@ -114,12 +122,38 @@ called_saw was e call payload start buffer answer honest may over = (view_after 
 pub over_few : (was : Side) (call : Call) (given start : List ℕ) (s : Side) (buffer : List ℕ) (answer : Answer) → IsOver was call given start s buffer answer → length s.trail ≤ most_events (standing_of was) call
 over_few was call given start s buffer answer over = length-Leads (plan_of (standing_of was) call) s.trail (answers answer) (most_events (standing_of was) call) (ends_call (standing_of was) call) over.trace
 
+-- no call may store or load more than the ring holds
+stored_ring : (e : Standing) (call : Call) → stored_most e call ≤ write_size e
+stored_ring e (Write n) = omega arith
+stored_ring e (Send n) = omega arith
+stored_ring e _ = omega arith
+
+loaded_ring : (e : Standing) (call : Call) → loaded_most e call ≤ read_size e
+loaded_ring e (Read n) = omega arith
+loaded_ring e (Recv n) = omega arith
+loaded_ring e (Drain n) = omega arith
+loaded_ring e _ = omega arith
+
+-- events show an end that its peer is shut or gone, or leave what it has seen
+event_saw : (s : Side) (op : Op) (taken : ℕ) → saw_after op taken s ≡ (s.saw || notices (standing_of s) op taken)
+event_saw s (Load word) taken = refl
+event_saw s _ taken = unnoticed s.saw (not (is_shut s.state))
+
+along_saw : (s : Side) (events : List PastEvent) → (side_along s events).saw ≡ (s.saw || has_noticed (standing_of s) events)
+unfolding standing_after
+along_saw s [] = sym (or_false s.saw)
+along_saw s (event ∷ events) =
+    along_saw (made s event.op event.taken) events
+    ∙ ap (λ (b : Bool). b || has_noticed (standing_after (standing_of s) event.op) events) (event_saw s event.op event.taken)
+    ∙ or_assoc s.saw (notices (standing_of s) event.op event.taken) (has_noticed (standing_after (standing_of s) event.op) events)
+
 -- a call that is over, with all that its contract says
 pub has_called : (was e : SeatedEnd) (call : Call) (payload start buffer : List ℕ) (answer : Answer) → was.side.turned ≡ false → MayCall (view was) call → IsSameEnd was e → IsIdle e.machine → e.begun ≡ None → length buffer ≡ length start →
     IsOver was.side call (take (payload_of call) payload) start e.side buffer answer → HasCalled was call payload start e buffer answer
 has_called was e call payload start buffer answer honest may same idle none long over =
     let given = take (payload_of call) payload in
     let moved = answers_tell was.side call given e.side.trail answer over.trace in
+    let within = counts_within (standing_of was.side) call e.side.trail (answers answer) over.trace in
     record {
       same = same;
       idle = (idle, none);
@@ -127,7 +161,10 @@ has_called was e call payload start buffer answer honest may same idle none long
       tells = over_tells was.side call given start e.side buffer answer over;
       view = called_view was e call given start buffer answer honest may same.0 idle over;
       saw = called_saw was e call given start buffer answer honest may over;
+      noticed = ap (λ (z : Side). z.saw) over.is ∙ along_saw (begins was.side call given) e.side.trail;
       moved = (moved.pays, moved.takes);
+      stored = omega (arith, within.0, stored_ring (standing_of was.side) call);
+      loaded = omega (arith, within.1, loaded_ring (standing_of was.side) call);
       long = long;
       bound = over_few was.side call given start e.side buffer answer over;
     }

@@ -1,10 +1,12 @@
 -- A whole call of an end: when it may be made, and what it leaves.
-use Rattle.std.specs.Prelude.{◌≡◌, ◌≤◌, ℕ, None, List, length, take}
+use Rattle.std.specs.Prelude.{◌≡◌, ◌≤◌, ◌||◌, ℕ, None, List, length, take}
 use Rattle.vchan_protocol.specs.declared.call.Answer.{Answer}
 use Rattle.vchan_protocol.specs.declared.call.Call.{Call}
+use Rattle.vchan_protocol.specs.Table.Ends.{write_size, read_size}
 use Rattle.vchan_protocol.specs.Table.Calls.{payload_of, loaded_most, most_events}
-use Rattle.vchan_protocol.specs.History.Core.{standing_of}
+use Rattle.vchan_protocol.specs.History.Core.{standing_of, count_stored, bytes_loaded}
 use Rattle.vchan_protocol.specs.OneEnd.OneCall.{bytes_out, bytes_in, IsOver, OverTells}
+use Rattle.vchan_protocol.specs.OneEnd.EndingLaw.{has_noticed}
 use Rattle.vchan_core.specs.OneMachine.Phases.{IsIdle}
 use Rattle.end_view.specs.AfterCall.{MayCall, answered_view, SeesAsTold}
 use Rattle.vchan_rule.specs.Seated.{SeatedEnd, view}
@@ -17,7 +19,8 @@ pub record MayMake (e : SeatedEnd) (call : Call) (payload buffer : List ℕ) : T
   pub room : loaded_most (standing_of e.side) call ≤ length buffer
 
 -- A whole call of the end `was`, with these bytes and this buffer, gave this answer, and left the end and the buffer so. Its events are the end's trail,
--- and the lists grow as its answer says.
+-- and the lists grow as its answer says. It stores and loads at most as many ring bytes as the ring holds, and the end has seen its peer's end where it had,
+-- or where an event of this call showed it.
 pub record HasCalled (was : SeatedEnd) (call : Call) (payload start : List ℕ) (e : SeatedEnd) (buffer : List ℕ) (answer : Answer) : Type 0 where
   pub same : IsSameEnd was e
   pub idle : IsIdle e.machine × (e.begun ≡ None)
@@ -25,6 +28,9 @@ pub record HasCalled (was : SeatedEnd) (call : Call) (payload start : List ℕ) 
   pub tells : OverTells was.side (take (payload_of call) payload) e.side buffer answer
   pub view : view e ≡ answered_view (view was) call (take (payload_of call) payload) buffer answer e.side.saw
   pub saw : SeesAsTold call answer was.side.saw e.side.saw
+  pub noticed : e.side.saw ≡ (was.side.saw || has_noticed (standing_of was.side) e.side.trail)
   pub moved : (bytes_out answer ≤ payload_of call) × (bytes_in answer ≤ loaded_most (standing_of was.side) call)
+  pub stored : count_stored e.side.trail ≤ write_size (standing_of was.side)
+  pub loaded : length (bytes_loaded e.side.trail) ≤ read_size (standing_of was.side)
   pub long : length buffer ≡ length start
   pub bound : length e.side.trail ≤ most_events (standing_of was.side) call
