@@ -1,6 +1,9 @@
 //! A read that waits.
 ghost use Rattle.std.specs.Prelude.{◌≡◌, ◌<◌, length};
 ghost use Rattle.vchan_protocol.specs.declared.call.Call.TheVariants.{Read};
+ghost use Rattle.vchan_protocol.specs.Table.Apply.{filled};
+ghost use Rattle.vchan_protocol.specs.History.Core.{bytes_loaded};
+ghost use Rattle.vchan_protocol.specs.OneEnd.OneCall.{bytes_in};
 ghost use Rattle.vchan_stream.specs.Stream.{most_asked, read_from, read_told};
 ghost use Rattle.vchan_rule.specs.Seated.{view, IsOpen};
 ghost use Rattle.vchan_rule.specs.Ends.{IsSameEnd};
@@ -31,6 +34,8 @@ pub fn read<R: Wait + Clock>(rt: &R, end: &mut End<'_>, buf: &mut [u8]) -> Block
     ensures open { IsOpen end.new }
     ensures view { view end.new ≡ read_from (view end.old) (last_read result) buf.new }
     ensures long { length buf.new ≡ length buf.old }
+    ensures fills { buf.new ≡ filled buf.old (bytes_loaded end.new.side.trail) }
+    ensures kept { bytes_in (read_told (last_read result)) ≡ 0 → buf.new ≡ buf.old }
     ensures rounds { Reads (most_asked buf.old) buf.new end.old end.new result }
     ensures trail { EndsIn end.new (Read (most_asked buf.old)) (read_told (last_read result)) }
 {

@@ -1,5 +1,5 @@
 //! A recv that waits.
-ghost use Rattle.std.specs.Prelude.{◌≡◌, ◌↔◌, ℕ, length};
+ghost use Rattle.std.specs.Prelude.{◌≡◌, ◌≢◌, ◌↔◌, ℕ, length};
 ghost use Rattle.vchan_rule.specs.Seated.{view, IsOpen};
 ghost use Rattle.vchan_rule.specs.Ends.{IsSameEnd};
 
@@ -33,6 +33,7 @@ pub fn recv<R: Wait + Clock>(rt: &R, end: &mut End<'_>, buf: &mut [u8]) -> Block
     ensures open { IsOpen end.new }
     ensures view { view end.new ≡ received_from (view end.old) result buf.new }
     ensures long { length buf.new ≡ length buf.old }
+    ensures kept { result ≢ BlockRecv.Got → buf.new ≡ buf.old }
     ensures large { (len size : ℕ) → (result ≡ BlockRecv.TooLarge len size) ↔ IsTooLargeToReceive end.old buf.old len size }
     ensures rounds { HasReceived buf.old buf.new end.old end.new result }
     ensures trail { EndsInRecv end.new result buf.new }

@@ -5,16 +5,19 @@
 //! for sure, and the retire, which lets go of the page, are this project's own.
 #![tactic(auto)]
 
-ghost use Rattle.std.specs.Prelude.{◌≡◌, ◌≢◌, ◌↔◌, ◌<◌, ◌≤◌, min, true, false, length, ℕ, Result, is_ok};
+ghost use Rattle.std.specs.Prelude.{◌≡◌, ◌≢◌, ◌↔◌, ◌||◌, ◌<◌, ◌≤◌, min, true, false, length, ℕ, Result, is_ok};
 ghost use Rattle.ring_words.specs.declared.page.Role.TheVariants.{Client};
 ghost use Rattle.vchan_protocol.specs.declared.call.Answer.TheVariants.{Done};
 ghost use Rattle.vchan_lifecycle.specs.declared.BadOrders.{BadOrders as Refused};
 ghost use Rattle.vchan_protocol.specs.declared.call.Call.TheVariants.{Connect, Close, Retire, Drain};
 ghost use Rattle.vchan_protocol.specs.declared.call.EndState.TheVariants.{Fresh, Shut};
+ghost use Rattle.vchan_protocol.specs.Table.Apply.{filled};
 ghost use Rattle.vchan_protocol.specs.Table.Calls.{Trace};
 ghost use Rattle.vchan_protocol.specs.Answering.Causes.{DrainCause, ConnectCause};
-ghost use Rattle.vchan_protocol.specs.History.Core.{standing_of};
+ghost use Rattle.vchan_protocol.specs.History.Core.{standing_of, bytes_loaded};
 ghost use Rattle.vchan_protocol.specs.Answering.Loads.{loads_of};
+ghost use Rattle.vchan_protocol.specs.OneEnd.OneCall.{bytes_in};
+ghost use Rattle.vchan_protocol.specs.OneEnd.EndingLaw.{has_noticed};
 ghost use Rattle.end_view.specs.AfterCall.{DrainSees};
 ghost use Rattle.vchan_rule.specs.Seated.{view, last_view, IsOpen};
 ghost use Rattle.vchan_rule.specs.Ends.{IsSameEnd};
@@ -127,7 +130,10 @@ pub fn drain(end: &mut End<'_>, buf: &mut [u8]) -> DrainAnswer
     ensures open { IsOpen end.new }
     ensures view { view end.new ≡ drained_to (view end.old) result buf.new end.new.side.saw }
     ensures saw { DrainSees (drain_told result) end.old.side.saw end.new.side.saw }
+    ensures noticed { end.new.side.saw ≡ (end.old.side.saw || has_noticed (standing_of end.old.side) end.new.side.trail) }
     ensures long { length buf.new ≡ length buf.old }
+    ensures fills { buf.new ≡ filled buf.old (bytes_loaded end.new.side.trail) }
+    ensures kept { bytes_in (drain_told result) ≡ 0 → buf.new ≡ buf.old }
     ensures more { (count : ℕ) → result ≡ DrainAnswer.More count → 1 ≤ count }
     ensures few { (count : ℕ) → result ≡ DrainAnswer.More count → count ≤ length buf.old }
     ensures trail { Trace (standing_of end.old.side) (Drain (most_asked buf.old)) end.new.side.trail (drain_told result) }

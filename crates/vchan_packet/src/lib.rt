@@ -7,10 +7,12 @@
 
 ghost use Rattle.std.specs.Prelude.{◌≡◌, ◌↔◌, min, length};
 ghost use Rattle.vchan_protocol.specs.declared.call.Call.TheVariants.{Send, Recv};
+ghost use Rattle.vchan_protocol.specs.Table.Apply.{filled};
 ghost use Rattle.vchan_protocol.specs.Table.Calls.{Trace};
 ghost use Rattle.vchan_protocol.specs.Answering.Causes.{SendCause, RecvCause};
-ghost use Rattle.vchan_protocol.specs.History.Core.{standing_of};
+ghost use Rattle.vchan_protocol.specs.History.Core.{standing_of, bytes_loaded};
 ghost use Rattle.vchan_protocol.specs.Answering.Loads.{loads_of};
+ghost use Rattle.vchan_protocol.specs.OneEnd.OneCall.{bytes_in};
 ghost use Rattle.vchan_rule.specs.Seated.{view, IsOpen};
 ghost use Rattle.vchan_rule.specs.Ends.{IsSameEnd};
 ghost use Rattle.vchan_packet.specs.Packet.{most_asked, AnswersSend, AnswersRecv, send_told, recv_told, told_send, told_recv, sent_to, received_from};
@@ -98,6 +100,8 @@ pub fn recv(end: &mut End<'_>, buf: &mut [u8]) -> RecvAnswer
     ensures open { IsOpen end.new }
     ensures view { view end.new ≡ received_from (view end.old) result buf.new }
     ensures long { length buf.new ≡ length buf.old }
+    ensures fills { buf.new ≡ filled buf.old (bytes_loaded end.new.side.trail) }
+    ensures kept { bytes_in (recv_told (most_asked buf.old) result) ≡ 0 → buf.new ≡ buf.old }
     ensures trail { Trace (standing_of end.old.side) (Recv (most_asked buf.old)) end.new.side.trail (recv_told (most_asked buf.old) result) }
     ensures cause { (other : RecvAnswer) → (result ≡ other) ↔ RecvCause (standing_of end.old.side) (most_asked buf.old) (loads_of (standing_of end.old.side) end.new.side.trail) (recv_told (most_asked buf.old) other) }
 {

@@ -10,8 +10,9 @@ use Rattle.vchan_protocol.specs.declared.call.Call.TheVariants.{Write, Send, Rea
 use Rattle.vchan_protocol.specs.declared.side.Side.{Side}
 use Rattle.vchan_protocol.specs.Table.Plan.{answers, after, past, GoesOn}
 use Rattle.vchan_protocol.specs.Table.Ends.{Standing, standing_after, write_size, read_size}
+use Rattle.vchan_protocol.specs.Table.Apply.{filled}
 use Rattle.vchan_protocol.specs.Table.Calls.{plan_of, payload_of, stored_most, loaded_most, most_events}
-use Rattle.vchan_protocol.specs.History.Core.{begins, standing_of, plan_left, op_next, made, side_after, answer_in, saw_after, is_shut}
+use Rattle.vchan_protocol.specs.History.Core.{begins, standing_of, plan_left, op_next, made, side_after, answer_in, bytes_loaded, saw_after, is_shut}
 use Rattle.vchan_protocol.specs.OneEnd.EndingLaw.{notices, has_noticed}
 use Rattle.vchan_protocol.specs.OneEnd.OneCall.{landed, side_along, OnWay, IsOver, IsThen}
 use Rattle.vchan_protocol.proofs.OneEnd.OneCallBytes.{answers_tell}
@@ -134,6 +135,11 @@ loaded_ring e (Recv n) = omega arith
 loaded_ring e (Drain n) = omega arith
 loaded_ring e _ = omega arith
 
+-- a buffer in whose front nothing was put is as it was
+none_filled : (start bytes : List ℕ) → length bytes ≡ 0 → filled start bytes ≡ start
+none_filled start [] none = refl
+none_filled start (byte ∷ bytes) none = let never : ⊥ = omega (arith, none) in absurd never
+
 -- events show an end that its peer is shut or gone, or leave what it has seen
 event_saw : (s : Side) (op : Op) (taken : ℕ) → saw_after op taken s ≡ (s.saw || notices (standing_of s) op taken)
 event_saw s (Load word) taken = refl
@@ -165,6 +171,7 @@ has_called was e call payload start buffer answer honest may same idle none long
       moved = (moved.pays, moved.takes);
       stored = omega (arith, within.0, stored_ring (standing_of was.side) call);
       loaded = omega (arith, within.1, loaded_ring (standing_of was.side) call);
+      kept = λ none. over.fills ∙ none_filled start (bytes_loaded e.side.trail) (moved.loaded ∙ none);
       long = long;
       bound = over_few was.side call given start e.side buffer answer over;
     }

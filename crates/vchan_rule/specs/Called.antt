@@ -19,7 +19,8 @@ pub record MayMake (e : SeatedEnd) (call : Call) (payload buffer : List ℕ) : T
   pub room : loaded_most (standing_of e.side) call ≤ length buffer
 
 -- A whole call of the end `was`, with these bytes and this buffer, gave this answer, and left the end and the buffer so. Its events are the end's trail,
--- and the lists grow as its answer says. It stores and loads at most as many ring bytes as the ring holds, and the end has seen its peer's end where it had,
+-- and the lists grow as its answer says. It stores and loads at most as many ring bytes as the ring holds, leaves the
+-- buffer as it was where it got none, and the end has seen its peer's end where it had,
 -- or where an event of this call showed it.
 pub record HasCalled (was : SeatedEnd) (call : Call) (payload start : List ℕ) (e : SeatedEnd) (buffer : List ℕ) (answer : Answer) : Type 0 where
   pub same : IsSameEnd was e
@@ -32,5 +33,6 @@ pub record HasCalled (was : SeatedEnd) (call : Call) (payload start : List ℕ) 
   pub moved : (bytes_out answer ≤ payload_of call) × (bytes_in answer ≤ loaded_most (standing_of was.side) call)
   pub stored : count_stored e.side.trail ≤ write_size (standing_of was.side)
   pub loaded : length (bytes_loaded e.side.trail) ≤ read_size (standing_of was.side)
+  pub kept : bytes_in answer ≡ 0 → buffer ≡ start
   pub long : length buffer ≡ length start
   pub bound : length e.side.trail ≤ most_events (standing_of was.side) call

@@ -12,6 +12,7 @@ ghost use Rattle.vchan_protocol.specs.Table.Calls.{Trace};
 ghost use Rattle.vchan_protocol.specs.Answering.Causes.{WriteCause, ReadCause};
 ghost use Rattle.vchan_protocol.specs.History.Core.{standing_of, bytes_loaded};
 ghost use Rattle.vchan_protocol.specs.Answering.Loads.{loads_of};
+ghost use Rattle.vchan_protocol.specs.OneEnd.OneCall.{bytes_in};
 ghost use Rattle.vchan_rule.specs.Seated.{view, IsOpen};
 ghost use Rattle.vchan_rule.specs.Ends.{IsSameEnd};
 ghost use Rattle.vchan_stream.specs.Stream.{most_asked, AnswersWrite, AnswersRead, write_told, read_told, wrote_to, read_from};
@@ -103,6 +104,7 @@ pub fn read(end: &mut End<'_>, buf: &mut [u8]) -> ReadAnswer
     ensures few { (count : ℕ) → result ≡ ReadAnswer.Got count → count ≤ length buf.old }
     ensures trail { Trace (standing_of end.old.side) (Read (most_asked buf.old)) end.new.side.trail (read_told result) }
     ensures fills { buf.new ≡ filled buf.old (bytes_loaded end.new.side.trail) }
+    ensures kept { bytes_in (read_told result) ≡ 0 → buf.new ≡ buf.old }
     ensures cause { (other : ReadAnswer) → (result ≡ other) ↔ ReadCause (standing_of end.old.side) (most_asked buf.old) (loads_of (standing_of end.old.side) end.new.side.trail) (read_told other) }
 {
     let call = Call::Read {

@@ -12,6 +12,7 @@ invariant-rounds g l = record {
   same : IsSameEnd l.initial.end l.end;
   open_is : IsOpen l.end;
   view_is : view l.end ≡ view l.initial.end;
+  kept : l.buf ≡ l.initial.buf;
   long : length l.buf ≡ length l.initial.buf;
   goes_on : (buffer : List ℕ) (new : SeatedEnd) (answer : BlockRead) → Reads (most_asked l.initial.buf) buffer l.end new answer → Reads (most_asked l.initial.buf) buffer l.initial.end new answer;
 }

@@ -1,5 +1,5 @@
 -- Each round is one more, and the last one answers.
-use Rattle.std.proofs.Common.{ℕ, min, subst, sym, ◌∙◌, arith}
+use Rattle.std.proofs.Common.{ℕ, min, refl, subst, sym, ◌∙◌, arith}
 use Rattle.std.proofs.lemmas.Grind.{common_steps}
 use Rattle.vchan_protocol.specs.declared.call.Call.TheVariants.{Recv}
 use Rattle.vchan_protocol.specs.Table.Calls.{Trace}
@@ -33,11 +33,18 @@ returns-in-PeerClosed-clause-trail g c = (
   subst (λ (n : ℕ). Trace (standing_of c.rounds.end.side) (Recv (min n 4294967295)) c.recv.new.end.side.trail (recv_told (min n 4294967295) recv.PeerClosed)) (sym c.recv.ensures.long) c.in-PeerClosed.ensures.trail,
 )
 
+pub returns-in-Got-clause-kept : goal.returns-in-Got-clause-kept
+returns-in-Got-clause-kept g c = λ other. absurd (other refl)
+
+pub returns-in-PeerClosed-clause-kept : goal.returns-in-PeerClosed-clause-kept
+returns-in-PeerClosed-clause-kept g c = λ other. c.in-PeerClosed.ensures.kept refl ∙ c.rounds.invariant.kept
+
 pub rounds-preserved : goal.rounds-preserved
 rounds-preserved g c = record {
   same = grind (arith, common_steps);
   open_is = c.wait.ensures.open;
   view_is = c.wait.ensures.view ∙ c.in-Short.ensures.view ∙ c.rounds.invariant.view_is;
+  kept = c.in-Short.ensures.kept refl ∙ c.rounds.invariant.kept;
   long = c.recv.ensures.long ∙ c.rounds.invariant.long;
   goes_on = λ buffer new answer rest. c.rounds.invariant.goes_on buffer new answer
       (FindsFew c.in-Short.prod c.in-Short.cons c.recv.new.buf c.recv.new.end c.wait.new.end
