@@ -95,6 +95,30 @@ impl Machine {
         });
     }
 
+    /// The bytes of a put before number `at` are stored.
+    #[inline(always)]
+    pub fn put_to(&mut self, span: Span, at: u32)
+        ensures { self.new ≡ put_at self.old span at }
+    {
+        self.phase = Some(Phase::Put {
+            at,
+            count: span.count,
+            answer: span.answer,
+        });
+    }
+
+    /// The bytes of a take before number `at` are loaded.
+    #[inline(always)]
+    pub fn take_to(&mut self, span: Span, at: u32)
+        ensures { self.new ≡ take_at self.old span at }
+    {
+        self.phase = Some(Phase::Take {
+            at,
+            count: span.count,
+            answer: span.answer,
+        });
+    }
+
     /// A copy that is inside this call, which begins now.
     #[inline(always)]
     pub fn inside(&self, call: Call) -> Machine
