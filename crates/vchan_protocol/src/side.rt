@@ -30,7 +30,7 @@ pub struct Asked {
     pub seen: Option<u32>,
 }
 
-/// What an end may rely on to be woken: for each bit what it asked, and the peer's live byte.
+/// What an end may rely on to be woken: for each bit what it asked, the peer's live byte and its gone word.
 #[derive(Clone, Copy, Debug, PartialEq, Eq)]
 pub struct Notes {
     /// The bit for bytes that are written.
@@ -39,6 +39,8 @@ pub struct Notes {
     pub consumed: Asked,
     /// The peer's live byte, as loaded last since the end took an event.
     pub live: Option<u64>,
+    /// The peer's gone word, as loaded last since the end took an event.
+    pub gone: Option<u64>,
 }
 
 /// One end's part of a core state: all that it has done, for contracts to speak of. No running

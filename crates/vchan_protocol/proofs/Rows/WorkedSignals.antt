@@ -38,5 +38,10 @@ worked_signal = (
     noted = refl;
     closed = refl;
     close_owed = (([], 0, refl), refl);
+    stays = refl;
+    gone_noted = refl;
+    unwoken = refl;
+    gone = refl;
+    gone_owed = (([], 0, refl), refl);
   },
 )

@@ -30,12 +30,12 @@ pub data Deed (role : Role) (op : Op) (next : ℕ → Plan) : Type 0 where
   takes_event : op ≡ Swap (own_pending role) 0 → Deed role op next
   -- where the peer had asked, the signal follows
   tests : (bit : Bit) → op ≡ test_of role bit → ((old : ℕ) → bit_and old (mask bit) ≢ 0 → next_op (next old) ≡ signal_of role) → Deed role op next
-  -- the test follows the store of an index, and the signal that of the live byte
+  -- the test follows the store of an index, and the signal that of the live byte, and that of the gone word
   stores_index : (bit : Bit) (index : ℕ) → op ≡ Store (own_index role bit) index → ((old : ℕ) → next_op (next old) ≡ test_of role bit) → Deed role op next
   closes : op ≡ Store (own_live role) 0 → ((old : ℕ) → next_op (next old) ≡ signal_of role) → Deed role op next
   signals : op ≡ signal_of role → Deed role op next
   connects : op ≡ Store CliLive 1 → Deed role op next
-  retires : op ≡ Store (own_gone role) 1 → Deed role op next
+  retires : op ≡ Store (own_gone role) 1 → ((old : ℕ) → next_op (next old) ≡ signal_of role) → Deed role op next
 
 -- each event of a plan is such a deed
 unfoldable pub Notifies : Role → Plan → Type 0
@@ -178,7 +178,7 @@ module _ (e : Standing) where
   notifies_close next w = notifies_does e.role _ _ (closes refl (λ old. refl)) (λ value. notifies_signal e next w)
 
   notifies_retire_shut : Notifies e.role (retire_shut e)
-  notifies_retire_shut = notifies_does e.role _ _ (retires refl) (λ value. notifies_signal e _ (notifies_answers e.role _))
+  notifies_retire_shut = notifies_does e.role _ _ (retires refl (λ old. refl)) (λ value. notifies_signal e _ (notifies_answers e.role _))
 
   notifies_retire : (state : EndState) → Notifies e.role (retire e state)
   notifies_retire Fresh = notifies_close _ notifies_retire_shut

@@ -8,7 +8,7 @@ use Rattle.ring_words.specs.declared.order.Orders.{Orders}
 use Rattle.ring_words.specs.declared.page.Role.{Role}
 use Rattle.ring_words.specs.declared.page.Role.TheVariants.{Server, Client}
 use Rattle.ring_words.specs.declared.page.WordName.{WordName}
-use Rattle.ring_words.specs.declared.page.WordName.TheVariants.{LeftCons, LeftProd, RightCons, RightProd, CliLive, SrvLive, RingByte}
+use Rattle.ring_words.specs.declared.page.WordName.TheVariants.{LeftCons, LeftProd, RightCons, RightProd, CliLive, SrvLive, CliGone, SrvGone, RingByte}
 use Rattle.vchan_protocol.specs.declared.op.Op.{Op}
 use Rattle.vchan_protocol.specs.declared.op.Op.TheVariants.{Load, LoadByte, Store, StoreByte, Or, And, Swap, Nothing}
 use Rattle.vchan_protocol.specs.declared.op.PastEvent.{PastEvent}
@@ -21,16 +21,16 @@ use Rattle.vchan_protocol.specs.declared.side.Side.{Side}
 use Rattle.vchan_protocol.specs.declared.side.Begun.{Begun}
 use Rattle.vchan_protocol.specs.declared.side.Notes.{Notes}
 use Rattle.vchan_protocol.specs.Table.Plan.{Plan, answers, does, next_op, after, rest_after, past, GoesOn}
-use Rattle.vchan_protocol.specs.Table.Ends.{ask_word, peer_live, own_live, own_pending, own_gone, mask, low8, low32}
+use Rattle.vchan_protocol.specs.Table.Ends.{ask_word, peer_live, own_live, own_pending, peer_gone, own_gone, mask, low8, low32}
 use Rattle.vchan_protocol.specs.Table.Calls.{plan_of}
 use Rattle.vchan_protocol.specs.Table.Apply.{word_of, leaves, words_after, value_taken}
 use Rattle.vchan_protocol.specs.History.Core.{Core, opened, plan_next, side_of, with_side, plan_left, op_next, begun_standing, begins, begun, noted, noted_load, nothing_noted, made, settled, answered, carried_out, event}
 use Rattle.vchan_protocol.specs.History.WholeCall.{alone, called}
 use Rattle.vchan_protocol.specs.History.Peer.{peer, held}
 use Rattle.vchan_protocol.specs.Honest.Reached.{IsReached, opens, begins_call, makes_event}
-use Rattle.vchan_protocol.specs.Signals.SignalLaw.{own_index, peer_index, asked_of, test_of, signal_of, HasJust, OwesSignal, OwesTest, IsWoken, AskStands, IndexIsTold, CloseIsTold, NoLostSignal, HasEnds, IsWaiting, MissesNothing}
+use Rattle.vchan_protocol.specs.Signals.SignalLaw.{own_index, peer_index, asked_of, test_of, signal_of, HasJust, OwesSignal, OwesTest, IsWoken, AskStands, IndexIsTold, CloseIsTold, GoneIsTold, NoLostSignal, HasEnds, IsWaiting, MissesNothing}
 use Rattle.vchan_protocol.proofs.History.EventLaws.{event_by}
-use Rattle.vchan_protocol.proofs.Signals.Watched.{held_other, held_written, kept_elsewhere, kept_all, ask_within, pending_within, ask-pending, ask-index, ask-live, index-ask, index-pending, index-live, index-other, live-ask, live-pending, live-index, unwatched_notify, unwatched_index, unwatched_own_live, unwatched_peer_pending, unwatched_gone, unwatched_peer_ask, unwatched_peer_own, unwatched_peer_gone, unwatched_high, byte_high, kept_connect, ask_is, pending_is, index_is, live_is, or_sets, or_keeps, and_keeps, each_bit, other_bit, WatchedKept, Unwatched}
+use Rattle.vchan_protocol.proofs.Signals.Watched.{held_other, held_written, kept_elsewhere, kept_all, ask_within, pending_within, ask-pending, ask-index, ask-live, ask-gone, index-ask, index-pending, index-live, index-gone, index-other, live-ask, live-pending, live-index, live-gone, gone-ask, gone-pending, gone-index, gone-live, unwatched_notify, unwatched_index, unwatched_own_live, unwatched_peer_pending, unwatched_gone, unwatched_peer_ask, unwatched_peer_own, unwatched_high, byte_high, kept_connect, ask_is, pending_is, index_is, live_is, gone_is, or_sets, or_keeps, and_keeps, each_bit, other_bit, WatchedKept, Unwatched}
 use Rattle.vchan_protocol.proofs.Signals.Notifies.{Deed, Notifies, notifies_answers, notifies_call, Notifies-left, deed_of}
 use Rattle.vchan_protocol.proofs.Signals.Notifies.{loads, loads_byte, stores_byte, asks, takes_event, tests, stores_index, closes, signals, connects, retires}
 
@@ -77,6 +77,7 @@ pub record Told (core : Core) (who : Role) : Type 0 where
   pub asks_stand : (bit : Bit) → AskStands core who bit
   pub indices_told : (bit : Bit) → IndexIsTold core who bit
   pub closes_told : CloseIsTold core who
+  pub gone_told : GoneIsTold core who
 
 -- ---- what stays said, where little changes
 
@@ -117,15 +118,22 @@ module _ (old new : Core) (who : Role) (peer_same : side_of new (peer who) ≡ s
       go (inr (inl owes)) = inr (inl (owes_kept old new (peer who) (test_of (peer who) bit) peer_same owes))
       go (inr (inr woken)) = inr (inr (woken_kept old new who pending woken))
 
+  -- the signal that is owed behind a store of the peer stays owed
+  own_owed : (op : Op) → OwesSignal old (peer who) op ⊎ IsWoken old who → OwesSignal new (peer who) op ⊎ IsWoken new who
+  own_owed op (inl owes) = inl (owes_kept old new (peer who) op peer_same owes)
+  own_owed op (inr woken) = inr (woken_kept old new who pending woken)
+
   own_close_told : (low8 (held new (peer_live who)) ≡ 0 → held new (peer_live who) ≡ held old (peer_live who)) →
       ((live : ℕ) → (side_of new who).notes.live ≡ Some live → live ≢ 0 → low8 (held old (peer_live who)) ≡ 0 → (side_of old who).notes.live ≡ Some live) → CloseIsTold old who → CloseIsTold new who
   own_close_told same noted old_told = λ live seen alive shut.
       let was_shut : low8 (held old (peer_live who)) ≡ 0 = ap low8 (sym (same shut)) ∙ shut in
-      go (old_told live (noted live seen alive was_shut) alive was_shut)
-    where
-      go : OwesSignal old (peer who) (Store (own_live (peer who)) 0) ⊎ IsWoken old who → OwesSignal new (peer who) (Store (own_live (peer who)) 0) ⊎ IsWoken new who
-      go (inl owes) = inl (owes_kept old new (peer who) (Store (own_live (peer who)) 0) peer_same owes)
-      go (inr woken) = inr (woken_kept old new who pending woken)
+      own_owed (Store (own_live (peer who)) 0) (old_told live (noted live seen alive was_shut) alive was_shut)
+
+  own_gone_told : held new (peer_gone who) ≡ held old (peer_gone who) →
+      ((side_of new who).notes.gone ≡ Some 0 → held old (peer_gone who) ≢ 0 → (side_of old who).notes.gone ≡ Some 0) → GoneIsTold old who → GoneIsTold new who
+  own_gone_told same noted old_told = λ seen gone.
+      let was_gone : held old (peer_gone who) ≢ 0 = λ none. gone (same ∙ none) in
+      own_owed (Store (own_gone (peer who)) 1) (old_told (noted seen was_gone) was_gone)
 
 -- an event that the end notes nothing of, on a word that it doesn't watch
 own_same : (old new : Core) (who : Role) → side_of new (peer who) ≡ side_of old (peer who) → WatchedKept old new who → (side_of new who).notes ≡ (side_of old who).notes → Told old who → Told new who
@@ -135,6 +143,7 @@ own_same old new who peer_same kept notes told = record {
   indices_told = λ bit. own_index_told old new who peer_same kept.pending bit (kept.index bit)
       (λ index since seen differs. (ap (λ (n : Notes). (asked_of n bit).since) (sym notes) ∙ since, ap (λ (n : Notes). (asked_of n bit).seen) (sym notes) ∙ seen)) (told.indices_told bit);
   closes_told = own_close_told old new who peer_same kept.pending kept.live (λ live seen alive shut. ap (λ (n : Notes). n.live) (sym notes) ∙ seen) told.closes_told;
+  gone_told = own_gone_told old new who peer_same kept.pending kept.gone (λ seen gone. ap (λ (n : Notes). n.gone) (sym notes) ∙ seen) told.gone_told;
 }
 
 -- ---- a load of one's own
@@ -152,6 +161,10 @@ since-load CliLive Server taken n Written = refl
 since-load CliLive Server taken n Consumed = refl
 since-load SrvLive Client taken n Written = refl
 since-load SrvLive Client taken n Consumed = refl
+since-load CliGone Server taken n Written = refl
+since-load CliGone Server taken n Consumed = refl
+since-load SrvGone Client taken n Written = refl
+since-load SrvGone Client taken n Consumed = refl
 since-load _ _ taken n bit = refl
 
 -- it notes the peer's index, or leaves what is noted of it
@@ -173,6 +186,10 @@ sees_index CliLive Server taken n Written = inl refl
 sees_index CliLive Server taken n Consumed = inl refl
 sees_index SrvLive Client taken n Written = inl refl
 sees_index SrvLive Client taken n Consumed = inl refl
+sees_index CliGone Server taken n Written = inl refl
+sees_index CliGone Server taken n Consumed = inl refl
+sees_index SrvGone Client taken n Written = inl refl
+sees_index SrvGone Client taken n Consumed = inl refl
 sees_index _ _ taken n bit = inl refl
 
 abbrev pub SeesLive : WordName → Role → ℕ → Notes → Type 0
@@ -189,7 +206,31 @@ sees_live RightCons Server taken n = inl refl
 sees_live RightCons Client taken n = inl refl
 sees_live RightProd Server taken n = inl refl
 sees_live RightProd Client taken n = inl refl
+sees_live CliGone Server taken n = inl refl
+sees_live CliGone Client taken n = inl refl
+sees_live SrvGone Server taken n = inl refl
+sees_live SrvGone Client taken n = inl refl
 sees_live _ _ taken n = inl refl
+
+abbrev pub SeesGone : WordName → Role → ℕ → Notes → Type 0
+SeesGone word who taken n = ((noted_load word who taken n).gone ≡ n.gone) ⊎ ((word ≡ peer_gone who) × ((noted_load word who taken n).gone ≡ Some taken))
+
+sees_gone : (word : WordName) (who : Role) (taken : ℕ) (n : Notes) → SeesGone word who taken n
+sees_gone CliGone Server taken n = inr (refl, refl)
+sees_gone SrvGone Client taken n = inr (refl, refl)
+sees_gone LeftCons Server taken n = inl refl
+sees_gone LeftCons Client taken n = inl refl
+sees_gone LeftProd Server taken n = inl refl
+sees_gone LeftProd Client taken n = inl refl
+sees_gone RightCons Server taken n = inl refl
+sees_gone RightCons Client taken n = inl refl
+sees_gone RightProd Server taken n = inl refl
+sees_gone RightProd Client taken n = inl refl
+sees_gone CliLive Server taken n = inl refl
+sees_gone CliLive Client taken n = inl refl
+sees_gone SrvLive Server taken n = inl refl
+sees_gone SrvLive Client taken n = inl refl
+sees_gone _ _ taken n = inl refl
 
 own_load : (old new : Core) (who : Role) (word : WordName) → side_of new (peer who) ≡ side_of old (peer who) → WatchedKept old new who →
     (side_of new who).notes ≡ noted_load word who (held old word) (side_of old who).notes → Told old who → Told new who
@@ -197,6 +238,7 @@ own_load old new who word peer_same kept notes told = record {
   asks_stand = λ bit. own_ask old new who peer_same kept.pending bit (since bit) (λ set. λ none. set (ap (λ (w : ℕ). bit_and w (mask bit)) (sym kept.asks) ∙ none)) (told.asks_stand bit);
   indices_told = λ bit. own_index_told old new who peer_same kept.pending bit (kept.index bit) (index_noted bit) (told.indices_told bit);
   closes_told = own_close_told old new who peer_same kept.pending kept.live live_noted told.closes_told;
+  gone_told = own_gone_told old new who peer_same kept.pending kept.gone gone_noted told.gone_told;
 }
   where
     n : Notes
@@ -232,6 +274,18 @@ own_load old new who word peer_same kept notes told = record {
             let taken : low8 (held old word) ≡ live = same_Some _ _ (sym loaded ∙ noted_seen) in
             absurd (alive (sym taken ∙ ap (λ (w : WordName). low8 (held old w)) is ∙ shut))
 
+    gone_noted : (side_of new who).notes.gone ≡ Some 0 → held old (peer_gone who) ≢ 0 → (side_of old who).notes.gone ≡ Some 0
+    gone_noted seen gone = go (sees_gone word who (held old word) (side_of old who).notes)
+      where
+        noted_seen : (noted_load word who (held old word) (side_of old who).notes).gone ≡ Some 0
+        noted_seen = ap (λ (m : Notes). m.gone) (sym notes) ∙ seen
+
+        go : SeesGone word who (held old word) (side_of old who).notes → (side_of old who).notes.gone ≡ Some 0
+        go (inl same) = sym same ∙ noted_seen
+        go (inr (is, loaded)) =
+            let taken : held old word ≡ 0 = same_Some _ _ (sym loaded ∙ noted_seen) in
+            absurd (gone (ap (λ (w : WordName). held old w) (sym is) ∙ taken))
+
 -- ---- an ask of one's own
 
 since-ask : (set : Bit) (who : Role) (word : WordName) (taken : ℕ) (n : Notes) → (asked_of (noted (Or word (mask set)) who taken n) (other_bit set)).since ≡ (asked_of n (other_bit set)).since
@@ -251,6 +305,10 @@ live-ask_noted : (set : Bit) (who : Role) (word : WordName) (taken : ℕ) (n : N
 live-ask_noted Written who word taken n = refl
 live-ask_noted Consumed who word taken n = refl
 
+gone-ask_noted : (set : Bit) (who : Role) (word : WordName) (taken : ℕ) (n : Notes) → (noted (Or word (mask set)) who taken n).gone ≡ n.gone
+gone-ask_noted Written who word taken n = refl
+gone-ask_noted Consumed who word taken n = refl
+
 own_asks : (old new : Core) (who : Role) (set : Bit) → 14 ≤ length old.words → side_of new (peer who) ≡ side_of old (peer who) → new.orders ≡ old.orders →
     new.words ≡ slice_set old.words (index_of old.orders (ask_word who)) (bit_or (held old (ask_word who)) (mask set)) →
     (side_of new who).notes ≡ noted (Or (ask_word who) (mask set)) who (held old (ask_word who)) (side_of old who).notes → Told old who → Told new who
@@ -264,6 +322,8 @@ own_asks old new who set header peer_same orders words notes told = record {
       (told.indices_told (other_bit set)));
   closes_told = own_close_told old new who peer_same pending (λ _. held_other old new _ _ (peer_live who) orders words (ask-live old.orders who))
       (λ live seen alive shut. sym (live-ask_noted set who (ask_word who) (held old (ask_word who)) (side_of old who).notes) ∙ ap (λ (n : Notes). n.live) (sym notes) ∙ seen) told.closes_told;
+  gone_told = own_gone_told old new who peer_same pending (held_other old new _ _ (peer_gone who) orders words (ask-gone old.orders who))
+      (λ seen gone. sym (gone-ask_noted set who (ask_word who) (held old (ask_word who)) (side_of old who).notes) ∙ ap (λ (n : Notes). n.gone) (sym notes) ∙ seen) told.gone_told;
 }
   where
     asks_are : held new (ask_word who) ≡ bit_or (held old (ask_word who)) (mask set)
@@ -283,6 +343,7 @@ told_nothing core who notes = record {
   asks_stand = λ bit asked. absurd (false≢true (sym (unasked bit) ∙ ap (λ (m : Notes). (asked_of m bit).since) (sym notes) ∙ asked));
   indices_told = λ bit index asked. absurd (false≢true (sym (unasked bit) ∙ ap (λ (m : Notes). (asked_of m bit).since) (sym notes) ∙ asked));
   closes_told = λ live seen. absurd (none-some live (ap (λ (m : Notes). m.live) (sym notes) ∙ seen));
+  gone_told = λ seen. absurd (none-some 0 (ap (λ (m : Notes). m.gone) (sym notes) ∙ seen));
 }
   where
     unasked : (bit : Bit) → (asked_of nothing_noted bit).since ≡ false
@@ -351,13 +412,18 @@ module _ (old new : Core) (who : Role) (op : Op) (same : side_of new who ≡ sid
       go (inr (inl owes)) = absurd (silent (sym did ∙ owes.1))
       go (inr (inr woken)) = inr (inr (woken_kept old new who pending woken))
 
+  -- the peer that owes the signal behind a store makes it next
+  other_owed : (owed : Op) → OwesSignal old (peer who) owed ⊎ IsWoken old who → IsWoken new who
+  other_owed owed (inl owes) = absurd (silent (sym did ∙ owes.1))
+  other_owed owed (inr woken) = woken_kept old new who pending woken
+
   other_close : (low8 (held new (peer_live who)) ≡ 0 → held new (peer_live who) ≡ held old (peer_live who)) → CloseIsTold old who → CloseIsTold new who
   other_close live_same old_told = λ live seen alive shut.
-      go (old_told live (ap (λ (s : Side). s.notes.live) (sym same) ∙ seen) alive (ap low8 (sym (live_same shut)) ∙ shut))
-    where
-      go : OwesSignal old (peer who) (Store (own_live (peer who)) 0) ⊎ IsWoken old who → OwesSignal new (peer who) (Store (own_live (peer who)) 0) ⊎ IsWoken new who
-      go (inl owes) = absurd (silent (sym did ∙ owes.1))
-      go (inr woken) = inr (woken_kept old new who pending woken)
+      inr (other_owed (Store (own_live (peer who)) 0) (old_told live (ap (λ (s : Side). s.notes.live) (sym same) ∙ seen) alive (ap low8 (sym (live_same shut)) ∙ shut)))
+
+  other_gone : held new (peer_gone who) ≡ held old (peer_gone who) → GoneIsTold old who → GoneIsTold new who
+  other_gone gone_same old_told = λ seen gone.
+      inr (other_owed (Store (own_gone (peer who)) 1) (old_told (ap (λ (s : Side). s.notes.gone) (sym same) ∙ seen) (λ none. gone (gone_same ∙ none))))
 
   -- an event on a word that the end doesn't watch
   other_same : ((bit : Bit) → op ≢ test_of (peer who) bit) → WatchedKept old new who → Told old who → Told new who
@@ -365,6 +431,7 @@ module _ (old new : Core) (who : Role) (op : Op) (same : side_of new who ≡ sid
     asks_stand = λ bit. other_ask bit (λ set. inl (λ none. set (ap (λ (w : ℕ). bit_and w (mask bit)) (sym kept.asks) ∙ none))) (told.asks_stand bit);
     indices_told = λ bit. other_index bit (untested bit) (kept.index bit) (told.indices_told bit);
     closes_told = other_close kept.live told.closes_told;
+    gone_told = other_gone kept.gone told.gone_told;
   }
 
 -- the signal wakes the end
@@ -373,6 +440,7 @@ woken_told core who woken = record {
   asks_stand = λ bit asked. inr (inr woken);
   indices_told = λ bit index asked seen differs. inr (inr woken);
   closes_told = λ live seen alive shut. inr woken;
+  gone_told = λ seen gone. inr woken;
 }
 
 -- the peer tests a bit
@@ -388,6 +456,7 @@ other_tests old new who bit header same orders words did just told_if told = rec
       (other_index old new who (test_of (peer who) bit) same did silent pending (other_bit bit) (other_test (peer who) bit)
       (held_other old new _ _ (peer_index who (other_bit bit)) orders words (ask-index old.orders who (other_bit bit))) (told.indices_told (other_bit bit)));
   closes_told = other_close old new who (test_of (peer who) bit) same did silent pending (λ _. held_other old new _ _ (peer_live who) orders words (ask-live old.orders who)) told.closes_told;
+  gone_told = other_gone old new who (test_of (peer who) bit) same did silent pending (held_other old new _ _ (peer_gone who) orders words (ask-gone old.orders who)) told.gone_told;
 }
   where
     silent : test_of (peer who) bit ≢ signal_of (peer who)
@@ -423,6 +492,7 @@ other_indexes old new who bit value same orders words op is did owes told = reco
       (other_index old new who op same did silent pending (other_bit bit) untested
       (held_other old new _ _ (peer_index who (other_bit bit)) orders words (index-other old.orders who bit)) (told.indices_told (other_bit bit)));
   closes_told = other_close old new who op same did silent pending (λ _. held_other old new _ _ (peer_live who) orders words (index-live old.orders who bit)) told.closes_told;
+  gone_told = other_gone old new who op same did silent pending (held_other old new _ _ (peer_gone who) orders words (index-gone old.orders who bit)) told.gone_told;
 }
   where
     silent : op ≢ signal_of (peer who)
@@ -444,6 +514,7 @@ other_closes old new who same orders words op is did owes told = record {
   indices_told = λ b. other_index old new who op same did silent pending b (untested b)
       (held_other old new _ _ (peer_index who b) orders words (live-index old.orders who b)) (told.indices_told b);
   closes_told = λ live seen alive shut. inl owes;
+  gone_told = other_gone old new who op same did silent pending (held_other old new _ _ (peer_gone who) orders words (live-gone old.orders who)) told.gone_told;
 }
   where
     silent : op ≢ signal_of (peer who)
@@ -454,6 +525,28 @@ other_closes old new who same orders words op is did owes told = record {
 
     pending : held new (own_pending who) ≡ held old (own_pending who)
     pending = held_other old new _ _ (own_pending who) orders words (live-pending old.orders who)
+
+-- the peer stores its gone word
+other_retires : (old new : Core) (who : Role) → side_of new who ≡ side_of old who → new.orders ≡ old.orders →
+    new.words ≡ slice_set old.words (index_of old.orders (peer_gone who)) 1 → (op : Op) → op ≡ Store (peer_gone who) 1 →
+    op_next (side_of old (peer who)) ≡ op → OwesSignal new (peer who) (Store (own_gone (peer who)) 1) → Told old who → Told new who
+other_retires old new who same orders words op is did owes told = record {
+  asks_stand = λ b. other_ask old new who op same did silent pending b
+      (λ set. inl (λ none. set (ap (λ (w : ℕ). bit_and w (mask b)) (sym (held_other old new _ _ (ask_word who) orders words (gone-ask old.orders who))) ∙ none))) (told.asks_stand b);
+  indices_told = λ b. other_index old new who op same did silent pending b (untested b)
+      (held_other old new _ _ (peer_index who b) orders words (gone-index old.orders who b)) (told.indices_told b);
+  closes_told = other_close old new who op same did silent pending (λ _. held_other old new _ _ (peer_live who) orders words (gone-live old.orders who)) told.closes_told;
+  gone_told = λ seen gone. inl owes;
+}
+  where
+    silent : op ≢ signal_of (peer who)
+    silent signal = other_store old.orders (peer_gone who) 1 who (gone-pending old.orders who) (sym is ∙ signal)
+
+    untested : (b : Bit) → op ≢ test_of (peer who) b
+    untested b test = no_test (Store (peer_gone who) 1) (peer who) b refl (sym is ∙ test)
+
+    pending : held new (own_pending who) ≡ held old (own_pending who)
+    pending = held_other old new _ _ (own_pending who) orders words (gone-pending old.orders who)
 
 -- ---- each deed, for the end that makes it and for the other
 
@@ -495,7 +588,7 @@ told_own old new who op next header step deed told = go deed
     go (closes is more) = elsewhere _ _ (words (Store (own_live who) 0) is) (unwatched_own_live old.orders who) (notes (Store (own_live who) 0) is)
     go (signals is) = elsewhere _ _ (words (signal_of who) is) (unwatched_peer_pending old.orders who) (notes (signal_of who) is)
     go (connects is) = own_same old new who step.other_is (kept_connect old new who header step.orders_are (words (Store CliLive 1) is)) (notes (Store CliLive 1) is) told
-    go (retires is) = elsewhere _ _ (words (Store (own_gone who) 1) is) (unwatched_gone old.orders who) (notes (Store (own_gone who) 1) is)
+    go (retires is more) = elsewhere _ _ (words (Store (own_gone who) 1) is) (unwatched_gone old.orders who) (notes (Store (own_gone who) 1) is)
 
 told_other : (old new : Core) (who : Role) (op : Op) (next : ℕ → Plan) → 14 ≤ length old.words → Step old new (peer who) who op next → Deed (peer who) op next → Told old who → Told new who
 told_other old new who op next header step deed told = go deed
@@ -536,6 +629,12 @@ told_other old new who op next header step deed told = go deed
         other_closes old new who step.other_is step.orders_are (words (Store (peer_live who) 0) there) op there step.did
         (just_at old new (peer who) who op next step (Store (own_live (peer who)) 0) is, step.does_next ∙ more _) told
 
+    retired : op ≡ Store (own_gone (peer who)) 1 → ((value : ℕ) → next_op (next value) ≡ signal_of (peer who)) → Told new who
+    retired is more =
+        let there : op ≡ Store (peer_gone who) 1 = is ∙ ap (λ (w : WordName). Store w 1) (gone_is who) in
+        other_retires old new who step.other_is step.orders_are (words (Store (peer_gone who) 1) there) op there step.did
+        (just_at old new (peer who) who op next step (Store (own_gone (peer who)) 1) is, step.does_next ∙ more _) told
+
     woken : op ≡ signal_of (peer who) → Told new who
     woken is =
         let there : op ≡ Store (own_pending who) 1 = is ∙ ap (λ (w : WordName). Store w 1) (pending_is who) in
@@ -553,17 +652,15 @@ told_other old new who op next header step deed told = go deed
     go (closes is more) = closed is more
     go (signals is) = woken is
     go (connects is) = stored CliLive 1 is (connect-pending old.orders who) (kept_connect old new who header step.orders_are (words (Store CliLive 1) is))
-    go (retires is) =
-        let un = unwatched_peer_gone old.orders who in
-        stored (own_gone (peer who)) 1 is un.1 (elsewhere _ _ (words (Store (own_gone (peer who)) 1) is) un)
+    go (retires is more) = retired is more
 
 -- ---- events of a core state
 
 told_of : (core : Core) (who : Role) → NoLostSignal core → Told core who
-told_of core who h = record { asks_stand = h.asks_stand who; indices_told = h.indices_told who; closes_told = h.closes_told who }
+told_of core who h = record { asks_stand = h.asks_stand who; indices_told = h.indices_told who; closes_told = h.closes_told who; gone_told = h.gone_told who }
 
 both_told : (core : Core) → Told core Server → Told core Client → NoLostSignal core
-both_told core server client = record { asks_stand = λ who. (each who).asks_stand; indices_told = λ who. (each who).indices_told; closes_told = λ who. (each who).closes_told }
+both_told core server client = record { asks_stand = λ who. (each who).asks_stand; indices_told = λ who. (each who).indices_told; closes_told = λ who. (each who).closes_told; gone_told = λ who. (each who).gone_told }
   where
     each : (who : Role) → Told core who
     each Server = server
@@ -617,12 +714,12 @@ carried_keeps core Client op next ends left h =
 renewed : (core : Core) (who : Role) (s : Side) → s.notes ≡ (side_of core who).notes → op_next (side_of core who) ≡ Nothing → NoLostSignal core → NoLostSignal (with_side core who s)
 renewed core Server s notes idle h =
     let new = with_side core Server s in
-    both_told new (own_same core new Server refl (record { asks = refl; pending = refl; index = λ bit. refl; live = λ _. refl }) notes (told_of core Server h))
-    (other_same core new Client Nothing refl idle (no_signal Nothing Server refl) refl (λ bit. no_test Nothing Server bit refl) (record { asks = refl; pending = refl; index = λ bit. refl; live = λ _. refl }) (told_of core Client h))
+    both_told new (own_same core new Server refl (record { asks = refl; pending = refl; index = λ bit. refl; live = λ _. refl; gone = refl }) notes (told_of core Server h))
+    (other_same core new Client Nothing refl idle (no_signal Nothing Server refl) refl (λ bit. no_test Nothing Server bit refl) (record { asks = refl; pending = refl; index = λ bit. refl; live = λ _. refl; gone = refl }) (told_of core Client h))
 renewed core Client s notes idle h =
     let new = with_side core Client s in
-    both_told new (other_same core new Server Nothing refl idle (no_signal Nothing Client refl) refl (λ bit. no_test Nothing Client bit refl) (record { asks = refl; pending = refl; index = λ bit. refl; live = λ _. refl }) (told_of core Server h))
-    (own_same core new Client refl (record { asks = refl; pending = refl; index = λ bit. refl; live = λ _. refl }) notes (told_of core Client h))
+    both_told new (other_same core new Server Nothing refl idle (no_signal Nothing Client refl) refl (λ bit. no_test Nothing Client bit refl) (record { asks = refl; pending = refl; index = λ bit. refl; live = λ _. refl; gone = refl }) (told_of core Server h))
+    (own_same core new Client refl (record { asks = refl; pending = refl; index = λ bit. refl; live = λ _. refl; gone = refl }) notes (told_of core Client h))
 
 -- the answer, where nothing is left
 settled_keeps : (core : Core) (who : Role) (rest : Plan) → plan_left (side_of core who) ≡ rest → NoLostSignal core → NoLostSignal (with_side core who (settled (side_of core who) rest))
@@ -714,13 +811,17 @@ no_signal_lost core there = (reached core there).1
 -- ---- an end that waits
 
 pub misses_nothing : (core : Core) (who : Role) (bit : Bit) → NoLostSignal core → IsWaiting core who bit → MissesNothing core who bit
-misses_nothing core who bit h w = record { bit_stands = bit_stands (h.asks_stand who bit w.asked); index_stands = index_stands; peer_open = peer_open }
+misses_nothing core who bit h w = record { bit_stands = bit_stands (h.asks_stand who bit w.asked); index_stands = index_stands; peer_open = peer_open; peer_here = peer_here }
   where
     idle : op_next (side_of core (peer who)) ≡ Nothing
     idle = op_next-idle (side_of core (peer who)) w.peer_idle
 
     silent : (op : Op) → OwesSignal core (peer who) op → ⊥
     silent op owes = no_signal Nothing (peer who) refl (sym idle ∙ owes.1)
+
+    unowed : (op : Op) → OwesSignal core (peer who) op ⊎ IsWoken core who → ⊥
+    unowed op (inl owes) = silent op owes
+    unowed op (inr woken) = woken w.unwoken
 
     bit_stands : (bit_and (held core (ask_word who)) (mask bit) ≢ 0) ⊎ (OwesSignal core (peer who) (test_of (peer who) bit) ⊎ IsWoken core who) → bit_and (held core (ask_word who)) (mask bit) ≢ 0
     bit_stands (inl set) = set
@@ -740,8 +841,11 @@ misses_nothing core who bit h w = record { bit_stands = bit_stands (h.asks_stand
         go (inr differs) = absurd (told (h.indices_told who bit index w.asked seen differs))
 
     peer_open : (live : ℕ) → (side_of core who).notes.live ≡ Some live → live ≢ 0 → low8 (held core (peer_live who)) ≢ 0
-    peer_open live seen alive shut = go (h.closes_told who live seen alive shut)
+    peer_open live seen alive shut = unowed (Store (own_live (peer who)) 0) (h.closes_told who live seen alive shut)
+
+    peer_here : (side_of core who).notes.gone ≡ Some 0 → held core (peer_gone who) ≡ 0
+    peer_here seen = go (cases_eq (held core (peer_gone who)) 0)
       where
-        go : OwesSignal core (peer who) (Store (own_live (peer who)) 0) ⊎ IsWoken core who → ⊥
-        go (inl owes) = silent (Store (own_live (peer who)) 0) owes
-        go (inr woken) = woken w.unwoken
+        go : (held core (peer_gone who) ≡ 0) ⊎ (held core (peer_gone who) ≢ 0) → held core (peer_gone who) ≡ 0
+        go (inl is) = is
+        go (inr gone) = absurd (unowed (Store (own_gone (peer who)) 1) (h.gone_told who seen gone))

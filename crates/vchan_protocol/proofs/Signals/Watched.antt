@@ -13,26 +13,27 @@ use Rattle.ring_words.specs.declared.page.WordName.{WordName}
 use Rattle.ring_words.specs.declared.page.WordName.TheVariants.{LeftProd, RightCons, CliLive, RingByte}
 use Rattle.vchan_protocol.specs.declared.call.Bit.{Bit}
 use Rattle.vchan_protocol.specs.declared.call.Bit.TheVariants.{Written, Consumed}
-use Rattle.vchan_protocol.specs.Table.Ends.{written_ring, read_ring, prod_word, cons_word, ask_word, notify_word, peer_live, own_live, own_pending, peer_pending, own_gone, mask, low8}
+use Rattle.vchan_protocol.specs.Table.Ends.{written_ring, read_ring, prod_word, cons_word, ask_word, notify_word, peer_live, own_live, peer_gone, own_gone, own_pending, peer_pending, mask, low8}
 use Rattle.vchan_protocol.specs.History.Core.{Core}
 use Rattle.vchan_protocol.specs.History.Peer.{peer, held}
 use Rattle.vchan_protocol.specs.Signals.SignalLaw.{own_index, peer_index}
 
 -- ---- the words that an end watches
 
--- its ask word, its pending word, the two indices of its peer, and its peer's live byte
+-- its ask word, its pending word, the two indices of its peer, and its peer's live byte and gone word
 pub record WatchedKept (old new : Core) (who : Role) : Type 0 where
   pub asks : held new (ask_word who) ≡ held old (ask_word who)
   pub pending : held new (own_pending who) ≡ held old (own_pending who)
   pub index : (bit : Bit) → held new (peer_index who bit) ≡ held old (peer_index who bit)
   -- a live byte may be made other than 0
   pub live : low8 (held new (peer_live who)) ≡ 0 → held new (peer_live who) ≡ held old (peer_live who)
+  pub gone : held new (peer_gone who) ≡ held old (peer_gone who)
 
 -- the word of this number is none of these
 abbrev pub Unwatched : Orders → Role → ℕ → Type 0
 Unwatched orders who n =
     ((index_of orders (ask_word who) == n) ≡ false) × ((index_of orders (own_pending who) == n) ≡ false) × ((index_of orders (prod_word (read_ring who)) == n) ≡ false) ×
-    ((index_of orders (cons_word (written_ring who)) == n) ≡ false) × ((index_of orders (peer_live who) == n) ≡ false)
+    ((index_of orders (cons_word (written_ring who)) == n) ≡ false) × ((index_of orders (peer_live who) == n) ≡ false) × ((index_of orders (peer_gone who) == n) ≡ false)
 
 pub held_other : (old new : Core) (n value : ℕ) (word : WordName) → new.orders ≡ old.orders → new.words ≡ slice_set old.words n value → (index_of old.orders word == n) ≡ false → held new word ≡ held old word
 held_other old new n value word orders words other =
@@ -50,6 +51,7 @@ kept_elsewhere old new who n value orders words un = record {
   pending = held_other old new n value (own_pending who) orders words un.1;
   index = index;
   live = λ _. held_other old new n value (peer_live who) orders words un.4;
+  gone = held_other old new n value (peer_gone who) orders words un.5;
 }
   where
     index : (bit : Bit) → held new (peer_index who bit) ≡ held old (peer_index who bit)
@@ -58,7 +60,7 @@ kept_elsewhere old new who n value orders words un = record {
 
 -- a load leaves all words
 pub kept_all : (old new : Core) (who : Role) (n : ℕ) → new.orders ≡ old.orders → new.words ≡ slice_set old.words n (slice_index old.words n) → WatchedKept old new who
-kept_all old new who n orders words = record { asks = same (ask_word who); pending = same (own_pending who); index = λ bit. same (peer_index who bit); live = λ _. same (peer_live who) }
+kept_all old new who n orders words = record { asks = same (ask_word who); pending = same (own_pending who); index = λ bit. same (peer_index who bit); live = λ _. same (peer_live who); gone = same (peer_gone who) }
   where
     same : (word : WordName) → held new word ≡ held old word
     same word =
@@ -96,6 +98,10 @@ pub ask-live : (orders : Orders) (who : Role) → (index_of orders (peer_live wh
 ask-live orders Server = refl
 ask-live orders Client = refl
 
+pub ask-gone : (orders : Orders) (who : Role) → (index_of orders (peer_gone who) == index_of orders (ask_word who)) ≡ false
+ask-gone orders Server = refl
+ask-gone orders Client = refl
+
 pub index-ask : (orders : Orders) (who : Role) (bit : Bit) → (index_of orders (ask_word who) == index_of orders (peer_index who bit)) ≡ false
 index-ask orders Server Written = refl
 index-ask orders Server Consumed = refl
@@ -113,6 +119,12 @@ index-live orders Server Written = refl
 index-live orders Server Consumed = refl
 index-live orders Client Written = refl
 index-live orders Client Consumed = refl
+
+pub index-gone : (orders : Orders) (who : Role) (bit : Bit) → (index_of orders (peer_gone who) == index_of orders (peer_index who bit)) ≡ false
+index-gone orders Server Written = refl
+index-gone orders Server Consumed = refl
+index-gone orders Client Written = refl
+index-gone orders Client Consumed = refl
 
 pub index-other : (orders : Orders) (who : Role) (bit : Bit) → (index_of orders (peer_index who (other_bit bit)) == index_of orders (peer_index who bit)) ≡ false
 index-other orders Server Written = refl
@@ -134,47 +146,65 @@ live-index orders Server Consumed = refl
 live-index orders Client Written = refl
 live-index orders Client Consumed = refl
 
+pub live-gone : (orders : Orders) (who : Role) → (index_of orders (peer_gone who) == index_of orders (peer_live who)) ≡ false
+live-gone orders Server = refl
+live-gone orders Client = refl
+
+pub gone-ask : (orders : Orders) (who : Role) → (index_of orders (ask_word who) == index_of orders (peer_gone who)) ≡ false
+gone-ask orders Server = refl
+gone-ask orders Client = refl
+
+pub gone-pending : (orders : Orders) (who : Role) → (index_of orders (own_pending who) == index_of orders (peer_gone who)) ≡ false
+gone-pending orders Server = refl
+gone-pending orders Client = refl
+
+pub gone-index : (orders : Orders) (who : Role) (bit : Bit) → (index_of orders (peer_index who bit) == index_of orders (peer_gone who)) ≡ false
+gone-index orders Server Written = refl
+gone-index orders Server Consumed = refl
+gone-index orders Client Written = refl
+gone-index orders Client Consumed = refl
+
+pub gone-live : (orders : Orders) (who : Role) → (index_of orders (peer_live who) == index_of orders (peer_gone who)) ≡ false
+gone-live orders Server = refl
+gone-live orders Client = refl
+
 -- ---- words that an end doesn't watch
 
 pub unwatched_notify : (orders : Orders) (who : Role) → Unwatched orders who (index_of orders (notify_word who))
-unwatched_notify orders Server = (refl, refl, refl, refl, refl)
-unwatched_notify orders Client = (refl, refl, refl, refl, refl)
+unwatched_notify orders Server = (refl, refl, refl, refl, refl, refl)
+unwatched_notify orders Client = (refl, refl, refl, refl, refl, refl)
 
 pub unwatched_index : (orders : Orders) (who : Role) (bit : Bit) → Unwatched orders who (index_of orders (own_index who bit))
-unwatched_index orders Server Written = (refl, refl, refl, refl, refl)
-unwatched_index orders Server Consumed = (refl, refl, refl, refl, refl)
-unwatched_index orders Client Written = (refl, refl, refl, refl, refl)
-unwatched_index orders Client Consumed = (refl, refl, refl, refl, refl)
+unwatched_index orders Server Written = (refl, refl, refl, refl, refl, refl)
+unwatched_index orders Server Consumed = (refl, refl, refl, refl, refl, refl)
+unwatched_index orders Client Written = (refl, refl, refl, refl, refl, refl)
+unwatched_index orders Client Consumed = (refl, refl, refl, refl, refl, refl)
 
 pub unwatched_own_live : (orders : Orders) (who : Role) → Unwatched orders who (index_of orders (own_live who))
-unwatched_own_live orders Server = (refl, refl, refl, refl, refl)
-unwatched_own_live orders Client = (refl, refl, refl, refl, refl)
+unwatched_own_live orders Server = (refl, refl, refl, refl, refl, refl)
+unwatched_own_live orders Client = (refl, refl, refl, refl, refl, refl)
 
 pub unwatched_peer_pending : (orders : Orders) (who : Role) → Unwatched orders who (index_of orders (peer_pending who))
-unwatched_peer_pending orders Server = (refl, refl, refl, refl, refl)
-unwatched_peer_pending orders Client = (refl, refl, refl, refl, refl)
+unwatched_peer_pending orders Server = (refl, refl, refl, refl, refl, refl)
+unwatched_peer_pending orders Client = (refl, refl, refl, refl, refl, refl)
 
 pub unwatched_gone : (orders : Orders) (who : Role) → Unwatched orders who (index_of orders (own_gone who))
-unwatched_gone orders Server = (refl, refl, refl, refl, refl)
-unwatched_gone orders Client = (refl, refl, refl, refl, refl)
+unwatched_gone orders Server = (refl, refl, refl, refl, refl, refl)
+unwatched_gone orders Client = (refl, refl, refl, refl, refl, refl)
 
--- what the peer asks with, takes its events from, and tells its end by
+-- what the peer asks with, and takes its events from
 pub unwatched_peer_ask : (orders : Orders) (who : Role) → Unwatched orders who (index_of orders (ask_word (peer who)))
-unwatched_peer_ask orders Server = (refl, refl, refl, refl, refl)
-unwatched_peer_ask orders Client = (refl, refl, refl, refl, refl)
+unwatched_peer_ask orders Server = (refl, refl, refl, refl, refl, refl)
+unwatched_peer_ask orders Client = (refl, refl, refl, refl, refl, refl)
 
 pub unwatched_peer_own : (orders : Orders) (who : Role) → Unwatched orders who (index_of orders (own_pending (peer who)))
-unwatched_peer_own orders Server = (refl, refl, refl, refl, refl)
-unwatched_peer_own orders Client = (refl, refl, refl, refl, refl)
-
-pub unwatched_peer_gone : (orders : Orders) (who : Role) → Unwatched orders who (index_of orders (own_gone (peer who)))
-unwatched_peer_gone orders Server = (refl, refl, refl, refl, refl)
-unwatched_peer_gone orders Client = (refl, refl, refl, refl, refl)
+unwatched_peer_own orders Server = (refl, refl, refl, refl, refl, refl)
+unwatched_peer_own orders Client = (refl, refl, refl, refl, refl, refl)
 
 -- a ring byte
 pub unwatched_high : (orders : Orders) (who : Role) (n : ℕ) → 14 ≤ n → Unwatched orders who n
-unwatched_high orders Server n h = (ne_eqb _ _ (λ is. omega (arith, h, is)), ne_eqb _ _ (λ is. omega (arith, h, is)), ne_eqb _ _ (λ is. omega (arith, h, is)), ne_eqb _ _ (λ is. omega (arith, h, is)), ne_eqb _ _ (λ is. omega (arith, h, is)))
-unwatched_high orders Client n h = (ne_eqb _ _ (λ is. omega (arith, h, is)), ne_eqb _ _ (λ is. omega (arith, h, is)), ne_eqb _ _ (λ is. omega (arith, h, is)), ne_eqb _ _ (λ is. omega (arith, h, is)), ne_eqb _ _ (λ is. omega (arith, h, is)))
+unwatched_high orders Server n h = (ne_eqb _ _ (λ is. omega (arith, h, is)), ne_eqb _ _ (λ is. omega (arith, h, is)), ne_eqb _ _ (λ is. omega (arith, h, is)), ne_eqb _ _ (λ is. omega (arith, h, is)), ne_eqb _ _ (λ is. omega (arith, h, is)), ne_eqb _ _ (λ is. omega (arith, h, is)))
+unwatched_high orders Client n h = (ne_eqb _ _ (λ is. omega (arith, h, is)), ne_eqb _ _ (λ is. omega (arith, h, is)), ne_eqb _ _ (λ is. omega (arith, h, is)), ne_eqb _ _ (λ is. omega (arith, h, is)), ne_eqb _ _ (λ is. omega (arith, h, is)), ne_eqb _ _ (λ is. omega (arith, h, is)))
 
 pub byte_high : (orders : Orders) (ring : Ring) (at : ℕ) → 14 ≤ index_of orders (RingByte ring at)
 byte_high orders Left at = omega arith
@@ -182,12 +212,13 @@ byte_high orders Right at = omega arith
 
 -- a client that opens makes its live byte 1, and touches no other word that an end watches
 pub kept_connect : (old new : Core) (who : Role) → 14 ≤ length old.words → new.orders ≡ old.orders → new.words ≡ slice_set old.words (index_of old.orders CliLive) 1 → WatchedKept old new who
-kept_connect old new Client header orders words = kept_elsewhere old new Client (index_of old.orders CliLive) 1 orders words (refl, refl, refl, refl, refl)
+kept_connect old new Client header orders words = kept_elsewhere old new Client (index_of old.orders CliLive) 1 orders words (refl, refl, refl, refl, refl, refl)
 kept_connect old new Server header orders words = record {
   asks = held_other old new 6 1 (ask_word Server) orders words refl;
   pending = held_other old new 6 1 (own_pending Server) orders words refl;
   index = index;
   live = λ none. absurd (eqb-false 1 0 refl (sym (ap low8 (held_written old new 1 CliLive orders words (live_within old.orders (length old.words) header))) ∙ none));
+  gone = held_other old new 6 1 (peer_gone Server) orders words refl;
 }
   where
     index : (bit : Bit) → held new (peer_index Server bit) ≡ held old (peer_index Server bit)
@@ -213,6 +244,10 @@ index_is Client Consumed = refl
 pub live_is : (who : Role) → own_live (peer who) ≡ peer_live who
 live_is Server = refl
 live_is Client = refl
+
+pub gone_is : (who : Role) → own_gone (peer who) ≡ peer_gone who
+gone_is Server = refl
+gone_is Client = refl
 
 -- ---- bits
 

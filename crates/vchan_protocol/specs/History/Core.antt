@@ -62,7 +62,7 @@ abbrev pub not_asked : Asked
 not_asked = record { since = false; seen = None }
 
 abbrev pub nothing_noted : Notes
-nothing_noted = record { written = not_asked; consumed = not_asked; live = None }
+nothing_noted = record { written = not_asked; consumed = not_asked; live = None; gone = None }
 
 -- an end that has done nothing yet
 abbrev pub new_side : Role → Orders → ℕ → EndState → Side
@@ -212,6 +212,8 @@ noted_load LeftCons Client taken n = record n { consumed = index_seen (low32 tak
 noted_load RightCons Server taken n = record n { consumed = index_seen (low32 taken) n.consumed }
 noted_load CliLive Server taken n = record n { live = Some (low8 taken) }
 noted_load SrvLive Client taken n = record n { live = Some (low8 taken) }
+noted_load CliGone Server taken n = record n { gone = Some taken }
+noted_load SrvGone Client taken n = record n { gone = Some taken }
 noted_load _ _ taken n = n
 
 abbrev pub asks : Asked

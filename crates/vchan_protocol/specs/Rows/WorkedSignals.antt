@@ -1,14 +1,14 @@
 -- A worked row of signals, in which an asking stands, and a test and a signal are owed: a server's read finds nothing and asks, then a client writes a byte, event by event.
--- In the other row the client closes instead.
-use Rattle.std.specs.Prelude.{◌≡◌, true, Some, [], ◌∷◌, bit_and}
+-- In the second row the client closes instead. In the third it has closed, the server has taken that event and loaded the gone word, and the client retires.
+use Rattle.std.specs.Prelude.{◌≡◌, true, false, Some, [], ◌∷◌, bit_and}
 use Rattle.ring_words.specs.Rings.{number_of}
 use Rattle.ring_words.specs.declared.order.Orders.{Orders}
 use Rattle.ring_words.specs.declared.page.Role.TheVariants.{Server, Client}
-use Rattle.ring_words.specs.declared.page.WordName.TheVariants.{LeftProd, CliNotify, CliLive, SrvPending}
+use Rattle.ring_words.specs.declared.page.WordName.TheVariants.{LeftProd, CliNotify, CliLive, CliGone, SrvPending}
 use Rattle.vchan_protocol.specs.declared.op.Op.TheVariants.{Store}
-use Rattle.vchan_protocol.specs.declared.call.Answer.TheVariants.{Empty, Event}
+use Rattle.vchan_protocol.specs.declared.call.Answer.TheVariants.{Empty, Event, Gone}
 use Rattle.vchan_protocol.specs.declared.call.Bit.TheVariants.{Written}
-use Rattle.vchan_protocol.specs.declared.call.Call.TheVariants.{Write, Read, Close, TakeEvent}
+use Rattle.vchan_protocol.specs.declared.call.Call.TheVariants.{Write, Read, Close, TakeEvent, Retire, PeerGone}
 use Rattle.vchan_protocol.specs.declared.call.EndState.TheVariants.{Open}
 use Rattle.vchan_protocol.specs.History.Core.{Core, opened, begun, nothing_noted}
 use Rattle.vchan_protocol.specs.History.WholeCall.{called, call_answer}
@@ -34,6 +34,17 @@ signal_stored orders = events_of Client 1 (bit_tested orders)
 abbrev pub live_cleared : Orders → Core
 live_cleared orders = events_of Client 1 (begun (asked orders) Client Close [])
 
+-- or it has closed already and the server has taken that event; then the server looks whether it is gone
+abbrev pub close_taken : Orders → Core
+close_taken orders = called (called (asked orders) Client Close []) Server TakeEvent []
+
+abbrev pub gone_loaded : Orders → Core
+gone_loaded orders = called (close_taken orders) Server PeerGone []
+
+-- the client retires, of which the first event is made
+abbrev pub gone_stored : Orders → Core
+gone_stored orders = events_of Client 1 (begun (gone_loaded orders) Client Retire [])
+
 -- what each of these comes to
 pub record IsWorkedSignal (orders : Orders) : Type 0 where
   pub left : number_of orders.left ≡ 10
@@ -58,6 +69,12 @@ pub record IsWorkedSignal (orders : Orders) : Type 0 where
   -- the live byte is 0, and the client is about to signal
   pub closed : held (live_cleared orders) CliLive ≡ 0
   pub close_owed : OwesSignal (live_cleared orders) Client (Store CliLive 0)
+  -- the server has noted the gone word as 0 and no event waits for it; then the word is 1, and the client is about to signal
+  pub stays : call_answer (close_taken orders) Server PeerGone [] ≡ Gone false
+  pub gone_noted : (gone_loaded orders).server.notes.gone ≡ Some 0
+  pub unwoken : held (gone_stored orders) SrvPending ≡ 0
+  pub gone : held (gone_stored orders) CliGone ≡ 1
+  pub gone_owed : OwesSignal (gone_stored orders) Client (Store CliGone 1)
 
 abbrev pub SignalIsAsWorked : Type 0
 SignalIsAsWorked = (orders : Orders) × IsWorkedSignal orders

@@ -16,7 +16,7 @@ use Rattle.vchan_protocol.specs.declared.side.Side.{Side}
 use Rattle.vchan_protocol.specs.declared.side.Asked.{Asked}
 use Rattle.vchan_protocol.specs.declared.side.Notes.{Notes}
 use Rattle.vchan_protocol.specs.Table.Plan.{past, GoesOn}
-use Rattle.vchan_protocol.specs.Table.Ends.{written_ring, read_ring, prod_word, cons_word, ask_word, notify_word, peer_live, own_live, own_pending, peer_pending, mask, low8, low32}
+use Rattle.vchan_protocol.specs.Table.Ends.{written_ring, read_ring, prod_word, cons_word, ask_word, notify_word, peer_live, own_live, peer_gone, own_gone, own_pending, peer_pending, mask, low8, low32}
 use Rattle.vchan_protocol.specs.History.Core.{Core, side_of, plan_left, op_next, opened, begun, event}
 use Rattle.vchan_protocol.specs.History.WholeCall.{called}
 use Rattle.vchan_protocol.specs.History.Peer.{peer, held}
@@ -88,10 +88,18 @@ CloseIsTold core who =
     (live : ℕ) → (side_of core who).notes.live ≡ Some live → live ≢ 0 → low8 (held core (peer_live who)) ≡ 0 →
     OwesSignal core (peer who) (Store (own_live (peer who)) 0) ⊎ IsWoken core who
 
+-- Where an end loaded its peer's gone word as 0 and has taken no event since, and the word isn't 0 now,
+-- its peer has just stored that and owes the signal, or the end is woken.
+abbrev pub GoneIsTold : Core → Role → Type 0
+GoneIsTold core who =
+    (side_of core who).notes.gone ≡ Some 0 → held core (peer_gone who) ≢ 0 →
+    OwesSignal core (peer who) (Store (own_gone (peer who)) 1) ⊎ IsWoken core who
+
 pub record NoLostSignal (core : Core) : Type 0 where
   pub asks_stand : (who : Role) (bit : Bit) → AskStands core who bit
   pub indices_told : (who : Role) (bit : Bit) → IndexIsTold core who bit
   pub closes_told : (who : Role) → CloseIsTold core who
+  pub gone_told : (who : Role) → GoneIsTold core who
 
 -- ---- its laws
 
@@ -131,11 +139,12 @@ pub record IsWaiting (core : Core) (who : Role) (bit : Bit) : Type 0 where
   pub unwoken : held core (own_pending who) ≡ 0
   pub peer_idle : (side_of core (peer who)).call ≡ None
 
--- its bit stands, so the peer's next bytes are signalled; the peer's index is the one that it loaded last since it asked, and the peer has not closed since it loaded the live byte
+-- its bit stands, so the peer's next bytes are signalled; the peer's index is the one that it loaded last since it asked, the peer has not closed since it loaded the live byte, and has not gone since it loaded the gone word
 pub record MissesNothing (core : Core) (who : Role) (bit : Bit) : Type 0 where
   pub bit_stands : bit_and (held core (ask_word who)) (mask bit) ≢ 0
   pub index_stands : (index : ℕ) → (asked_of (side_of core who).notes bit).seen ≡ Some index → low32 (held core (peer_index who bit)) ≡ index
   pub peer_open : (live : ℕ) → (side_of core who).notes.live ≡ Some live → live ≢ 0 → low8 (held core (peer_live who)) ≢ 0
+  pub peer_here : (side_of core who).notes.gone ≡ Some 0 → held core (peer_gone who) ≡ 0
 
 -- an end that waits while no signal is lost misses nothing
 abbrev pub WaitMissesNothing : Type 0
