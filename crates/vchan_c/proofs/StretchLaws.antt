@@ -1,0 +1,235 @@
+-- A stretch of events is what a plan leads through.
+use Rattle.std.proofs.Common.{◌≡◌, ℕ, Option, Some, None, suc, zero, ◌+◌, ◌-◌, ◌*◌, ◌/◌, ◌%◌, ◌<◌, ◌≤◌, Bool, true, false, List, [], ◌∷◌, ◌++◌, ◌⊎◌, inl, inr, refl, subst, sym, ap, ◌∙◌, arith}
+use Rattle.std.specs.Prelude.{if◌then◌else◌}
+use Rattle.std.proofs.lemmas.Nat.{mod-mul-add, div-add-mod'}
+use Rattle.std.proofs.lemmas.Bool.{cases_lt}
+use Rattle.std.proofs.lemmas.Bool.Decides.{nat_tests}
+use Rattle.ring_words.specs.declared.order.Order.{Order}
+use Rattle.ring_words.specs.declared.order.Orders.{Orders}
+use Rattle.ring_words.specs.Page.{order_of}
+use Rattle.ring_words.specs.declared.page.Role.{Role}
+use Rattle.ring_words.specs.declared.page.Role.TheVariants.{Server, Client}
+use Rattle.ring_words.specs.declared.page.WordName.TheVariants.{RingByte}
+use Rattle.ring_words.specs.Rings.{place, size}
+use Rattle.ring_words.proofs.RingLaws.{place_on, size-within}
+use Rattle.vchan_protocol.specs.declared.op.Op.{Op}
+use Rattle.vchan_protocol.specs.declared.op.Op.TheVariants.{Store, StoreByte, LoadByte}
+use Rattle.vchan_protocol.specs.declared.op.PastEvent.{PastEvent}
+use Rattle.vchan_protocol.specs.declared.call.Answer.{Answer}
+use Rattle.vchan_protocol.specs.Table.Plan.{Plan, answers, does, Leads, past, next_op}
+use Rattle.vchan_protocol.specs.declared.call.EndState.{EndState}
+use Rattle.vchan_protocol.specs.Table.Ends.{Standing, standing_after, state_after, prod_after, cons_after, peer_pending, written_ring, read_ring, write_order, read_order}
+use Rattle.vchan_core.specs.declared.machine.Machine.{Machine}
+use Rattle.vchan_core.specs.declared.machine.ahead.Span.{Span}
+use Rattle.vchan_core.specs.OneMachine.Phases.{standing, rest, rest_or_answer, IsIdle}
+use Rattle.vchan_core.specs.OneMachine.Ahead.{IsPut, IsTake, put_at, take_at}
+use Rattle.vchan_core.proofs.WholeCall.PieceLaws.{at_put, at_take, put_plan, take_plan, put_place, take_place}
+use Rattle.vchan_c.specs.declared.stretch.Bytes.{Bytes}
+use Rattle.vchan_c.specs.declared.stretch.Moves.{Moves}
+use Rattle.vchan_c.specs.declared.stretch.Moves.TheVariants.{Nothing as NoBytes, Puts, Takes}
+use Rattle.vchan_c.specs.declared.stretch.Stored.{Stored}
+use Rattle.vchan_c.specs.declared.stretch.Last.{Last}
+use Rattle.vchan_c.specs.declared.stretch.Last.TheVariants.{Answer as Answered, Event, Further}
+use Rattle.vchan_c.specs.Stretches.{AreBytes, IsWithin, MovesWithin, IsStretch, IsLast, awaits, byte_place, puts_told, takes_told, moved, stored, standing_stored, signalled, left, standing_behind}
+
+-- ---- the places of a span's bytes
+
+-- behind the ring's end comes its front
+place_front : (n j : ℕ) (order : Order) → place n order + j ≡ size order → place (n + j) order ≡ 0
+unfolding place
+place_front n j order h =
+    let apart : n + j ≡ (n / size order + 1) * size order + 0 = omega (arith, div-add-mod' n (size order), h) in
+    ap (λ (k : ℕ). k % size order) apart ∙ mod-mul-add (n / size order + 1) (size order) 0 (omega (arith, (size-within order).0))
+
+place_round : (n j k : ℕ) (order : Order) → place n order + j ≡ size order → k < size order → place (n + (j + k)) order ≡ k
+place_round n j k order h within =
+    let front = place_front n j order h in
+    let same : n + (j + k) ≡ (n + j) + k = omega arith in
+    ap (λ (i : ℕ). place i order) same ∙ (place_on (n + j) k order (omega (arith, front, within)) ∙ omega (arith, front))
+
+-- where each byte of a span lies
+span_place : (span : Span) (bytes : Bytes) → AreBytes span bytes → (k : ℕ) → k < bytes.first + bytes.second → place (span.index + span.at + k) span.order ≡ byte_place bytes k
+span_place span bytes are k less = go (cases_lt k bytes.first)
+  where
+    n : ℕ
+    n = span.index + span.at
+
+    go : (k < bytes.first) ⊎ (bytes.first ≤ k) → place (n + k) span.order ≡ byte_place bytes k
+    go (inl here) =
+        let on : place (n + k) span.order ≡ place n span.order + k = place_on n k span.order (omega (arith, are.place, are.within.ring, here)) in
+        let is : byte_place bytes k ≡ bytes.place + k = grind (arith, nat_tests) in
+        on ∙ (ap (λ (p : ℕ). p + k) (sym are.place) ∙ sym is)
+    go (inr behind) =
+        let whole : place n span.order + bytes.first ≡ size span.order = ap (λ (p : ℕ). p + bytes.first) (sym are.place) ∙ are.within.wraps (omega (arith, less, behind)) in
+        let same : bytes.first + (k - bytes.first) ≡ k = omega (arith, behind) in
+        let is : byte_place bytes k ≡ k - bytes.first = grind (arith, nat_tests) in
+        let here : place (n + (bytes.first + (k - bytes.first))) span.order ≡ k - bytes.first = place_round n bytes.first (k - bytes.first) span.order whole (omega (arith, less, behind, are.within.front, are.within.ring, are.within.some)) in
+        ap (λ (i : ℕ). place (n + i) span.order) (sym same) ∙ (here ∙ sym is)
+
+-- ---- a put and a take
+
+puts_on : (m : Machine) (bytes : Bytes) (count : ℕ) (answer : Answer) (i k n : ℕ) → bytes.ring ≡ written_ring m.role → i ≡ bytes.at + k → i + n ≤ count
+    → ((j : ℕ) → j < k + n → put_place m (bytes.at + j) ≡ byte_place bytes j)
+    → Leads (rest (at_put m i count answer)) (puts_told bytes k n) (rest (at_put m (i + n) count answer))
+puts_on m bytes count answer i k zero ring here enough places = ap (λ (x : ℕ). rest (at_put m x count answer)) (omega arith)
+puts_on m bytes count answer i k (suc n) ring here enough places =
+    let plan = put_plan m i count answer (omega (arith, enough)) in
+    let at : put_place m i ≡ byte_place bytes k = ap (λ (x : ℕ). put_place m x) here ∙ places k (omega arith) in
+    let op : StoreByte (RingByte bytes.ring (byte_place bytes k)) (bytes.at + k) ≡ StoreByte (RingByte (written_ring m.role) (put_place m i)) i =
+    rw ring (rw at (rw here refl)) in
+    let on : i + 1 + n ≡ i + suc n = omega arith in
+    let later : Leads (rest (at_put m (i + 1) count answer)) (puts_told bytes (k + 1) n) (rest (at_put m (i + 1 + n) count answer)) =
+    puts_on m bytes count answer (i + 1) (k + 1) n ring (omega (arith, here)) (omega (arith, enough)) (λ j less. places j (omega (arith, less))) in
+    subst (λ (p : Plan). Leads p (puts_told bytes k (suc n)) (rest (at_put m (i + suc n) count answer))) (sym plan)
+    (op, subst (λ (x : ℕ). Leads (rest (at_put m (i + 1) count answer)) (puts_told bytes (k + 1) n) (rest (at_put m x count answer))) on later)
+
+takes_on : (values : ℕ → ℕ) (m : Machine) (bytes : Bytes) (count : ℕ) (answer : Answer) (i k n : ℕ) → bytes.ring ≡ read_ring m.role → i ≡ bytes.at + k → i + n ≤ count
+    → ((j : ℕ) → j < k + n → take_place m (bytes.at + j) ≡ byte_place bytes j)
+    → Leads (rest (at_take m i count answer)) (takes_told values bytes k n) (rest (at_take m (i + n) count answer))
+takes_on values m bytes count answer i k zero ring here enough places = ap (λ (x : ℕ). rest (at_take m x count answer)) (omega arith)
+takes_on values m bytes count answer i k (suc n) ring here enough places =
+    let plan = take_plan m i count answer (omega (arith, enough)) in
+    let at : take_place m i ≡ byte_place bytes k = ap (λ (x : ℕ). take_place m x) here ∙ places k (omega arith) in
+    let op : LoadByte (RingByte bytes.ring (byte_place bytes k)) (bytes.at + k) ≡ LoadByte (RingByte (read_ring m.role) (take_place m i)) i =
+    rw ring (rw at (rw here refl)) in
+    let on : i + 1 + n ≡ i + suc n = omega arith in
+    let later : Leads (rest (at_take m (i + 1) count answer)) (takes_told values bytes (k + 1) n) (rest (at_take m (i + 1 + n) count answer)) =
+    takes_on values m bytes count answer (i + 1) (k + 1) n ring (omega (arith, here)) (omega (arith, enough)) (λ j less. places j (omega (arith, less))) in
+    subst (λ (p : Plan). Leads p (takes_told values bytes k (suc n)) (rest (at_take m (i + suc n) count answer))) (sym plan)
+    (op, subst (λ (x : ℕ). Leads (rest (at_take m (i + 1) count answer)) (takes_told values bytes (k + 1) n) (rest (at_take m x count answer))) on later)
+
+-- the bytes of a span that are put, and those that are taken
+pub puts_lead : (m now : Machine) (span : Span) (bytes : Bytes) → IsPut m span → AreBytes span bytes → now ≡ put_at m span (span.at + (bytes.first + bytes.second))
+    → Leads (rest m) (puts_told bytes 0 (bytes.first + bytes.second)) (rest now)
+puts_lead m now span bytes put are is =
+    subst (λ (x : Machine). Leads (rest m) (puts_told bytes 0 (bytes.first + bytes.second)) (rest x)) (sym is) (subst (λ (x : Machine). Leads (rest x) (puts_told bytes 0 (bytes.first + bytes.second)) (rest (put_at m span (span.at + (bytes.first + bytes.second))))) (sym put.here)
+    (puts_on m bytes span.count span.answer span.at 0 (bytes.first + bytes.second) (are.ring ∙ put.ring) (sym are.at ∙ omega arith) (omega (arith, are.within.caller, are.at))
+    (λ j less. ap (λ (o : Order). place (m.prod + (bytes.at + j)) o) (sym put.order)
+    ∙ (ap (λ (x : ℕ). place x span.order) (omega (arith, put.index, are.at)) ∙ span_place span bytes are j (omega (arith, less))))))
+
+pub takes_lead : (values : ℕ → ℕ) (m now : Machine) (span : Span) (bytes : Bytes) → IsTake m span → AreBytes span bytes → now ≡ take_at m span (span.at + (bytes.first + bytes.second))
+    → Leads (rest m) (takes_told values bytes 0 (bytes.first + bytes.second)) (rest now)
+takes_lead values m now span bytes take are is =
+    subst (λ (x : Machine). Leads (rest m) (takes_told values bytes 0 (bytes.first + bytes.second)) (rest x)) (sym is) (subst (λ (x : Machine). Leads (rest x) (takes_told values bytes 0 (bytes.first + bytes.second)) (rest (take_at m span (span.at + (bytes.first + bytes.second))))) (sym take.here)
+    (takes_on values m bytes span.count span.answer span.at 0 (bytes.first + bytes.second) (are.ring ∙ take.ring) (sym are.at ∙ omega arith) (omega (arith, are.within.caller, are.at))
+    (λ j less. ap (λ (o : Order). place (m.cons + (bytes.at + j)) o) (sym take.order)
+    ∙ (ap (λ (x : ℕ). place x span.order) (omega (arith, take.index, are.at)) ∙ span_place span bytes are j (omega (arith, less))))))
+
+-- ---- stretches
+
+-- two lists of events, one behind the other
+pub Leads-join : (p : Plan) (xs ys : List PastEvent) (q r : Plan) → Leads p xs q → Leads q ys r → Leads p (xs ++ ys) r
+Leads-join p [] ys q r one two = subst (λ (x : Plan). Leads x ys r) (sym one) two
+Leads-join (answers answer) (x ∷ xs) ys q r one two = absurd one
+Leads-join (does op next) (x ∷ xs) ys q r one two = (one.0, Leads-join (next x.taken) xs ys q r one.1 two)
+
+-- a signal leaves an end's standing
+signal_state : (role : Role) (state : EndState) → state_after (Store (peer_pending role) 1) role state ≡ state
+signal_state Server state = refl
+signal_state Client state = refl
+
+signal_prod : (role : Role) (count : ℕ) → prod_after (Store (peer_pending role) 1) role count ≡ count
+signal_prod Server count = refl
+signal_prod Client count = refl
+
+signal_cons : (role : Role) (count : ℕ) → cons_after (Store (peer_pending role) 1) role count ≡ count
+signal_cons Server count = refl
+signal_cons Client count = refl
+
+pub signal_stands : (e : Standing) → standing_after e (Store (peer_pending e.role) 1) ≡ e
+unfolding standing_after
+signal_stands e = rw (signal_state e.role e.state) (rw (signal_prod e.role e.prod) (rw (signal_cons e.role e.cons) refl))
+
+-- what a store leaves of an end's standing
+stored_role : (store : Option Stored) (e : Standing) → (standing_stored store e).role ≡ e.role
+unfolding standing_after
+stored_role None e = refl
+stored_role (Some s) e = refl
+
+-- a signal goes by the end's role
+signalled_as : (e f : Standing) (signals : Bool) → e.role ≡ f.role → signalled e signals ≡ signalled f signals
+signalled_as e f false is = refl
+signalled_as e f true is = ap (λ (role : Role). let signal : List PastEvent = past (Store (peer_pending role) 1) 0 ∷ [] in signal) is
+
+-- bytes, a store and a signal, one behind the other
+module _ (m mid late now : Machine) (moves : Moves) (store : Option Stored) (signals : Bool) (last : Last) (moves_lead : (values : ℕ → ℕ) → Leads (rest m) (moved values moves) (rest mid)) (moves_stand : standing mid ≡ standing m) (store_leads : Leads (rest mid) (stored store) (rest late)) (store_stands : standing late ≡ standing_stored store (standing mid)) (signal_leads : Leads (rest late) (signalled (standing late) signals) (left last now)) (signal_stays : standing now ≡ standing late) (last_is : IsLast last now) where
+  late_stands : standing late ≡ standing_stored store (standing m)
+  late_stands = store_stands ∙ ap (λ (e : Standing). standing_stored store e) moves_stand
+
+  signal_here : Leads (rest late) (signalled (standing m) signals) (left last now)
+  signal_here = subst (λ (events : List PastEvent). Leads (rest late) events (left last now)) (signalled_as (standing late) (standing m) signals (ap (λ (e : Standing). e.role) late_stands ∙ stored_role store (standing m))) signal_leads
+
+  pub stretched : IsStretch (rest m) (standing m) (record { moves = moves; store = store; signals = signals; last = last }) now
+  stretched = record {
+    leads = λ values. Leads-join (rest m) (moved values moves) (stored store ++ signalled (standing m) signals) (rest mid) (left last now) (moves_lead values)
+        (Leads-join (rest mid) (stored store) (signalled (standing m) signals) (rest late) (left last now) store_leads signal_here);
+    stands = signal_stays ∙ late_stands;
+    last_is = last_is;
+  }
+
+-- the store gives the answer
+pub store_answers : (m mid now : Machine) (moves : Moves) (store : Option Stored) (told : Option Answer) (answer : Answer)
+    → ((values : ℕ → ℕ) → Leads (rest m) (moved values moves) (rest mid)) → standing mid ≡ standing m
+    → Leads (rest mid) (stored store) (rest_or_answer told now) → standing now ≡ standing_stored store (standing mid)
+    → told ≡ Some answer → IsIdle now
+    → IsStretch (rest m) (standing m) (record { moves = moves; store = store; signals = false; last = Answered answer }) now
+store_answers m mid now moves store told answer moves_lead moves_stand store_leads store_stands is idle = record {
+  leads = λ values. Leads-join (rest m) (moved values moves) (stored store ++ []) (rest mid) (answers answer) (moves_lead values)
+      (Leads-join (rest mid) (stored store) [] (answers answer) (answers answer) (subst (λ (o : Option Answer). Leads (rest mid) (stored store) (rest_or_answer o now)) is store_leads) refl);
+  stands = store_stands ∙ ap (λ (e : Standing). standing_stored store e) moves_stand;
+  last_is = idle;
+}
+
+-- what stands behind a stretch, by the answer that its last event gave
+pub left_answer : (answer : Answer) (told : Option Answer) (p : Plan) (events : List PastEvent) (now : Machine) → told ≡ Some answer → Leads p events (rest_or_answer told now) → Leads p events (answers answer)
+left_answer answer told p events now is leads = subst (λ (o : Option Answer). Leads p events (rest_or_answer o now)) is leads
+
+pub left_rest : (told : Option Answer) (p : Plan) (events : List PastEvent) (now : Machine) → told ≡ None → Leads p events (rest_or_answer told now) → Leads p events (rest now)
+left_rest told p events now is leads = subst (λ (o : Option Answer). Leads p events (rest_or_answer o now)) is leads
+
+pub left_last : (last : Last) (told : Option Answer) (p : Plan) (events : List PastEvent) (now : Machine) → told ≡ None → ¬ IsIdle now → IsLast last now → Leads p events (rest_or_answer told now) → Leads p events (left last now)
+left_last (Answered answer) told p events now is busy last_is leads = absurd (busy last_is)
+left_last (Event op) told p events now is busy last_is leads = left_rest told p events now is leads
+left_last Further told p events now is busy last_is leads = left_rest told p events now is leads
+
+-- ---- bounds
+
+-- the bytes lie within what was needed before
+within_more : (order order' : Order) (most most' : ℕ) (bytes : Bytes) → order ≡ order' → most ≤ most' → IsWithin order most bytes → IsWithin order' most' bytes
+within_more order order' most most' bytes is less h = record {
+  some = h.some;
+  ring = subst (λ (o : Order). bytes.place + bytes.first ≤ size o) is h.ring;
+  front = h.front;
+  wraps = λ more. h.wraps more ∙ ap size is;
+  caller = omega (arith, h.caller, less);
+}
+
+pub moves_more : (e f : Standing) (payload payload' buffer buffer' : ℕ) (moves : Moves) → e.role ≡ f.role → e.orders ≡ f.orders → payload ≤ payload' → buffer ≤ buffer'
+    → MovesWithin e payload buffer moves → MovesWithin f payload' buffer' moves
+moves_more e f payload payload' buffer buffer' NoBytes role orders p b h = tt
+moves_more e f payload payload' buffer buffer' (Puts bytes) role orders p b h =
+    within_more (write_order e) (write_order f) payload payload' bytes (ap (λ (o : Orders). order_of o (written_ring e.role)) orders ∙ ap (λ (r : Role). order_of f.orders (written_ring r)) role) p h
+moves_more e f payload payload' buffer buffer' (Takes bytes) role orders p b h =
+    within_more (read_order e) (read_order f) buffer buffer' bytes (ap (λ (o : Orders). order_of o (read_ring e.role)) orders ∙ ap (λ (r : Role). order_of f.orders (read_ring r)) role) b h
+
+-- an event that is awaited leaves role and orders
+after_role : (b : Bool) (e : Standing) (op : Op) → (if b then standing_after e op else e).role ≡ e.role
+unfolding standing_after
+after_role true e op = refl
+after_role false e op = refl
+
+after_orders : (b : Bool) (e : Standing) (op : Op) → (if b then standing_after e op else e).orders ≡ e.orders
+unfolding standing_after
+after_orders true e op = refl
+after_orders false e op = refl
+
+pub behind_role : (m : Machine) → (standing_behind m).role ≡ m.role
+behind_role m = after_role (awaits (next_op (rest m))) (standing m) (next_op (rest m))
+
+pub behind_orders : (m : Machine) → (standing_behind m).orders ≡ m.orders
+behind_orders m = after_orders (awaits (next_op (rest m))) (standing m) (next_op (rest m))
+
+-- ---- a machine that was read
+
+pub alone : (m other : Machine) → Some m ≡ Some other → other ≡ m
+alone m other is = cc

@@ -1,0 +1,23 @@
+use Rattle.std.proofs.Common.{sym, rules, arith}
+use Rattle.vchan_core.specs.OneMachine.Phases.{standing}
+use Rattle.vchan_c.specs.Stretches.{standing_behind}
+use Rattle.vchan_c.proofs.StretchLaws.{alone, moves_more, behind_role, behind_orders}
+use Rattle.vchan_c.proofs.vchan_end_took.Goals as goal
+
+pub returns-clause-moved : goal.returns-clause-moved
+returns-clause-moved c = λ _. record {
+  machine = c.in-Some.machine;
+  kept = record { same = c.in-Some.ensures.kept; alone = λ other short is. alone _ _ (c.in-Some.ensures.again other short is) };
+  busy = search rules;
+  tells = record {
+    now = c.stretch_behind.new.machine;
+    stretch = c.stretch_behind.result;
+    kept = record { same = sym c.kept.ensures.kept; alone = c.kept.ensures.alone };
+    step_is = c.of.ensures;
+    does = c.stretch_behind.ensures.stretch;
+    payload_left = c.stretch_behind.ensures.payload_left;
+    buffer_left = c.stretch_behind.ensures.buffer_left;
+    within = moves_more (standing c.in-Some.machine) (standing_behind c.in-Some.machine) _ _ _ _ c.stretch_behind.result.moves (sym (behind_role c.in-Some.machine)) (sym (behind_orders c.in-Some.machine))
+        (omega arith) (omega arith) c.stretch_behind.ensures.within;
+  };
+}

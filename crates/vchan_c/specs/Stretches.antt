@@ -1,0 +1,122 @@
+-- The events that an end makes next: those whose values are known, up to one whose value is awaited.
+use Rattle.std.specs.Prelude.{◌≡◌, ◌<◌, ◌≤◌, ◌+◌, ◌-◌, ℕ, zero, suc, Bool, true, false, nat_lt, if◌then◌else◌, Option, Some, None, List, [], ◌∷◌, ◌++◌}
+use Rattle.ring_words.specs.declared.order.Order.{Order}
+use Rattle.ring_words.specs.declared.page.WordName.TheVariants.{RingByte}
+use Rattle.ring_words.specs.Rings.{place, size}
+use Rattle.vchan_protocol.specs.declared.op.Op.{Op}
+use Rattle.vchan_protocol.specs.declared.op.Op.TheVariants.{Load, LoadByte, Store, StoreByte, Or, And, Swap, Nothing}
+use Rattle.vchan_protocol.specs.declared.op.PastEvent.{PastEvent}
+use Rattle.vchan_protocol.specs.declared.call.Answer.{Answer}
+use Rattle.vchan_protocol.specs.Table.Plan.{Plan, answers, Leads, next_op, after, past}
+use Rattle.vchan_protocol.specs.Table.Ends.{Standing, standing_after, peer_pending, write_order, read_order}
+use Rattle.vchan_core.specs.declared.machine.Machine.{Machine}
+use Rattle.vchan_core.specs.declared.machine.ahead.Span.{Span}
+use Rattle.vchan_core.specs.OneMachine.Phases.{standing, rest, IsIdle}
+use Rattle.vchan_c.specs.declared.stretch.Bytes.{Bytes}
+use Rattle.vchan_c.specs.declared.stretch.Moves.{Moves}
+use Rattle.vchan_c.specs.declared.stretch.Moves.TheVariants.{Nothing as NoBytes, Puts, Takes}
+use Rattle.vchan_c.specs.declared.stretch.Stored.{Stored}
+use Rattle.vchan_c.specs.declared.stretch.Last.{Last}
+use Rattle.vchan_c.specs.declared.stretch.Last.TheVariants.{Answer as Answered, Event, Further}
+use Rattle.vchan_c.specs.declared.stretch.Stretch.{Stretch}
+
+-- the event's value tells how the call goes on: that of a byte doesn't, nor that of a store
+abbrev pub awaits : Op → Bool
+awaits (Load word) = true
+awaits (Or word bits) = true
+awaits (And word bits) = true
+awaits (Swap word value) = true
+awaits (LoadByte word at) = false
+awaits (Store word value) = false
+awaits (StoreByte word at) = false
+awaits Nothing = false
+
+-- ---- bytes
+
+-- where byte number k of some bytes lies in its ring
+abbrev pub byte_place : Bytes → ℕ → ℕ
+byte_place bytes k = if nat_lt k bytes.first then bytes.place + k else k - bytes.first
+
+-- the events that store n of the bytes, and those that load them, from number k on
+abbrev pub puts_told : Bytes → ℕ → ℕ → List PastEvent
+puts_told bytes k zero = []
+puts_told bytes k (suc n) = past (StoreByte (RingByte bytes.ring (byte_place bytes k)) (bytes.at + k)) 0 ∷ puts_told bytes (k + 1) n
+
+abbrev pub takes_told : (ℕ → ℕ) → Bytes → ℕ → ℕ → List PastEvent
+takes_told values bytes k zero = []
+takes_told values bytes k (suc n) = past (LoadByte (RingByte bytes.ring (byte_place bytes k)) (bytes.at + k)) (values k) ∷ takes_told values bytes (k + 1) n
+
+-- the bytes lie within a ring of this order, in two parts at most, and within so many of the caller's
+pub record IsWithin (order : Order) (most : ℕ) (bytes : Bytes) : Type 0 where
+  pub some : 0 < bytes.first
+  pub ring : bytes.place + bytes.first ≤ size order
+  pub front : bytes.second ≤ bytes.place
+  pub wraps : 0 < bytes.second → bytes.place + bytes.first ≡ size order
+  pub caller : bytes.at + (bytes.first + bytes.second) ≤ most
+
+-- the bytes are the next ones of a span
+pub record AreBytes (span : Span) (bytes : Bytes) : Type 0 where
+  pub ring : bytes.ring ≡ span.ring
+  pub at : bytes.at ≡ span.at
+  pub place : bytes.place ≡ place (span.index + span.at) span.order
+  pub within : IsWithin span.order span.count bytes
+
+abbrev pub moved : (ℕ → ℕ) → Moves → List PastEvent
+moved values NoBytes = []
+moved values (Puts bytes) = puts_told bytes 0 (bytes.first + bytes.second)
+moved values (Takes bytes) = takes_told values bytes 0 (bytes.first + bytes.second)
+
+-- the bytes lie within the ring of an end with this standing, and within so many of its payload or its buffer
+abbrev pub MovesWithin : Standing → ℕ → ℕ → Moves → Type 0
+MovesWithin e payload buffer NoBytes = Unit {0}
+MovesWithin e payload buffer (Puts bytes) = IsWithin (write_order e) payload bytes
+MovesWithin e payload buffer (Takes bytes) = IsWithin (read_order e) buffer bytes
+
+-- ---- a store, and a signal
+
+abbrev pub stored : Option Stored → List PastEvent
+stored None = []
+stored (Some s) = past (Store s.word s.value) 0 ∷ []
+
+abbrev pub standing_stored : Option Stored → Standing → Standing
+standing_stored None e = e
+standing_stored (Some s) e = standing_after e (Store s.word s.value)
+
+abbrev pub signalled : Standing → Bool → List PastEvent
+signalled e false = []
+signalled e true = past (Store (peer_pending e.role) 1) 0 ∷ []
+
+-- ---- a stretch of events
+
+-- its events, where the bytes that are loaded have these values
+abbrev pub told : (ℕ → ℕ) → Standing → Stretch → List PastEvent
+told values e stretch = moved values stretch.moves ++ (stored stretch.store ++ signalled e stretch.signals)
+
+-- what is left of the call behind it
+abbrev pub left : Last → Machine → Plan
+left (Answered answer) m = answers answer
+left (Event op) m = rest m
+left Further m = rest m
+
+abbrev pub IsLast : Last → Machine → Type 0
+IsLast (Answered answer) m = IsIdle m
+IsLast (Event op) m = (¬ IsIdle m) × ((op ≡ next_op (rest m)) × (awaits op ≡ true))
+IsLast Further m = (¬ IsIdle m) × (awaits (next_op (rest m)) ≡ false)
+
+-- The stretch is what an end with this standing does next of the plan, and the machine is what it leaves.
+pub record IsStretch (plan : Plan) (e : Standing) (stretch : Stretch) (now : Machine) : Type 0 where
+  pub leads : (values : ℕ → ℕ) → Leads plan (told values e stretch) (left stretch.last now)
+  pub stands : standing now ≡ standing_stored stretch.store e
+  pub last_is : IsLast stretch.last now
+
+abbrev pub answered_by : Answer → Stretch
+answered_by answer = record { moves = NoBytes; store = None; signals = false; last = Answered answer }
+
+-- ---- behind the event that is awaited
+
+-- what is left once it took this value, and what the end knows then; where none is awaited, nothing changes
+abbrev pub plan_behind : Machine → ℕ → Plan
+plan_behind m value = if awaits (next_op (rest m)) then after (rest m) value else rest m
+
+abbrev pub standing_behind : Machine → Standing
+standing_behind m = if awaits (next_op (rest m)) then standing_after (standing m) (next_op (rest m)) else standing m

@@ -1,0 +1,101 @@
+//! One end of a channel for a program in C or in Rust: which loads and stores come next, and what a
+//! call answers.
+//!
+//! The end is 32 bytes of the caller's, which hold plain numbers alone. It names no memory: the
+//! caller makes the loads and stores that a [`Step`] tells, on a page that it has mapped, and hands
+//! in the value that the awaited one took. Which they are, in which order, at which places, and what
+//! a call answers is that of `vchan_core::Machine`, as `specs/Ends.antt` says.
+#![tactic(auto)]
+
+mod numbers;
+mod step;
+mod stretch;
+
+ghost use Rattle.std.specs.Prelude.{◌≡◌, ◌≢◌, ◌↔◌, IsTrue, true, false};
+ghost use Rattle.vchan_core.specs.OneMachine.Keeping.{kept_of, IsShort};
+ghost use Rattle.vchan_core.specs.OneMachine.Phases.{IsIdle};
+ghost use Rattle.vchan_core.specs.declared.machine.Machine.{Machine};
+ghost use Rattle.vchan_c.specs.Ends.{AreEndNumbers, Made, Begins, Goes, answer_to};
+
+use numbers::{call_of, end_of, refusal_number};
+pub use step::Step;
+use stretch::{stretch_behind, stretch_of};
+use vchan_core::Kept;
+
+/// Makes an end between two calls, with its own two counts, in bytes modulo 2^32: `prod` of the ring
+/// that it writes, and `cons` of the one that it reads. The role is 0 for a server and 1 for a
+/// client; the state is 0 for a client that hasn't connected, 1 for an open end and 2 for a shut
+/// one.
+///
+/// It answers false, and changes nothing, where the numbers are those of no end: an unknown role or
+/// state, a server that isn't connected, or two orders that a page can't have.
+#[unsafe(no_mangle)]
+pub extern "C" fn vchan_end_init(
+    end: &mut Kept,
+    role: u8,
+    state: u8,
+    left_order: u16,
+    right_order: u16,
+    prod: u32,
+    cons: u32,
+) -> bool
+    ensures made { result ≡ true → Made role state left_order right_order prod cons end.new }
+    ensures refused { result ≡ false → end.new ≡ end.old }
+    ensures exact { IsTrue result ↔ AreEndNumbers role state left_order right_order }
+{
+    let Some(machine) = end_of(role, state, left_order, right_order, prod, cons) else {
+        return false;
+    };
+    *end = machine.kept();
+    true
+}
+
+/// Begins a call, and tells its first step. The length is how many bytes the call may move; a call
+/// that moves none ignores it. The calls are 1 write, 2 send, 3 read, 4 recv, 5 drain, 6 data ready,
+/// 7 buffer space, 8 connect, 9 close, 10 take the pending signal.
+///
+/// It answers 0; 1 where the end is inside a call, 2 where it is shut, 3 where it isn't connected
+/// yet, 4 where it is connected already, 5 for a drain of no byte; 6 where there is no such call; and
+/// 7 where the 32 bytes are those of no end. It changes nothing but where it answers 0.
+#[unsafe(no_mangle)]
+pub extern "C" fn vchan_end_begin(end: &mut Kept, call: u8, len: u32, step: &mut Step) -> u8
+    ensures begun { result ≡ 0 → Begins end.old call len end.new step.new }
+    ensures refused { result ≢ 0 → (end.new ≡ end.old) × (step.new ≡ step.old) }
+    ensures answer { (machine : Machine) → IsShort machine → kept_of machine ≡ end.old → result ≡ answer_to machine call len }
+{
+    let Some(mut machine) = end.machine() else {
+        return 7;
+    };
+    let Some(call) = call_of(call, len) else {
+        return 6;
+    };
+    if let Some(refusal) = machine.refusal(call) {
+        return refusal_number(refusal);
+    }
+    machine.begin(call);
+    *step = Step::of(stretch_of(&mut machine));
+    *end = machine.kept();
+    0
+}
+
+/// The step was carried out, and what it awaits took this value: tells the next step. The value is
+/// the word as it was; where nothing is awaited it is ignored.
+///
+/// It answers false, and changes nothing, where the 32 bytes are those of no end, or of one that is
+/// between two calls.
+#[unsafe(no_mangle)]
+pub extern "C" fn vchan_end_took(end: &mut Kept, value: u64, step: &mut Step) -> bool
+    ensures moved { result ≡ true → Goes end.old value end.new step.new }
+    ensures refused { result ≡ false → (end.new ≡ end.old) × (step.new ≡ step.old) }
+    ensures accepted { (machine : Machine) → IsShort machine → kept_of machine ≡ end.old → (IsTrue result ↔ ¬ IsIdle machine) }
+{
+    let Some(mut machine) = end.machine() else {
+        return false;
+    };
+    if machine.idle() {
+        return false;
+    }
+    *step = Step::of(stretch_behind(&mut machine, value));
+    *end = machine.kept();
+    true
+}

@@ -1,0 +1,63 @@
+//! What the numbers of a C caller stand for.
+ghost use Rattle.std.specs.Prelude.{◌≡◌, ◌↔◌, IfSome, IsSome};
+ghost use Rattle.vchan_core.specs.OneMachine.Phases.{standing, IsIdle};
+ghost use Rattle.vchan_c.specs.Ends.{call_told, number_of_refusal, AreEndNumbers, IsStanding};
+
+use ring_words::{Role, check_orders};
+use vchan_core::{Call, EndState, Machine, Refusal, role_of, state_of};
+
+/// An end between two calls, where the numbers are those of one.
+pub(crate) fn end_of(
+    role: u8,
+    state: u8,
+    left_order: u16,
+    right_order: u16,
+    prod: u32,
+    cons: u32,
+) -> Option<Machine>
+    ensures some { IsSome result ↔ AreEndNumbers role state left_order right_order }
+    ensures standing { IfSome result (λ machine. IsStanding role state left_order right_order prod cons (standing machine)) }
+    ensures idle { IfSome result (λ machine. IsIdle machine) }
+{
+    let role = role_of(role)?;
+    let state = state_of(state)?;
+    let Ok(orders) = check_orders(left_order, right_order) else {
+        return None;
+    };
+    match (role, state) {
+        (Role::Server, EndState::Fresh) => None,
+        _ => Some(Machine::resumed(role, orders, state, prod, cons)),
+    }
+}
+
+/// The call of that number.
+pub(crate) fn call_of(number: u8, len: u32) -> Option<Call>
+    ensures { result ≡ call_told number len }
+{
+    match number {
+        1 => Some(Call::Write { len }),
+        2 => Some(Call::Send { len }),
+        3 => Some(Call::Read { most: len }),
+        4 => Some(Call::Recv { len }),
+        5 => Some(Call::Drain { most: len }),
+        6 => Some(Call::DataReady),
+        7 => Some(Call::BufferSpace),
+        8 => Some(Call::Connect),
+        9 => Some(Call::Close),
+        10 => Some(Call::TakeEvent),
+        _ => None,
+    }
+}
+
+/// The number of a refusal.
+pub(crate) fn refusal_number(refusal: Refusal) -> u8
+    ensures { result ≡ number_of_refusal refusal }
+{
+    match refusal {
+        Refusal::Busy => 1,
+        Refusal::Shut => 2,
+        Refusal::Unconnected => 3,
+        Refusal::Connected => 4,
+        Refusal::NoBytes => 5,
+    }
+}

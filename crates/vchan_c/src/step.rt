@@ -1,0 +1,233 @@
+//! A step as plain numbers.
+ghost use Rattle.std.specs.Prelude.{◌≡◌};
+ghost use Rattle.vchan_core.specs.OneMachine.Keeping.{numbers_of_answer};
+ghost use Rattle.vchan_c.specs.Steps.{offset_of, width_of, AreXenFields, ring_number as ring_number_of, moves_number, bytes_in, store_offset, store_width, store_value, numbers_of_event, numbers_of_last, answer_in, step_of};
+
+use crate::stretch::{Bytes, Last, Moves, Stored, Stretch};
+use ring_words::{Ring, WordName};
+use vchan_core::{AnswerNumbers, Op};
+
+/// What a caller does next, in this order: it moves bytes, stores a number, signals its peer, and
+/// then makes the event whose value is awaited, or has the answer of its call. Words are told by
+/// their offset in Xen's `struct vchan_interface` and their width in bytes; a word that the page of
+/// Xen doesn't have has the width 0: nothing is done there, and a load or a swap takes what the
+/// caller knows, as whether a signal is pending, or 0.
+#[repr(C)]
+#[derive(Clone, Copy, Debug, PartialEq, Eq)]
+pub struct Step {
+    /// What is awaited: 0 nothing, and the answer is here; 1 a load, 2 an or, 3 an and, 4 a swap; 5
+    /// nothing, and the call goes on.
+    pub kind: u8,
+    /// The width of the awaited word, in bytes.
+    pub width: u8,
+    /// The offset of the awaited word.
+    pub offset: u16,
+    /// Whether bytes are moved: 0 none, 1 they are stored, 2 they are loaded.
+    pub moves: u8,
+    /// The ring that they lie in: 0 left, 1 right.
+    pub ring: u8,
+    /// The width of the word to store in, in bytes; 0 where nothing is stored.
+    pub store_width: u8,
+    /// 1 where the peer is to be signalled, else 0.
+    pub signals: u8,
+    /// The offset of the word to store in.
+    pub store_offset: u16,
+    /// The kind of the answer, from 1 to 18 in the order of [`vchan_core::Answer`].
+    pub answer: u8,
+    /// 0.
+    pub spare: u8,
+    /// Where in the ring the first byte lies.
+    pub place: u32,
+    /// Its number in the caller's payload or buffer.
+    pub at: u32,
+    /// How many bytes lie from that place on.
+    pub first: u32,
+    /// How many lie from the ring's front on, and go on behind these.
+    pub second: u32,
+    /// The first part of the answer, as how many bytes were moved.
+    pub answer_first: u32,
+    /// The second part of the answer.
+    pub answer_second: u32,
+    /// 0.
+    pub spares: u32,
+    /// What is stored.
+    pub stored: u64,
+    /// The bits of an or or an and, or what a swap stores.
+    pub bits: u64,
+}
+
+/// Where a word lies in the page, and how wide it is there.
+fn offset_and_width(word: WordName) -> (u16, u8)
+    ensures offset { result.0 ≡ offset_of word }
+    ensures width { result.1 ≡ width_of word }
+    ensures fields { AreXenFields }
+{
+    match word {
+        WordName::LeftCons => (0, 4),
+        WordName::LeftProd => (4, 4),
+        WordName::RightCons => (8, 4),
+        WordName::RightProd => (12, 4),
+        WordName::LeftOrder => (16, 2),
+        WordName::RightOrder => (18, 2),
+        WordName::CliLive => (20, 1),
+        WordName::SrvLive => (21, 1),
+        WordName::CliNotify => (22, 1),
+        WordName::SrvNotify => (23, 1),
+        WordName::SrvPending
+        | WordName::CliPending
+        | WordName::SrvGone
+        | WordName::CliGone
+        | WordName::RingByte { .. } => (0, 0),
+    }
+}
+
+fn ring_number(ring: Ring) -> u8
+    ensures { result ≡ ring_number_of ring }
+{
+    match ring {
+        Ring::Left => 0,
+        Ring::Right => 1,
+    }
+}
+
+/// Whether bytes are moved, and which.
+fn moved(moves: Moves) -> (u8, Bytes)
+    ensures number { result.0 ≡ moves_number moves }
+    ensures bytes { result.1 ≡ bytes_in moves }
+{
+    match moves {
+        Moves::Nothing => (
+            0,
+            Bytes {
+                ring: Ring::Left,
+                place: 0,
+                at: 0,
+                first: 0,
+                second: 0,
+            },
+        ),
+        Moves::Puts(bytes) => (1, bytes),
+        Moves::Takes(bytes) => (2, bytes),
+    }
+}
+
+/// A store: the offset and the width of its word, and its number.
+fn stored(store: Option<Stored>) -> (u16, u8, u64)
+    ensures offset { result.0 ≡ store_offset store }
+    ensures width { result.1 ≡ store_width store }
+    ensures value { result.2 ≡ store_value store }
+{
+    match store {
+        None => (0, 0, 0),
+        Some(store) => {
+            let (offset, width) = offset_and_width(store.word);
+            (offset, width, store.value)
+        }
+    }
+}
+
+/// What is awaited: its kind, the offset and the width of its word, and its number.
+#[derive(Clone, Copy)]
+struct Awaited {
+    kind: u8,
+    offset: u16,
+    width: u8,
+    bits: u64,
+}
+
+impl Awaited {
+    const NOTHING: Awaited = Awaited {
+        kind: 0,
+        offset: 0,
+        width: 0,
+        bits: 0,
+    };
+
+    const FURTHER: Awaited = Awaited {
+        kind: 5,
+        offset: 0,
+        width: 0,
+        bits: 0,
+    };
+
+    fn at(kind: u8, word: WordName, bits: u64) -> Awaited
+        ensures { result ≡ record { kind = kind; offset = offset_of word; width = width_of word; bits = bits } }
+    {
+        let (offset, width) = offset_and_width(word);
+        Awaited {
+            kind,
+            offset,
+            width,
+            bits,
+        }
+    }
+
+    fn of(op: Op) -> Awaited
+        ensures kind { result.kind ≡ (numbers_of_event op).0 }
+        ensures offset { result.offset ≡ (numbers_of_event op).1 }
+        ensures width { result.width ≡ (numbers_of_event op).2 }
+        ensures bits { result.bits ≡ (numbers_of_event op).3 }
+    {
+        match op {
+            Op::Load { word } => Awaited::at(1, word, 0),
+            Op::Or { word, bits } => Awaited::at(2, word, bits),
+            Op::And { word, bits } => Awaited::at(3, word, bits),
+            Op::Swap { word, value } => Awaited::at(4, word, value),
+            Op::LoadByte { .. } | Op::Store { .. } | Op::StoreByte { .. } | Op::Nothing => {
+                Awaited::FURTHER
+            }
+        }
+    }
+}
+
+/// What stands behind a stretch: what is awaited, and the answer.
+fn ended(last: Last) -> (Awaited, AnswerNumbers)
+    ensures kind { result.0.kind ≡ (numbers_of_last last).0 }
+    ensures offset { result.0.offset ≡ (numbers_of_last last).1 }
+    ensures width { result.0.width ≡ (numbers_of_last last).2 }
+    ensures bits { result.0.bits ≡ (numbers_of_last last).3 }
+    ensures answer { (result.1.number ≡ (answer_in last).0) × (result.1.first ≡ (answer_in last).1) × (result.1.second ≡ (answer_in last).2) }
+{
+    const NONE: AnswerNumbers = AnswerNumbers {
+        number: 0,
+        first: 0,
+        second: 0,
+    };
+    match last {
+        Last::Answer(answer) => (Awaited::NOTHING, AnswerNumbers::of(answer)),
+        Last::Event(op) => (Awaited::of(op), NONE),
+        Last::Further => (Awaited::FURTHER, NONE),
+    }
+}
+
+impl Step {
+    /// A stretch of events, as numbers.
+    pub(crate) fn of(stretch: Stretch) -> Step
+        ensures { result ≡ step_of stretch }
+    {
+        let (moves, bytes) = moved(stretch.moves);
+        let (store_offset, store_width, value) = stored(stretch.store);
+        let (awaited, answer) = ended(stretch.last);
+        Step {
+            kind: awaited.kind,
+            width: awaited.width,
+            offset: awaited.offset,
+            moves,
+            ring: ring_number(bytes.ring),
+            store_width,
+            signals: u8::from(stretch.signals),
+            store_offset,
+            answer: answer.number,
+            spare: 0,
+            place: bytes.place,
+            at: bytes.at,
+            first: bytes.first,
+            second: bytes.second,
+            answer_first: answer.first,
+            answer_second: answer.second,
+            spares: 0,
+            stored: value,
+            bits: awaited.bits,
+        }
+    }
+}
