@@ -44,7 +44,7 @@ answered_view e call payload buffer answer saw = record e {
   retired = e.retired || retires call;
 }
 
--- Beside a hostile peer a drain may see an end that its answer doesn't tell of. It then knows what the answer tells, and what it knew.
+-- A drain may see an end that its answer doesn't tell of: it finds the live byte 0, and then bytes that were written before. It knows what the answer tells, and what it knew.
 pub record DrainSees (answer : Answer) (before now : Bool) : Type 0 where
   pub told : tells_end answer ≡ true → now ≡ true
   pub known : before ≡ true → now ≡ true

@@ -50,7 +50,8 @@ connect_told (Err orders) = Refuses orders.left orders.right
 
 -- ---- the views
 
--- The view of an end after a drain into this buffer. Beside a hostile peer it may have seen its peer's end where its answer doesn't tell of it.
+-- The view of an end after a drain into this buffer. It may have seen its peer's end where its answer doesn't tell of it: where it found the live byte 0, and
+-- then bytes that were written before.
 abbrev pub drained_to : EndView → DrainAnswer → List ℕ → Bool → EndView
 drained_to e (More count) buffer saw = record e { got = e.got ++ take count buffer; saw = saw }
 drained_to e (IsNotYet prod cons) buffer saw = record e { saw = saw }
