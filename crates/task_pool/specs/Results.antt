@@ -24,7 +24,7 @@ module _ {T D : Type 0} (owes : T → D → Type 0) where
   -- what a try to make a turn tells: no task waited at one moment; or one made a turn and waits again; or one is done
   abbrev pub Tries : Hand T → Tried D → Hand T → Type 0
   Tries v Idle w = (w ≡ v) × Held 0 (Counts v)
-  Tries v Again w = w ≡ v
+  Tries v (Again _) w = w ≡ v
   Tries v (Over f) w = Ends v f w
 
   -- a pass with one part, to which these tasks were laid, keeps just the places of these results

@@ -6,16 +6,15 @@ ghost use Rattle.task_pool.specs.Hand.{all_parts};
 ghost use Rattle.task_pool.specs.Results.{Keeps, Settled, IsWhole};
 
 use crate::pool::MOST_WORKERS;
+use crate::progress::Progress;
 use crate::queue::{Parting, TaskPass, TaskQueue};
 use crate::task::PoolTask;
 use crate::turn::try_turn;
 use crate::waiting::{Finished, Tried};
 use crate::worker::{Worker, work};
-use crossbeam_utils::CachePadded;
 use service_gate::Gate;
 use std::alloc::{AllocError, Global};
 use std::sync::Wait;
-use std::sync::atomic::AtomicU64;
 use std::thread;
 use std::thread::Threads;
 
@@ -92,12 +91,27 @@ impl<T: PoolTask> Account<T> {
         ensures few { IfOk result (λ back. vec_len back ≡ vec_len workers) }
         ensures back { IfOk result (λ back. AllByRecursion (λ w. IsPassOf queue.now w.pass × Keeps T.owes (view self.now.pass).laid w.finished.items (view w.pass)) back.items) }
     {
-        let over = CachePadded::new(AtomicU64::new(0));
-        let shared = &over;
+        let progress = Progress::new(count);
+        self.start(rt, queue, gate, &progress, workers)
+    }
+
+    // Starts the workers, who share this progress.
+    fn start<G: Gate, R: Threads + Wait + Sync>(
+        &self,
+        rt: &R,
+        queue: &TaskQueue<T>,
+        gate: &G,
+        progress: &Progress,
+        workers: Vec<Worker<T>>,
+    ) -> Result<Vec<Worker<T>>, AllocError>
+        requires hired { All (λ w. IsPassOf queue.now w.pass × Keeps T.owes (view self.now.pass).laid w.finished.items (view w.pass) × (length (view self.now.pass).laid ≤ vec_capacity w.finished)) workers.items }
+        ensures few { IfOk result (λ back. vec_len back ≡ vec_len workers) }
+        ensures back { IfOk result (λ back. AllByRecursion (λ w. IsPassOf queue.now w.pass × Keeps T.owes (view self.now.pass).laid w.finished.items (view w.pass)) back.items) }
+    {
         let turns = |worker: Worker<T>| -> Worker<T>
             requires { IsPassOf queue.now worker.pass × Keeps T.owes (view worker.pass).laid worker.finished.items (view worker.pass) × (length (view worker.pass).laid ≤ vec_capacity worker.finished) }
             ensures { IsPassOf queue.entry.now result.pass × Keeps T.owes (view worker.pass).laid result.finished.items (view result.pass) }
-        { work(rt, queue, gate, count, shared, worker) };
+        { work(rt, queue, gate, progress, worker) };
         thread::map_vec(rt, workers, &turns)
     }
 
@@ -148,7 +162,7 @@ impl<T: PoolTask> Account<T> {
         for _ in rt.forever() {
             match try_turn(rt, queue, gate, &mut self.pass) {
                 Tried::Idle => return,
-                Tried::Again => {}
+                Tried::Again { moved: _ } => {}
                 Tried::Over(finished) => write_down(&mut self.answers, finished),
             }
         }

@@ -9,7 +9,9 @@ mod account;
 mod hand;
 mod lay;
 mod pool;
+mod progress;
 mod queue;
+mod quiet;
 mod task;
 #[cfg(test)]
 mod tests;

@@ -15,6 +15,12 @@ pub trait PoolTask: Sized + Send + Drop {
     /// that is done gives what it owed.
     fn turn(self) -> Turn<Self>
         ensures { Pays owes self result };
+
+    /// Whether the last turn moved anything that another task may wait for. One that moved nothing is turned
+    /// again once some other turn has moved something, or a while later; no promise speaks of it.
+    fn moved(&self) -> bool {
+        true
+    }
 }
 
 /// What a turn gives: the task, which goes on, or what it owed.

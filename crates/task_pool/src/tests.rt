@@ -6,6 +6,7 @@ use std::alloc::{AllocError, Global};
 use std::sync::atomic::{AtomicBool, AtomicU64, Ordering};
 use std::test::Fail;
 use std::thread;
+use std::time::Duration;
 
 // A task of so many turns, which answers how many it made.
 #[derive(Drop)]
@@ -283,5 +284,68 @@ fn one_worker_turns_in_rounds(rt: HostRuntime) -> Result<(), Fail> {
         !gate.missed.load(Ordering::SeqCst),
         "a task entered out of its turn"
     );
+    Ok(())
+}
+
+// For how many milliseconds one task stays inside its turn.
+const HOLD: u64 = 200;
+
+// How many turns each of the others may make meanwhile.
+const MOST_WAITED: u32 = 300;
+
+// A task that stays inside its one turn for a while, or one that waits for that, and answers how many turns it
+// made until then.
+#[derive(Drop)]
+struct Held<'a> {
+    rt: &'a HostRuntime,
+    holds: bool,
+    over: &'a AtomicBool,
+    made: u32,
+}
+
+impl PoolTask for Held<'_> {
+    type Done = u32;
+
+    ghost owes = { λ _ _. Unit {0} };
+
+    fn turn(mut self) -> Turn<Self> {
+        if self.holds {
+            thread::sleep(self.rt, Duration::from_millis(HOLD));
+            self.over.store(true, Ordering::SeqCst);
+            return Turn::Done(0);
+        }
+        if self.over.load(Ordering::SeqCst) || self.made >= MOST_TURNS {
+            return Turn::Done(self.made);
+        }
+        self.made += 1;
+        Turn::Again(self)
+    }
+
+    fn moved(&self) -> bool {
+        false
+    }
+}
+
+// While forty tasks wait for one that is inside a turn, the workers sleep.
+#[test]
+fn nobody_polls(rt: HostRuntime) -> Result<(), Fail> {
+    let over = AtomicBool::new(false);
+    let mut tasks = Vec::new(rt.alloc());
+    for place in 0..41u32 {
+        tasks.push(Held {
+            rt: &rt,
+            holds: place == 20,
+            over: &over,
+            made: 0,
+        })?;
+    }
+    let dones = run_pool(&rt, rt.alloc(), tasks, 4, &OpenGate)?;
+    assert_eq!(rt; dones.len(), 41);
+    for (place, made) in dones.iter().enumerate() {
+        assert!(rt;
+            *made <= MOST_WAITED,
+            "the task at {place} made {made} turns"
+        );
+    }
     Ok(())
 }

@@ -32,8 +32,9 @@ pub(crate) fn try_turn<T: PoolTask, G: Gate, R: Wait>(
         match task.turn() {
             Turn::Done(done) => return Tried::Over(Finished { place, done }),
             Turn::Again(task) => {
+                let moved = task.moved();
                 match queue.push_as::<Giving<T>, R>(rt, pass, Waiting { place, task }) {
-                    Ok(()) => return Tried::Again,
+                    Ok(()) => return Tried::Again { moved },
                     Err(back) => now = back,
                 }
             }

@@ -23,8 +23,8 @@ pub(crate) struct Finished<D> {
 pub(crate) enum Tried<D> {
     /// No task waited.
     Idle,
-    /// A task made a turn, and waits again.
-    Again,
+    /// A task made a turn, which moved something or nothing, and waits again.
+    Again { moved: bool },
     /// A task made its last turn.
     Over(Finished<D>),
 }

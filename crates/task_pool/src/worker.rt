@@ -3,15 +3,14 @@ ghost use Rattle.std.specs.Prelude.{◌≡◌, ◌≤◌, ◌<◌, [], length, v
 ghost use Rattle.crossbeam_queue.specs.Passes.{view, IsPassOf};
 ghost use Rattle.task_pool.specs.Results.{Keeps};
 
+use crate::progress::Progress;
 use crate::queue::{TaskPass, TaskQueue};
+use crate::quiet::QuietTurns;
 use crate::task::PoolTask;
 use crate::turn::try_turn;
 use crate::waiting::{Finished, Tried};
-use crossbeam_utils::CachePadded;
 use service_gate::Gate;
 use std::sync::Wait;
-use std::sync::atomic::{AtomicU64, Ordering};
-use std::thread;
 
 /// What a worker holds: its pass, and what those tasks gave that it brought to their end.
 #[derive(Drop)]
@@ -22,13 +21,14 @@ pub(crate) struct Worker<T: PoolTask> {
     pub finished: Vec<Finished<T::Done>>,
 }
 
-/// Makes turns until `over` counts as many tasks as there are.
+/// Makes turns until every task is done. A worker that found no task, or that has made as many turns in a row
+/// as tasks are left, none of which moved anything while no other worker's did, waits for the next move. It
+/// holds no task then. Where none came in time it makes one turn more, and waits again.
 pub(crate) fn work<T: PoolTask, G: Gate, R: Wait>(
     rt: &R,
     queue: &TaskQueue<T>,
     gate: &G,
-    count: u64,
-    over: &CachePadded<AtomicU64>,
+    progress: &Progress,
     worker: Worker<T>,
 ) -> Worker<T>
     requires pass { IsPassOf queue.now worker.pass }
@@ -41,16 +41,21 @@ pub(crate) fn work<T: PoolTask, G: Gate, R: Wait>(
         mut pass,
         mut finished,
     } = worker;
+    progress.begin();
+    let mut quiet = QuietTurns::since(progress.moves());
     for _ in rt.forever() {
-        if over.load(Ordering::SeqCst) >= count {
+        let left = progress.left();
+        if left == 0 {
             break;
         }
+        quiet.look(progress.moves());
         match try_turn(rt, queue, gate, &mut pass) {
-            Tried::Idle => thread::yield_now(),
-            Tried::Again => {}
+            Tried::Idle => quiet.wait(rt, progress),
+            Tried::Again { moved: true } => progress.note_move(),
+            Tried::Again { moved: false } => quiet.one_more(rt, progress, left),
             Tried::Over(result) => {
                 finished.push_reserved(result);
-                over.fetch_add(1, Ordering::SeqCst);
+                progress.note_done();
             }
         }
     }

@@ -1,0 +1,92 @@
+//! How far the tasks have come, and how a worker waits until one moves.
+use crossbeam_utils::CachePadded;
+use std::sync::Wait;
+use std::sync::atomic::{AtomicU64, Ordering};
+use std::thread;
+use std::time::Duration;
+
+/// The longest sleep in milliseconds. A wake that is missed costs so much time, and never a run.
+const LONGEST: u64 = 1;
+
+/// What the workers share beside the queue. Nothing is claimed of its counts.
+#[derive(Drop)]
+pub(crate) struct Progress {
+    // How many tasks there are.
+    tasks: u64,
+    counts: CachePadded<Counts>,
+}
+
+#[derive(Drop)]
+struct Counts {
+    // How many tasks are done.
+    done: AtomicU64,
+    // How often a turn moved something, on which workers sleep.
+    moves: AtomicU64,
+    // How many workers have begun.
+    begun: AtomicU64,
+    // How many of them sleep, or are about to.
+    asleep: AtomicU64,
+}
+
+impl Progress {
+    /// The progress of so many tasks, of which none is done.
+    pub(crate) fn new(tasks: u64) -> Progress {
+        Progress {
+            tasks,
+            counts: CachePadded::new(Counts {
+                done: AtomicU64::new(0),
+                moves: AtomicU64::new(0),
+                begun: AtomicU64::new(0),
+                asleep: AtomicU64::new(0),
+            }),
+        }
+    }
+
+    /// How many tasks aren't done.
+    pub(crate) fn left(&self) -> u64 {
+        let done = self.counts.done.load(Ordering::SeqCst);
+        self.tasks.saturating_sub(done)
+    }
+
+    /// How often a turn has moved something.
+    pub(crate) fn moves(&self) -> u64 {
+        self.counts.moves.load(Ordering::SeqCst)
+    }
+
+    /// A worker begins.
+    pub(crate) fn begin(&self) {
+        self.counts.begun.fetch_add(1, Ordering::SeqCst);
+    }
+
+    /// A turn has moved something, and its task can be taken again.
+    pub(crate) fn note_move(&self) {
+        self.counts.moves.fetch_add(1, Ordering::SeqCst);
+        if self.counts.asleep.load(Ordering::SeqCst) > 0 {
+            self.counts.moves.wake_all();
+        }
+    }
+
+    /// A task is done.
+    pub(crate) fn note_done(&self) {
+        self.counts.done.fetch_add(1, Ordering::SeqCst);
+        self.note_move();
+    }
+
+    /// Gives way once, and then sleeps until the count of moves is no longer this one, for 1 ms at most. The
+    /// last worker awake does neither: what the others wait for only its turns can bring.
+    pub(crate) fn wait<R: Wait>(&self, rt: &R, seen: u64, yields: bool) {
+        let others = self.counts.asleep.fetch_add(1, Ordering::SeqCst);
+        if others.saturating_add(1) < self.counts.begun.load(Ordering::SeqCst) {
+            if yields {
+                thread::yield_now();
+            }
+            if self.moves() == seen {
+                let word = (seen & 0xffff_ffff) as u32;
+                self.counts
+                    .moves
+                    .park_timeout(rt, word, Duration::from_millis(LONGEST));
+            }
+        }
+        self.counts.asleep.fetch_sub(1, Ordering::SeqCst);
+    }
+}
