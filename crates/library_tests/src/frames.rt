@@ -44,3 +44,32 @@ fn prints_texts_without_nul(rt: HostRuntime) -> Result<(), Fail> {
     assert!(rt; message_line(alloc, &message)?.as_slice() == b"refused call 1".as_slice());
     Ok(())
 }
+
+/// How many messages a decoder gives of these bytes, fed one at a time, and after how many bytes the first.
+fn fed_in_single_bytes(decoder: &mut Decoder, bytes: &[u8]) -> Result<(usize, usize), Fail> {
+    let mut given = 0;
+    let mut first = 0;
+    for (at, byte) in bytes.iter().enumerate() {
+        decoder.feed(&[*byte])?;
+        if let Ok(Some(_)) = decoder.next() {
+            if given == 0 {
+                first = at + 1;
+            }
+            given += 1;
+        }
+    }
+    Ok((given, first))
+}
+
+#[test]
+fn gives_a_message_after_its_last_byte(rt: HostRuntime) -> Result<(), Fail> {
+    let alloc = rt.alloc();
+    let body = vec![in alloc; 7u8; 65_536]?;
+    let mut bytes = Vec::new(alloc);
+    encode_data(Kind::Stdout, &body, &mut bytes)?;
+    let mut decoder = Decoder::new(alloc, Channel::Data);
+    assert!(rt; fed_in_single_bytes(&mut decoder, &bytes)? == (1, 65_544));
+    assert!(rt; fed_in_single_bytes(&mut decoder, &[0x91, 0x01])? == (0, 0));
+    assert!(rt; decoder.rest() == 2 && decoder.at() == 65_544);
+    Ok(())
+}

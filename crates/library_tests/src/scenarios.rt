@@ -1,5 +1,8 @@
 //! What a scenario is without its hostile domains, and a scenario that is made from a number.
-use scenario_file::{generate, honest_lines, next_number, read, without_hostile};
+use scenario_file::{
+    CallPlan, Line, LineResult, Scenario, generate, honest_lines, next_number, read,
+    without_hostile,
+};
 use std::alloc::Global;
 use std::test::Fail;
 
@@ -54,5 +57,44 @@ fn a_number_gives_a_scenario(rt: HostRuntime) -> Result<(), Fail> {
         assert_eq!(rt; number, next);
     }
     assert_eq!(rt; generate(rt.alloc(), 7, 2)?.calls.len(), 2);
+    Ok(())
+}
+
+/// Whether a call goes from the domain of this number to that of this name, for the service, with an input of so many bytes.
+fn is_call(call: &CallPlan, from: u32, to: &[u8], service: &[u8], len: usize) -> bool {
+    call.from == from
+        && call.to.bytes() == to
+        && call.service.bytes() == service
+        && call.stdin.slice().len() == len
+}
+
+/// Whether a line is done with code 0, the bytes on standard output and so many bytes on each stream.
+fn is_done(line: &Line, begins: &[u8], stdout_len: usize, stderr_len: usize) -> bool {
+    match &line.result {
+        LineResult::Done {
+            code,
+            stdout,
+            stderr,
+        } => {
+            *code == 0
+                && stdout.slice().starts_with(begins)
+                && stdout.slice().len() == stdout_len
+                && stderr.slice().len() == stderr_len
+        }
+        LineResult::Refused { .. } => false,
+    }
+}
+
+#[test]
+fn generated_calls_have_their_lines(rt: HostRuntime) -> Result<(), Fail> {
+    let alloc = rt.alloc();
+    let made: Scenario = generate(alloc, 7, 2)?;
+    assert!(rt; made.calls.len() == 2);
+    assert!(rt; is_call(&made.calls[0], 4, b"d3", b"count", 615));
+    assert!(rt; is_call(&made.calls[1], 2, b"d3", b"split", 1_026));
+    let lines = honest_lines(alloc, &made)?;
+    assert!(rt; lines.len() == 2);
+    assert!(rt; is_done(&lines[0], b"615\n", 4, 0));
+    assert!(rt; is_done(&lines[1], b"", 513, 513));
     Ok(())
 }
