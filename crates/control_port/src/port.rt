@@ -1,17 +1,18 @@
 //! A control port.
-ghost use Rattle.std.specs.Prelude.{◌≡◌, ◌≤◌, ◌<◌, ◌++◌, ◌∷◌, [], ℕ, List, true, false, None, Some, Ok, OnOk, OnErr, IfOk, IfSome, IsSome, is_ok, length};
+ghost use Rattle.std.specs.Prelude.{◌≡◌, ◌↔◌, ◌≤◌, ◌<◌, ◌++◌, ◌∷◌, [], ℕ, List, true, false, None, Some, Ok, OnOk, OnErr, IfOk, IfSome, IsSome, Result, is_ok, length};
 ghost use Rattle.qrexec_frame.specs.Messages.{written, IsSpellable as Fits};
 ghost use Rattle.qrexec_frame.specs.declared.message.Message.{Message as Said};
 ghost use Rattle.ring_words.specs.declared.page.Role.TheVariants.{Client};
 ghost use Rattle.vchan_protocol.specs.declared.call.EndState.TheVariants.{Fresh};
-ghost use Rattle.vchan_lifecycle.specs.Lifecycle.{connected_to, drained_to, drain_told, retired_view};
+ghost use Rattle.vchan_lifecycle.specs.declared.BadOrders.{BadOrders as OtherOrders};
+ghost use Rattle.vchan_lifecycle.specs.Lifecycle.{connect_told, connected_to, drained_to, drain_told, most_asked, retired_view};
 ghost use Rattle.vchan_notify.specs.Notify.{asked_gone};
-ghost use Rattle.vchan_packet.specs.Packet.{sent_to};
+ghost use Rattle.vchan_packet.specs.Packet.{send_told, sent_to};
 ghost use Rattle.vchan_packet.specs.declared.SendAnswer.TheVariants as answer;
 ghost use Rattle.vchan_protocol.specs.declared.call.Answer.TheVariants.{Gone, Space};
-ghost use Rattle.vchan_protocol.specs.declared.call.Call.TheVariants.{PeerGone, BufferSpace};
+ghost use Rattle.vchan_protocol.specs.declared.call.Call.TheVariants.{Connect, Drain, PeerGone, BufferSpace, Send};
 ghost use Rattle.vchan_protocol.specs.Table.Calls.{Trace};
-ghost use Rattle.vchan_protocol.specs.Answering.Causes.{Cause};
+ghost use Rattle.vchan_protocol.specs.Answering.Causes.{Cause, ConnectCause, DrainCause, SendCause};
 ghost use Rattle.vchan_protocol.specs.History.Core.{standing_of};
 ghost use Rattle.vchan_protocol.specs.Answering.Loads.{loads_of};
 ghost use Rattle.end_view.specs.AfterCall.{DrainSees};
@@ -101,14 +102,16 @@ impl<'p> ControlPort<'p> {
         self.greeted
     }
 
-    /// Connects the end of a client, which is open then. The error comes where the page's order words don't
-    /// say the page's orders; the client stays fresh.
+    /// Connects the end of a client, which is open then. The error comes exactly where the two order
+    /// words that it loaded don't say the page's orders; the client stays fresh.
     pub fn connect(&mut self) -> Result<(), BadOrders>
         requires idle { (view self.old.end).idle ≡ true }
         requires fresh { (view self.old.end).state ≡ Fresh }
         requires client { (view self.old.end).role ≡ Client }
         ensures end { IsSameEnd self.old.end self.new.end }
         ensures view { view self.new.end ≡ connected_to (view self.old.end) (is_ok result) }
+        ensures trail { Trace (standing_of self.old.end.side) Connect self.new.end.side.trail (connect_told result) }
+        ensures cause { (other : Result (Unit {0}) OtherOrders) → (result ≡ other) ↔ ConnectCause (standing_of self.old.end.side) (loads_of (standing_of self.old.end.side) self.new.end.side.trail) (connect_told other) }
         ensures said { (said : List Said) → HasSaid self.old said → HasSaid self.new said }
         ensures heard { (heard : List Said) → HasHeard self.old heard → HasHeard self.new heard }
         ensures same { OnlySends self.old self.new }
@@ -146,8 +149,9 @@ impl<'p> ControlPort<'p> {
         buffer_space(&mut self.end)
     }
 
-    /// Sends the own greeting, which is the first message. It has gone where the answer is `Sent`. After
-    /// want of memory the end can still be retired, and no more is said of what went out.
+    /// Sends the own greeting, which is the first message. It has gone where the answer is `Sent`; each
+    /// answer comes exactly where its cause is in what the call's events loaded. After want of memory
+    /// all is as it was.
     pub fn greet(&mut self) -> Result<SendAnswer, Memory>
         requires open { IsOpen self.old.end }
         requires first { self.old.greeted ≡ false }
@@ -155,7 +159,10 @@ impl<'p> ControlPort<'p> {
         ensures open { IsOpen self.new.end }
         ensures greeted { IfOk result (λ sent. (sent ≡ answer.Sent → self.new.greeted ≡ true) × ((sent ≡ answer.Sent → ⊥) → self.new.greeted ≡ false)) }
         ensures view { IfOk result (λ sent. view self.new.end ≡ sent_to (view self.old.end) sent (written (Said.Hello self.old.own))) }
-        ensures said { (said : List Said) → HasSaid self.old said → OnOk result (HasSaid self.new said) }
+        ensures trail { IfOk result (λ sent. Trace (standing_of self.old.end.side) (Send (most_asked (written (Said.Hello self.old.own)))) self.new.end.side.trail (send_told (most_asked (written (Said.Hello self.old.own))) sent)) }
+        ensures cause { IfOk result (λ sent. (other : SendAnswer) → (sent ≡ other) ↔ SendCause (standing_of self.old.end.side) (most_asked (written (Said.Hello self.old.own))) (loads_of (standing_of self.old.end.side) self.new.end.side.trail) (send_told (most_asked (written (Said.Hello self.old.own))) other)) }
+        ensures kept { OnErr result (self.new ≡ self.old) }
+        ensures said { (said : List Said) → HasSaid self.old said → HasSaid self.new said }
         ensures heard { (heard : List Said) → HasHeard self.old heard → HasHeard self.new heard }
         ensures same { (self.new.talker ≡ self.old.talker) × (self.new.own ≡ self.old.own) × (self.new.version ≡ self.old.version) × (self.new.fault ≡ self.old.fault) }
     {
@@ -166,8 +173,9 @@ impl<'p> ControlPort<'p> {
         Ok(answer)
     }
 
-    /// Sends a message that this side may say, as one packet. It has gone where the answer is `Sent`. Want
-    /// of memory sends nothing.
+    /// Sends a message that this side may say, as one packet. It has gone where the answer is `Sent`; each
+    /// answer comes exactly where its cause is in what the call's events loaded. After want of memory
+    /// all is as it was.
     pub fn say(&mut self, message: &Message) -> Result<SendAnswer, Memory>
         requires open { IsOpen self.old.end }
         requires greeted { self.old.greeted ≡ true }
@@ -177,7 +185,9 @@ impl<'p> ControlPort<'p> {
         ensures open { IsOpen self.new.end }
         ensures said { (said : List Said) → HasSaid self.old said → IfOk result (λ sent. HasSaidMore self.new said message.now sent) }
         ensures view { IfOk result (λ sent. view self.new.end ≡ sent_to (view self.old.end) sent (written message.now)) }
-        ensures kept { (said : List Said) → HasSaid self.old said → OnErr result (HasSaid self.new said) }
+        ensures trail { IfOk result (λ sent. Trace (standing_of self.old.end.side) (Send (most_asked (written message.now))) self.new.end.side.trail (send_told (most_asked (written message.now)) sent)) }
+        ensures cause { IfOk result (λ sent. (other : SendAnswer) → (sent ≡ other) ↔ SendCause (standing_of self.old.end.side) (most_asked (written message.now)) (loads_of (standing_of self.old.end.side) self.new.end.side.trail) (send_told (most_asked (written message.now)) other)) }
+        ensures kept { OnErr result (self.new ≡ self.old) }
         ensures heard { (heard : List Said) → HasHeard self.old heard → HasHeard self.new heard }
         ensures same { OnlySends self.old self.new }
     {
@@ -191,6 +201,8 @@ impl<'p> ControlPort<'p> {
         ensures end { IsSameEnd self.old.end self.new.end }
         ensures open { IsOpen self.new.end }
         ensures view { IfOk result (λ sent. view self.new.end ≡ sent_to (view self.old.end) sent (written message.now)) }
+        ensures trail { IfOk result (λ sent. Trace (standing_of self.old.end.side) (Send (most_asked (written message.now))) self.new.end.side.trail (send_told (most_asked (written message.now)) sent)) }
+        ensures cause { IfOk result (λ sent. (other : SendAnswer) → (sent ≡ other) ↔ SendCause (standing_of self.old.end.side) (most_asked (written message.now)) (loads_of (standing_of self.old.end.side) self.new.end.side.trail) (send_told (most_asked (written message.now)) other)) }
         ensures kept { OnErr result (self.new ≡ self.old) }
         ensures got { (view self.new.end).got ≡ (view self.old.end).got }
         ensures same { OnlySends self.old self.new }
@@ -200,8 +212,9 @@ impl<'p> ControlPort<'p> {
         Ok(send(&mut self.end, &self.spelling))
     }
 
-    /// Takes what has come, or hears that no more comes. What was taken is handed out by `next`. After want
-    /// of memory the end can still be retired, and no more is said of what was heard.
+    /// Takes what has come, or hears that no more comes; each answer comes exactly where its cause is in
+    /// what the call's events loaded. What was taken is handed out by `next`. After want of memory the end
+    /// can still be retired, and no more is said of what was heard.
     pub fn drain(&mut self, buf: &mut [u8]) -> Result<DrainAnswer, Memory>
         requires open { IsOpen self.old.end }
         requires some { 0 < length buf.old }
@@ -209,6 +222,8 @@ impl<'p> ControlPort<'p> {
         ensures open { IsOpen self.new.end }
         ensures view { IfOk result (λ drained. view self.new.end ≡ drained_to (view self.old.end) drained buf.new self.new.end.side.saw) }
         ensures saw { IfOk result (λ drained. DrainSees (drain_told drained) self.old.end.side.saw self.new.end.side.saw) }
+        ensures trail { IfOk result (λ drained. Trace (standing_of self.old.end.side) (Drain (most_asked buf.old)) self.new.end.side.trail (drain_told drained)) }
+        ensures cause { IfOk result (λ drained. (other : DrainAnswer) → (drained ≡ other) ↔ DrainCause (standing_of self.old.end.side) (most_asked buf.old) (loads_of (standing_of self.old.end.side) self.new.end.side.trail) (drain_told other)) }
         ensures long { length buf.new ≡ length buf.old }
         ensures said { (said : List Said) → HasSaid self.old said → HasSaid self.new said }
         ensures heard { (heard : List Said) → HasHeard self.old heard → OnOk result (HasHeard self.new heard) }

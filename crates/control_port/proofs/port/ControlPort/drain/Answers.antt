@@ -1,4 +1,10 @@
-use Rattle.std.proofs.Common.{ap, sym}
+use Rattle.std.proofs.Common.{◌≡◌, ◌↔◌, ap, sym, subst}
+use Rattle.vchan_lifecycle.specs.Lifecycle.{drain_told, most_asked}
+use Rattle.vchan_lifecycle.specs.declared.DrainAnswer.TheVariants.{More, NotYet, PeerGone}
+use Rattle.vchan_protocol.specs.Answering.Causes.{DrainCause}
+use Rattle.vchan_protocol.specs.Answering.Loads.{loads_of}
+use Rattle.vchan_protocol.specs.History.Core.{standing_of}
+use Rattle.control_port.specs.Port.{PortState}
 use Rattle.control_port.proofs.PortLaws.{fed, said-end, heard-end}
 use Rattle.control_port.proofs.port.ControlPort.drain.Goals as goal
 
@@ -24,3 +30,20 @@ returns-in-PeerGone-clause-said c = λ said h. said-end c.args.self.now _ c.drai
 
 pub returns-in-PeerGone-clause-heard : goal.returns-in-PeerGone-clause-heard
 returns-in-PeerGone-clause-heard c = λ heard h. heard-end c.args.self.now _ c.drain.new.end heard (sym c.self.view_is) (ap (λ e. e.got) c.in-PeerGone.ensures.view) h
+
+pub returns-in-NotYet-clause-cause : goal.returns-in-NotYet-clause-cause
+returns-in-NotYet-clause-cause c = λ other.
+    subst (λ (p : PortState). (NotYet c.in-NotYet.prod c.in-NotYet.cons ≡ other) ↔ DrainCause (standing_of p.end.side) (most_asked c.args.buf.now) (loads_of (standing_of p.end.side) c.drain.new.end.side.trail) (drain_told other)) c.self.view_is (c.in-NotYet.ensures.cause other)
+
+pub returns-in-PeerGone-clause-cause : goal.returns-in-PeerGone-clause-cause
+returns-in-PeerGone-clause-cause c = λ other.
+    subst (λ (p : PortState). (PeerGone c.in-PeerGone.prod c.in-PeerGone.cons ≡ other) ↔ DrainCause (standing_of p.end.side) (most_asked c.args.buf.now) (loads_of (standing_of p.end.side) c.drain.new.end.side.trail) (drain_told other)) c.self.view_is (c.in-PeerGone.ensures.cause other)
+
+pub returns-in_ok-feed-in-More-clause-cause : goal.returns-in_ok-feed-in-More-clause-cause
+returns-in_ok-feed-in-More-clause-cause c = λ other.
+    subst (λ (p : PortState). (More c.in-More.count ≡ other) ↔ DrainCause (standing_of p.end.side) (most_asked c.args.buf.now) (loads_of (standing_of p.end.side) c.drain.new.end.side.trail) (drain_told other)) c.self.view_is (c.in-More.ensures.cause other)
+
+pub returns-in_ok-feed-in-More-clause-said : goal.returns-in_ok-feed-in-More-clause-said
+returns-in_ok-feed-in-More-clause-said c = λ said h.
+    let still = said-end c.args.self.now _ c.drain.new.end said (sym c.self.view_is) (ap (λ e. e.sent) c.in-More.ensures.view) h in
+    record { each = still.each; whole = still.whole }

@@ -1,8 +1,12 @@
-use Rattle.std.proofs.Common.{◌∙◌, ap, sym, subst, true}
+use Rattle.std.proofs.Common.{◌≡◌, ◌↔◌, ◌∙◌, ap, sym, subst, true}
+use Rattle.qrexec_frame.specs.declared.message.Message.{Message}
 use Rattle.qrexec_frame.specs.declared.message.Message.TheVariants.{Hello}
 use Rattle.qrexec_frame.specs.Messages.{written}
 use Rattle.vchan_rule.specs.Seated.{view}
-use Rattle.vchan_packet.specs.Packet.{sent_to}
+use Rattle.vchan_packet.specs.Packet.{most_asked, send_told, sent_to}
+use Rattle.vchan_protocol.specs.Answering.Causes.{SendCause}
+use Rattle.vchan_protocol.specs.Answering.Loads.{loads_of}
+use Rattle.vchan_protocol.specs.History.Core.{standing_of}
 use Rattle.control_port.specs.Port.{PortState, HasHeard}
 use Rattle.control_port.proofs.PortLaws.{heard-still, heard-greeted}
 use Rattle.control_port.proofs.port.ControlPort.greet.Goals as goal
@@ -20,3 +24,17 @@ returns-then-eq-clause-view c =
     ap (λ (p : PortState). view p.end) c.self.view_is ∙ c.in_ok-answer.ensures.view
     ∙ ap (λ m. sent_to (view c.args.self.now.end) c.in_ok-answer.answer (written m)) c.announce.ensures
     ∙ ap (λ (p : PortState). sent_to (view c.args.self.now.end) c.in_ok-answer.answer (written (Hello p.own))) c.put.view_is
+
+pub returns-then-eq-clause-cause : goal.returns-then-eq-clause-cause
+returns-then-eq-clause-cause c = λ other.
+    let e = standing_of c.args.self.now.end.side in
+    let hello : c.announce.result ≡ Hello c.args.self.now.own = c.announce.ensures ∙ ap (λ (p : PortState). Hello p.own) c.put.view_is in
+    subst (λ (z : PortState × Message). (c.in_ok-answer.answer ≡ other) ↔ SendCause e (most_asked (written z.1)) (loads_of e z.0.end.side.trail) (send_told (most_asked (written z.1)) other))
+    (λ i. (sym c.self.view_is i, hello i)) (c.in_ok-answer.ensures.cause other)
+
+pub returns-else-eq-clause-cause : goal.returns-else-eq-clause-cause
+returns-else-eq-clause-cause c = λ other.
+    let e = standing_of c.args.self.now.end.side in
+    let hello : c.announce.result ≡ Hello c.args.self.now.own = c.announce.ensures ∙ ap (λ (p : PortState). Hello p.own) c.put.view_is in
+    subst (λ (z : PortState × Message). (c.in_ok-answer.answer ≡ other) ↔ SendCause e (most_asked (written z.1)) (loads_of e z.0.end.side.trail) (send_told (most_asked (written z.1)) other))
+    (λ i. (c.put-2.new.self, hello i)) (c.in_ok-answer.ensures.cause other)
