@@ -24,6 +24,6 @@ IsSideOf (side.Client c) end = (end.page ≡ c.table) × (end.role ≡ Client)
 
 -- the page of an unused end is laid, where it is the server that lays it
 abbrev pub HasLaid : UnusedEnd → Option LaidPage → Type 0
-HasLaid (unused.Server s) (Some laid) = laid.page.orders ≡ s.orders
+HasLaid (unused.Server s) (Some laid) = (laid.page.orders ≡ s.orders) × (laid.page.start ≡ s.start)
 HasLaid (unused.Server s) None = ⊥
 HasLaid end laid = Unit {0}

@@ -68,8 +68,8 @@ honest_ring size page writer reader one two s = record { in_order = s.prefix one
 turned_ring : (size : ℕ) (page : TableId) (writer reader : Side) → writer.turned ≡ true → reader.turned ≡ false → StreamSettled size writer reader → IsTurnedRing size (view_of page true writer) (view_of page true reader)
 turned_ring size page writer reader one two s = let c = s.consumed one two in record { within = c.within; bound = c.fits; begins = c.begins }
 
-pub settles_views : (orders : Orders) (said : ℕ × ℕ) (page : TableId) (server client : Side) → SaysOrders said orders → PageSettled orders said server client → AreDone server client → IsSettled (settled_view orders page server client)
-settles_views orders said page server client says p d = record {
+pub settles_views : (orders : Orders) (start : ℕ) (said : ℕ × ℕ) (page : TableId) (server client : Side) → SaysOrders said orders → PageSettled orders said server client → AreDone server client → IsSettled (settled_view orders start page server client)
+settles_views orders start said page server client says p d = record {
   server = d.is_server;
   client = d.is_client;
   one_page = refl;

@@ -38,9 +38,10 @@ pub record IsDone (e : EndView) : Type 0 where
   pub shut : e.turned ≡ false → e.state ≡ Shut
   pub told : e.turned ≡ false → e.retired ≡ true
 
--- a page that is done with
+-- a page that is done with: its orders, at which number all its indices began, and its two ends
 pub record Settled : Type 0 where
   pub orders : Orders
+  pub start : ℕ
   pub server : EndView
   pub client : EndView
 
@@ -58,8 +59,8 @@ pub record IsSettled (s : Settled) : Type 0 where
 -- ---- the law
 
 -- two ends of one page that are done with it
-abbrev pub settled_view : Orders → TableId → Side → Side → Settled
-settled_view orders page server client = record { orders = orders; server = view_of page true server; client = view_of page true client }
+abbrev pub settled_view : Orders → ℕ → TableId → Side → Side → Settled
+settled_view orders start page server client = record { orders = orders; start = start; server = view_of page true server; client = view_of page true client }
 
 -- what the two ends are, beside what the protocol settles of them
 pub record AreDone (server client : Side) : Type 0 where
@@ -73,5 +74,5 @@ pub record AreDone (server client : Side) : Type 0 where
 -- what the protocol settles of two ends that are done is what a settled page promises, where the order words of the start said the page's orders
 abbrev pub SettlesViews : Type 0
 SettlesViews =
-    (orders : Orders) (said : ℕ × ℕ) (page : TableId) (server client : Side) → SaysOrders said orders → PageSettled orders said server client → AreDone server client →
-    IsSettled (settled_view orders page server client)
+    (orders : Orders) (start : ℕ) (said : ℕ × ℕ) (page : TableId) (server client : Side) → SaysOrders said orders → PageSettled orders said server client → AreDone server client →
+    IsSettled (settled_view orders start page server client)

@@ -1,5 +1,5 @@
 -- What the name of a page tells, and what stands of the page under it.
-use Rattle.std.proofs.Common.{◌≡◌, ℕ, ◌≤◌, refl, ap, subst, sym, ◌∙◌}
+use Rattle.std.proofs.Common.{◌≡◌, ℕ, ◌≤◌, List, ◌∷◌, refl, ap, subst, sym, ◌∙◌}
 use Rattle.std.proofs.Math.Bridge.{le_prop}
 use Rattle.atomic_table.specs.Seated.{TableId}
 use Rattle.ring_words.specs.declared.order.Order.{Order}
@@ -57,8 +57,15 @@ same_rings a b left right = on_left a.left left a.right right a.distinct
         subst P (sym is) on_right
 
 -- a name is that of pages of the same orders alone
-pub same_orders : (a b : Orders) (name : TableId) → IsNameOf a name → IsNameOf b name → a ≡ b
-same_orders a b name n m = same_rings a b (same_order a.left b.left (sym n.left ∙ m.left)) (same_order a.right b.right (sym n.right ∙ m.right))
+pub same_orders : (a b : Orders) (s t : ℕ) (name : TableId) → IsNameOf a s name → IsNameOf b t name → a ≡ b
+same_orders a b s t name n m = same_rings a b (same_order a.left b.left (sym n.left ∙ m.left)) (same_order a.right b.right (sym n.right ∙ m.right))
+
+-- and of the same start
+pub same_start : (a b : Orders) (s t : ℕ) (name : TableId) → IsNameOf a s name → IsNameOf b t name → s ≡ t
+same_start a b s t name n m = same_first (sym n.begins.1 ∙ m.begins.1)
+  where
+    same_first : {x y : ℕ} {xs ys : List ℕ} → x ∷ xs ≡ y ∷ ys → x ≡ y
+    same_first e = cc
 
 -- ---- what stands of a page, under the name
 

@@ -43,7 +43,7 @@ held_send =
 
 settled_send : IsSend settled.the_row
 settled_send =
-    let fields : FieldsHave IsSend settled_inside.the_type.parts = (snapshot_send (place.the_row unit seen.the_row), (orders.the_send, (search sendable, (search sendable, tt)))) in
+    let fields : FieldsHave IsSend settled_inside.the_type.parts = (snapshot_send (place.the_row unit seen.the_row), (orders.the_send, (search sendable, (search sendable, (search sendable, tt))))) in
     view_send settled_inside.the_row _ _ _ _ (declared_send settled_inside.the_type fields)
 
 back_send : IsSend back.the_row
@@ -58,12 +58,12 @@ offer_send =
 
 pub server_send : (κ : _) → IsSend (server.the_row κ)
 server_send κ =
-    let fields : FieldsHave IsSend (server_inside.the_type κ).parts = (search (sendable, crosses, producer.the_send, offer_send) depth 20, (search (sendable, words.the_sync) depth 20, (orders.the_send, (left.the_send, tt)))) in
+    let fields : FieldsHave IsSend (server_inside.the_type κ).parts = (search (sendable, crosses, producer.the_send, offer_send) depth 20, (search (sendable, words.the_sync) depth 20, (orders.the_send, (search sendable, (left.the_send, tt))))) in
     view_send (server_inside.the_row κ) _ _ _ _ (declared_send (server_inside.the_type κ) fields)
 
 pub open_server_send : IsSend open_server.the_row
 open_server_send =
-    let fields : FieldsHave IsSend open_server_inside.the_type.parts = (search (sendable, crosses, producer.the_send, offer_send) depth 20, (orders.the_send, (held_send, (search (sendable, crosses, consumer.the_send, back_send) depth 20, (left.the_send, tt))))) in
+    let fields : FieldsHave IsSend open_server_inside.the_type.parts = (search (sendable, crosses, producer.the_send, offer_send) depth 20, (orders.the_send, (search sendable, (held_send, (search (sendable, crosses, consumer.the_send, back_send) depth 20, (left.the_send, tt)))))) in
     view_send open_server_inside.the_row _ _ _ _ (declared_send open_server_inside.the_type fields)
 
 server_last_send : IsSend server_last.the_row
@@ -73,19 +73,19 @@ server_last_send =
 
 pub done_server_send : IsSend done_server.the_row
 done_server_send =
-    let fields : FieldsHave IsSend done_server_inside.the_type.parts = (search (sendable, crosses, producer.the_send, offer_send) depth 20, (orders.the_send, (server_last_send, tt))) in
+    let fields : FieldsHave IsSend done_server_inside.the_type.parts = (search (sendable, crosses, producer.the_send, offer_send) depth 20, (orders.the_send, (search sendable, (server_last_send, tt)))) in
     view_send done_server_inside.the_row _ _ _ _ (declared_send done_server_inside.the_type fields)
 
 -- ---- the client's side
 
 pub client_send : IsSend client.the_row
 client_send =
-    let fields : FieldsHave IsSend client_inside.the_type.parts = (search (sendable, crosses, consumer.the_send, offer_send) depth 20, (orders.the_send, (left.the_send, tt))) in
+    let fields : FieldsHave IsSend client_inside.the_type.parts = (search (sendable, crosses, consumer.the_send, offer_send) depth 20, (orders.the_send, (search sendable, (left.the_send, tt)))) in
     view_send client_inside.the_row _ _ _ _ (declared_send client_inside.the_type fields)
 
 pub open_client_send : IsSend open_client.the_row
 open_client_send =
-    let fields : FieldsHave IsSend open_client_inside.the_type.parts = (search (sendable, crosses, consumer.the_send, offer_send) depth 20, (orders.the_send, (search (sendable, crosses, producer.the_send, back_send) depth 20, (snapshot_send offer.the_row, tt)))) in
+    let fields : FieldsHave IsSend open_client_inside.the_type.parts = (search (sendable, crosses, consumer.the_send, offer_send) depth 20, (orders.the_send, (search sendable, (search (sendable, crosses, producer.the_send, back_send) depth 20, (snapshot_send offer.the_row, tt))))) in
     view_send open_client_inside.the_row _ _ _ _ (declared_send open_client_inside.the_type fields)
 
 client_last_send : IsSend client_last.the_row
@@ -93,5 +93,5 @@ client_last_send = variants_send client_last.enum (tt, ((snapshot_send retired_e
 
 pub done_client_send : IsSend done_client.the_row
 done_client_send =
-    let fields : FieldsHave IsSend done_client_inside.the_type.parts = (search (sendable, crosses, consumer.the_send, offer_send) depth 20, (orders.the_send, (client_last_send, tt))) in
+    let fields : FieldsHave IsSend done_client_inside.the_type.parts = (search (sendable, crosses, consumer.the_send, offer_send) depth 20, (orders.the_send, (search sendable, (client_last_send, tt)))) in
     view_send done_client_inside.the_row _ _ _ _ (declared_send done_client_inside.the_type fields)

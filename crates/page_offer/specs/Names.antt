@@ -12,20 +12,21 @@ abbrev pub address : Ptr → List ℕ → List ℕ
 address (block_ptr block offset) rest = 1 ∷ block ∷ offset ∷ rest
 address null_ptr rest = 0 ∷ rest
 
--- the name of a page that has these orders and is offered through the ring of this end: no table has it, since a table of a page has words
-abbrev pub name_of : {T A P : Type 0} → End T A P → Orders → TableId
-name_of e orders = record {
+-- the name of a page that has these orders, whose indices begin at this number, and that is offered through the ring of this end: no table has it, since a table of a page has words
+abbrev pub name_of : {T A P : Type 0} → End T A P → Orders → ℕ → TableId
+name_of e orders start = record {
   words = 0;
   slots = e.names.0;
   views_name = e.names.1.0;
   atom = e.names.1.1;
   block = number_of orders.left;
   offset = number_of orders.right;
-  slot_names = address e.words (address e.slots []);
+  slot_names = start ∷ address e.words (address e.slots []);
 }
 
--- a name is that of a page of these orders, and of no table
-pub record IsNameOf (orders : Orders) (name : TableId) : Type 0 where
+-- a name is that of a page of these orders whose indices begin at this number, and of no table
+pub record IsNameOf (orders : Orders) (start : ℕ) (name : TableId) : Type 0 where
   pub no_words : name.words ≡ 0
   pub left : name.block ≡ number_of orders.left
   pub right : name.offset ≡ number_of orders.right
+  pub begins : (address : List ℕ) × (name.slot_names ≡ start ∷ address)

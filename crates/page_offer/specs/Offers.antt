@@ -3,13 +3,12 @@
 use Rattle.std.specs.Prelude.{◌≡◌, List, [], ◌∷◌}
 use Rattle.std.specs.declared.snapshot.Snapshot.{Snapshot}
 use Rattle.atomic_table.specs.Seated.{TableId}
-use Rattle.ring_words.specs.declared.order.Orders.{Orders}
 use Rattle.ring_words.specs.declared.page.Role.TheVariants.{Server, Client}
 use Rattle.rtrb.specs.Ring.{sent, received, IsPair}
 use Rattle.rtrb.specs.Ends.{SameRing}
 use Rattle.end_view.specs.EndView.{EndView}
 use Rattle.end_view.specs.Settled.{Settled}
-use Rattle.vchan_rule.specs.Seated.{PageView, SeatedSide, last_view}
+use Rattle.vchan_rule.specs.Seated.{PageStart, PageView, SeatedSide, last_view}
 use Rattle.page_offer.specs.declared.back.Back.TheVariants.{Of, Done}
 use Rattle.page_offer.specs.Backs.{BackSender, BackReceiver}
 use Rattle.page_offer.specs.declared.offer.Offer.{Offer}
@@ -47,13 +46,13 @@ server_end name server.Unlaid = idle_view name Server
 server_end name (server.Waits page own back) = named name (last_view own)
 server_end name (server.Settled settled back) = named name settled.server
 
--- and what stands of it
-abbrev pub StandsServer : Orders → List Offer → ServerLast → Type 0
-StandsServer orders offers server.Unlaid = offers ≡ []
-StandsServer orders offers (server.Waits page own back) =
-    (page.orders ≡ orders) × (own.page ≡ page.table) × (own.side.role ≡ Server) × IsOffered offers page back × IsAwaited page back
-StandsServer orders offers (server.Settled settled back) =
-    (settled.orders ≡ orders) × ((page : PageView) × IsOffered offers page back) × IsReturned settled back
+-- and what stands of it, of a page of these start words
+abbrev pub StandsServer : PageStart → List Offer → ServerLast → Type 0
+StandsServer words offers server.Unlaid = offers ≡ []
+StandsServer words offers (server.Waits page own back) =
+    (page.orders ≡ words.orders) × (page.start ≡ words.start) × (own.page ≡ page.table) × (own.side.role ≡ Server) × IsOffered offers page back × IsAwaited page back
+StandsServer words offers (server.Settled settled back) =
+    (settled.orders ≡ words.orders) × (settled.start ≡ words.start) × ((page : PageView) × IsOffered offers page back) × IsReturned settled back
 
 -- the client has put its end behind the page's mark
 pub record HasReturned (offer : Offer) (end : SeatedSide) (back : BackSender) : Type 0 where

@@ -1,5 +1,6 @@
 -- What contracts see of a page that is laid when it is first used.
 -- The forms are this project's own.
+use Rattle.std.specs.Prelude.{ℕ}
 use Rattle.atomic_table.specs.Seated.{TableId}
 use Rattle.ring_words.specs.declared.order.Orders.{Orders}
 use Rattle.ring_words.specs.declared.page.Role.{Role}
@@ -20,14 +21,15 @@ abbrev pub named : TableId → EndView → EndView
 named name e = record e { page = name }
 
 abbrev pub named_page : TableId → Settled → Settled
-named_page name s = record { orders = s.orders; server = named name s.server; client = named name s.client }
+named_page name s = record { orders = s.orders; start = s.start; server = named name s.server; client = named name s.client }
 
 -- an end that is in use: the name of its page, and the table that the page has
 pub record InUse : Type 0 where
   pub name : TableId
   pub table : TableId
 
--- an end that is done with its page, and the orders of the page
+-- an end that is done with its page, the orders of the page, and at which number its indices begin
 pub record DoneEnd : Type 0 where
   pub end : EndView
   pub orders : Orders
+  pub start : ℕ

@@ -1,10 +1,11 @@
 //! The client's side of a page that is laid when it is first used.
-ghost use Rattle.std.specs.Prelude.{◌≡◌, [], ◌∷◌, IfOk, IfErr};
+ghost use mathlib.Core.List.{IsPrefix};
+ghost use Rattle.std.specs.Prelude.{◌≡◌, [], ◌∷◌, IfOk, IfErr, IsTrue};
 ghost use Rattle.ring_words.specs.declared.page.Role.TheVariants.{Client};
-ghost use Rattle.rtrb.specs.Ring.{received};
+ghost use Rattle.rtrb.specs.Ring.{ConsumerLooked, known_items, received};
 ghost use Rattle.end_view.specs.EndView.{IsUnused};
 ghost use Rattle.vchan_rule.specs.Seated.{view, last_view};
-ghost use Rattle.page_offer.specs.Names.{name_of};
+ghost use Rattle.page_offer.specs.Names.{IsNameOf, name_of};
 ghost use Rattle.page_offer.specs.Views.{idle_view, named, unused_view};
 
 use crate::back::{Back, BackSender};
@@ -22,6 +23,7 @@ use vchan_rule::{End, Retired};
 pub struct UnlaidClient {
     offers: Consumer<Offer>,
     orders: Orders,
+    first: u32,
     left: Left,
 }
 
@@ -33,7 +35,7 @@ impl Model for UnlaidClient {
 
     ghost Value = { TableId };
 
-    ghost view = { λ c. name_of c.offers.end c.orders };
+    ghost view = { λ c. name_of c.offers.end c.orders c.first };
 
     ghost invariant = { λ c. received c.offers ≡ [] };
 }
@@ -43,6 +45,7 @@ impl Model for UnlaidClient {
 pub struct OpenClient {
     offers: Consumer<Offer>,
     orders: Orders,
+    first: u32,
     back: BackSender,
     offer: Snapshot<Offer>,
 }
@@ -55,7 +58,7 @@ impl Model for OpenClient {
 
     ghost Value = { InUse };
 
-    ghost view = { λ c. record { name = name_of c.offers.end c.orders; table = c.offer.value.page.table } };
+    ghost view = { λ c. record { name = name_of c.offers.end c.orders c.first; table = c.offer.value.page.table } };
 
     ghost invariant = { λ c. (received c.offers ≡ c.offer.value ∷ []) × (c.back ≡ c.offer.value.back) };
 }
@@ -77,6 +80,7 @@ pub(crate) enum ClientLast {
 pub struct DoneClient {
     pub(crate) offers: Consumer<Offer>,
     pub(crate) orders: Orders,
+    pub(crate) first: u32,
     pub(crate) last: ClientLast,
 }
 
@@ -88,42 +92,54 @@ impl Model for DoneClient {
 
     ghost Value = { DoneEnd };
 
-    ghost view = { λ c. record { end = client_end (name_of c.offers.end c.orders) c.last; orders = c.orders } };
+    ghost view = { λ c. record { end = client_end (name_of c.offers.end c.orders c.first) c.last; orders = c.orders; start = c.first } };
 
     ghost invariant = { λ c. StandsClient (received c.offers) c.last };
 }
 
 impl UnlaidClient {
-    /// The side of a page of these orders, which is offered through this ring.
-    pub(crate) fn new(offers: Consumer<Offer>, orders: Orders, left: Left) -> UnlaidClient
+    /// The side of a page of these orders, whose indices begin at `first`, and which is offered through
+    /// this ring.
+    pub(crate) fn new(
+        offers: Consumer<Offer>,
+        orders: Orders,
+        first: u32,
+        left: Left,
+    ) -> UnlaidClient
         requires { received offers ≡ [] }
-        ensures { result ≡ name_of offers.end orders }
+        ensures { result ≡ name_of offers.end orders first }
     {
         UnlaidClient {
             offers,
             orders,
+            first,
             left,
         }
     }
 
-    /// The client's end, where the page is offered. Else the side comes back as it was.
+    /// The client's end, where a page of the side's own orders and start is offered. Else the side comes
+    /// back as it was.
     pub fn open<'p>(self) -> Result<(End<'p>, OpenClient), UnlaidClient>
         ensures end { IfOk result (λ opened. IsUnused (view opened.0) × (named self (view opened.0) ≡ unused_view self Client)) }
         ensures side { IfOk result (λ opened. (opened.1.name ≡ self) × (opened.1.table ≡ (view opened.0).page)) }
+        ensures words { IfOk result (λ opened. IsNameOf opened.0.side.orders opened.0.start self) }
         ensures none { IfErr result (λ side. side ≡ self) }
     {
         let UnlaidClient {
             mut offers,
             orders,
+            first,
             left,
         } = self;
-        let Ok(taken) = offers.pop() else {
+        if !is_offered(&mut offers, orders, first) {
             return Err(UnlaidClient {
                 offers,
                 orders,
+                first,
                 left,
             });
-        };
+        }
+        let taken = offers.pop_known();
         let offer = Snapshot::of(&taken);
         let Offer {
             page,
@@ -134,6 +150,7 @@ impl UnlaidClient {
         let side = OpenClient {
             offers,
             orders,
+            first,
             back,
             offer,
         };
@@ -166,15 +183,28 @@ impl UnlaidClient {
         let UnlaidClient {
             offers,
             orders,
+            first,
             left,
         } = self;
         left.leave();
         DoneClient {
             offers,
             orders,
+            first,
             last: ClientLast::Unlaid,
         }
     }
+}
+
+// Whether a page of these orders and this start is offered.
+fn is_offered(offers: &mut Consumer<Offer>, orders: Orders, first: u32) -> bool
+    ensures looked { ConsumerLooked offers.old offers.new }
+    ensures offered { IsTrue result → (offer : _) × IsPrefix (offer ∷ []) (known_items offers.new) × (offer.page.orders ≡ orders) × (offer.page.start ≡ first) }
+{
+    if offers.slots() == 0 {
+        return false;
+    }
+    offers.peek_known().page.begins_with(orders, first)
 }
 
 impl OpenClient {
@@ -186,6 +216,7 @@ impl OpenClient {
         let OpenClient {
             offers,
             orders,
+            first,
             mut back,
             ..
         } = self;
@@ -194,6 +225,7 @@ impl OpenClient {
         DoneClient {
             offers,
             orders,
+            first,
             last: ClientLast::Returned { end, back },
         }
     }

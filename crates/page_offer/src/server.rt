@@ -29,6 +29,7 @@ pub struct UnlaidServer<'p> {
     offers: Producer<Offer>,
     start: &'p StartWords,
     orders: Orders,
+    first: u32,
     left: Left,
 }
 
@@ -40,9 +41,9 @@ impl<'p> Model for UnlaidServer<'p> {
 
     ghost Value = { PageView };
 
-    ghost view = { λ s. record { table = name_of s.offers.end s.orders; orders = s.orders; start = s.start.now.start } };
+    ghost view = { λ s. record { table = name_of s.offers.end s.orders s.first; orders = s.orders; start = s.first } };
 
-    ghost invariant = { λ s. (s.start.now.orders ≡ s.orders) × (sent s.offers ≡ []) × (0 < known_free s.offers) };
+    ghost invariant = { λ s. (s.start.now.orders ≡ s.orders) × (s.start.now.start ≡ s.first) × (sent s.offers ≡ []) × (0 < known_free s.offers) };
 }
 
 /// A page that a server has laid and not offered yet.
@@ -64,6 +65,7 @@ pub struct LaidPage {
 pub struct OpenServer {
     offers: Producer<Offer>,
     orders: Orders,
+    first: u32,
     page: HeldPage,
     back: BackReceiver,
     left: Left,
@@ -78,9 +80,9 @@ impl Model for OpenServer {
 
     ghost Value = { InUse };
 
-    ghost view = { λ s. record { name = name_of s.offers.end s.orders; table = s.page.table } };
+    ghost view = { λ s. record { name = name_of s.offers.end s.orders s.first; table = s.page.table } };
 
-    ghost invariant = { λ s. (s.page.orders ≡ s.orders) × IsOffered (sent s.offers) s.page s.back × IsAwaited s.page s.back };
+    ghost invariant = { λ s. (s.page.orders ≡ s.orders) × (s.page.start ≡ s.first) × IsOffered (sent s.offers) s.page s.back × IsAwaited s.page s.back };
 }
 
 /// What a server's side that is done has.
@@ -106,6 +108,7 @@ pub(crate) enum ServerLast {
 pub struct DoneServer {
     pub(crate) offers: Producer<Offer>,
     pub(crate) orders: Orders,
+    pub(crate) first: u32,
     pub(crate) last: ServerLast,
 }
 
@@ -117,21 +120,22 @@ impl Model for DoneServer {
 
     ghost Value = { DoneEnd };
 
-    ghost view = { λ s. record { end = server_end (name_of s.offers.end s.orders) s.last; orders = s.orders } };
+    ghost view = { λ s. record { end = server_end (name_of s.offers.end s.orders s.first) s.last; orders = s.orders; start = s.first } };
 
-    ghost invariant = { λ s. StandsServer s.orders (sent s.offers) s.last };
+    ghost invariant = { λ s. StandsServer (record { orders = s.orders; start = s.first }) (sent s.offers) s.last };
 }
 
-/// The two sides of a page of these orders, which begins with these words once it is laid. Its error is
-/// want of memory.
+/// The two sides of a page of these orders whose indices begin at `first`: it begins with these words once
+/// it is laid. Its error is want of memory.
 pub fn unlaid<'p>(
     alloc: Global,
     start: &'p StartWords,
     orders: Orders,
+    first: u32,
 ) -> Result<(UnlaidServer<'p>, UnlaidClient), Memory>
-    requires { start.now.orders ≡ orders }
-    ensures sides { IfOk result (λ sides. (sides.0.orders ≡ orders) × (sides.0.start ≡ start.now.start) × (sides.1 ≡ sides.0.table)) }
-    ensures name { IfOk result (λ sides. IsNameOf orders sides.1) }
+    requires { (start.now.orders ≡ orders) × (start.now.start ≡ first) }
+    ensures sides { IfOk result (λ sides. (sides.0.orders ≡ orders) × (sides.0.start ≡ first) × (sides.1 ≡ sides.0.table)) }
+    ensures name { IfOk result (λ sides. IsNameOf orders first sides.1) }
 {
     let (sender, receiver) = RingBuffer::new(alloc, 1)?;
     let left = Left::new(alloc)?;
@@ -140,16 +144,17 @@ pub fn unlaid<'p>(
         offers: sender,
         start,
         orders,
+        first,
         left,
     };
-    let client = UnlaidClient::new(receiver, orders, left_too);
+    let client = UnlaidClient::new(receiver, orders, first, left_too);
     Ok((server, client))
 }
 
 impl<'p> UnlaidServer<'p> {
     /// Lays the page. Its error is want of memory.
     pub fn lay(&self, alloc: Global) -> Result<LaidPage, Memory>
-        ensures { IfOk result (λ laid. laid.page.orders ≡ self.now.orders) }
+        ensures { IfOk result (λ laid. (laid.page.orders ≡ self.now.orders) × (laid.page.start ≡ self.now.start)) }
     {
         let (page, seat, client) = HeldPage::lay(alloc, self.start)?;
         let (mut sender, mut back) = RingBuffer::with_protocol::<Global, OnePage>(alloc, 2)?;
@@ -171,15 +176,18 @@ impl<'p> UnlaidServer<'p> {
         })
     }
 
-    /// Offers the page that was laid to the client, and gives the server's end.
+    /// Offers the page that was laid to the client, and gives the server's end. The page has the side's own
+    /// orders and start, and so has the end.
     pub fn open(self, laid: LaidPage) -> (End<'p>, OpenServer)
-        requires { laid.page.orders ≡ self.orders }
+        requires { (laid.page.orders ≡ self.orders) × (laid.page.start ≡ self.start) }
         ensures end { IsUnused (view result.0) × (named self.entry.table (view result.0) ≡ unused_view self.entry.table Server) }
         ensures side { (result.1.name ≡ self.entry.table) × (result.1.table ≡ (view result.0).page) }
+        ensures words { (result.0.side.orders ≡ self.entry.orders) × (result.0.start ≡ self.entry.start) }
     {
         let UnlaidServer {
             mut offers,
             orders,
+            first,
             left,
             ..
         } = self;
@@ -195,6 +203,7 @@ impl<'p> UnlaidServer<'p> {
         let side = OpenServer {
             offers,
             orders,
+            first,
             page,
             back,
             left,
@@ -204,11 +213,12 @@ impl<'p> UnlaidServer<'p> {
 
     /// The side of a server that doesn't use its end.
     pub fn finish(self) -> DoneServer
-        ensures { (result.end ≡ idle_view self.entry.table Server) × (result.orders ≡ self.entry.orders) }
+        ensures { (result.end ≡ idle_view self.entry.table Server) × (result.orders ≡ self.entry.orders) × (result.start ≡ self.entry.start) }
     {
         let UnlaidServer {
             offers,
             orders,
+            first,
             left,
             ..
         } = self;
@@ -216,6 +226,7 @@ impl<'p> UnlaidServer<'p> {
         DoneServer {
             offers,
             orders,
+            first,
             last: ServerLast::Unlaid,
         }
     }
@@ -238,6 +249,7 @@ impl OpenServer {
         let OpenServer {
             offers,
             orders,
+            first,
             page,
             back,
             ..
@@ -245,6 +257,7 @@ impl OpenServer {
         let mut done = DoneServer {
             offers,
             orders,
+            first,
             last: ServerLast::Waits { page, own, back },
         };
         done.take_back();
@@ -253,9 +266,9 @@ impl OpenServer {
 }
 
 impl DoneServer {
-    /// The name of the page tells its orders.
+    /// The name of the page tells its orders, and at which number its indices begin.
     pub fn promise(&self)
-        ensures { IsNameOf self.now.orders self.now.end.page }
+        ensures { IsNameOf self.now.orders self.now.start self.now.end.page }
     {
         let _ = &self.last;
     }
@@ -275,8 +288,8 @@ impl DoneServer {
 impl ServerLast {
     // The same, once the client's end is taken where that is back, and whether it isn't.
     fn take_back(self) -> (ServerLast, bool)
-        requires { (orders : _) × (offers : _) × StandsServer orders offers self }
-        ensures { (name : _) (orders : _) (offers : _) → StandsServer orders offers self → StandsServer orders offers result.0 × (server_end name result.0 ≡ server_end name self) }
+        requires { (words : _) × (offers : _) × StandsServer words offers self }
+        ensures { (name : _) (words : _) (offers : _) → StandsServer words offers self → StandsServer words offers result.0 × (server_end name result.0 ≡ server_end name self) }
     {
         match self {
             ServerLast::Waits {

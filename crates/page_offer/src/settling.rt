@@ -63,8 +63,8 @@ pub fn settle(
     client: DoneClient,
 ) -> Result<OfferedPage, Memory>
     requires page { client.end.page ≡ server.end.page }
-    requires orders { start.now.orders ≡ server.orders }
-    ensures settled { IfOk result (λ page. page ≡ record { orders = server.orders; server = server.end; client = client.end }) }
+    requires words { (start.now.orders ≡ server.orders) × (start.now.start ≡ server.start) }
+    ensures settled { IfOk result (λ page. page ≡ record { orders = server.orders; start = server.start; server = server.end; client = client.end }) }
     ensures unused { OnErr result (server.end ≡ idle_view server.end.page Server) }
 {
     let kept = Snapshot::of(&server);
@@ -84,8 +84,8 @@ fn settle_sides(
     client: DoneClient,
 ) -> Result<(Settled, Option<Rings>), Memory>
     requires page { client.end.page ≡ server.end.page }
-    requires orders { start.now.orders ≡ server.orders }
-    ensures settled { IfOk result (λ page. named_page server.end.page page.0 ≡ record { orders = server.orders; server = server.end; client = client.end }) }
+    requires words { (start.now.orders ≡ server.orders) × (start.now.start ≡ server.start) }
+    ensures settled { IfOk result (λ page. named_page server.end.page page.0 ≡ record { orders = server.orders; start = server.start; server = server.end; client = client.end }) }
     ensures unused { OnErr result (server.end ≡ idle_view server.end.page Server) }
 {
     let DoneServer {
@@ -129,7 +129,7 @@ fn settle_sides(
 
 // A page that neither side used, and so without rings to keep: it is laid for its two ends to retire.
 fn settle_unused(alloc: Global, start: &StartWords) -> Result<(Settled, Option<Rings>), Memory>
-    ensures { (name : _) → IfOk result (λ page. named_page name page.0 ≡ record { orders = start.now.orders; server = idle_view name Server; client = idle_view name Client }) }
+    ensures { (name : _) → IfOk result (λ page. named_page name page.0 ≡ record { orders = start.now.orders; start = start.now.start; server = idle_view name Server; client = idle_view name Client }) }
 {
     let (page, server, client) = HeldPage::lay(alloc, start)?;
     let (for_server, for_client) = (page.hold()?, page.hold()?);
@@ -142,7 +142,7 @@ fn settle_unused(alloc: Global, start: &StartWords) -> Result<(Settled, Option<R
 fn settle_untaken(page: HeldPage, own: Retired, offer: Offer) -> Settled
     requires offer { offer.page ≡ page }
     requires own { (own.page ≡ page.table) × (own.side.role ≡ Server) }
-    ensures own { (result.orders ≡ page.orders) × (result.server ≡ last_view own) }
+    ensures own { (result.orders ≡ page.orders) × (result.start ≡ page.start) × (result.server ≡ last_view own) }
     ensures client { (name : _) → named name result.client ≡ idle_view name Client }
 {
     let Offer {
@@ -165,7 +165,7 @@ fn settle_returned(
     requires own { (own.page ≡ page.table) × (own.side.role ≡ Server) }
     requires awaited { IsAwaited page back }
     requires said { (mark : _) × (end : _) × (sent sender ≡ Of mark ∷ Done end ∷ []) }
-    ensures own { (result.orders ≡ page.orders) × (result.server ≡ last_view own) }
+    ensures own { (result.orders ≡ page.orders) × (result.start ≡ page.start) × (result.server ≡ last_view own) }
     ensures client { (mark : _) (end : SeatedSide) → sent sender ≡ Of mark ∷ Done end ∷ [] → result.client ≡ last_view end }
 {
     back.slots_beside(&mut sender);

@@ -1,8 +1,10 @@
 -- The pages that are laid for a scenario, and what its tasks are given.
 -- Source: this project's own.
-use Rattle.std.specs.Prelude.{ℕ, ◌==◌, ◌&&◌, ◌||◌, Bool, true, false, List, [], ◌++◌, length, map, filter, unwrap_or, if◌then◌else◌}
+use Rattle.std.specs.Prelude.{◌≡◌, ℕ, ◌==◌, ◌&&◌, ◌||◌, Bool, true, false, List, [], ◌++◌, length, map, filter, unwrap_or, if◌then◌else◌}
 use Rattle.std.specs.List.{flat_map, count_by}
 use Rattle.std.specs.Option.{option_map_or}
+use Rattle.ring_words.specs.declared.order.Orders.{Orders}
+use Rattle.end_view.specs.Settled.{Settled}
 use Rattle.call_broker.specs.Domains.{Domains, first_port}
 use Rattle.task_duties.specs.Agent.Given.{AgentPlan}
 use Rattle.task_duties.specs.Hostile.Given.{HostilePlan}
@@ -55,6 +57,16 @@ laid s = map Control (all_domains s) ++ flat_map (λ from. flat_map (laid_betwee
 -- the table of pages as the broker has it, the pairs from 1 first
 abbrev pub page_table : Scenario → List ℕ
 page_table s = flat_map (λ from. map (pages_between s from) (all_domains s)) (all_domains s)
+
+-- the orders of a page
+abbrev pub orders_of : Scenario → PagePlace → Orders
+orders_of s (Control d) = s.control
+orders_of s (Payload from to port) = s.payload
+
+-- a page at this place has the orders of its kind, and all its indices began at the scenario's start
+pub record BeganAsSaid (s : Scenario) (place : PagePlace) (page : Settled) : Type 0 where
+  pub orders : page.orders ≡ orders_of s place
+  pub start : page.start ≡ s.start
 
 -- whose end the server of a page is, and whose the client; 0 is the broker
 abbrev pub server_of : PagePlace → ℕ

@@ -25,7 +25,7 @@ use Rattle.task_duties.specs.Words.{ident_of, exec_line, service_of_line}
 use Rattle.task_duties.specs.Agent.Sessions.{chunk, IsService}
 use Rattle.task_duties.specs.Agent.Saying.{asking, asking_of}
 use Rattle.task_duties.specs.Hostile.Trail.{IsTrail}
-use Rattle.run_laws.specs.Laid.{server_of, client_of, laid, calls_from, hostile_plan}
+use Rattle.run_laws.specs.Laid.{BeganAsSaid, server_of, client_of, laid, calls_from, hostile_plan}
 use Rattle.run_laws.specs.declared.report.MixedOutcome.{MixedOutcome}
 use Rattle.run_laws.specs.declared.report.MixedOutcome.TheVariants.{Done, Refused, Closed, Gone}
 use Rattle.run_laws.specs.declared.report.CallResult.{CallResult}
@@ -214,8 +214,9 @@ has_page (IsMixed outcome got) = true
 -- a lawful report of a scenario
 pub record IsLawful (s : Scenario) (r : Report) : Type 0 where
   pub ports : Ports
-  -- the pages are those that are laid, each once, turned as the scenario says and settled
+  -- the pages are those that are laid, each once, with the orders and the start that the scenario says, turned as it says and settled
   pub pages : IsPermutation (map (λ p. p.place) r.pages) (laid s)
+  pub begun : Each (λ p. BeganAsSaid s p.place p.settled) r.pages
   pub turned : Each (TurnedAsSaid s) r.pages
   pub settled : Each (λ p. IsSettled p.settled) r.pages
   -- each call has a line

@@ -1,7 +1,6 @@
 -- A run from what its tasks answered and from its settled pages.
 -- Source: this project's own.
 use Rattle.std.specs.Prelude.{◌≡◌, ◌≢◌, ℕ, ◌≤◌, true, false, List, [], ◌∷◌, length, map, slice_index_or, Contains, IsPermutation, AllPairs, if◌then◌else◌}
-use Rattle.ring_words.specs.declared.order.Orders.{Orders}
 use Rattle.qrexec_frame.specs.Streams.{Each}
 use Rattle.call_broker.specs.declared.decision.Entry.{Entry}
 use Rattle.end_view.specs.EndView.{EndView, no_end}
@@ -15,7 +14,7 @@ use Rattle.task_duties.specs.declared.done.ControlEnd.{ControlEnd}
 use Rattle.task_duties.specs.declared.done.ControlEnd.TheVariants.{Drained}
 use Rattle.task_duties.specs.Places.{is_place}
 use Rattle.task_duties.specs.TaskOwes.{EndAt, TaskGiven, Agent, Broker, Hostile, TaskDone, AgentDone, BrokerDone, HostileDone, NoMemory, places_in, TaskOwes}
-use Rattle.run_laws.specs.Laid.{all_domains, laid, places_of, server_of, client_of, hub_of, awaited_by, agent_plan, hostile_plan}
+use Rattle.run_laws.specs.Laid.{BeganAsSaid, orders_of, all_domains, laid, places_of, server_of, client_of, hub_of, awaited_by, agent_plan, hostile_plan}
 use Rattle.run_laws.specs.declared.report.ServedLine.{ServedLine}
 use Rattle.run_laws.specs.Report.{SettledPage, Report}
 use Rattle.run_laws.specs.Lawful.{IsLawful}
@@ -65,14 +64,9 @@ view_in (e ∷ ends) place = if is_place e.place place then e.view else view_in 
 abbrev pub view_at : List TaskDone → ℕ → PagePlace → EndView
 view_at dones number place = view_in (ends_of (answer_at dones number)) place
 
--- the orders of a page
-abbrev pub orders_of : Scenario → PagePlace → Orders
-orders_of s (Control d) = s.control
-orders_of s (Payload from to port) = s.payload
-
 -- the page at a place, by the ends that were given back
 abbrev pub page_at : Scenario → List TaskDone → PagePlace → Settled
-page_at s dones place = record { orders = orders_of s place; server = view_at dones (server_of place) place; client = view_at dones (client_of place) place }
+page_at s dones place = record { orders = orders_of s place; start = s.start; server = view_at dones (server_of place) place; client = view_at dones (client_of place) place }
 
 -- the run that tasks answered so
 abbrev pub run_of : Scenario → List TaskDone → Run
@@ -99,7 +93,7 @@ HasAnswered s dones number = (given : TaskGiven) × IsGivenTo s number given × 
 -- a settled page is made of the two ends that its tasks gave back
 pub record IsJoined (s : Scenario) (dones : List TaskDone) (page : SettledPage) : Type 0 where
   pub settled : IsSettled page.settled
-  pub orders : page.settled.orders ≡ orders_of s page.place
+  pub begun : BeganAsSaid s page.place page.settled
   pub server : Contains (ends_of (answer_at dones (server_of page.place))) (record { place = page.place; view = page.settled.server })
   pub client : Contains (ends_of (answer_at dones (client_of page.place))) (record { place = page.place; view = page.settled.client })
 

@@ -14,7 +14,7 @@ use Rattle.task_duties.specs.declared.done.ControlEnd.{ControlEnd}
 use Rattle.task_duties.specs.Agent.Owes.{AgentOwes}
 use Rattle.task_duties.specs.Broker.Owes.{BrokerOwes}
 use Rattle.task_duties.specs.Hostile.Trail.{IsTrail}
-use Rattle.run_laws.specs.Laid.{server_of, client_of, hub_of, awaited_by, agent_plan, hostile_plan, pages_between, is_end_of}
+use Rattle.run_laws.specs.Laid.{BeganAsSaid, server_of, client_of, hub_of, awaited_by, agent_plan, hostile_plan, pages_between, is_end_of}
 
 -- a page lies here; `laid` lists all such places
 abbrev pub IsPlace : Scenario → PagePlace → Type 0
@@ -44,10 +44,11 @@ pub record IsHonest (s : Scenario) (d : ℕ) : Type 0 where
   pub there : is_some (domain_of s d) ≡ true
   pub honest : hostile_at s d ≡ false
 
--- a run of a scenario: each page is settled, the ends of hostile domains are turned and no others, and each task has done what it owes
+-- a run of a scenario: each page is settled and began as the scenario says, the ends of hostile domains are turned and no others, and each task has done what it owes
 pub record IsRun (s : Scenario) (run : Run) : Type 0 where
   pub scenario : IsScenario s
   pub settled : (place : PagePlace) → IsPlace s place → IsSettled (run.page place)
+  pub begun : (place : PagePlace) → IsPlace s place → BeganAsSaid s place (run.page place)
   pub server_turned : (place : PagePlace) → IsPlace s place → (run.page place).server.turned ≡ hostile_at s (server_of place)
   pub client_turned : (place : PagePlace) → IsPlace s place → (run.page place).client.turned ≡ hostile_at s (client_of place)
   pub broker : BrokerOwes (hub_of s) (awaited_by s) run.journal (broker_end run)

@@ -17,10 +17,9 @@ use Rattle.task_duties.specs.GivenEnds.{all_given, given_at}
 use Rattle.task_duties.specs.declared.ends.DataEnd.{DataEnd}
 use Rattle.task_duties.specs.declared.place.PagePlace.TheVariants.{Control, Payload}
 use Rattle.ring_words.specs.declared.page.Role.TheVariants.{Server, Client}
-use Rattle.run_laws.specs.Laid.{server_of, client_of}
+use Rattle.run_laws.specs.Laid.{orders_of, server_of, client_of}
 use Rattle.run_pages.specs.declared.deal.Hand.{Hand}
 use Rattle.scenario_file.specs.Scenario.{Plan as Scenario}
-use Rattle.run_laws.specs.Results.{orders_of}
 use Rattle.run_pages.specs.Pages.{IsLaidFor, PageAt, new_end, end_on, new_ends}
 use Rattle.qrexec_frame.specs.Streams.{Each}
 use Rattle.run_pages.specs.Dealt.{hand_ends, HandsDealt, ControlsDealt, AreDealt, AddsHand, FitsDomain, Gives, HasOrders, HaveOrders}

@@ -13,12 +13,12 @@ use Rattle.task_duties.specs.declared.place.PagePlace.{PagePlace}
 use Rattle.task_duties.specs.declared.place.PagePlace.TheVariants.{Control, Payload}
 use Rattle.ring_words.specs.declared.page.Role.TheVariants.{Server, Client}
 use Rattle.std.proofs.lemmas.Bool.Decides.{eqb_tells}
-use Rattle.run_laws.specs.Laid.{server_of, client_of}
+use Rattle.run_laws.specs.Laid.{orders_of, server_of, client_of}
 use Rattle.run_pages.specs.Pages.{AreLaid, IsLaidFor, PageAt, new_end, new_ends}
 use Rattle.run_pages.specs.Dealt.{Follows, controls_in}
 use Rattle.run_pages.specs.Settling.{AreSettledBy, GivesUp, GivesUpBoth, HandsBack, HasEnd, IsJoinedBy, IsSettledBy, IsSettling, hand_of}
 use Rattle.qrexec_frame.specs.Streams.{Each}
-use Rattle.run_laws.specs.Results.{orders_of}
+use Rattle.vchan_rule.specs.Seated.{PageStart}
 use Rattle.scenario_file.specs.Scenario.{Plan as Scenario}
 use Rattle.run_laws.specs.Report.{SettledPage}
 use Rattle.run_pages.proofs.ListLaws.{each-more, get-set, last-pair}
@@ -259,7 +259,10 @@ settled-by : (s : Scenario) (p : PageAt) (server client : EndAt) (page : Settled
     → IsJoinedBy p server client page → IsSettledBy s first page
 settled-by s p server client page hands between first laid gave gives within joined = record {
   settled = joined.settled;
-  orders = joined.orders_are ∙ laid.orders ∙ ap (orders_of s) (sym joined.place_is);
+  begun = record {
+    orders = ap (λ (w : PageStart). w.orders) joined.words_are ∙ laid.orders ∙ ap (orders_of s) (sym joined.place_is);
+    start = ap (λ (w : PageStart). w.start) joined.words_are ∙ laid.start;
+  };
   server = subst (λ place. Contains (hand_of first (server_of place)) (record { place = place; view = page.settled.server })) (sym joined.place_is)
       (subst (λ e. Contains (hand_of first (server_of p.place)) e) (ap (λ place. record { place = place; view = server.view }) gave.server_gave.same.place ∙ ap (λ v. record { place = p.place; view = v }) (sym joined.server_is))
       (gave-back p Server (server_of p.place) server hands first gave.server_gave within));

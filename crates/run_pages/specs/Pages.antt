@@ -12,8 +12,7 @@ use Rattle.task_duties.specs.declared.place.PagePlace.{PagePlace}
 use Rattle.task_duties.specs.declared.place.PagePlace.TheVariants.{Control, Payload}
 use Rattle.task_duties.specs.Pairwise.{EachPair}
 use Rattle.task_duties.specs.TaskOwes.{EndAt}
-use Rattle.run_laws.specs.Laid.{laid, server_of, client_of}
-use Rattle.run_laws.specs.Results.{orders_of}
+use Rattle.run_laws.specs.Laid.{orders_of, laid, server_of, client_of}
 use Rattle.run_pages.specs.declared.lay.RunPage.{RunPage}
 use Rattle.run_pages.specs.declared.lay.RunPage.TheVariants as page
 use Rattle.run_pages.specs.declared.lay.PageSeats.{PageSeats}

@@ -1,7 +1,6 @@
 -- What the tasks of a run give back, and the pages that are settled by it.
 -- Source: this project's own.
 use Rattle.std.specs.Prelude.{◌≡◌, ℕ, ◌<◌, ◌==◌, List, [], ◌∷◌, ◌++◌, length, map, reverse, slice_get, slice_index_or, Some, Contains, if◌then◌else◌}
-use Rattle.ring_words.specs.declared.order.Orders.{Orders}
 use Rattle.end_view.specs.EndView.{EndView}
 use Rattle.end_view.specs.Settled.{IsSettled}
 use Rattle.qrexec_frame.specs.Streams.{Each}
@@ -9,9 +8,9 @@ use Rattle.scenario_file.specs.Scenario.{Plan as Scenario}
 use Rattle.task_duties.specs.declared.place.PagePlace.{PagePlace}
 use Rattle.task_duties.specs.Pairwise.{EachPair}
 use Rattle.task_duties.specs.TaskOwes.{EndAt, IsSameEnd}
-use Rattle.run_laws.specs.Laid.{server_of, client_of}
+use Rattle.vchan_rule.specs.Seated.{PageStart, began_with, words_of}
+use Rattle.run_laws.specs.Laid.{BeganAsSaid, server_of, client_of}
 use Rattle.run_laws.specs.Report.{SettledPage}
-use Rattle.run_laws.specs.Results.{orders_of}
 use Rattle.run_pages.specs.Pages.{PageAt, IsLaidFor, new_ends}
 use Rattle.run_pages.specs.Dealt.{Follows, controls_in}
 
@@ -40,20 +39,20 @@ hand_of hands number = slice_index_or hands number []
 -- a page is settled by two ends that were given back
 pub record IsSettledBy (s : Scenario) (hands : List (List EndAt)) (page : SettledPage) : Type 0 where
   pub settled : IsSettled page.settled
-  pub orders : page.settled.orders ≡ orders_of s page.place
+  pub begun : BeganAsSaid s page.place page.settled
   pub server : Contains (hand_of hands (server_of page.place)) (record { place = page.place; view = page.settled.server })
   pub client : Contains (hand_of hands (client_of page.place)) (record { place = page.place; view = page.settled.client })
 
--- a page of these orders as it was settled by two ends that are seen so
-pub record IsSettledAs (place : PagePlace) (orders : Orders) (server client : EndView) (page : SettledPage) : Type 0 where
+-- a page that began with these words as it was settled by two ends that are seen so
+pub record IsSettledAs (place : PagePlace) (words : PageStart) (server client : EndView) (page : SettledPage) : Type 0 where
   pub place_is : page.place ≡ place
-  pub orders_are : page.settled.orders ≡ orders
+  pub words_are : began_with page.settled ≡ words
   pub server_is : page.settled.server ≡ server
   pub client_is : page.settled.client ≡ client
   pub settled : IsSettled page.settled
 
 abbrev pub IsJoinedBy : PageAt → EndAt → EndAt → SettledPage → Type 0
-IsJoinedBy p server client page = IsSettledAs p.place p.page.orders server.view client.view page
+IsJoinedBy p server client page = IsSettledAs p.place (words_of p.page) server.view client.view page
 
 -- all pages are settled, in order
 pub record AreSettledBy (s : Scenario) (pages : List PageAt) (hands : List (List EndAt)) (settled : List SettledPage) : Type 0 where

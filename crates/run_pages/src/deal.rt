@@ -3,7 +3,7 @@ ghost use Rattle.std.specs.Prelude.{◌≡◌, ◌≤◌, ◌++◌, ◌∷◌, [
 ghost use Rattle.task_duties.specs.GivenEnds.{fresh_view, given_at};
 ghost use Rattle.task_duties.specs.declared.place.PagePlace.TheVariants.{Payload};
 ghost use Rattle.vchan_rule.specs.Seated.{view};
-ghost use Rattle.run_laws.specs.Results.{orders_of};
+ghost use Rattle.run_laws.specs.Laid.{orders_of};
 ghost use Rattle.run_pages.specs.Dealt.{AddsHand, AreDealt, AreEndsOf, ControlsDealt, FitsDomain, Follows, Gives, HandsDealt, HaveOrders, hands_after};
 ghost use Rattle.scenario_file.specs.Scenario.{Plan};
 ghost use Rattle.run_pages.specs.Pages.{AreLaid, AreSeatsOf, HasSeats, IsLaidFor, PageAt, page_at};

@@ -33,7 +33,7 @@ pub(crate) struct Offering {
     pub(crate) orders: Orders,
     pub(crate) start: u32,
     pub(crate) client: Snapshot<UnlaidClient>,
-    ghost named: { IsNameOf orders client.value },
+    ghost named: { IsNameOf orders start client.value },
 }
 
 impl RunPage {

@@ -3,6 +3,7 @@ ghost use Rattle.std.specs.Prelude.{◌≡◌, ◌≢◌, ◌+◌, length, map, 
 ghost use Rattle.run_laws.specs.Laid.{server_of, client_of};
 ghost use Rattle.scenario_file.specs.Scenario.{Plan};
 ghost use Rattle.run_pages.specs.Starts.{AreStartsOf};
+ghost use Rattle.vchan_rule.specs.Seated.{words_of};
 ghost use Rattle.run_pages.specs.Settling.{AreSettledBy, GivesUp, GivesUpBoth, HandsBack, HasEnd, IsJoinedBy, IsSettledAs};
 ghost use Rattle.run_pages.specs.Pages.{AreLaid, IsLaidFor, new_end, page_at};
 ghost use Rattle.ring_words.specs.declared.page.Role.TheVariants.{Server, Client};
@@ -82,7 +83,7 @@ fn settle_laid(
 ) -> Result<SettledPage, Memory>
     requires server { ((done_view server).page ≡ page.table) × ((done_view server).role ≡ Server) }
     requires client { ((done_view client).page ≡ page.table) × ((done_view client).role ≡ Client) }
-    ensures { IfOk result (IsSettledAs place page.orders (done_view server) (done_view client)) }
+    ensures { IfOk result (IsSettledAs place (words_of page) (done_view server) (done_view client)) }
 {
     let server = laid_end(server)?;
     let client = laid_end(client)?;
@@ -112,10 +113,10 @@ fn settle_offered(
     server: DoneEnd,
     client: DoneEnd,
 ) -> Result<SettledPage, Memory>
-    requires starts { starts.now.payload.orders ≡ page.orders }
+    requires starts { (starts.now.payload.orders ≡ page.orders) × (starts.now.payload.start ≡ page.start) }
     requires server { (done_view server).page ≡ page.client.value }
     requires client { (done_view client).page ≡ page.client.value }
-    ensures { IfOk result (IsSettledAs (Payload page.from page.to page.port) page.orders (done_view server) (done_view client)) }
+    ensures { IfOk result (IsSettledAs (Payload page.from page.to page.port) (record { orders = page.orders; start = page.start }) (done_view server) (done_view client)) }
 {
     let server = server_side(server)?;
     let client = client_side(client)?;

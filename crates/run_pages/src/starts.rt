@@ -24,7 +24,7 @@ pub struct RunStarts {
 }
 
 impl RunStarts {
-    ghost use Rattle.run_laws.specs.Results.{orders_of};
+    ghost use Rattle.run_laws.specs.Laid.{orders_of};
     ghost use Rattle.scenario_file.specs.Scenario.{Plan};
     ghost use Rattle.task_duties.specs.declared.place.PagePlace.TheVariants.{Payload};
     ghost use Rattle.run_pages.specs.Pages.{IsLaying, are_offered, is_offered, page_at};
@@ -108,7 +108,7 @@ impl RunStarts {
     ) -> Result<(RunPage, PageSeats<'s>), Memory>
         ensures { (s : Plan) → are_offered s from to ≡ true → AreStartsOf s self.now → IfOk result (λ p. IsMadeFor s (Payload from to port) p.0 p.1) }
     {
-        let (server, client) = unlaid(alloc, &self.payload, self.orders)?;
+        let (server, client) = unlaid(alloc, &self.payload, self.orders, self.first)?;
         let page = Offering {
             from,
             to,

@@ -104,7 +104,7 @@ ends-back s pages dones are some k hand is =
 joined : (s : Scenario) (dones : List Answer) (page : SettledPage) → IsSettledBy s (map ends_of dones) page → IsJoined s dones page
 joined s dones page by = record {
   settled = by.settled;
-  orders = by.orders;
+  begun = by.begun;
   server = subst (λ ends. Contains ends (record { place = page.place; view = page.settled.server })) (index-ends dones (server_of page.place)) by.server;
   client = subst (λ ends. Contains ends (record { place = page.place; view = page.settled.client })) (index-ends dones (client_of page.place)) by.client;
 }

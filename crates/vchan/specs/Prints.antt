@@ -47,26 +47,26 @@ pub record PrintsSums (number calls : ℕ) (text : List ℕ) (report : Report) :
   pub prints : text ≡ summary_of scenario.calls report
   pub alone : text ≡ sums_of (generated number calls)
 
--- `pipe` prints the input, all of which went through the left ring of the page
+-- `pipe` prints the input, all of which went through the left ring of the page, whose indices began at 0
 pub record PrintsPiped (orders : Orders) (input text : List ℕ) (page : Settled) : Type 0 where
-  pub piped : HasPiped orders input page
+  pub piped : HasPiped (record { orders = orders; start = 0 }) input page
   pub prints : text ≡ input
 
--- `relay` prints how many bytes went through the left ring of each page, of the orders 10 and 11, and the input, which is what came out behind the last
+-- `relay` prints how many bytes went through the left ring of each page, of the orders 10 and 11, whose indices began at 0, and the input, which is what came out behind the last
 pub record PrintsRelayed (hops : ℕ) (input text : List ℕ) (pages : List Settled) : Type 0 where
   pub orders : Orders
   pub orders_are : (number_of orders.left ≡ 10) × (number_of orders.right ≡ 11)
-  pub relayed : HasRelayed hops orders input (record { got = input; pages = pages })
+  pub relayed : HasRelayed hops (record { orders = orders; start = 0 }) input (record { got = input; pages = pages })
   pub prints : text ≡ relays_text pages input
 
--- `persist` prints what came of the clients that the input lists, each served by the service of this name on a page of its own, of the orders 10 and 11
+-- `persist` prints what came of the clients that the input lists, each served by the service of this name on a page of its own, of the orders 10 and 11, whose indices began at 0
 pub record PrintsServed (name input text : List ℕ) (pages : List Settled) : Type 0 where
   pub orders : Orders
   pub orders_are : (number_of orders.left ≡ 10) × (number_of orders.right ≡ 11)
   pub clients : List Client
   pub reads : clients_of input ≡ Ok clients
   pub dones : List EpochDone
-  pub epochs : AreEpochs name orders 1 clients dones
+  pub epochs : AreEpochs name (record { orders = orders; start = 0 }) 1 clients dones
   pub pages_are : pages ≡ map (λ e. e.settled) dones
   pub prints : text ≡ clients_text dones
 

@@ -2,14 +2,13 @@
 use Rattle.std.proofs.Common.{◌≡◌, ◌≤◌, ◌<◌, ◌+◌, ℕ, List, ◌++◌, length, take, Bool, true, false, refl, sym, subst, ap, ◌∙◌, arith}
 use Rattle.std.proofs.lemmas.List.{length-take-le, take-append-le, take-take, length-append}
 use Rattle.std.proofs.Math.Seq.{take-append-add}
-use Rattle.ring_words.specs.declared.order.Orders.{Orders}
 use Rattle.vchan_lifecycle.specs.declared.DrainAnswer.{DrainAnswer}
 use Rattle.vchan_lifecycle.specs.declared.DrainAnswer.TheVariants.{More, NotYet, AllRead, PeerGone}
 use Rattle.vchan_lifecycle.specs.Lifecycle.{drained_to}
 use Rattle.end_view.specs.EndView.{EndView}
 use Rattle.end_view.specs.Settled.{Settled, IsSettled}
 use Rattle.vchan_block.specs.Pipe.{GetsAll, HasPiped, IsEndOf, SendsAll, drained_count}
-use Rattle.vchan_rule.specs.Seated.{PageView, SeatedSide, last_view, settled_page}
+use Rattle.vchan_rule.specs.Seated.{PageStart, PageView, SeatedSide, began_with, last_view, settled_page, words_of}
 use Rattle.ring_words.specs.declared.page.Role.TheVariants.{Server, Client}
 
 -- ---- the reader
@@ -39,9 +38,9 @@ unseen_by true never = absurd (never refl)
 unseen_by false never = refl
 
 -- a writer of all bytes and a reader with room for more have brought all through
-through : (page : Settled) (orders : Orders) (bytes back : List ℕ) → IsSettled page → page.orders ≡ orders → page.client.turned ≡ false → page.server.turned ≡ false →
-    SendsAll page.client bytes → GetsAll page.server back (length bytes + 1) → (back ≡ bytes) × HasPiped orders bytes page
-through page orders bytes back settled same client server sends gets =
+through : (page : Settled) (words : PageStart) (bytes back : List ℕ) → IsSettled page → began_with page ≡ words → page.client.turned ≡ false → page.server.turned ≡ false →
+    SendsAll page.client bytes → GetsAll page.server back (length bytes + 1) → (back ≡ bytes) × HasPiped words bytes page
+through page words bytes back settled same client server sends gets =
     let honest = settled.honest server client in
     let long = ap length gets.got in
     let begins = ap length honest.left.in_order.1 in
@@ -55,7 +54,7 @@ through page orders bytes back settled same client server sends gets =
       sym gets.got ∙ whole,
       record {
         settled = settled;
-        orders_are = same;
+        words_are = same;
         client_honest = client;
         server_honest = server;
         sent = sent;
@@ -64,9 +63,9 @@ through page orders bytes back settled same client server sends gets =
       },
     )
 
-pub piped : (page : PageView) (server client : SeatedSide) (s : Settled) (orders : Orders) (bytes back : List ℕ) (room : ℕ) → s ≡ settled_page page server client → page.orders ≡ orders → room ≡ length bytes + 1 →
-    IsEndOf page.table Server server → IsEndOf page.table Client client → SendsAll (last_view client) bytes → GetsAll (last_view server) back room → IsSettled s → (back ≡ bytes) × HasPiped orders bytes s
-piped page server client s orders bytes back room is same long is_server is_client sends gets settled =
-    through s orders bytes back settled (ap (λ (p : Settled). p.orders) is ∙ same) (ap (λ (p : Settled). p.client.turned) is ∙ is_client.honest) (ap (λ (p : Settled). p.server.turned) is ∙ is_server.honest)
+pub piped : (page : PageView) (server client : SeatedSide) (s : Settled) (words : PageStart) (bytes back : List ℕ) (room : ℕ) → s ≡ settled_page page server client → words_of page ≡ words → room ≡ length bytes + 1 →
+    IsEndOf page.table Server server → IsEndOf page.table Client client → SendsAll (last_view client) bytes → GetsAll (last_view server) back room → IsSettled s → (back ≡ bytes) × HasPiped words bytes s
+piped page server client s words bytes back room is same long is_server is_client sends gets settled =
+    through s words bytes back settled (ap began_with is ∙ same) (ap (λ (p : Settled). p.client.turned) is ∙ is_client.honest) (ap (λ (p : Settled). p.server.turned) is ∙ is_server.honest)
     (subst (λ (p : Settled). SendsAll p.client bytes) (sym is) sends)
     (subst (λ (p : Settled). GetsAll p.server back (length bytes + 1)) (sym is) (subst (GetsAll (last_view server) back) long gets))

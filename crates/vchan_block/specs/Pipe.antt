@@ -2,18 +2,17 @@
 -- The statements are this project's own.
 use Rattle.std.specs.Prelude.{◌≡◌, ◌≤◌, ◌<◌, ℕ, List, length, true, false, IsSome}
 use Rattle.atomic_table.specs.Seated.{TableId}
-use Rattle.ring_words.specs.declared.order.Orders.{Orders}
 use Rattle.ring_words.specs.declared.page.Role.{Role}
 use Rattle.end_view.specs.EndView.{EndView}
 use Rattle.end_view.specs.Settled.{Settled, IsSettled}
 use Rattle.vchan_lifecycle.specs.declared.DrainAnswer.{DrainAnswer}
 use Rattle.vchan_lifecycle.specs.declared.DrainAnswer.TheVariants.{More, NotYet, AllRead, PeerGone}
-use Rattle.vchan_rule.specs.Seated.{SeatedSide}
+use Rattle.vchan_rule.specs.Seated.{PageStart, SeatedSide, began_with}
 
--- all bytes went from the client to the server, and the ring is drained; both ends are honest
-pub record HasPiped (orders : Orders) (bytes : List ℕ) (page : Settled) : Type 0 where
+-- all bytes went from the client to the server of a page that began with these words, and the ring is drained; both ends are honest
+pub record HasPiped (words : PageStart) (bytes : List ℕ) (page : Settled) : Type 0 where
   pub settled : IsSettled page
-  pub orders_are : page.orders ≡ orders
+  pub words_are : began_with page ≡ words
   pub client_honest : page.client.turned ≡ false
   pub server_honest : page.server.turned ≡ false
   pub sent : page.client.sent ≡ bytes

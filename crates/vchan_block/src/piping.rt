@@ -162,7 +162,7 @@ fn write_and_read<R: Threads + Wait + Clock + Sync>(
 }
 
 /// Sends all bytes through the left ring of a new page, whose indices begin at `start`, and hands back
-/// what was read there, with what stands of the page.
+/// what was read there, with what stands of the page, which tells its orders and its start.
 ///
 /// One thread writes as the client and retires; another reads as the server until no more comes, and
 /// retires. All memory is taken first, and the writing thread started last: `Memory` comes at want of
@@ -176,7 +176,7 @@ pub fn pipe<R: Threads + Wait + Clock + Sync>(
 ) -> Result<(Vec<u8>, Settled), Memory>
     requires { vec_len bytes < 2 ^ 31 }
     ensures bytes { IfOk result (λ piped. piped.0.items ≡ bytes.items) }
-    ensures page { IfOk result (λ piped. HasPiped orders bytes.items piped.1) }
+    ensures page { IfOk result (λ piped. HasPiped (record { orders = orders; start = start }) bytes.items piped.1) }
 {
     let buf = vec![in alloc; 0u8; bytes.len() + 1]?;
     let (page, server, client) = Page::open(alloc, orders, start)?;

@@ -7,8 +7,7 @@ use Rattle.std.specs.List.{AllZip}
 use Rattle.std.proofs.lemmas.List.{append-nil}
 use Rattle.std.proofs.lemmas.Int.{fits_signed_from_abs}
 use Rattle.atomic_table.specs.Seated.{TableId}
-use Rattle.ring_words.specs.declared.order.Orders.{Orders}
-use Rattle.vchan_rule.specs.Seated.{PageView, last_view}
+use Rattle.vchan_rule.specs.Seated.{PageStart, PageView, last_view, words_of}
 use Rattle.end_view.specs.EndView.{EndView}
 use Rattle.end_view.specs.Settled.{Settled, IsHonestPage}
 use Rattle.service_gate.specs.Triple.{Triple}
@@ -110,10 +109,10 @@ answered-with name stdin stdout stderr code done cv sv s is owes honest server_i
 
 -- the epoch of a call, whose exit code goes through 32 bits
 pub call-comes : (page : PageView) (caller : CallerEnd) (serving : ServingEnd) (s : Settled) (code shown : ℤ) → IsSettledBy page serving.retired caller.retired s → caller.outcome ≡ Done code → (FitsSigned w32 code → shown ≡ code)
-    → (stdin : List ℕ) (service : Builtin) → HasCalled page.table stdin caller → HasServed page.table service serving → ComesTo page.orders (Call stdin) service (result.Answered shown caller.stdout caller.stderr) s
+    → (stdin : List ℕ) (service : Builtin) → HasCalled page.table stdin caller → HasServed page.table service serving → ComesTo (words_of page) (Call stdin) service (result.Answered shown caller.stdout caller.stderr) s
 call-comes page caller serving s code shown by decided same stdin service called served_end = record {
   settled = by.settled;
-  orders_are = by.orders_are;
+  words_are = by.words_are;
   server_honest = ap (λ (e : EndView). e.turned) by.server_is ∙ served_end.honest;
   result_is = λ name named. (all name named).0;
   page_is = λ name named. (all name named).1;
@@ -128,11 +127,11 @@ call-comes page caller serving s code shown by decided same stdin service called
         subst (λ (n : ℤ). (answer_of name (Call stdin) ≡ Some (result.Answered n caller.stdout caller.stderr)) × IsAnswered name stdin s) (sym (same small)) with_code
 
 -- a client that handed back a call has called
-pub by-called : (orders : Orders) (page : TableId) (caller : CallerEnd) (serving : ServingEnd) (r : EpochResult) (s : Settled) (done : SideDone) → done ≡ Called caller
-    → ((stdin : List ℕ) (service : Builtin) → HasCalled page stdin caller → HasServed page service serving → ComesTo orders (Call stdin) service r s)
-    → (guest : Client) (service : Builtin) → ClientHands page guest done → HasServed page service serving → ComesTo orders guest service r s
-by-called orders page caller serving r s done is comes (Call stdin) service hands served_end = comes stdin service (subst (λ (d : SideDone). CallerHands page stdin d) is hands) served_end
-by-called orders page caller serving r s done is comes (Hostile seed stores) service hands served_end = absurd (subst (λ (d : SideDone). ScribblerHands page seed stores d) is hands)
+pub by-called : (words : PageStart) (page : TableId) (caller : CallerEnd) (serving : ServingEnd) (r : EpochResult) (s : Settled) (done : SideDone) → done ≡ Called caller
+    → ((stdin : List ℕ) (service : Builtin) → HasCalled page stdin caller → HasServed page service serving → ComesTo words (Call stdin) service r s)
+    → (guest : Client) (service : Builtin) → ClientHands page guest done → HasServed page service serving → ComesTo words guest service r s
+by-called words page caller serving r s done is comes (Call stdin) service hands served_end = comes stdin service (subst (λ (d : SideDone). CallerHands page stdin d) is hands) served_end
+by-called words page caller serving r s done is comes (Hostile seed stores) service hands served_end = absurd (subst (λ (d : SideDone). ScribblerHands page seed stores d) is hands)
 
 -- what two tasks handed back, and nothing else
 pub two-handed : (page : TableId) (guest : Client) (service : Builtin) (dones rest more : List SideDone) (one other : SideDone) → AreHandedBack page guest service dones → dones ≡ one ∷ rest → rest ≡ other ∷ more
@@ -146,42 +145,42 @@ two-handed page guest service dones rest more one other handed first second = al
 -- ---- the epochs of a list
 
 -- one client more is served
-pub one-more : (name : List ℕ) (orders : Orders) (number next : ℕ) (clients rest left : List Client) (client : Client) (dones longer : List EpochDone) (e : EpochDone) → rest ≡ client ∷ left → longer ≡ dones ++ e ∷ [] → next ≡ number + 1
-    → IsEpoch name orders number client e → ((more : List EpochDone) → AreEpochs name orders number rest more → AreEpochs name orders 1 clients (dones ++ more))
-    → (more : List EpochDone) → AreEpochs name orders next left more → AreEpochs name orders 1 clients (longer ++ more)
-one-more name orders number next clients rest left client dones longer e cut is count epoch goes_on more follow =
-    subst (AreEpochs name orders 1 clients) (sym (ap (λ (xs : List EpochDone). xs ++ more) is ∙ append_assoc dones (e ∷ []) more))
-    (goes_on (e ∷ more) (subst (λ (cs : List Client). AreEpochs name orders number cs (e ∷ more)) (sym cut) (epoch, subst (λ (n : ℕ). AreEpochs name orders n left more) count follow)))
+pub one-more : (name : List ℕ) (words : PageStart) (number next : ℕ) (clients rest left : List Client) (client : Client) (dones longer : List EpochDone) (e : EpochDone) → rest ≡ client ∷ left → longer ≡ dones ++ e ∷ [] → next ≡ number + 1
+    → IsEpoch name words number client e → ((more : List EpochDone) → AreEpochs name words number rest more → AreEpochs name words 1 clients (dones ++ more))
+    → (more : List EpochDone) → AreEpochs name words next left more → AreEpochs name words 1 clients (longer ++ more)
+one-more name words number next clients rest left client dones longer e cut is count epoch goes_on more follow =
+    subst (AreEpochs name words 1 clients) (sym (ap (λ (xs : List EpochDone). xs ++ more) is ∙ append_assoc dones (e ∷ []) more))
+    (goes_on (e ∷ more) (subst (λ (cs : List Client). AreEpochs name words number cs (e ∷ more)) (sym cut) (epoch, subst (λ (n : ℕ). AreEpochs name words n left more) count follow)))
 
 -- no client is left
-pub all-served : (name : List ℕ) (orders : Orders) (number : ℕ) (clients rest : List Client) (dones : List EpochDone) → rest ≡ [] → ((more : List EpochDone) → AreEpochs name orders number rest more → AreEpochs name orders 1 clients (dones ++ more)) → AreEpochs name orders 1 clients dones
-all-served name orders number clients rest dones none goes_on =
-    subst (AreEpochs name orders 1 clients) (append-nil dones) (goes_on [] (subst (λ (cs : List Client). AreEpochs name orders number cs []) (sym none) tt))
+pub all-served : (name : List ℕ) (words : PageStart) (number : ℕ) (clients rest : List Client) (dones : List EpochDone) → rest ≡ [] → ((more : List EpochDone) → AreEpochs name words number rest more → AreEpochs name words 1 clients (dones ++ more)) → AreEpochs name words 1 clients dones
+all-served name words number clients rest dones none goes_on =
+    subst (AreEpochs name words 1 clients) (append-nil dones) (goes_on [] (subst (λ (cs : List Client). AreEpochs name words number cs []) (sym none) tt))
 
 -- what an epoch came to, under its number
-pub epoch-at : (name : List ℕ) (orders : Orders) (number : ℕ) (client : Client) (service : Builtin) (r : EpochResult) (s : Settled) → IsService name (builtin_owes service) → ComesTo orders client service r s → IsEpoch name orders number client (record { number = number; result = r; settled = s })
-epoch-at name orders number client service r s named comes = record {
+pub epoch-at : (name : List ℕ) (words : PageStart) (number : ℕ) (client : Client) (service : Builtin) (r : EpochResult) (s : Settled) → IsService name (builtin_owes service) → ComesTo words client service r s → IsEpoch name words number client (record { number = number; result = r; settled = s })
+epoch-at name words number client service r s named comes = record {
   number_is = refl;
   result_is = comes.result_is name named;
   settled = comes.settled;
-  orders_are = comes.orders_are;
+  words_are = comes.words_are;
   server_honest = comes.server_honest;
   page = comes.page_is name named;
 }
 
 -- the epoch at a place
-answer_at : (name : List ℕ) (orders : Orders) (number : ℕ) (clients : List Client) (dones : List EpochDone) (place : ℕ) (client : Client) → AreEpochs name orders number clients dones → slice_get clients place ≡ Some client
+answer_at : (name : List ℕ) (words : PageStart) (number : ℕ) (clients : List Client) (dones : List EpochDone) (place : ℕ) (client : Client) → AreEpochs name words number clients dones → slice_get clients place ≡ Some client
     → (e : EpochDone) × (slice_get dones place ≡ Some e) × (answer_of name client ≡ Some e.result)
-answer_at name orders number [] dones place client are at = cc
-answer_at name orders number (c ∷ cs) [] place client are at = absurd are
-answer_at name orders number (c ∷ cs) (e ∷ es) zero client are at =
+answer_at name words number [] dones place client are at = cc
+answer_at name words number (c ∷ cs) [] place client are at = absurd are
+answer_at name words number (c ∷ cs) (e ∷ es) zero client are at =
     let same : c ≡ client = cc in
     (e, refl, subst (λ (x : Client). answer_of name x ≡ Some e.result) same are.0.result_is)
-answer_at name orders number (c ∷ cs) (e ∷ es) (suc place) client are at = answer_at name orders (number + 1) cs es place client are.1 at
+answer_at name words number (c ∷ cs) (e ∷ es) (suc place) client are at = answer_at name words (number + 1) cs es place client are.1 at
 
 pub epochs_apart : EpochsApart
-epochs_apart name orders others_orders clients others dones others_dones are others_are client place others_place at others_at =
-    let one = answer_at name orders 1 clients dones place client are at in
-    let other = answer_at name others_orders 1 others others_dones others_place client others_are others_at in
+epochs_apart name words others_words clients others dones others_dones are others_are client place others_place at others_at =
+    let one = answer_at name words 1 clients dones place client are at in
+    let other = answer_at name others_words 1 others others_dones others_place client others_are others_at in
     let same : one.0.result ≡ other.0.result = let p = one.2 in let q = other.2 in cc in
     subst (λ (o : Option EpochDone). AreAnsweredAlike o (slice_get others_dones others_place)) (sym one.1) (subst (AreAnsweredAlike (Some one.0)) (sym other.1) same)

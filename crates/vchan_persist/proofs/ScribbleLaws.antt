@@ -24,6 +24,14 @@ along_turned : (s : Side) (events : List PastEvent) → (strays_along s events).
 along_turned s [] = refl
 along_turned s (event ∷ events) = along_turned (strays s event.op event.taken) events
 
+along_sent : (s : Side) (events : List PastEvent) → (strays_along s events).sent ≡ s.sent
+along_sent s [] = refl
+along_sent s (event ∷ events) = along_sent (strays s event.op event.taken) events
+
+along_got : (s : Side) (events : List PastEvent) → (strays_along s events).got ≡ s.got
+along_got s [] = refl
+along_got s (event ∷ events) = along_got (strays s event.op event.taken) events
+
 along_role : (s : Side) (events : List PastEvent) → (strays_along s events).role ≡ s.role
 along_role s [] = refl
 along_role s (event ∷ events) = along_role (strays s event.op event.taken) events
@@ -50,17 +58,21 @@ leads-more seed count start now next x left page word value field stored so_far 
 pub record IsScribbledSide (seed stores : ℕ) (s : Side) : Type 0 where
   pub role_is : s.role ≡ Client
   pub turned : s.turned ≡ true
+  pub sent : s.sent ≡ []
+  pub got : s.got ≡ []
   pub trail : s.trail ≡ scribbled seed stores ++ retiring Client
 
-pub scribbled-side : (seed stores consumed : ℕ) (given over last : Side) → given.role ≡ Client → over ≡ strays_along (turns given consumed) (scribbled seed stores)
+pub scribbled-side : (seed stores consumed : ℕ) (given over last : Side) → given.role ≡ Client → given.sent ≡ [] → given.got ≡ [] → over ≡ strays_along (turns given consumed) (scribbled seed stores)
     → last ≡ strays (strays over (Store (own_gone over.role) 1) 0) (Store (peer_pending over.role) 1) 0 → IsScribbledSide seed stores last
-scribbled-side seed stores consumed given over last role over_is last_is =
+scribbled-side seed stores consumed given over last role sent got over_is last_is =
     let events = scribbled seed stores in
     let role' : over.role ≡ Client = ap (λ (s : Side). s.role) over_is ∙ along_role (turns given consumed) events ∙ role in
     let end : last ≡ strays_along over (retiring Client) = last_is ∙ (λ i. strays_along over (retiring (role' i))) in
     record {
       role_is = ap (λ (s : Side). s.role) end ∙ along_role over (retiring Client) ∙ role';
       turned = ap (λ (s : Side). s.turned) end ∙ along_turned over (retiring Client) ∙ ap (λ (s : Side). s.turned) over_is ∙ along_turned (turns given consumed) events;
+      sent = ap (λ (s : Side). s.sent) end ∙ along_sent over (retiring Client) ∙ ap (λ (s : Side). s.sent) over_is ∙ along_sent (turns given consumed) events ∙ sent;
+      got = ap (λ (s : Side). s.got) end ∙ along_got over (retiring Client) ∙ ap (λ (s : Side). s.got) over_is ∙ along_got (turns given consumed) events ∙ got;
       trail = ap (λ (s : Side). s.trail) end ∙ along_trail over (retiring Client) ∙ ap (λ (s : Side). s.trail ++ retiring Client) over_is
           ∙ ap (λ (t : List PastEvent). t ++ retiring Client) (along_trail (turns given consumed) events);
     }

@@ -1,7 +1,6 @@
 -- The epochs of a persistent server, one a client: what each client is answered, and what stands of its page.
 -- Source: this project's own; libxenvchan's server_persist keeps one page for all clients.
 use Rattle.std.specs.Prelude.{◌≡◌, ℕ, ◌+◌, true, false, List, [], ◌∷◌, ◌++◌, map, Option, None, Some, option_map, slice_get}
-use Rattle.ring_words.specs.declared.order.Orders.{Orders}
 use Rattle.ring_words.specs.declared.page.Role.TheVariants.{Client as ClientEnd}
 use Rattle.vchan_protocol.specs.declared.op.PastEvent.{PastEvent}
 use Rattle.service_gate.specs.Triple.{Triple}
@@ -11,6 +10,7 @@ use Rattle.scenario_file.specs.Generator.{Drawn, drawn}
 use Rattle.task_duties.specs.Hostile.Stores.{field_of, stored}
 use Rattle.task_duties.specs.Hostile.Trail.{retiring}
 use Rattle.end_view.specs.Settled.{Settled, IsSettled}
+use Rattle.vchan_rule.specs.Seated.{PageStart, began_with}
 use Rattle.vchan_persist.specs.declared.client.Client.{Client}
 use Rattle.vchan_persist.specs.declared.client.Client.TheVariants.{Call, Hostile}
 use Rattle.vchan_persist.specs.declared.epoch.EpochResult.{EpochResult}
@@ -45,9 +45,11 @@ drawn_store d = stored (field_of d.word) d.value
 abbrev pub scribbled : ℕ → ℕ → List PastEvent
 scribbled seed stores = map drawn_store (drawn seed stores)
 
--- the client's end was given up; its user made the drawn stores and retired it, and did nothing else
+-- the client's end was given up before it moved a byte; its user made the drawn stores and retired it, and did nothing else
 pub record IsScribbled (seed stores : ℕ) (page : Settled) : Type 0 where
   pub turned : page.client.turned ≡ true
+  pub sent : page.client.sent ≡ []
+  pub got : page.client.got ≡ []
   pub trail : page.client.trail ≡ scribbled seed stores ++ retiring ClientEnd
 
 abbrev pub IsPageOf : List ℕ → Client → Settled → Type 0
@@ -57,20 +59,20 @@ IsPageOf name (Hostile seed stores) page = IsScribbled seed stores page
 -- ---- the epochs
 
 -- the epoch of a client, under its number
-pub record IsEpoch (name : List ℕ) (orders : Orders) (number : ℕ) (client : Client) (e : EpochDone) : Type 0 where
+pub record IsEpoch (name : List ℕ) (words : PageStart) (number : ℕ) (client : Client) (e : EpochDone) : Type 0 where
   pub number_is : e.number ≡ number
   pub result_is : answer_of name client ≡ Some e.result
   pub settled : IsSettled e.settled
-  pub orders_are : e.settled.orders ≡ orders
+  pub words_are : began_with e.settled ≡ words
   pub server_honest : e.settled.server.turned ≡ false
   pub page : IsPageOf name client e.settled
 
 -- one epoch a client, in order, the first under this number
-abbrev pub AreEpochs : List ℕ → Orders → ℕ → List Client → List EpochDone → Type 0
-AreEpochs name orders number [] [] = Unit {0}
-AreEpochs name orders number [] (e ∷ es) = ⊥
-AreEpochs name orders number (c ∷ cs) [] = ⊥
-AreEpochs name orders number (c ∷ cs) (e ∷ es) = IsEpoch name orders number c e × AreEpochs name orders (number + 1) cs es
+abbrev pub AreEpochs : List ℕ → PageStart → ℕ → List Client → List EpochDone → Type 0
+AreEpochs name words number [] [] = Unit {0}
+AreEpochs name words number [] (e ∷ es) = ⊥
+AreEpochs name words number (c ∷ cs) [] = ⊥
+AreEpochs name words number (c ∷ cs) (e ∷ es) = IsEpoch name words number c e × AreEpochs name words (number + 1) cs es
 
 -- ---- the law
 
@@ -83,7 +85,7 @@ AreAnsweredAlike None other = ⊥
 -- a client that two lists have is answered alike in both, wherever it stands, whatever the other clients are and whatever they stored, and whatever the orders of the pages
 abbrev pub EpochsApart : Type 0
 EpochsApart =
-    (name : List ℕ) (orders others_orders : Orders) (clients others : List Client) (dones others_dones : List EpochDone)
-    → AreEpochs name orders 1 clients dones → AreEpochs name others_orders 1 others others_dones
+    (name : List ℕ) (words others_words : PageStart) (clients others : List Client) (dones others_dones : List EpochDone)
+    → AreEpochs name words 1 clients dones → AreEpochs name others_words 1 others others_dones
     → (client : Client) (place others_place : ℕ) → slice_get clients place ≡ Some client → slice_get others others_place ≡ Some client
     → AreAnsweredAlike (slice_get dones place) (slice_get others_dones others_place)

@@ -47,6 +47,8 @@ pub record IsRefused (page : TableId) (end : SeatedSide) : Type 0 where
 pub record HasScribbled (page : TableId) (seed stores : ℕ) (end : SeatedSide) : Type 0 where
   pub is_end : IsEndOf page ClientEnd end
   pub turned : (last_view end).turned ≡ true
+  pub sent : (last_view end).sent ≡ []
+  pub got : (last_view end).got ≡ []
   pub trail : (last_view end).trail ≡ scribbled seed stores ++ retiring ClientEnd
 
 -- by the server with this service

@@ -1,9 +1,8 @@
 -- What an epoch comes to, once its two tasks are done.
 -- Source: this project's own.
 use Rattle.std.specs.Prelude.{◌≡◌, ℕ, false, List, Some}
-use Rattle.ring_words.specs.declared.order.Orders.{Orders}
 use Rattle.end_view.specs.Settled.{Settled, IsSettled}
-use Rattle.vchan_rule.specs.Seated.{PageView, SeatedSide, last_view}
+use Rattle.vchan_rule.specs.Seated.{PageStart, PageView, SeatedSide, began_with, last_view, words_of}
 use Rattle.service_gate.specs.Owing.{builtin_owes}
 use Rattle.service_gate.specs.declared.builtin.Builtin.{Builtin}
 use Rattle.task_duties.specs.Agent.Sessions.{IsService}
@@ -12,9 +11,9 @@ use Rattle.vchan_persist.specs.declared.epoch.EpochResult.{EpochResult}
 use Rattle.vchan_persist.specs.Epochs.{answer_of, IsPageOf}
 
 -- the result of a client's epoch and its page, whatever name the service has
-pub record ComesTo (orders : Orders) (client : Client) (service : Builtin) (result : EpochResult) (page : Settled) : Type 0 where
+pub record ComesTo (words : PageStart) (client : Client) (service : Builtin) (result : EpochResult) (page : Settled) : Type 0 where
   pub settled : IsSettled page
-  pub orders_are : page.orders ≡ orders
+  pub words_are : began_with page ≡ words
   pub server_honest : page.server.turned ≡ false
   pub result_is : (name : List ℕ) → IsService name (builtin_owes service) → answer_of name client ≡ Some result
   pub page_is : (name : List ℕ) → IsService name (builtin_owes service) → IsPageOf name client page
@@ -22,6 +21,6 @@ pub record ComesTo (orders : Orders) (client : Client) (service : Builtin) (resu
 -- a page settled by these two ends
 pub record IsSettledBy (page : PageView) (server client : SeatedSide) (s : Settled) : Type 0 where
   pub settled : IsSettled s
-  pub orders_are : s.orders ≡ page.orders
+  pub words_are : began_with s ≡ words_of page
   pub server_is : s.server ≡ last_view server
   pub client_is : s.client ≡ last_view client

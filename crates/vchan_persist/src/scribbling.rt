@@ -20,7 +20,7 @@ pub(crate) struct Scribbling<'p> {
 }
 
 impl<'p> Model for Scribbling<'p> {
-    ghost use Rattle.std.specs.Prelude.{◌≡◌, ◌≤◌};
+    ghost use Rattle.std.specs.Prelude.{◌≡◌, ◌≤◌, []};
     ghost use Rattle.ring_words.specs.declared.page.Role.TheVariants.{Client};
     ghost use Rattle.vchan_persist.specs.Given.{ScribblingGiven};
 
@@ -28,19 +28,20 @@ impl<'p> Model for Scribbling<'p> {
 
     ghost view = { λ s. record { page = s.end.page; seed = s.seed; stores = s.stores } };
 
-    ghost invariant = { λ s. (s.end.side.role ≡ Client) × (s.seed ≤ 65535) };
+    ghost invariant = { λ s. (s.end.side.role ≡ Client) × (s.seed ≤ 65535) × (s.end.side.sent ≡ []) × (s.end.side.got ≡ []) };
 }
 
 impl<'p> Scribbling<'p> {
-    ghost use Rattle.std.specs.Prelude.{◌≡◌, ◌≤◌};
+    ghost use Rattle.std.specs.Prelude.{◌≡◌, ◌≤◌, []};
     ghost use Rattle.ring_words.specs.declared.page.Role.TheVariants.{Client};
     ghost use Rattle.task_pool.specs.Owes.{Pays};
     ghost use Rattle.vchan_persist.specs.Owes.{epoch_owes};
 
-    /// The task of a user who draws so many stores from this seed on.
+    /// The task of a user who draws so many stores from this seed on. The end has moved no byte.
     pub(crate) fn new(end: End<'p>, seed: u32, stores: u32) -> Scribbling<'p>
         requires client { end.side.role ≡ Client }
         requires seed { seed ≤ 65535 }
+        requires unused { (end.side.sent ≡ []) × (end.side.got ≡ []) }
         ensures { result ≡ record { page = end.entry.page; seed = seed; stores = stores } }
     {
         Scribbling { end, seed, stores }

@@ -45,7 +45,7 @@ pub fn serve_clients<R: Threads + Wait + Sync>(
 ) -> Result<Vec<EpochDone>, Memory>
     requires named { (input : List ℕ) → IsSome (service_of name.now input) }
     requires servable { AreServable clients.items }
-    ensures { IfOk result (λ dones. AreEpochs name.now orders 1 clients.items dones.items) }
+    ensures { IfOk result (λ dones. AreEpochs name.now (record { orders = orders; start = start }) 1 clients.items dones.items) }
 {
     let Some(service) = Builtin::named(name) else {
         unreachable!()
@@ -75,7 +75,7 @@ fn serve_client<R: Threads + Wait + Sync>(
 ) -> Result<Epoch, Memory>
     requires servable { IsServable client }
     requires named { (name : List ℕ) × IsService name (builtin_owes service) }
-    ensures { IfOk result (λ e. ComesTo orders client service e.result e.settled) }
+    ensures { IfOk result (λ e. ComesTo (record { orders = orders; start = start }) client service e.result e.settled) }
 {
     let (page, server, seat) = Page::open(alloc, orders, start)?;
     let tasks = deal(alloc, &page, orders, server, seat, service, client)?;

@@ -5,6 +5,7 @@ ghost use Rattle.ring_words.specs.declared.page.Role.TheVariants.{Server, Client
 ghost use Rattle.service_gate.specs.Owing.{builtin_owes};
 ghost use Rattle.service_gate.specs.declared.builtin.Builtin.{Builtin as Service};
 ghost use Rattle.task_duties.specs.Agent.Sessions.{IsService};
+ghost use Rattle.vchan_rule.specs.Seated.{words_of};
 ghost use Rattle.vchan_persist.specs.declared.client.Client.{Client as Guest};
 ghost use Rattle.vchan_persist.specs.declared.client.Client.TheVariants.{Call};
 ghost use Rattle.vchan_persist.specs.Owes.{AreHandedBack, ClientHands, ServerHands, HasCalled, HasServed, IsEndOf};
@@ -38,7 +39,7 @@ fn settle_page(page: Page, server: Retired, client: Retired) -> Settled
 /// The epoch of a client that called. Between honest ends its call is done.
 fn settle_call(page: Page, caller: CallerEnd, server: ServingEnd) -> Epoch
     requires { (name : List ℕ) × (stdin : List ℕ) × (service : Service) × IsService name (builtin_owes service) × HasCalled page.table stdin caller × HasServed page.table service server }
-    ensures { (stdin : List ℕ) (service : Service) → HasCalled page.table stdin caller → HasServed page.table service server → ComesTo page.orders (Call stdin) service result.result result.settled }
+    ensures { (stdin : List ℕ) (service : Service) → HasCalled page.table stdin caller → HasServed page.table service server → ComesTo (words_of page) (Call stdin) service result.result result.settled }
 {
     let CallerEnd {
         outcome,
@@ -64,7 +65,7 @@ fn settle_call(page: Page, caller: CallerEnd, server: ServingEnd) -> Epoch
 /// The epoch of a client that handed this back, where the server's side is over.
 fn settle_client(page: Page, client: SideDone, server: ServingEnd) -> Result<Epoch, Memory>
     requires { (name : List ℕ) × (guest : Guest) × (service : Service) × IsService name (builtin_owes service) × ClientHands page.table guest client × HasServed page.table service server }
-    ensures { (guest : Guest) (service : Service) → ClientHands page.table guest client → HasServed page.table service server → IfOk result (λ e. ComesTo page.orders guest service e.result e.settled) }
+    ensures { (guest : Guest) (service : Service) → ClientHands page.table guest client → HasServed page.table service server → IfOk result (λ e. ComesTo (words_of page) guest service e.result e.settled) }
 {
     match client {
         SideDone::Called(caller) => Ok(settle_call(page, caller, server)),
@@ -98,7 +99,7 @@ fn served(done: SideDone) -> Result<ServingEnd, Memory>
 /// task met.
 pub(crate) fn settle(page: Page, dones: Vec<SideDone>) -> Result<Epoch, Memory>
     requires { (name : List ℕ) × (guest : Guest) × (service : Service) × IsService name (builtin_owes service) × AreHandedBack page.table guest service dones.items }
-    ensures { (guest : Guest) (service : Service) → AreHandedBack page.table guest service dones.items → IfOk result (λ e. ComesTo page.orders guest service e.result e.settled) }
+    ensures { (guest : Guest) (service : Service) → AreHandedBack page.table guest service dones.items → IfOk result (λ e. ComesTo (words_of page) guest service e.result e.settled) }
 {
     let mut dones = dones.into_iter();
     let Some(client) = dones.next() else {

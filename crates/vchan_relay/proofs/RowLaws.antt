@@ -5,9 +5,8 @@ use Rattle.std.proofs.Math.Seq.{drop-cons}
 use Rattle.end_view.specs.Settled.{Settled}
 use Rattle.vchan_relay.specs.Settling.{IsSettledBy, AreSettledBy, AreAllSettledBy}
 use Rattle.atomic_table.specs.Seated.{TableId}
-use Rattle.ring_words.specs.declared.order.Orders.{Orders}
 use Rattle.ring_words.specs.declared.page.Role.TheVariants.{Server}
-use Rattle.vchan_rule.specs.Seated.{PageView, SeatedSide}
+use Rattle.vchan_rule.specs.Seated.{PageStart, PageView, SeatedSide}
 use Rattle.vchan_relay.specs.declared.lay.PageSeats.{PageSeats}
 use Rattle.vchan_relay.specs.declared.task.HopDone.{HopDone}
 use Rattle.vchan_relay.specs.declared.task.HopDone.TheVariants.{Wrote, Passed, Read}
@@ -20,11 +19,11 @@ use Rattle.vchan_relay.specs.Owes.{Owes, WriterHands, RelayHands, ReaderHands, F
 
 -- ---- laying
 
-pub laid_more : (orders : Orders) (pages : List PageView) (seats : List PageSeats) (page : PageView) (seat : PageSeats) → AreLaid orders pages seats → IsLaid orders page seat → AreLaid orders (pages ++ page ∷ []) (seats ++ seat ∷ [])
-laid_more orders [] [] page seat laid is = (is, tt)
-laid_more orders [] (first ∷ seats) page seat laid is = absurd laid
-laid_more orders (first ∷ pages) [] page seat laid is = absurd laid
-laid_more orders (first ∷ pages) (other ∷ seats) page seat laid is = (laid.0, laid_more orders pages seats page seat laid.1 is)
+pub laid_more : (words : PageStart) (pages : List PageView) (seats : List PageSeats) (page : PageView) (seat : PageSeats) → AreLaid words pages seats → IsLaid words page seat → AreLaid words (pages ++ page ∷ []) (seats ++ seat ∷ [])
+laid_more words [] [] page seat laid is = (is, tt)
+laid_more words [] (first ∷ seats) page seat laid is = absurd laid
+laid_more words (first ∷ pages) [] page seat laid is = absurd laid
+laid_more words (first ∷ pages) (other ∷ seats) page seat laid is = (laid.0, laid_more words pages seats page seat laid.1 is)
 
 -- ---- dealing
 
@@ -46,30 +45,30 @@ last_task bytes room all before given tasks longer goes_on is same =
     subst (λ (xs : List HopTask). AreTasks bytes room all xs) (sym is) (goes_on (Reads given ∷ []) (λ done hands. subst (λ (r : ReaderGiven). ReaderHands r.page r.room done) same hands))
 
 -- no page is left where no seat is
-pub none_left : (orders : Orders) (pages : List PageView) → AreLaid orders pages [] → pages ≡ []
-none_left orders [] laid = refl
-none_left orders (page ∷ pages) laid = absurd laid
+pub none_left : (words : PageStart) (pages : List PageView) → AreLaid words pages [] → pages ≡ []
+none_left words [] laid = refl
+none_left words (page ∷ pages) laid = absurd laid
 
 -- where a seat is left, it's that of the page at the index
-pub record IsNext (orders : Orders) (pages : List PageView) (index : ℕ) (page : PageView) (seat : PageSeats) (seats : List PageSeats) : Type 0 where
+pub record IsNext (words : PageStart) (pages : List PageView) (index : ℕ) (page : PageView) (seat : PageSeats) (seats : List PageSeats) : Type 0 where
   pub within : index < length pages
   pub cut : drop index pages ≡ page ∷ drop (index + 1) pages
-  pub laid : IsLaid orders page seat
-  pub rest : AreLaid orders (drop (index + 1) pages) seats
+  pub laid : IsLaid words page seat
+  pub rest : AreLaid words (drop (index + 1) pages) seats
 
-some_left : (orders : Orders) (pages : List PageView) (seats : List PageSeats) (seat : PageSeats) → AreLaid orders pages (seat ∷ seats) → 0 < length pages
-some_left orders [] seats seat laid = absurd laid
-some_left orders (page ∷ pages) seats seat laid = omega arith
+some_left : (words : PageStart) (pages : List PageView) (seats : List PageSeats) (seat : PageSeats) → AreLaid words pages (seat ∷ seats) → 0 < length pages
+some_left words [] seats seat laid = absurd laid
+some_left words (page ∷ pages) seats seat laid = omega arith
 
-pub is_next : (orders : Orders) (pages : List PageView) (index : ℕ) (page : PageView) (seat : PageSeats) (seats left : List PageSeats) → AreLaid orders (drop index pages) left → left ≡ seat ∷ seats → page ≡ get_or pages index page → IsNext orders pages index page seat seats
-is_next orders pages index page seat seats left laid is at =
-    let laid' : AreLaid orders (drop index pages) (seat ∷ seats) = subst (AreLaid orders (drop index pages)) is laid in
-    let some = some_left orders (drop index pages) seats seat laid' in
+pub is_next : (words : PageStart) (pages : List PageView) (index : ℕ) (page : PageView) (seat : PageSeats) (seats left : List PageSeats) → AreLaid words (drop index pages) left → left ≡ seat ∷ seats → page ≡ get_or pages index page → IsNext words pages index page seat seats
+is_next words pages index page seat seats left laid is at =
+    let laid' : AreLaid words (drop index pages) (seat ∷ seats) = subst (AreLaid words (drop index pages)) is laid in
+    let some = some_left words (drop index pages) seats seat laid' in
     let long = length-drop index pages in
     let within : index < length pages = omega (arith, some, long) in
     let cut : drop index pages ≡ page ∷ drop (index + 1) pages =
     drop-cons pages index page within ∙ ap (λ (p : PageView). p ∷ drop (suc index) pages) (sym at) ∙ ap (λ (n : ℕ). page ∷ drop n pages) (sym (add-one index)) in
-    let both : AreLaid orders (page ∷ drop (index + 1) pages) (seat ∷ seats) = subst (λ (ps : List PageView). AreLaid orders ps (seat ∷ seats)) cut laid' in
+    let both : AreLaid words (page ∷ drop (index + 1) pages) (seat ∷ seats) = subst (λ (ps : List PageView). AreLaid words ps (seat ∷ seats)) cut laid' in
     record { within = within; cut = cut; laid = both.0; rest = both.1 }
 
 -- ---- settling

@@ -3,13 +3,12 @@ use Rattle.std.proofs.Common.{◌≡◌, ◌≤◌, ◌<◌, ◌+◌, ℕ, List,
 use Rattle.std.proofs.lemmas.List.{length-append}
 use Rattle.std.specs.List.{AllZip}
 use Rattle.atomic_table.specs.Seated.{TableId}
-use Rattle.ring_words.specs.declared.order.Orders.{Orders}
 use Rattle.ring_words.specs.declared.page.Role.TheVariants.{Server, Client}
 use Rattle.qrexec_frame.specs.Streams.{Each}
 use Rattle.vchan_protocol.specs.Honest.RingLaw.{IsPrefixOf}
 use Rattle.end_view.specs.EndView.{EndView}
 use Rattle.end_view.specs.Settled.{Settled, IsHonestPage}
-use Rattle.vchan_rule.specs.Seated.{PageView, SeatedSide, last_view}
+use Rattle.vchan_rule.specs.Seated.{PageStart, PageView, SeatedSide, last_view, words_of}
 use Rattle.vchan_relay.specs.declared.lay.PageSeats.{PageSeats}
 use Rattle.vchan_relay.specs.declared.task.HopDone.{HopDone}
 use Rattle.vchan_relay.specs.declared.task.HopDone.TheVariants.{Wrote, Passed, Read}
@@ -53,41 +52,41 @@ count_tasks bytes room (page ∷ pages) (task ∷ tasks) are = let rest = follow
 
 -- ---- from what they handed back to the settled pages
 
-honestly : (orders : Orders) (page : PageView) (server client : SeatedSide) (s : Settled) → page.orders ≡ orders → IsEndOf page.table Server server → IsEndOf page.table Client client → IsSettledBy page server client s → IsHonestly orders s
-honestly orders page server client s laid is_server is_client by = record {
+honestly : (words : PageStart) (page : PageView) (server client : SeatedSide) (s : Settled) → words_of page ≡ words → IsEndOf page.table Server server → IsEndOf page.table Client client → IsSettledBy page server client s → IsHonestly words s
+honestly words page server client s laid is_server is_client by = record {
   settled = by.settled;
-  orders_are = by.orders_are ∙ laid;
+  words_are = by.words_are ∙ laid;
   client_honest = ap (λ (e : EndView). e.turned) by.client_is ∙ is_client.honest;
   server_honest = ap (λ (e : EndView). e.turned) by.server_is ∙ is_server.honest;
 }
 
 -- the page that the first settled one is
-record Begins (orders : Orders) (room : ℕ) (got : List ℕ) (client : SeatedSide) (s : Settled) (settled : List Settled) : Type 0 where
+record Begins (words : PageStart) (room : ℕ) (got : List ℕ) (client : SeatedSide) (s : Settled) (settled : List Settled) : Type 0 where
   client_is : s.client ≡ last_view client
-  honest : IsHonestly orders s
-  behind : AreBehind orders room got s.server settled
+  honest : IsHonestly words s
+  behind : AreBehind words room got s.server settled
 
-begins : (orders : Orders) (room : ℕ) (page : PageView) (pages : List PageView) (client : SeatedSide) (done : HopDone) (dones : List HopDone) (s : Settled) (settled : List Settled) (got : List ℕ) →
-    page.orders ≡ orders → Each (λ (p : PageView). p.orders ≡ orders) pages → IsEndOf page.table Client client → FollowBack room page.table pages (done ∷ dones) → AreSettledBy (page ∷ pages) client (done ∷ dones) (s ∷ settled) got →
-    Begins orders room got client s settled
-begins orders room page [] client (Read end bytes) [] s settled got laid rest is_client follow by = record {
+begins : (words : PageStart) (room : ℕ) (page : PageView) (pages : List PageView) (client : SeatedSide) (done : HopDone) (dones : List HopDone) (s : Settled) (settled : List Settled) (got : List ℕ) →
+    words_of page ≡ words → Each (λ (p : PageView). words_of p ≡ words) pages → IsEndOf page.table Client client → FollowBack room page.table pages (done ∷ dones) → AreSettledBy (page ∷ pages) client (done ∷ dones) (s ∷ settled) got →
+    Begins words room got client s settled
+begins words room page [] client (Read end bytes) [] s settled got laid rest is_client follow by = record {
   client_is = by.0.client_is;
-  honest = honestly orders page end client s laid follow.0 is_client by.0;
-  behind = subst (AreBehind orders room got s.server) (sym by.1) (subst (λ (e : EndView). GetsAll e got room) (sym by.0.server_is) (subst (λ (bytes : List ℕ). GetsAll (last_view end) bytes room) (sym by.2) follow.1));
+  honest = honestly words page end client s laid follow.0 is_client by.0;
+  behind = subst (AreBehind words room got s.server) (sym by.1) (subst (λ (e : EndView). GetsAll e got room) (sym by.0.server_is) (subst (λ (bytes : List ℕ). GetsAll (last_view end) bytes room) (sym by.2) follow.1));
 }
-begins orders room page [] client (Wrote end) [] s settled got laid rest is_client follow by = absurd by
-begins orders room page [] client (Passed near far) [] s settled got laid rest is_client follow by = absurd follow
-begins orders room page [] client done (more ∷ dones) s settled got laid rest is_client follow by = absurd follow
-begins orders room page (next ∷ pages) client (Wrote end) dones s settled got laid rest is_client follow by = absurd by
-begins orders room page (next ∷ pages) client (Read end bytes) dones s settled got laid rest is_client follow by = absurd follow.0
-begins orders room page (next ∷ pages) client (Passed near far) [] s settled got laid rest is_client follow by = absurd by.1
-begins orders room page (next ∷ pages) client (Passed near far) (done ∷ dones) s [] got laid rest is_client follow by = absurd by.1
-begins orders room page (next ∷ pages) client (Passed near far) (done ∷ dones) s (s' ∷ settled) got laid rest is_client follow by =
-    let later = begins orders room next pages far done dones s' settled got rest.0 rest.1 follow.0.1 follow.1 by.1 in
+begins words room page [] client (Wrote end) [] s settled got laid rest is_client follow by = absurd by
+begins words room page [] client (Passed near far) [] s settled got laid rest is_client follow by = absurd follow
+begins words room page [] client done (more ∷ dones) s settled got laid rest is_client follow by = absurd follow
+begins words room page (next ∷ pages) client (Wrote end) dones s settled got laid rest is_client follow by = absurd by
+begins words room page (next ∷ pages) client (Read end bytes) dones s settled got laid rest is_client follow by = absurd follow.0
+begins words room page (next ∷ pages) client (Passed near far) [] s settled got laid rest is_client follow by = absurd by.1
+begins words room page (next ∷ pages) client (Passed near far) (done ∷ dones) s [] got laid rest is_client follow by = absurd by.1
+begins words room page (next ∷ pages) client (Passed near far) (done ∷ dones) s (s' ∷ settled) got laid rest is_client follow by =
+    let later = begins words room next pages far done dones s' settled got rest.0 rest.1 follow.0.1 follow.1 by.1 in
     let passes : PassesAll s.server s'.client = subst (λ (e : EndView). PassesAll e s'.client) (sym by.0.server_is) (subst (PassesAll (last_view near)) (sym later.client_is) follow.0.2) in
     record {
       client_is = by.0.client_is;
-      honest = honestly orders page near client s laid follow.0.0 is_client by.0;
+      honest = honestly words page near client s laid follow.0.0 is_client by.0;
       behind = (passes, later.honest, later.behind);
     }
 
@@ -103,25 +102,25 @@ no_longer xs ys begins =
     let both = length-append xs begins.0 in
     omega (arith, same, both)
 
-both_honest : (orders : Orders) (page : Settled) → IsHonestly orders page → IsHonestPage page.server page.client
-both_honest orders page honest = honest.settled.honest honest.server_honest honest.client_honest
+both_honest : (words : PageStart) (page : Settled) → IsHonestly words page → IsHonestPage page.server page.client
+both_honest words page honest = honest.settled.honest honest.server_honest honest.client_honest
 
 -- the reader got no more than the first client sent
-no_more : (orders : Orders) (room : ℕ) (got : List ℕ) (page : Settled) (pages : List Settled) → IsHonestly orders page → AreBehind orders room got page.server pages → length got ≤ length page.client.sent
-no_more orders room got page [] honest behind =
-    let here = no_longer page.server.got page.client.sent (both_honest orders page honest).left.in_order in
+no_more : (words : PageStart) (room : ℕ) (got : List ℕ) (page : Settled) (pages : List Settled) → IsHonestly words page → AreBehind words room got page.server pages → length got ≤ length page.client.sent
+no_more words room got page [] honest behind =
+    let here = no_longer page.server.got page.client.sent (both_honest words page honest).left.in_order in
     let same = ap length behind.got in
     omega (arith, here, same)
-no_more orders room got page (next ∷ pages) honest behind =
-    let later = no_more orders room got next pages behind.1 behind.2 in
+no_more words room got page (next ∷ pages) honest behind =
+    let later = no_more words room got next pages behind.1 behind.2 in
     let between = no_longer next.client.sent page.server.got behind.0.order in
-    let here = no_longer page.server.got page.client.sent (both_honest orders page honest).left.in_order in
+    let here = no_longer page.server.got page.client.sent (both_honest words page honest).left.in_order in
     omega (arith, later, between, here)
 
 -- where the server of a page found the end of its stream, it has all that the client sent
-ended_through : (orders : Orders) (got : List ℕ) (page : Settled) (pages : List Settled) → IsHonestly orders page → page.server.got ≡ got → HasEnded page.server → Each (HasCarried orders got) pages → IsThrough orders got page pages
-ended_through orders got page pages honest is ended each =
-    let both = both_honest orders page honest in
+ended_through : (words : PageStart) (got : List ℕ) (page : Settled) (pages : List Settled) → IsHonestly words page → page.server.got ≡ got → HasEnded page.server → Each (HasCarried words got) pages → IsThrough words got page pages
+ended_through words got page pages honest is ended each =
+    let both = both_honest words page honest in
     let drained = both.left.over ended.ended in
     let whole : page.server.got ≡ page.client.sent = both.left.whole drained in
     record {
@@ -131,12 +130,12 @@ ended_through orders got page pages honest is ended each =
       each = each;
     }
 
-through : (orders : Orders) (room : ℕ) (got : List ℕ) (page : Settled) (pages : List Settled) → IsHonestly orders page → AreBehind orders room got page.server pages → length got < room → IsThrough orders got page pages
-through orders room got page [] honest behind few = ended_through orders got page [] honest behind.got (behind.ended few) tt
-through orders room got page (next ∷ pages) honest behind few =
-    let later = through orders room got next pages behind.1 behind.2 few in
+through : (words : PageStart) (room : ℕ) (got : List ℕ) (page : Settled) (pages : List Settled) → IsHonestly words page → AreBehind words room got page.server pages → length got < room → IsThrough words got page pages
+through words room got page [] honest behind few = ended_through words got page [] honest behind.got (behind.ended few) tt
+through words room got page (next ∷ pages) honest behind few =
+    let later = through words room got next pages behind.1 behind.2 few in
     let passed = behind.0.all later.found later.unseen in
-    ended_through orders got page (next ∷ pages) honest (passed.0 ∙ later.carried.sent) passed.1 (later.carried, later.each)
+    ended_through words got page (next ∷ pages) honest (passed.0 ∙ later.carried.sent) passed.1 (later.carried, later.each)
 
 -- ---- the whole run
 
@@ -151,35 +150,35 @@ settled_length (next ∷ pages) client (Passed near far ∷ dones) (s ∷ settle
     let later = settled_length pages far dones settled got room next follow.1 by.1 in
     omega (arith, later)
 
-orders_of_laid : (orders : Orders) (pages : List PageView) (seats : List PageSeats) → AreLaid orders pages seats → Each (λ (p : PageView). p.orders ≡ orders) pages
-orders_of_laid orders [] seats laid = tt
-orders_of_laid orders (page ∷ pages) [] laid = absurd laid
-orders_of_laid orders (page ∷ pages) (seat ∷ seats) laid = (laid.0.orders_are, orders_of_laid orders pages seats laid.1)
+words_of_laid : (words : PageStart) (pages : List PageView) (seats : List PageSeats) → AreLaid words pages seats → Each (λ (p : PageView). words_of p ≡ words) pages
+words_of_laid words [] seats laid = tt
+words_of_laid words (page ∷ pages) [] laid = absurd laid
+words_of_laid words (page ∷ pages) (seat ∷ seats) laid = (laid.0.words_are, words_of_laid words pages seats laid.1)
 
 -- the writer's bytes came through
-all_through : (orders : Orders) (bytes got : List ℕ) (client : SeatedSide) (s : Settled) (settled : List Settled) → SendsAll (last_view client) bytes → Begins orders (length bytes + 1) got client s settled →
-    (got ≡ bytes) × Each (HasCarried orders bytes) (s ∷ settled)
-all_through orders bytes got client s settled sends first =
+all_through : (words : PageStart) (bytes got : List ℕ) (client : SeatedSide) (s : Settled) (settled : List Settled) → SendsAll (last_view client) bytes → Begins words (length bytes + 1) got client s settled →
+    (got ≡ bytes) × Each (HasCarried words bytes) (s ∷ settled)
+all_through words bytes got client s settled sends first =
     let sends' : SendsAll s.client bytes = subst (λ (e : EndView). SendsAll e bytes) (sym first.client_is) sends in
-    let most = no_more orders (length bytes + 1) got s settled first.honest first.behind in
-    let all = through orders (length bytes + 1) got s settled first.honest first.behind (let few = sends'.few in omega (arith, most, few)) in
+    let most = no_more words (length bytes + 1) got s settled first.honest first.behind in
+    let all = through words (length bytes + 1) got s settled first.honest first.behind (let few = sends'.few in omega (arith, most, few)) in
     let same : got ≡ bytes = sym all.carried.sent ∙ sends'.all all.found all.unseen in
-    (same, subst (λ (xs : List ℕ). Each (HasCarried orders xs) (s ∷ settled)) same (all.carried, all.each))
+    (same, subst (λ (xs : List ℕ). Each (HasCarried words xs) (s ∷ settled)) same (all.carried, all.each))
 
-pub relayed : (hops : ℕ) (orders : Orders) (bytes : List ℕ) (pages : List PageView) (seats : List PageSeats) (dones : List HopDone) (r : RelayedPages) → AreLaid orders pages seats → length pages ≡ hops + 1 →
-    AreHandedBack bytes (length bytes + 1) pages dones → AreAllSettledBy pages dones r.pages r.got → HasRelayed hops orders bytes r
-relayed hops orders bytes pages seats dones r laid count handed by = whole hops orders bytes pages dones r.pages r.got (orders_of_laid orders pages seats laid) count handed by
+pub relayed : (hops : ℕ) (words : PageStart) (bytes : List ℕ) (pages : List PageView) (seats : List PageSeats) (dones : List HopDone) (r : RelayedPages) → AreLaid words pages seats → length pages ≡ hops + 1 →
+    AreHandedBack bytes (length bytes + 1) pages dones → AreAllSettledBy pages dones r.pages r.got → HasRelayed hops words bytes r
+relayed hops words bytes pages seats dones r laid count handed by = whole hops words bytes pages dones r.pages r.got (words_of_laid words pages seats laid) count handed by
   where
-    whole : (hops : ℕ) (orders : Orders) (bytes : List ℕ) (pages : List PageView) (dones : List HopDone) (settled : List Settled) (got : List ℕ) → Each (λ (p : PageView). p.orders ≡ orders) pages → length pages ≡ hops + 1 →
-        AreHandedBack bytes (length bytes + 1) pages dones → AreAllSettledBy pages dones settled got → HasRelayed hops orders bytes (record { got = got; pages = settled })
-    whole hops orders bytes [] dones settled got laid count handed by = absurd handed
-    whole hops orders bytes (page ∷ pages) [] settled got laid count handed by = absurd handed
-    whole hops orders bytes (page ∷ pages) (Passed near far ∷ dones) settled got laid count handed by = absurd by
-    whole hops orders bytes (page ∷ pages) (Read end read ∷ dones) settled got laid count handed by = absurd by
-    whole hops orders bytes (page ∷ pages) (Wrote client ∷ []) settled got laid count handed by = absurd by
-    whole hops orders bytes (page ∷ pages) (Wrote client ∷ done ∷ dones) [] got laid count handed by = absurd by
-    whole hops orders bytes (page ∷ pages) (Wrote client ∷ done ∷ dones) (s ∷ settled) got laid count handed by =
-        let first = begins orders (length bytes + 1) page pages client done dones s settled got laid.0 laid.1 handed.0.0 handed.1 by in
-        let all = all_through orders bytes got client s settled handed.0.1 first in
+    whole : (hops : ℕ) (words : PageStart) (bytes : List ℕ) (pages : List PageView) (dones : List HopDone) (settled : List Settled) (got : List ℕ) → Each (λ (p : PageView). words_of p ≡ words) pages → length pages ≡ hops + 1 →
+        AreHandedBack bytes (length bytes + 1) pages dones → AreAllSettledBy pages dones settled got → HasRelayed hops words bytes (record { got = got; pages = settled })
+    whole hops words bytes [] dones settled got laid count handed by = absurd handed
+    whole hops words bytes (page ∷ pages) [] settled got laid count handed by = absurd handed
+    whole hops words bytes (page ∷ pages) (Passed near far ∷ dones) settled got laid count handed by = absurd by
+    whole hops words bytes (page ∷ pages) (Read end read ∷ dones) settled got laid count handed by = absurd by
+    whole hops words bytes (page ∷ pages) (Wrote client ∷ []) settled got laid count handed by = absurd by
+    whole hops words bytes (page ∷ pages) (Wrote client ∷ done ∷ dones) [] got laid count handed by = absurd by
+    whole hops words bytes (page ∷ pages) (Wrote client ∷ done ∷ dones) (s ∷ settled) got laid count handed by =
+        let first = begins words (length bytes + 1) page pages client done dones s settled got laid.0 laid.1 handed.0.0 handed.1 by in
+        let all = all_through words bytes got client s settled handed.0.1 first in
         let many = settled_length pages client (done ∷ dones) (s ∷ settled) got (length bytes + 1) page handed.1 by in
         record { got = all.0; count = omega (arith, many, count); each = all.1 }

@@ -2,14 +2,14 @@
 -- Source: this project's own.
 use Rattle.std.specs.Prelude.{◌≡◌, ℕ, List, [], ◌∷◌}
 use Rattle.end_view.specs.Settled.{Settled, IsSettled}
-use Rattle.vchan_rule.specs.Seated.{PageView, SeatedSide, last_view}
+use Rattle.vchan_rule.specs.Seated.{PageView, SeatedSide, began_with, last_view, words_of}
 use Rattle.vchan_relay.specs.declared.task.HopDone.{HopDone}
 use Rattle.vchan_relay.specs.declared.task.HopDone.TheVariants.{Wrote, Passed, Read}
 
 -- a page settled by these two ends
 pub record IsSettledBy (page : PageView) (server client : SeatedSide) (s : Settled) : Type 0 where
   pub settled : IsSettled s
-  pub orders_are : s.orders ≡ page.orders
+  pub words_are : began_with s ≡ words_of page
   pub server_is : s.server ≡ last_view server
   pub client_is : s.client ≡ last_view client
 

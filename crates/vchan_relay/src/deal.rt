@@ -1,6 +1,5 @@
 //! Dealing the ends of the pages to the tasks of a run.
 ghost use Rattle.std.specs.Prelude.{◌≡◌, ◌≤◌, ◌<◌, ◌+◌, ◌^◌, [], IfOk, IfErr, true, length, vec_len};
-ghost use Rattle.ring_words.specs.declared.order.Orders.{Orders as PageOrders};
 ghost use Rattle.ring_words.specs.declared.page.Role.TheVariants.{Server, Client};
 ghost use Rattle.vchan_rule.specs.Seated.{view, last_view, IsOpen};
 ghost use Rattle.vchan_relay.specs.Ended.{IsEndOf};
@@ -84,7 +83,7 @@ pub(crate) fn deal<'p>(
     room: u32,
     bytes: Vec<u8>,
 ) -> Result<Vec<HopTask<'p>>, Memory>
-    requires laid { (orders : PageOrders) × AreLaid orders pages.now seats.items }
+    requires laid { (words : PageStart) × AreLaid words pages.now seats.items }
     requires some { 0 < length pages.now }
     requires room { (1 ≤ room) × (room ≤ 1048576) }
     requires few { vec_len bytes < 2 ^ 31 }

@@ -14,14 +14,14 @@ pub(crate) struct PageSeats {
     pub(crate) client: IdleSeat,
 }
 
-/// So many pages from near to far, with the seats of each. Its error is want of memory.
+/// So many pages from near to far, whose indices begin at `start`, with the seats of each. Its error is want of memory.
 pub(crate) fn lay(
     alloc: Global,
     count: usize,
     orders: Orders,
     start: u32,
 ) -> Result<(Vec<Page>, Vec<PageSeats>), Memory>
-    ensures laid { IfOk result (λ laid. AreLaid orders laid.0.items laid.1.items) }
+    ensures laid { IfOk result (λ laid. AreLaid (record { orders = orders; start = start }) laid.0.items laid.1.items) }
     ensures count { IfOk result (λ laid. length laid.0.items ≡ count) }
 {
     let mut pages = Vec::with_capacity(alloc, count)?;

@@ -57,7 +57,7 @@ pub fn relay_run<R: Threads + Wait + Sync>(
     requires hops { (1 ≤ hops) × (hops ≤ 16) }
     requires workers { (1 ≤ workers) × (workers ≤ 16) }
     requires few { vec_len bytes < 2 ^ 31 }
-    ensures { IfOk result (HasRelayed hops orders bytes.items) }
+    ensures { IfOk result (HasRelayed hops (record { orders = orders; start = start }) bytes.items) }
 {
     let (pages, seats) = lay(alloc, hops as usize + 1, orders, start)?;
     let tasks = deal(alloc, pages.as_slice(), seats, orders.left.size(), bytes)?;

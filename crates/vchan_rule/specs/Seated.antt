@@ -67,8 +67,16 @@ driven start s m = record { page = s.page; start = start; side = s.side; machine
 abbrev pub AreWordsOf : TableId → Opening → SeatedCall → Type 0
 AreWordsOf table key s = (table ≡ s.page) × (table.words ≡ word_count s.side.orders) × (key.orders ≡ s.side.orders)
 
+-- the words with which a page began
+abbrev pub words_of : PageView → PageStart
+words_of page = record { orders = page.orders; start = page.start }
+
 -- ---- a page that is done with
+
+-- the words with which such a page began
+abbrev pub began_with : Settled → PageStart
+began_with page = record { orders = page.orders; start = page.start }
 
 -- what stands of a page of these two ends
 abbrev pub settled_page : PageView → SeatedSide → SeatedSide → Settled
-settled_page page server client = record { orders = page.orders; server = last_view server; client = last_view client }
+settled_page page server client = record { orders = page.orders; start = page.start; server = last_view server; client = last_view client }

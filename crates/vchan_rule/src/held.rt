@@ -1,5 +1,5 @@
 //! A page that lives as long as someone holds it.
-ghost use Rattle.std.specs.Prelude.{◌≡◌, ◌<◌, [], None, IfOk};
+ghost use Rattle.std.specs.Prelude.{◌≡◌, ◌<◌, [], None, IfOk, IsTrue, ◌↔◌};
 ghost use Rattle.std.specs.Arc.{arc_value};
 ghost use Rattle.ring_words.specs.declared.page.Role.TheVariants.{Server, Client};
 ghost use Rattle.end_view.specs.EndView.{state_at_first};
@@ -78,6 +78,13 @@ impl HeldPage {
         })
     }
 
+    /// Whether it has these orders, and its indices began at `start`.
+    pub fn begins_with(&self, orders: Orders, start: u32) -> bool
+        ensures { IsTrue result ↔ ((self.now.orders ≡ orders) × (self.now.start ≡ start)) }
+    {
+        self.orders == orders && self.start == start
+    }
+
     /// The end of a seat, which is one of the two that `lay` gave with this page. It holds the page
     /// until it is done. A server is open and a client fresh.
     pub fn attach<'p>(self, seat: IdleSeat) -> End<'p>
@@ -95,7 +102,7 @@ impl HeldPage {
     }
 
     /// What stands of the page, once both its ends are done. Both come from the two seats of this page.
-    /// What is settled has the page's orders and the two ends as they were.
+    /// What is settled has the page's orders, its start and the two ends as they were.
     pub fn settle(&self, server: Retired, client: Retired) -> Settled
         requires server { (server.page ≡ self.now.table) × (server.side.role ≡ Server) }
         requires client { (client.page ≡ self.now.table) × (client.side.role ≡ Client) }
@@ -117,6 +124,7 @@ impl HeldPage {
         Settled {
             seen: Snapshot::of(&seat),
             orders: self.orders,
+            start: self.start,
             server_turned,
             client_turned,
         }

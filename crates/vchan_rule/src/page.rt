@@ -196,7 +196,7 @@ impl Page {
     }
 
     /// Closes the page, once both its ends are done. Both come from the two seats of this page. What is
-    /// settled has the page's orders and the two ends as they were.
+    /// settled has the page's orders, its start and the two ends as they were.
     pub fn finish(self, server: Retired, client: Retired) -> Settled
         requires server { (server.page ≡ self.table) × (server.side.role ≡ Server) }
         requires client { (client.page ≡ self.table) × (client.side.role ≡ Client) }
@@ -217,12 +217,13 @@ impl Page {
         let Page {
             table,
             orders,
-            start: _,
+            start,
         } = self;
         table.close_with(seat).free();
         Settled {
             seen,
             orders,
+            start,
             server_turned,
             client_turned,
         }
@@ -235,6 +236,7 @@ impl Page {
 pub struct Settled {
     pub(crate) seen: Snapshot<Place>,
     pub(crate) orders: Orders,
+    pub(crate) start: u32,
     pub(crate) server_turned: bool,
     pub(crate) client_turned: bool,
 }
@@ -246,9 +248,9 @@ impl Model for Settled {
 
     ghost Value = { SettledPage };
 
-    ghost view = { λ s. settled_view s.orders s.seen.value.table_id (server_in s.seen.value.me.0) (client_in s.seen.value.me.0) };
+    ghost view = { λ s. settled_view s.orders s.start s.seen.value.table_id (server_in s.seen.value.me.0) (client_in s.seen.value.me.0) };
 
-    ghost invariant = { λ s. IsSettled (settled_view s.orders s.seen.value.table_id (server_in s.seen.value.me.0) (client_in s.seen.value.me.0)) × (s.server_turned ≡ (server_in s.seen.value.me.0).turned) × (s.client_turned ≡ (client_in s.seen.value.me.0).turned) };
+    ghost invariant = { λ s. IsSettled (settled_view s.orders s.start s.seen.value.table_id (server_in s.seen.value.me.0) (client_in s.seen.value.me.0)) × (s.server_turned ≡ (server_in s.seen.value.me.0).turned) × (s.client_turned ≡ (client_in s.seen.value.me.0).turned) };
 }
 
 impl Settled {

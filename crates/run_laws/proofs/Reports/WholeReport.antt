@@ -38,7 +38,7 @@ use Rattle.task_duties.specs.declared.done.CallEnd.TheVariants.{Session, Refused
 use Rattle.task_duties.specs.Hostile.Trail.{IsTrail}
 use Rattle.task_duties.proofs.Elements.{Has, has-from, contains-from, has-append, has-map, has-map-back, has-flat_map}
 use Rattle.task_duties.specs.Agent.Owes.{caller_done}
-use Rattle.run_laws.specs.Laid.{hub_of, all_domains, pages_between, ports_between, laid_between, laid, is_end_of, hostile_plan, calls_from, server_of, client_of}
+use Rattle.run_laws.specs.Laid.{BeganAsSaid, hub_of, all_domains, pages_between, ports_between, laid_between, laid, is_end_of, hostile_plan, calls_from, server_of, client_of}
 use Rattle.run_laws.specs.declared.report.CallResult.TheVariants.{Mixed as IsMixed}
 use Rattle.run_laws.specs.declared.report.ServedLine.{ServedLine}
 use Rattle.run_laws.specs.Report.{SettledPage, Report, IsFaulty}
@@ -125,6 +125,10 @@ settled-each s run h (p ∷ places) go = (h.settled p (go p (inl refl)), settled
 turned-each : (s : Scenario) (run : Run) → IsRun s run → (places : List PagePlace) → ((place : PagePlace) → Has places place → IsPlace s place) → Each (TurnedAsSaid s) (map (page_read run) places)
 turned-each s run h [] go = tt
 turned-each s run h (p ∷ places) go = (record { server = h.server_turned p (go p (inl refl)); client = h.client_turned p (go p (inl refl)) }, turned-each s run h places (λ q there. go q (inr there)))
+
+begun-each : (s : Scenario) (run : Run) → IsRun s run → (places : List PagePlace) → ((place : PagePlace) → Has places place → IsPlace s place) → Each (λ p. BeganAsSaid s p.place p.settled) (map (page_read run) places)
+begun-each s run h [] go = tt
+begun-each s run h (p ∷ places) go = (h.begun p (go p (inl refl)), begun-each s run h places (λ place there. go place (inr there)))
 
 -- ---- trails
 
@@ -316,6 +320,7 @@ lawful_with_served s run h served execs all_execs in_order each =
     record {
       ports = ports_of s run;
       pages = (let same = places-same run (laid s) in rw same (IsPermutation-refl (laid s)));
+      begun = begun-each s run h (laid s) (λ place there. laid-place s place there);
       turned = turned-each s run h (laid s) (λ place there. laid-place s place there);
       settled = settled-each s run h (laid s) (λ place there. laid-place s place there);
       calls = honest.calls;

@@ -15,10 +15,11 @@ use Rattle.end_view.specs.Settled.{IsSettled, IsHonestPage}
 use Rattle.call_broker.specs.Domains.{is_domain}
 use Rattle.scenario_file.specs.Scenario.{Plan as Scenario, IsScenario, DomainFits, CallFits, hostile_at}
 use Rattle.task_duties.specs.declared.place.PagePlace.{PagePlace}
+use Rattle.task_duties.specs.declared.place.PagePlace.TheVariants.{Control, Payload}
 use Rattle.task_duties.specs.Agent.Owes.{AgentOwes}
 use Rattle.task_duties.specs.declared.done.ControlEnd.TheVariants.{Drained}
 use Rattle.task_duties.specs.Broker.Owes.{BrokerOwes}
-use Rattle.run_laws.specs.Laid.{hub_of, awaited_by, agent_plan, server_of, client_of}
+use Rattle.run_laws.specs.Laid.{BeganAsSaid, hub_of, awaited_by, agent_plan, server_of, client_of}
 use Rattle.run_laws.specs.Run.{Run, IsRun, IsHonest, end_of, broker_end}
 use Rattle.run_laws.proofs.Runs.PageSizes.{few-words, some_page}
 
@@ -46,7 +47,7 @@ over role saw ended drained = record {
 unfoldable pub tiny_run : Orders → Run
 tiny_run orders = record {
   journal = [];
-  page = λ place. record { orders = orders; server = over Server true (Some AllRead) true; client = over Client false None false };
+  page = λ place. record { orders = orders; start = 0; server = over Server true (Some AllRead) true; client = over Client false None false };
   calls = λ d. [];
   served = λ d. [];
   control = λ d. Drained;
@@ -74,6 +75,11 @@ settled orders place = record {
   left = λ e. cc;
   right = λ e. cc;
 }
+
+begun : (orders : Orders) (place : PagePlace) → BeganAsSaid (tiny orders) place ((tiny_run orders).page place)
+unfolding tiny tiny_run
+begun orders (Control d) = record { orders = refl; start = refl }
+begun orders (Payload from to port) = record { orders = refl; start = refl }
 
 none-hostile : (orders : Orders) (d : ℕ) → hostile_at (tiny orders) d ≡ false
 unfolding tiny
@@ -137,6 +143,7 @@ unfolding tiny tiny_run over
 there_is_a_run orders = record {
   scenario = scenario orders;
   settled = λ place there. settled orders place;
+  begun = λ place there. begun orders place;
   server_turned = λ place there. sym (none-hostile orders (server_of place));
   client_turned = λ place there. sym (none-hostile orders (client_of place));
   broker = broker orders;

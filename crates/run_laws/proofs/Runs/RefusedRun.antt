@@ -43,7 +43,9 @@ use Rattle.task_duties.specs.Broker.Owes.{BrokerOwes}
 use Rattle.task_duties.specs.Pairwise.{EachPair}
 use Rattle.task_duties.proofs.ControlLaw.{all-heard, agent-on_control, broker-on_control, the_messages}
 use Rattle.task_duties.proofs.Elements.{Has, has-from}
-use Rattle.run_laws.specs.Laid.{hub_of, awaited_by, agent_plan, server_of, client_of}
+use Rattle.task_duties.specs.declared.place.PagePlace.{PagePlace}
+use Rattle.task_duties.specs.declared.place.PagePlace.TheVariants.{Control, Payload}
+use Rattle.run_laws.specs.Laid.{BeganAsSaid, hub_of, awaited_by, agent_plan, server_of, client_of}
 use Rattle.run_laws.specs.Run.{Run, IsRun, IsHonest, end_of, broker_end}
 use Rattle.run_laws.proofs.Runs.PageSizes.{few-words, some_page}
 use Rattle.run_laws.proofs.Domains.ReplyCounts.{bytes-self}
@@ -144,13 +146,13 @@ the_journal = record { event = Trigger 1 (codes "nobody") (codes "echo") ident; 
 abbrev pub one_run : Orders → Run
 one_run orders = record {
   journal = the_journal;
-  page = λ place. record { orders = orders; server = end_with Server up down true (Some AllRead) true; client = end_with Client down up false None false };
+  page = λ place. record { orders = orders; start = 0; server = end_with Server up down true (Some AllRead) true; client = end_with Client down up false None false };
   calls = λ d. record { number = 1; end = WasRefused } ∷ [];
   served = λ d. [];
   control = λ d. Drained;
 }
 
-settled : (orders : Orders) (page : Settled) → page ≡ record { orders = orders; server = end_with Server up down true (Some AllRead) true; client = end_with Client down up false None false } → IsSettled page
+settled : (orders : Orders) (page : Settled) → page ≡ record { orders = orders; start = 0; server = end_with Server up down true (Some AllRead) true; client = end_with Client down up false None false } → IsSettled page
 settled orders page is = rw is (record {
   server = refl;
   client = refl;
@@ -167,6 +169,10 @@ settled orders page is = rw is (record {
   left = λ e. cc;
   right = λ e. cc;
 })
+
+begun : (orders : Orders) (place : PagePlace) → BeganAsSaid (one orders) place ((one_run orders).page place)
+begun orders (Control d) = record { orders = refl; start = refl }
+begun orders (Payload from to port) = record { orders = refl; start = refl }
 
 none-hostile : (orders : Orders) (d : ℕ) → hostile_at (one orders) d ≡ false
 none-hostile orders zero = refl
@@ -236,6 +242,7 @@ pub there_is_a_run : (orders : Orders) → IsRun (one orders) (one_run orders)
 there_is_a_run orders = record {
   scenario = scenario orders;
   settled = λ place there. settled orders ((one_run orders).page place) refl;
+  begun = λ place there. begun orders place;
   server_turned = λ place there. sym (none-hostile orders (server_of place));
   client_turned = λ place there. sym (none-hostile orders (client_of place));
   broker = broker orders;

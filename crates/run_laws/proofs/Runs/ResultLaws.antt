@@ -177,7 +177,7 @@ page-same : (s : Scenario) (dones : List TaskDone) (pages : List SettledPage) �
 page-same s dones pages h p lies j =
     let server = given-view s (server_of p.place) (answer_at dones (server_of p.place)) (task-ends s dones pages h (server_of p.place) (server-within s p.place lies)) p.place (server-own s p.place lies) p.settled.server j.server in
     let client = given-view s (client_of p.place) (answer_at dones (client_of p.place)) (task-ends s dones pages h (client_of p.place) (client-within s p.place lies)) p.place (client-own s p.place lies) p.settled.client j.client in
-    λ i. record { orders = j.orders i; server = server i; client = client i }
+    λ i. record { orders = j.begun.orders i; start = j.begun.start i; server = server i; client = client i }
 
 page-there : (s : Scenario) (dones : List TaskDone) (pages : List SettledPage) → AreResults s dones pages → (p : SettledPage) → Has pages p → IsPlace s p.place
 page-there s dones pages h p there = laid-place s p.place (subst (λ l. Has l p.place) h.places (has-map-back (λ q. q.place) pages p there))
@@ -278,6 +278,7 @@ results_are_runs s dones pages h = (
   record {
     scenario = h.scenario;
     settled = settled-at s dones pages h;
+    begun = λ place lies. record { orders = refl; start = refl };
     server_turned = λ place lies. view-turned s (server_of place) (answer_at dones (server_of place)) (task-ends s dones pages h (server_of place) (server-within s place lies)) place (server-own s place lies);
     client_turned = λ place lies. view-turned s (client_of place) (answer_at dones (client_of place)) (task-ends s dones pages h (client_of place) (client-within s place lies)) place (client-own s place lies);
     broker = (let a = h.answered 0 (omega arith) in broker-same s dones a.0 (answer_at dones 0) refl a.1 a.2 a.3);

@@ -37,7 +37,7 @@ use Rattle.task_duties.specs.declared.done.ControlEnd.TheVariants.{Drained}
 use Rattle.task_duties.specs.Broker.Owes.{BrokerOwes, heard_from, awaited_of}
 use Rattle.task_duties.proofs.ControlLaw.{all-heard, agent-on_control, broker-on_control}
 use Rattle.task_duties.proofs.Elements.{Has, has-from}
-use Rattle.run_laws.specs.Laid.{hub_of, awaited_by, agent_plan, server_of, client_of}
+use Rattle.run_laws.specs.Laid.{BeganAsSaid, hub_of, awaited_by, agent_plan, server_of, client_of}
 use Rattle.run_laws.specs.Run.{Run, IsRun, IsHonest, end_of, broker_end}
 use Rattle.run_laws.proofs.Runs.PageSizes.{few-words, some_page}
 use Rattle.run_laws.proofs.Domains.ReplyCounts.{bytes-self}
@@ -150,7 +150,7 @@ end_of_role role sent got saw ended drained = record {
 
 -- the caller of a page has all that its peer sent, and the peer all that it sent
 abbrev page_with : Orders → List ℕ → List ℕ → Settled
-page_with orders up' down' = record { orders = orders; server = end_of_role Server up' down' true (Some AllRead) true; client = end_of_role Client down' up' false None false }
+page_with orders up' down' = record { orders = orders; start = 0; server = end_of_role Server up' down' true (Some AllRead) true; client = end_of_role Client down' up' false None false }
 
 abbrev page_at : Orders → PagePlace → Settled
 page_at orders (Control d) = if d == 1 then page_with orders up down else page_with orders [] told
@@ -199,6 +199,14 @@ page-if orders false = settled-with orders [] told
 settled : (orders : Orders) (place : PagePlace) → IsSettled (page_at orders place)
 settled orders (Control d) = page-if orders (d == 1)
 settled orders (Payload f t port) = settled-with orders calls serves
+
+begun-if : (orders : Orders) (d : ℕ) (b : Bool) → BeganAsSaid (two orders) (Control d) (if b then page_with orders up down else page_with orders [] told)
+begun-if orders d true = record { orders = refl; start = refl }
+begun-if orders d false = record { orders = refl; start = refl }
+
+begun : (orders : Orders) (place : PagePlace) → BeganAsSaid (two orders) place (page_at orders place)
+begun orders (Control d) = begun-if orders d (d == 1)
+begun orders (Payload f t port) = record { orders = refl; start = refl }
 
 none-hostile : (orders : Orders) (d : ℕ) → hostile_at (two orders) d ≡ false
 none-hostile orders zero = refl
@@ -332,6 +340,7 @@ pub there_is_a_run : (orders : Orders) → IsRun (two orders) (two_run orders)
 there_is_a_run orders = record {
   scenario = scenario orders;
   settled = λ place there. settled orders place;
+  begun = λ place there. begun orders place;
   server_turned = λ place there. (unturned orders place).0 ∙ sym (none-hostile orders (server_of place));
   client_turned = λ place there. (unturned orders place).1 ∙ sym (none-hostile orders (client_of place));
   broker = broker orders;

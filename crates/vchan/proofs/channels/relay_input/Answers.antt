@@ -10,6 +10,6 @@ pub returns : goal.returns
 returns g c =
     let hops = c.args.hops in
     let text = c.in_ok-text.text.items in
-    let relayed = subst (HasRelayed hops c.small_orders.result c.args.input.items) (sym c.got.view_is) c.in_ok-got.ensures in
+    let relayed = subst (HasRelayed hops (record { orders = c.small_orders.result; start = 0 }) c.args.input.items) (sym c.got.view_is) c.in_ok-got.ensures in
     let prints = subst (λ (bytes : List ℕ). text ≡ even_lines (length bytes) (hops + 1) ++ (codes "bytes" ++ (spaced (shown_bytes bytes ∷ []) ++ 10 ∷ []))) c.slice.ensures c.in_ok-text.ensures in
     prints_relayed hops c.small_orders.result c.args.input.items text c.got.inside.got c.got.inside.pages.items c.small_orders.ensures relayed prints

@@ -7,7 +7,7 @@ returns-in-Ok-tell-clause-prints g c =
     let orders = c.small_orders.result in
     let clients = c.in-Ok.clients.items in
     let dones = c.in-Ok-serve_clients.dones.items in
-    let served : List ℕ → Type 0 = λ name. AreEpochs name orders 1 clients dones in
+    let served : List ℕ → Type 0 = λ name. AreEpochs name (record { orders = orders; start = 0 }) 1 clients dones in
     record {
       orders = orders;
       orders_are = c.small_orders.ensures;

@@ -1,7 +1,7 @@
 -- The two tasks hand back what an epoch comes to.
 use Rattle.std.proofs.Common.{IfOk, subst}
 use denote.Param.Send.{sendable}
-use Rattle.ring_words.specs.declared.order.Orders.{Orders}
+use Rattle.vchan_rule.specs.Seated.{PageStart}
 use Rattle.vchan_persist.specs.declared.settle.Epoch.{Epoch}
 use Rattle.vchan_persist.specs.Settling.{ComesTo}
 use Rattle.vchan_persist.proofs.EpochLaws.{handed_back}
@@ -18,5 +18,5 @@ settle-requires g c =
 
 pub returns : goal.returns
 returns g c =
-    subst (λ (orders : Orders). IfOk c.settle.result (λ (e : Epoch). ComesTo orders c.args.client c.args.service e.result e.settled)) c.in_ok-page.ensures.0
+    subst (λ (words : PageStart). IfOk c.settle.result (λ (e : Epoch). ComesTo words c.args.client c.args.service e.result e.settled)) (λ i. record { orders = c.in_ok-page.ensures.0 i; start = c.in_ok-page.ensures.1 i })
     (c.settle.ensures c.args.client c.args.service (handed_back c.in_ok-page.page.table c.args.client c.args.service c.in_ok-tasks.tasks.items c.in_ok-dones.dones.items c.in_ok-tasks.ensures c.in_ok-dones.ensures))

@@ -31,12 +31,12 @@ loop-client-preserved g c =
       is_finite = tt;
       servable = (subst (Each IsServable) cut inv.servable).1;
       few = omega (arith, inv.few, fewer);
-      goes_on = one-more c.args.name.now c.args.orders number (number + 1) c.args.clients.items rest left client c.loop-client.dones.items c.push.new.self.items e cut c.in_ok-push.ensures.items refl
-          (epoch-at c.args.name.now c.args.orders number client c.in-Some.service c.in_ok-result.field-0.result c.in_ok-result.field-0.settled c.in-Some.ensures c.in_ok-result.ensures) inv.goes_on;
+      goes_on = one-more c.args.name.now (record { orders = c.args.orders; start = c.args.start }) number (number + 1) c.args.clients.items rest left client c.loop-client.dones.items c.push.new.self.items e cut c.in_ok-push.ensures.items refl
+          (epoch-at c.args.name.now (record { orders = c.args.orders; start = c.args.start }) number client c.in-Some.service c.in_ok-result.field-0.result c.in_ok-result.field-0.settled c.in-Some.ensures c.in_ok-result.ensures) inv.goes_on;
     }
 
 pub returns : goal.returns
 returns g c =
     let rest = c.loop-client.client-iterator.rest.items in
     let none : rest ≡ [] = grind (arith, common_steps, c.in-None.ensures.steps) in
-    all-served c.args.name.now c.args.orders c.loop-client.number c.args.clients.items rest c.loop-client.dones.items none c.loop-client.invariant.goes_on
+    all-served c.args.name.now (record { orders = c.args.orders; start = c.args.start }) c.loop-client.number c.args.clients.items rest c.loop-client.dones.items none c.loop-client.invariant.goes_on

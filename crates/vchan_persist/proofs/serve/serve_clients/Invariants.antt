@@ -12,5 +12,5 @@ invariant-loop-client g l = record {
   is_finite : (goal.iterator-loop-client g).is_finite l.client-iterator;
   servable : Each IsServable l.client-iterator.rest.items;
   few : l.number + length l.client-iterator.rest.items ≤ 4097;
-  goes_on : (more : List EpochDone) → AreEpochs l.name l.orders l.number l.client-iterator.rest.items more → AreEpochs l.name l.orders 1 l.fn.clients.items (l.dones.items ++ more);
+  goes_on : (more : List EpochDone) → AreEpochs l.name (record { orders = l.orders; start = l.start }) l.number l.client-iterator.rest.items more → AreEpochs l.name (record { orders = l.orders; start = l.start }) 1 l.fn.clients.items (l.dones.items ++ more);
 }

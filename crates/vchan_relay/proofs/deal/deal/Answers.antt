@@ -18,19 +18,19 @@ unreachable-requires c =
 
 pub loop-next-init : goal.loop-next-init
 loop-next-init c =
-    let orders = c.requires.laid.0 in
+    let words = c.requires.laid.0 in
     let pages = c.args.pages.now in
     let page = c.index-pages-0.result in
     let bytes = c.args.bytes.items in
     let tasks = c.push.new.self.items in
-    let n = is_next orders pages 0 page c.in-Some.first c.next.new.self.rest.items c.args.seats.items c.requires.laid.1 (sym c.into_iter-seats.ensures.rest ∙ c.in-Some.ensures.cases.0) c.index-pages-0.is in
+    let n = is_next words pages 0 page c.in-Some.first c.next.new.self.rest.items c.args.seats.items c.requires.laid.1 (sym c.into_iter-seats.ensures.rest ∙ c.in-Some.ensures.cases.0) c.index-pages-0.is in
     let h = c.served-near.ensures in
     let is : tasks ≡ c.writer_task.result ∷ [] = c.in_ok-push.ensures.items ∙ ap (λ (ts : List HopTask). ts ++ c.writer_task.result ∷ []) c.in_ok-tasks.ensures.items in
     let cut : pages ≡ page ∷ drop 1 pages = n.cut in
     record {
       can_next = tt;
       is_finite = tt;
-      laid = (orders, subst (λ (it : IntoIter PageSeats Global). AreLaid orders (drop 1 pages) it.rest.items) (sym c.into_iter-next-iterator.ensures.into_iter_gives) n.rest);
+      laid = (words, subst (λ (it : IntoIter PageSeats Global). AreLaid words (drop 1 pages) it.rest.items) (sym c.into_iter-next-iterator.ensures.into_iter_gives) n.rest);
       near = (h.0, h.1, h.3);
       goes_on = λ more follow. subst (λ (ps : List PageView). AreTasks bytes (length bytes + 1) ps (tasks ++ more)) (sym cut)
           (first_task bytes (length bytes + 1) page (drop 1 pages) c.served-near.result.page c.writer_task.result tasks is c.writer_task.ensures h.2 more follow);

@@ -1,5 +1,5 @@
 use Rattle.std.proofs.Common.{◌≡◌, ◌+◌, ◌++◌, [], List, length, drop}
-use Rattle.ring_words.specs.declared.order.Orders.{Orders}
+use Rattle.vchan_rule.specs.Seated.{PageStart}
 use Rattle.ring_words.specs.declared.page.Role.TheVariants.{Server}
 use Rattle.vchan_rule.specs.Seated.{view, IsOpen}
 use Rattle.vchan_relay.specs.declared.task.HopTask.{HopTask}
@@ -12,7 +12,7 @@ abbrev pub invariant-loop-next : goal.invariant-loop-next
 invariant-loop-next l = record {
   can_next : (goal.iterator-loop-next).can_next l.next-iterator;
   is_finite : (goal.iterator-loop-next).is_finite l.next-iterator;
-  laid : (orders : Orders) × AreLaid orders (drop l.index l.pages) l.next-iterator.rest.items;
+  laid : (words : PageStart) × AreLaid words (drop l.index l.pages) l.next-iterator.rest.items;
   near : IsOpen l.near × (l.near.side.role ≡ Server) × ((view l.near).got ≡ []);
   goes_on : (more : List HopTask) → FollowOn (length l.fn.bytes.items + 1) l.near.page (drop l.index l.pages) more → AreTasks l.fn.bytes.items (length l.fn.bytes.items + 1) l.pages (l.tasks.items ++ more);
 }

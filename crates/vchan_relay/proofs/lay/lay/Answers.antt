@@ -11,9 +11,9 @@ pub loop-page-preserved : goal.loop-page-preserved
 loop-page-preserved c =
     let p = c.in_ok-page in
     let seats : PageSeats = record { server = p.server; client = p.client } in
-    let laid = laid_more c.args.orders c.loop-page.pages.items c.loop-page.seats.items p.page seats c.loop-page.invariant.0 (record { orders_are = p.ensures.0; server = p.ensures.2; client = p.ensures.3 }) in
+    let laid = laid_more (record { orders = c.args.orders; start = c.args.start }) c.loop-page.pages.items c.loop-page.seats.items p.page seats c.loop-page.invariant.0 (record { words_are = (λ i. record { orders = p.ensures.0 i; start = p.ensures.1 i }); server = p.ensures.2; client = p.ensures.3 }) in
     let long = ap (λ (ps : List PageView). length ps) c.in_ok-push.ensures.items ∙ length_push c.loop-page.pages.items p.page in (
-      subst (λ (ps : List PageView). AreLaid c.args.orders ps c.push-in-loop-page.new.self.items) (sym c.in_ok-push.ensures.items)
-          (subst (AreLaid c.args.orders (c.loop-page.pages.items ++ p.page ∷ [])) (sym c.in_ok-push-2.ensures.items) laid),
+      subst (λ (ps : List PageView). AreLaid (record { orders = c.args.orders; start = c.args.start }) ps c.push-in-loop-page.new.self.items) (sym c.in_ok-push.ensures.items)
+          (subst (AreLaid (record { orders = c.args.orders; start = c.args.start }) (c.loop-page.pages.items ++ p.page ∷ [])) (sym c.in_ok-push-2.ensures.items) laid),
       omega (arith, long, c.loop-page.invariant.1),
     )

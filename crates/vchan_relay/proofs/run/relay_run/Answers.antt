@@ -1,8 +1,7 @@
 -- The tasks hand back the ends of all pages, and by that all bytes came through.
 use Rattle.std.proofs.Common.{◌≡◌, ◌+◌, ℕ, List, Result, Ok, Err, IfOk, length, sym, subst, ap, arith}
 use denote.Param.Send.{sendable}
-use Rattle.ring_words.specs.declared.order.Orders.{Orders}
-use Rattle.vchan_rule.specs.Seated.{PageView}
+use Rattle.vchan_rule.specs.Seated.{PageStart, PageView}
 use Rattle.vchan_io.specs.declared.memory.Memory.{Memory}
 use Rattle.vchan_relay.specs.declared.lay.PageSeats.{PageSeats}
 use Rattle.vchan_relay.specs.declared.task.HopDone.{HopDone}
@@ -15,7 +14,7 @@ use Rattle.vchan_relay.proofs.Sent.{task_send}
 use Rattle.vchan_relay.proofs.run.relay_run.Goals as goal
 
 pub deal-requires-clause-laid : goal.deal-requires-clause-laid
-deal-requires-clause-laid g c = (c.args.orders, subst (λ (ps : List PageView). AreLaid c.args.orders ps c.in_ok-pages.seats.items) (sym c.as_slice.ensures.value) c.in_ok-pages.ensures.laid)
+deal-requires-clause-laid g c = (record { orders = c.args.orders; start = c.args.start }, subst (λ (ps : List PageView). AreLaid (record { orders = c.args.orders; start = c.args.start }) ps c.in_ok-pages.seats.items) (sym c.as_slice.ensures.value) c.in_ok-pages.ensures.laid)
 
 pub run_pool-requires-send-T : goal.run_pool-requires-send-T
 run_pool-requires-send-T g c κs within = search (sendable, task_send)
@@ -34,14 +33,14 @@ settle-requires g c =
     (bytes, length bytes + 1, handed_back bytes (length bytes + 1) c.in_ok-pages.pages.items c.in_ok-tasks.tasks.items c.in_ok-dones.dones.items tasks c.in_ok-dones.ensures)
 
 -- whatever the settling gives
-by_settled : (hops : ℕ) (orders : Orders) (bytes : List ℕ) (pages : List PageView) (seats : List PageSeats) (dones : List HopDone) (result : Result RelayedPages Memory) → AreLaid orders pages seats → length pages ≡ hops + 1 →
-    AreHandedBack bytes (length bytes + 1) pages dones → IfOk result (λ r. AreAllSettledBy pages dones r.pages r.got) → IfOk result (HasRelayed hops orders bytes)
-by_settled hops orders bytes pages seats dones (Ok r) laid count handed settled = relayed hops orders bytes pages seats dones r laid count handed settled
-by_settled hops orders bytes pages seats dones (Err memory) laid count handed settled = tt
+by_settled : (hops : ℕ) (words : PageStart) (bytes : List ℕ) (pages : List PageView) (seats : List PageSeats) (dones : List HopDone) (result : Result RelayedPages Memory) → AreLaid words pages seats → length pages ≡ hops + 1 →
+    AreHandedBack bytes (length bytes + 1) pages dones → IfOk result (λ r. AreAllSettledBy pages dones r.pages r.got) → IfOk result (HasRelayed hops words bytes)
+by_settled hops words bytes pages seats dones (Ok r) laid count handed settled = relayed hops words bytes pages seats dones r laid count handed settled
+by_settled hops words bytes pages seats dones (Err memory) laid count handed settled = tt
 
 pub returns : goal.returns
 returns g c =
     let bytes = c.args.bytes.items in
     let tasks = subst (λ (ps : List PageView). AreTasks bytes (length bytes + 1) ps c.in_ok-tasks.tasks.items) c.as_slice.ensures.value c.in_ok-tasks.ensures in
-    by_settled c.args.hops c.args.orders bytes c.in_ok-pages.pages.items c.in_ok-pages.seats.items c.in_ok-dones.dones.items c.settle.result c.in_ok-pages.ensures.laid c.in_ok-pages.ensures.count
+    by_settled c.args.hops (record { orders = c.args.orders; start = c.args.start }) bytes c.in_ok-pages.pages.items c.in_ok-pages.seats.items c.in_ok-dones.dones.items c.settle.result c.in_ok-pages.ensures.laid c.in_ok-pages.ensures.count
     (handed_back bytes (length bytes + 1) c.in_ok-pages.pages.items c.in_ok-tasks.tasks.items c.in_ok-dones.dones.items tasks c.in_ok-dones.ensures) c.settle.ensures

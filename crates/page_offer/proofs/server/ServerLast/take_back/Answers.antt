@@ -12,23 +12,23 @@ use Rattle.page_offer.proofs.server.ServerLast.take_back.Goals as goal
 pub settle-settled-requires-clause-server : goal.settle-settled-requires-clause-server
 settle-settled-requires-clause-server c =
     let w = subst (λ (l : ServerLast). StandsServer c.requires.0 c.requires.1 l) c.in-Waits.is c.requires.2 in
-    (w.1, w.2)
+    (w.2, w.3)
 
 pub settle-settled-requires-clause-client : goal.settle-settled-requires-clause-client
 settle-settled-requires-clause-client c =
     let w = subst (λ (l : ServerLast). StandsServer c.requires.0 c.requires.1 l) c.in-Waits.is c.requires.2 in
-    is_client _ _ c.in-Ok-Done.theirs w.4 (subst (λ (back : Back). Follows (received c.in-Waits.back) back) c.in-Ok-Done.field-0-is c.in-Ok-Done.ensures.ok.2)
+    is_client _ _ c.in-Ok-Done.theirs w.5 (subst (λ (back : Back). Follows (received c.in-Waits.back) back) c.in-Ok-Done.field-0-is c.in-Ok-Done.ensures.ok.2)
 
 pub returns-in-Ok-Done : goal.returns-in-Ok-Done
-returns-in-Ok-Done c = λ name orders offers stands.
-    let w = subst (λ (l : ServerLast). StandsServer orders offers l) c.in-Waits.is stands in
+returns-in-Ok-Done c = λ name words offers stands.
+    let w = subst (λ (l : ServerLast). StandsServer words offers l) c.in-Waits.is stands in
     let s = c.settle-settled.ensures in
     let end = ap (λ (p : Settled). named name p.server) s ∙ ap (server_end name) (sym c.in-Waits.is) in
     let got = c.in-Ok-Done.ensures.ok.0 ∙ ap (λ (back : Back). received c.in-Waits.back ++ back ∷ []) c.in-Ok-Done.field-0-is in
-    ((ap (λ (p : Settled). p.orders) s ∙ w.0, (c.in-Waits.page, still_offered _ _ _ _ c.in-Ok-Done.ensures.ring w.3), came_back _ _ _ c.in-Ok-Done.theirs _ w.4 got (ap (λ (p : Settled). p.client) s)), end)
+    ((ap (λ (p : Settled). p.orders) s ∙ w.0, ap (λ (p : Settled). p.start) s ∙ w.1, (c.in-Waits.page, still_offered _ _ _ _ c.in-Ok-Done.ensures.ring w.4), came_back _ _ _ c.in-Ok-Done.theirs _ w.5 got (ap (λ (p : Settled). p.client) s)), end)
 
 pub returns-in-Err : goal.returns-in-Err
-returns-in-Err c = λ name orders offers stands.
-    let w = subst (λ (l : ServerLast). StandsServer orders offers l) c.in-Waits.is stands in
+returns-in-Err c = λ name words offers stands.
+    let w = subst (λ (l : ServerLast). StandsServer words offers l) c.in-Waits.is stands in
     let end = ap (server_end name) (sym c.in-Waits.is) in
-    ((w.0, w.1, w.2, still_offered _ _ _ _ c.in-Err.ensures.ring w.3, still_awaited _ _ _ c.in-Err.ensures.empty.0 w.4), end)
+    ((w.0, w.1, w.2, w.3, still_offered _ _ _ _ c.in-Err.ensures.ring w.4, still_awaited _ _ _ c.in-Err.ensures.empty.0 w.5), end)

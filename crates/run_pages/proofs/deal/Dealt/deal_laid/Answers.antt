@@ -1,5 +1,5 @@
 use Rattle.std.proofs.Common.{◌∙◌, ◌++◌, ◌∷◌, [], ap, length, subst, sym}
-use Rattle.run_laws.specs.Results.{orders_of}
+use Rattle.run_laws.specs.Laid.{orders_of}
 use Rattle.run_pages.specs.Dealt.{AreDealt, Follows}
 use Rattle.run_pages.proofs.DealLaws.{control-dealt}
 use Rattle.run_pages.proofs.deal.Dealt.deal_laid.Goals as goal

@@ -1,5 +1,5 @@
 use Rattle.std.proofs.Common.{◌∙◌, ap, sym}
-use Rattle.run_laws.specs.Results.{orders_of}
+use Rattle.run_laws.specs.Laid.{orders_of}
 use Rattle.run_pages.specs.Pages.{is_offered}
 use Rattle.run_pages.proofs.starts.RunStarts.page.Goals as goal
 

@@ -16,9 +16,11 @@ returns c =
     let given = c.turn-end.ensures.side in
     let over = c.scribble.ensures.side ∙ ap (λ (s : Side). strays_along s stores) given.1 in
     let last = c.retire.result.side in
-    let side = scribbled-side inside.seed inside.stores given.0 inside.end.side c.scribble.new.end.side last c.self.invariant.0 over c.retire.ensures.side in
+    let side = scribbled-side inside.seed inside.stores given.0 inside.end.side c.scribble.new.end.side last c.self.invariant.0 c.self.invariant.2 c.self.invariant.3 over c.retire.ensures.side in
     subst (λ (g : ScribblingGiven). HasScribbled g.page g.seed g.stores c.retire.result) c.self.view_is (record {
       is_end = record { page_is = c.retire.ensures.page ∙ c.scribble.ensures.page ∙ c.turn-end.ensures.page; role_is = side.role_is };
       turned = side.turned;
+      sent = side.sent;
+      got = side.got;
       trail = ap (λ (b : Bool). if b then last.trail else []) side.turned ∙ side.trail;
     })

@@ -48,7 +48,7 @@ invariant_of-result c =
       server_told = λ honest. ap (λ (z : View). (server_in z).retired) there ∙ c.server.invariant.3 (sym server_turned ∙ honest);
       client_told = λ honest. ap (λ (z : View). (client_in z).retired) there ∙ c.client.invariant.3 (sym client_turned ∙ honest);
     } in (
-      settles_views orders (said_of orders) seen.table_id (server_in seen.me.0) (client_in seen.me.0) (refl, refl) stands done,
+      settles_views orders c.self.inside.start (said_of orders) seen.table_id (server_in seen.me.0) (client_in seen.me.0) (refl, refl) stands done,
       sym c.server.invariant.2 ∙ sym server_turned,
       sym c.client.invariant.2 ∙ sym client_turned,
     )
