@@ -5,6 +5,7 @@
 //! qrexec protocol; that each goes as one packet, and who greets first, is this project's own.
 #![tactic(auto)]
 
+mod moves;
 mod port;
 mod talk;
 

@@ -21,6 +21,7 @@ ghost use Rattle.vchan_rule.specs.Ends.{IsSameEnd};
 ghost use Rattle.control_port.specs.Talking.{may_say, may_hear};
 ghost use Rattle.control_port.specs.Port.{HasSaid, HasSaidMore, HasHeard, Hands, Greets, Takes, HasFewerLeft, OnlyHears, OnlySends};
 
+use crate::moves::Moves;
 use crate::talk::Talker;
 use qrexec_data::SessionFault;
 use qrexec_frame::{Channel, Decoder, Message, NextError, encode};
@@ -46,6 +47,7 @@ pub struct ControlPort<'p> {
     fault: Option<SessionFault>,
     // The spelling of the message that is sent, kept for its room.
     spelling: Vec<u8>,
+    moves: Moves,
 }
 
 impl<'p> Model for ControlPort<'p> {
@@ -78,6 +80,7 @@ impl<'p> ControlPort<'p> {
             version: None,
             fault: None,
             spelling: Vec::new(alloc),
+            moves: Moves::none(),
         }
     }
 
@@ -93,6 +96,12 @@ impl<'p> ControlPort<'p> {
         ensures { result ≡ self.now.fault }
     {
         self.fault
+    }
+
+    /// How often the port has moved something: a connect, bytes, the end. No contract relies on it: a task of
+    /// whose ports none moved has nothing to do until another one's has.
+    pub fn moves(&self) -> u64 {
+        self.moves.count()
     }
 
     /// Whether the own greeting has gone.
@@ -116,6 +125,7 @@ impl<'p> ControlPort<'p> {
         ensures heard { (heard : List Said) → HasHeard self.old heard → HasHeard self.new heard }
         ensures same { OnlySends self.old self.new }
     {
+        self.moves.note(true);
         connect(&mut self.end)
     }
 
@@ -209,7 +219,9 @@ impl<'p> ControlPort<'p> {
     {
         self.spelling.clear();
         encode(message, &mut self.spelling)?;
-        Ok(send(&mut self.end, &self.spelling))
+        let answer = send(&mut self.end, &self.spelling);
+        self.moves.note(answer == SendAnswer::Sent);
+        Ok(answer)
     }
 
     /// Takes what has come, or hears that no more comes; each answer comes exactly where its cause is in
@@ -231,6 +243,7 @@ impl<'p> ControlPort<'p> {
     {
         match drain(&mut self.end, buf) {
             DrainAnswer::More { count } => {
+                self.moves.note(true);
                 self.decoder.feed(&buf[..count as usize])?;
                 Ok(DrainAnswer::More { count })
             }
@@ -342,6 +355,7 @@ impl<'p> ControlPort<'p> {
         ensures said { (said : List Said) → HasSaid self.old said → HasSaid self.new said }
         ensures same { OnlySends self.old self.new }
     {
+        self.moves.note(true);
         let _ = self.end.do_call(Call::Retire, &[], &mut []);
     }
 
