@@ -12,6 +12,7 @@ use qrexec_frame::Bytes;
 use std::marker::Model;
 use vchan_io::Memory;
 use vchan_lifecycle::{DrainAnswer, drain, retire};
+use vchan_notify::take_event;
 use vchan_rule::{End, Retired};
 use vchan_stream::{WriteAnswer, write};
 
@@ -47,8 +48,8 @@ impl<'p> CallerSession<'p> {
         }
     }
 
-    /// One turn: takes what has come, and writes what goes out next. Where the last turns moved nothing it
-    /// may be passed over. After want of memory the session is spent, and its end can still be retired.
+    /// One turn: takes what has come, and writes what goes out next. Where the last turn moved nothing it is
+    /// passed over as long as the peer hasn't signalled, up to seven times. After want of memory the session is spent, and its end can still be retired.
     pub fn turn(&mut self, buf: &mut [u8]) -> Result<(), Memory>
         requires calling { IsCalling self.old.caller self.old.end }
         requires undecided { self.old.caller.replies.outcome ≡ None }
@@ -59,13 +60,24 @@ impl<'p> CallerSession<'p> {
         ensures long { length buf.new ≡ length buf.old }
         ensures calling { OnOk result (IsCalling self.new.caller self.new.end) }
     {
-        if self.pause.passes() {
+        if !self.is_due() {
+            self.pause.pass();
             return Ok(());
         }
         let came = self.read_on(buf)?;
         let went = self.write_on()?;
         self.pause.note(came || went);
         Ok(())
+    }
+
+    // Whether a turn is to be made.
+    fn is_due(&mut self) -> bool
+        requires calling { IsCalling self.old.caller self.old.end }
+        ensures end { IsSameEnd self.old.end self.new.end }
+        ensures same { self.new.caller ≡ self.old.caller }
+        ensures calling { IsCalling self.new.caller self.new.end }
+    {
+        self.pause.is_over() || take_event(&mut self.end)
     }
 
     // Takes what has come, or hears that no more comes. It answers whether it did.

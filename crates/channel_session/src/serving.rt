@@ -16,6 +16,7 @@ use service_gate::Builtin;
 use std::marker::Model;
 use vchan_io::Memory;
 use vchan_lifecycle::{DrainAnswer, connect, drain, retire};
+use vchan_notify::take_event;
 use vchan_rule::{End, Retired};
 use vchan_stream::{WriteAnswer, write};
 
@@ -74,8 +75,8 @@ impl<'p> ServingSession<'p> {
         }
     }
 
-    /// One turn: takes what has come, and writes what goes out next. Where the last turns moved nothing it
-    /// may be passed over. After want of memory the session is spent, and its end can still be retired.
+    /// One turn: takes what has come, and writes what goes out next. Where the last turn moved nothing it is
+    /// passed over as long as the peer hasn't signalled, up to seven times. After want of memory the session is spent, and its end can still be retired.
     pub fn turn(&mut self, buf: &mut [u8]) -> Result<(), Memory>
         requires work { IsAtWork self.old.serving self.old.end }
         requires undecided { self.old.serving.answering.outcome ≡ None }
@@ -87,13 +88,26 @@ impl<'p> ServingSession<'p> {
         ensures work { OnOk result (IsAtWork self.new.serving self.new.end) }
         ensures answering { (owed : List ℕ → Triple) → IsAnswering owed self.old.serving self.old.end → OnOk result (IsAnswering owed self.new.serving self.new.end) }
     {
-        if self.pause.passes() {
+        if !self.is_due() {
+            self.pause.pass();
             return Ok(());
         }
         let came = self.read_on(buf)?;
         let went = self.write_on()?;
         self.pause.note(came || went);
         Ok(())
+    }
+
+    // Whether a turn is to be made.
+    fn is_due(&mut self) -> bool
+        requires work { IsAtWork self.old.serving self.old.end }
+        requires undecided { self.old.serving.answering.outcome ≡ None }
+        ensures end { IsSameEnd self.old.end self.new.end }
+        ensures same { self.new.serving ≡ self.old.serving }
+        ensures work { IsAtWork self.new.serving self.new.end }
+        ensures answering { (owed : List ℕ → Triple) → IsAnswering owed self.old.serving self.old.end → IsAnswering owed self.new.serving self.new.end }
+    {
+        self.pause.is_over() || take_event(&mut self.end)
     }
 
     // Takes what has come, or hears that no more comes. It answers whether it did.
