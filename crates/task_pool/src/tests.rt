@@ -339,6 +339,7 @@ fn nobody_polls(rt: HostRuntime) -> Result<(), Fail> {
             made: 0,
         })?;
     }
+    assert_eq!(rt; tasks.len(), 41);
     let dones = run_pool(&rt, rt.alloc(), tasks, 4, &OpenGate)?;
     assert_eq!(rt; dones.len(), 41);
     for (place, made) in dones.iter().enumerate() {
