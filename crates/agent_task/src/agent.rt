@@ -7,7 +7,6 @@ use crate::given::Given;
 use agent_control::{AgentControl, SessionEnd};
 use data_slots::{DataSlots, SessionOver};
 use std::alloc::Global;
-use std::thread;
 use task_duties::ControlEnd;
 use vchan_io::Memory;
 
@@ -33,13 +32,13 @@ pub(crate) struct Agent<'p> {
 
 impl<'p> Agent<'p> {
     /// One round over all channels: what has come on the control channel, then each open session, then
-    /// what there is to say. Where nothing has come and no session moved bytes, the thread gives way. `over` is
-    /// empty before and after, and kept for its room.
+    /// what there is to say. It answers whether anything moved: something came or went on the control
+    /// channel, or a session moved bytes or is over. `over` is empty before and after, and kept for its room.
     pub(crate) fn go_round(
         &mut self,
         scratch: &mut [u8],
         over: &mut Vec<SessionOver>,
-    ) -> Result<(), Memory>
+    ) -> Result<bool, Memory>
         requires running { IsRunning self.old }
         requires some { 0 < length scratch.old }
         requires empty { over.old.items ≡ [] }
@@ -49,15 +48,15 @@ impl<'p> Agent<'p> {
         ensures retire { CanGiveUp self.new }
         ensures long { length scratch.new ≡ length scratch.old }
     {
-        let came = self.over.is_some() || self.listen(scratch)?;
+        let before = self.control.port.moves();
+        if self.over.is_none() {
+            self.listen(scratch)?;
+        }
         let moved = self.turn_sessions(scratch, over)?;
         if self.over.is_none() {
             self.say()?;
         }
-        if !came && !moved {
-            thread::yield_now();
-        }
-        Ok(())
+        Ok(moved || self.control.port.moves() != before)
     }
 
     // One turn of each open session. Those that are over are to be told, while the control channel isn't.

@@ -14,8 +14,7 @@ use vchan_lifecycle::DrainAnswer;
 impl<'p> Agent<'p> {
     /// Takes what has come on the control channel, after the own greeting, and acts on it. A channel that
     /// is at its end, or on which something wrong came, is retired.
-    /// It answers whether something has come.
-    pub(crate) fn listen(&mut self, scratch: &mut [u8]) -> Result<bool, Memory>
+    pub(crate) fn listen(&mut self, scratch: &mut [u8]) -> Result<(), Memory>
         requires up { IsUp self.old }
         requires some { 0 < length scratch.old }
         ensures running { OnOk result (IsRunning self.new) }
@@ -27,7 +26,7 @@ impl<'p> Agent<'p> {
         let drained = self.drain(scratch)?;
         self.hear_all()?;
         self.settle(drained);
-        Ok(!matches!(drained, DrainAnswer::NotYet { .. }))
+        Ok(())
     }
 
     // Says the own greeting, where it hasn't gone.

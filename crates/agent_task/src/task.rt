@@ -26,6 +26,8 @@ pub struct AgentTask<'p> {
     scratch: Vec<u8>,
     // The sessions that were over in a turn, kept for its room.
     ended: Vec<SessionOver>,
+    // Whether the last turn moved anything.
+    moved: bool,
 }
 
 impl<'p> Model for AgentTask<'p> {
@@ -126,7 +128,14 @@ impl<'p> AgentTask<'p> {
             agent: Box::new(alloc, agent)?,
             scratch: vec![in alloc; 0u8; SCRATCH]?,
             ended: Vec::new(alloc),
+            moved: true,
         })
+    }
+
+    /// Whether the last turn moved anything that another task may wait for, or there was none yet. No contract
+    /// relies on it.
+    pub fn moved(&self) -> bool {
+        self.moved
     }
 
     /// One turn: a round over all channels, and once the control channel and all sessions are over, the
@@ -138,11 +147,12 @@ impl<'p> AgentTask<'p> {
             mut agent,
             mut scratch,
             mut ended,
+            ..
         } = self;
-        if agent.go_round(&mut scratch, &mut ended).is_err() {
+        let Ok(moved) = agent.go_round(&mut scratch, &mut ended) else {
             Box::into_inner(agent).give_up();
             return AgentTurn::NoMemory;
-        }
+        };
         match agent.over {
             Some(over) if agent.slots.is_idle() => {
                 AgentTask::finish(Box::into_inner(agent), over)
@@ -151,6 +161,7 @@ impl<'p> AgentTask<'p> {
                 agent,
                 scratch,
                 ended,
+                moved,
             }),
         }
     }

@@ -27,6 +27,15 @@ pub(crate) struct Switchboard<'p> {
 }
 
 impl<'p> Switchboard<'p> {
+    /// How often the broker's ends have moved something. Nothing is promised of the count.
+    pub(crate) fn moves(&self) -> u64 {
+        let mut moves: u64 = 0;
+        for daemon in &self.daemons {
+            moves = moves.wrapping_add(daemon.port.moves());
+        }
+        moves
+    }
+
     // Decides all that a domain has said, as far as it was taken.
     pub(crate) fn hear(&mut self, domain: u32) -> Result<(), Memory>
         requires posting { IsPosting self.old.broker.hub self.old.broker.journal self.old.daemons.items }

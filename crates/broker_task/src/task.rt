@@ -6,7 +6,6 @@ use crate::switchboard::Switchboard;
 use call_broker::Broker;
 use std::alloc::Global;
 use std::marker::Model;
-use std::thread::yield_now;
 use task_duties::RetiredEnd;
 use vchan_io::Memory;
 use vchan_rule::End;
@@ -22,6 +21,8 @@ pub struct BrokerTask<'p> {
     switchboard: Switchboard<'p>,
     // What is taken of a control channel at once.
     buf: Vec<u8>,
+    // Whether the last turn moved anything.
+    moved: bool,
 }
 
 impl<'p> Model for BrokerTask<'p> {
@@ -93,11 +94,17 @@ impl<'p> BrokerTask<'p> {
             alloc,
             switchboard: Switchboard { broker, daemons },
             buf,
+            moved: true,
         })
     }
 
-    /// One turn: a round over all domains. Once all of them are settled or dropped, the ends retire. A turn
-    /// in which no domain has said anything gives way to other threads.
+    /// Whether the last turn moved anything that another task may wait for, or there was none yet. No contract
+    /// relies on it.
+    pub fn moved(&self) -> bool {
+        self.moved
+    }
+
+    /// One turn: a round over all domains. Once all of them are settled or dropped, the ends retire.
     pub fn turn(self) -> BrokerTurn<'p>
         ensures { Pays self.entry result }
     {
@@ -105,12 +112,13 @@ impl<'p> BrokerTask<'p> {
             alloc,
             mut switchboard,
             mut buf,
+            ..
         } = self;
-        let before = switchboard.broker.journal().len();
+        let before = switchboard.moves();
         match switchboard.round(buf.as_mut_slice()) {
             Ok(()) => {
-                let heard = switchboard.broker.journal().len() != before;
-                after_round(alloc, switchboard, buf, heard)
+                let moved = switchboard.moves() != before;
+                after_round(alloc, switchboard, buf, moved)
             }
             Err(Memory) => {
                 give_up(switchboard.daemons);
@@ -120,12 +128,12 @@ impl<'p> BrokerTask<'p> {
     }
 }
 
-// The task after a round, in which some domain was heard or none.
+// The task after a round, which moved something or nothing.
 fn after_round<'p>(
     alloc: Global,
     switchboard: Switchboard<'p>,
     buf: Vec<u8>,
-    heard: bool,
+    moved: bool,
 ) -> BrokerTurn<'p>
     requires ready { IsReady switchboard }
     requires some { 0 < length buf.items }
@@ -134,13 +142,11 @@ fn after_round<'p>(
     if switchboard.is_settled() {
         return finish(alloc, switchboard);
     }
-    if !heard {
-        yield_now();
-    }
     BrokerTurn::Again(BrokerTask {
         alloc,
         switchboard,
         buf,
+        moved,
     })
 }
 

@@ -14,6 +14,7 @@ use Rattle.vchan_rule.proofs.Sent.{end_send}
 use Rattle.qrexec_frame.proofs.decoder.Decoder.TheSendSync as decoder
 use Rattle.qrexec_data.proofs.fault.SessionFault.TheSendSync as fault
 use Rattle.service_gate.specs.contracts.builtin.Builtin as service
+use Rattle.control_port.proofs.moves.Moves.TheSendSync as moves
 use Rattle.control_port.proofs.talk.Talker.TheSendSync as talker
 use Rattle.control_port.specs.contracts.port.ControlPort as port
 use Rattle.control_port.specs.contracts.port.ControlPort.TheInside as port_inside
@@ -95,7 +96,7 @@ retired_end_send =
 port_send : (κ : _) → IsSend (port.the_row κ)
 port_send κ =
     let fields : FieldsHave IsSend (port_inside.the_type κ).parts =
-    (end_send κ, (talker.the_send, (search sendable, (search sendable, (decoder.the_send, (search sendable depth 20, (search (sendable, crosses, fault.the_send) depth 20, (search (sendable, crosses), tt)))))))) in
+    (end_send κ, (talker.the_send, (search sendable, (search sendable, (decoder.the_send, (search sendable depth 20, (search (sendable, crosses, fault.the_send) depth 20, (search (sendable, crosses), (moves.the_send, tt))))))))) in
     view_send (port_inside.the_row κ) _ _ _ _ (declared_send (port_inside.the_type κ) fields)
 
 -- ---- the calls of an agent, and its control channel
@@ -195,7 +196,7 @@ agent_send κ =
 
 agent_task_send : (κ : _) → IsSend (agent_task.the_row κ)
 agent_task_send κ =
-    let fields : FieldsHave IsSend (agent_inside.the_type κ).parts = (search (sendable, crosses, agent_send) depth 20, (search (sendable, crosses), (search (sendable, crosses, session_over.the_send), tt))) in
+    let fields : FieldsHave IsSend (agent_inside.the_type κ).parts = (search (sendable, crosses, agent_send) depth 20, (search (sendable, crosses), (search (sendable, crosses, session_over.the_send), (search sendable, tt)))) in
     view_send (agent_inside.the_row κ) _ _ _ _ (declared_send (agent_inside.the_type κ) fields)
 
 -- ---- the task of the broker
@@ -212,7 +213,7 @@ switchboard_send κ =
 
 broker_task_send : (κ : _) → IsSend (broker_task.the_row κ)
 broker_task_send κ =
-    let fields : FieldsHave IsSend (broker_inside.the_type κ).parts = (heap.the_send, (switchboard_send κ, (search (sendable, crosses), tt))) in
+    let fields : FieldsHave IsSend (broker_inside.the_type κ).parts = (heap.the_send, (switchboard_send κ, (search (sendable, crosses), (search sendable, tt)))) in
     view_send (broker_inside.the_row κ) _ _ _ _ (declared_send (broker_inside.the_type κ) fields)
 
 -- ---- the task of a hostile domain
@@ -229,7 +230,7 @@ pages_send κ =
 
 hostile_task_send : (κ : _) → IsSend (hostile_task.the_row κ)
 hostile_task_send κ =
-    let fields : FieldsHave IsSend (hostile_inside.the_type κ).parts = (heap.the_send, (domain.the_send, (pages_send κ, (progress.the_send, (search (sendable, crosses), tt))))) in
+    let fields : FieldsHave IsSend (hostile_inside.the_type κ).parts = (heap.the_send, (domain.the_send, (pages_send κ, (progress.the_send, (search (sendable, crosses), (search sendable, tt)))))) in
     view_send (hostile_inside.the_row κ) _ _ _ _ (declared_send (hostile_inside.the_type κ) fields)
 
 -- ---- a task

@@ -21,6 +21,14 @@ impl<'p> PoolTask for Task<'p> {
             Task::Hostile(task) => turn_hostile(task),
         }
     }
+
+    fn moved(&self) -> bool {
+        match self {
+            Task::Agent(task) => task.moved(),
+            Task::Broker(task) => task.moved(),
+            Task::Hostile(task) => task.moved(),
+        }
+    }
 }
 
 // A turn of an agent.

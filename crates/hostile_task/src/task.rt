@@ -6,6 +6,7 @@ use crate::domain::HostileDomain;
 use crate::pages::Pages;
 use crate::progress::Progress;
 use ring_words::WordName;
+use scenario_file::Act;
 use std::alloc::Global;
 use std::marker::Model;
 use task_duties::{DataEnd, PagePlace, RetiredEnd};
@@ -22,6 +23,8 @@ pub struct HostileTask<'p> {
     progress: Progress,
     // What the act under way says, kept for its room.
     spelled: Vec<u8>,
+    // Whether the last turn made an event.
+    moved: bool,
 }
 
 impl<'p> Model for HostileTask<'p> {
@@ -89,7 +92,14 @@ impl<'p> HostileTask<'p> {
             pages,
             progress: Progress::start(own),
             spelled: Vec::new(alloc),
+            moved: true,
         })
+    }
+
+    /// Whether the last turn made an event that another task may wait for, or there was none yet: one of an
+    /// act that rests made none. No contract relies on it.
+    pub fn moved(&self) -> bool {
+        self.moved
     }
 
     /// One turn: of the next act, and after the last one the ends are retired.
@@ -102,10 +112,12 @@ impl<'p> HostileTask<'p> {
             mut pages,
             mut progress,
             mut spelled,
+            ..
         } = self;
         if progress.acts == domain.acts.list().len() {
             return finish(alloc, domain.number, pages);
         }
+        let moved = !rests(&domain, progress.acts);
         match carry_out(alloc, &domain, &mut pages, &mut progress, &mut spelled) {
             Ok(()) => HostileTurn::Again(HostileTask {
                 alloc,
@@ -113,6 +125,7 @@ impl<'p> HostileTask<'p> {
                 pages,
                 progress,
                 spelled,
+                moved,
             }),
             Err(Memory) => {
                 pages.give_up();
@@ -120,6 +133,11 @@ impl<'p> HostileTask<'p> {
             }
         }
     }
+}
+
+// Whether the act of this number rests.
+fn rests(domain: &HostileDomain, number: usize) -> bool {
+    matches!(domain.acts.list().get(number), Some(Act::Rest { .. }))
 }
 
 // Retires all ends.

@@ -1,5 +1,5 @@
 //! The task of the server.
-use crate::task::{EpochTask, SideDone, give_way};
+use crate::task::{EpochTask, SideDone};
 use channel_session::ServingSession;
 use service_gate::Builtin;
 use std::marker::Model;
@@ -55,6 +55,11 @@ impl<'p> Answering<'p> {
         }
     }
 
+    /// Whether the last turn moved bytes, or there was none yet.
+    pub(crate) fn moved(&self) -> bool {
+        self.session.moved()
+    }
+
     /// A turn of the session. Once the call is over, and where memory runs out, its end retires.
     pub(crate) fn turn(self) -> Turn<EpochTask<'p>>
         ensures { Pays epoch_owes (EpochTask.Serves self.entry) result }
@@ -70,14 +75,11 @@ impl<'p> Answering<'p> {
         };
         match session.outcome() {
             Some(outcome) => Turn::Done(SideDone::Served(session.finish(outcome))),
-            None => {
-                give_way(session.moved());
-                Turn::Again(EpochTask::Serves(Answering {
-                    session,
-                    room,
-                    service,
-                }))
-            }
+            None => Turn::Again(EpochTask::Serves(Answering {
+                session,
+                room,
+                service,
+            })),
         }
     }
 }

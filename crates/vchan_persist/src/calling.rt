@@ -1,5 +1,5 @@
 //! The task of a client that calls.
-use crate::task::{EpochTask, SideDone, give_way};
+use crate::task::{EpochTask, SideDone};
 use channel_session::CallerSession;
 use std::marker::Model;
 use task_pool::Turn;
@@ -44,6 +44,11 @@ impl<'p> Calling<'p> {
         Calling { session, room }
     }
 
+    /// Whether the last turn moved bytes, or there was none yet.
+    pub(crate) fn moved(&self) -> bool {
+        self.session.moved()
+    }
+
     /// A turn of the session. Once its call is over, and where memory runs out, its end retires.
     pub(crate) fn turn(self) -> Turn<EpochTask<'p>>
         ensures { Pays epoch_owes (EpochTask.Calls self.entry) result }
@@ -58,10 +63,7 @@ impl<'p> Calling<'p> {
         };
         match session.outcome() {
             Some(outcome) => Turn::Done(SideDone::Called(session.finish(outcome))),
-            None => {
-                give_way(session.moved());
-                Turn::Again(EpochTask::Calls(Calling { session, room }))
-            }
+            None => Turn::Again(EpochTask::Calls(Calling { session, room })),
         }
     }
 }

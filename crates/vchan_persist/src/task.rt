@@ -3,7 +3,6 @@ use crate::answering::Answering;
 use crate::calling::Calling;
 use crate::scribbling::Scribbling;
 use channel_session::{CallerEnd, ServingEnd};
-use std::thread;
 use task_pool::{PoolTask, Turn};
 use vchan_rule::Retired;
 
@@ -50,12 +49,13 @@ impl<'p> PoolTask for EpochTask<'p> {
             EpochTask::Over(done) => Turn::Done(done),
         }
     }
-}
 
-/// Gives way where the last turn of a session moved nothing, since the other side has to make one before
-/// there is more to move.
-pub(crate) fn give_way(moved: bool) {
-    if !moved {
-        thread::yield_now();
+    fn moved(&self) -> bool {
+        match self {
+            EpochTask::Calls(calling) => calling.moved(),
+            EpochTask::Scribbles(_) => true,
+            EpochTask::Serves(answering) => answering.moved(),
+            EpochTask::Over(_) => true,
+        }
     }
 }

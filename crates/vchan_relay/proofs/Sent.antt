@@ -13,7 +13,6 @@ use Rattle.vchan_relay.specs.contracts.hop.Hop.TheInside as hop_inside
 use Rattle.vchan_relay.specs.contracts.reader.Reader as reader
 use Rattle.vchan_relay.specs.contracts.reader.Reader.TheInside as reader_inside
 use Rattle.vchan_relay.specs.contracts.task.HopTask as task
-use Rattle.vchan_relay.proofs.idle.IdleTurns.TheSendSync as idle
 use Rattle.vchan_relay.proofs.task.HopDone.TheSendSync as done
 
 relay_send : (κ : _) → IsSend (relay.the_row κ)
@@ -23,17 +22,17 @@ relay_send κ =
 
 writer_send : (κ : _) → IsSend (writer.the_row κ)
 writer_send κ =
-    let fields : AllSend (shape (writer_inside.the_type κ)).fields = (end_send κ, (search (sendable, crosses), (search sendable, (idle.the_field_send, tt)))) in
+    let fields : AllSend (shape (writer_inside.the_type κ)).fields = (end_send κ, (search (sendable, crosses), (search sendable, (search sendable, tt)))) in
     view_send (writer_inside.the_row κ) _ _ _ _ (recorded_send (writer_inside.the_field κ).row _ _ (writer_inside.the_type κ).to_one (struct_send (shape (writer_inside.the_type κ)) fields))
 
 hop_send : (κ : _) → IsSend (hop.the_row κ)
 hop_send κ =
-    let fields : AllSend (shape (hop_inside.the_type κ)).fields = (relay_send κ, (idle.the_field_send, tt)) in
+    let fields : AllSend (shape (hop_inside.the_type κ)).fields = (relay_send κ, (search sendable, tt)) in
     view_send (hop_inside.the_row κ) _ _ _ _ (recorded_send (hop_inside.the_field κ).row _ _ (hop_inside.the_type κ).to_one (struct_send (shape (hop_inside.the_type κ)) fields))
 
 reader_send : (κ : _) → IsSend (reader.the_row κ)
 reader_send κ =
-    let fields : AllSend (shape (reader_inside.the_type κ)).fields = (end_send κ, (search (sendable, crosses), (search sendable, (idle.the_field_send, tt)))) in
+    let fields : AllSend (shape (reader_inside.the_type κ)).fields = (end_send κ, (search (sendable, crosses), (search sendable, (search sendable, tt)))) in
     view_send (reader_inside.the_row κ) _ _ _ _ (recorded_send (reader_inside.the_field κ).row _ _ (reader_inside.the_type κ).to_one (struct_send (shape (reader_inside.the_type κ)) fields))
 
 pub task_send : (κ : _) → IsSend (task.the_row κ)

@@ -4,7 +4,6 @@ ghost use Rattle.vchan_rule.specs.Ends.{IsSameEnd};
 ghost use Rattle.vchan_relay.specs.Relay.{IsRelay};
 ghost use Rattle.vchan_relay.specs.Turns.{Leaves, ends_relay};
 
-use crate::idle::IdleTurns;
 use crate::relay::Relay;
 use crate::task::{HopDone, HopTask};
 use crate::turn::RelayTurn;
@@ -15,7 +14,8 @@ use task_pool::Turn;
 #[derive(Drop)]
 pub(crate) struct Hop<'p> {
     relay: Relay<'p>,
-    idle: IdleTurns,
+    // Whether the last turn took bytes or passed them on.
+    moved: bool,
 }
 
 impl<'p> Model for Hop<'p> {
@@ -31,28 +31,22 @@ impl<'p> Model for Hop<'p> {
 }
 
 /// A turn of the relay, and another one where it took bytes, by which these are passed on: so the next
-/// task finds them in its turn. The answer is that of the last turn.
-fn advance(relay: &mut Relay<'_>) -> RelayTurn
+/// task finds them in its turn. The answers are that of the last turn, and whether either moved bytes.
+fn advance(relay: &mut Relay<'_>) -> (RelayTurn, bool)
     requires { relay.old.ended ≡ false }
     ensures near { IsSameEnd relay.old.near relay.new.near }
     ensures far { IsSameEnd relay.old.far relay.new.far }
-    ensures leaves { Leaves result relay.new }
-    ensures ended { relay.new.ended ≡ ends_relay result }
+    ensures leaves { Leaves result.0 relay.new }
+    ensures ended { relay.new.ended ≡ ends_relay result.0 }
     ensures relay { IsRelay relay.new }
 {
     let turn = relay.turn();
     match turn {
-        RelayTurn::Took { count: _ } => relay.turn(),
-        _ => turn,
-    }
-}
-
-/// How long a relay has moved nothing, after a turn with this answer.
-fn idle_after(turn: RelayTurn, idle: IdleTurns) -> IdleTurns {
-    match turn {
-        RelayTurn::NotYet { prod: _, cons: _ } => idle.one_more(),
-        RelayTurn::Full { prod: _, cons: _ } => idle.one_more(),
-        _ => IdleTurns::none(),
+        RelayTurn::Took { count: _ } => (relay.turn(), true),
+        RelayTurn::NotYet { prod: _, cons: _ } | RelayTurn::Full { prod: _, cons: _ } => {
+            (turn, false)
+        }
+        _ => (turn, true),
     }
 }
 
@@ -69,22 +63,24 @@ impl<'p> Hop<'p> {
         requires far { relay.far.side.role ≡ Client }
         ensures { result ≡ record { near = relay.entry.near.page; far = relay.entry.far.page } }
     {
-        Hop {
-            relay,
-            idle: IdleTurns::none(),
-        }
+        Hop { relay, moved: true }
+    }
+
+    /// Whether the last turn moved bytes, or there was none yet.
+    pub(crate) fn moved(&self) -> bool {
+        self.moved
     }
 
     /// Goes on with the relay, which retires both its ends once it has ended.
     pub(crate) fn turn(self) -> Turn<HopTask<'p>>
         ensures { Pays hop_owes (HopTask.Passes self.entry) result }
     {
-        let Hop { mut relay, idle } = self;
-        let idle = idle_after(advance(&mut relay), idle);
+        let Hop { mut relay, .. } = self;
+        let (_, moved) = advance(&mut relay);
         if relay.ended() {
             let (near, far) = relay.retire();
             return Turn::Done(HopDone::Passed { near, far });
         }
-        Turn::Again(HopTask::Passes(Hop { relay, idle }))
+        Turn::Again(HopTask::Passes(Hop { relay, moved }))
     }
 }

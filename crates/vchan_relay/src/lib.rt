@@ -8,7 +8,6 @@
 mod deal;
 mod draining;
 mod hop;
-mod idle;
 pub mod laws;
 mod lay;
 mod reader;

@@ -1,6 +1,5 @@
 //! The task that gets all bytes.
 use crate::draining::{drain_behind, hand_back};
-use crate::idle::IdleTurns;
 use crate::task::HopTask;
 use std::marker::Model;
 use task_pool::Turn;
@@ -13,7 +12,8 @@ pub(crate) struct Reader<'p> {
     end: End<'p>,
     room: Vec<u8>,
     count: usize,
-    idle: IdleTurns,
+    // Whether the last turn got bytes.
+    moved: bool,
 }
 
 impl<'p> Model for Reader<'p> {
@@ -48,8 +48,13 @@ impl<'p> Reader<'p> {
             end,
             room,
             count: 0,
-            idle: IdleTurns::none(),
+            moved: true,
         }
+    }
+
+    /// Whether the last turn got bytes, or there was none yet.
+    pub(crate) fn moved(&self) -> bool {
+        self.moved
     }
 
     /// Gets what waits. Where no more comes, and where the room is
@@ -61,7 +66,7 @@ impl<'p> Reader<'p> {
             mut end,
             mut room,
             count,
-            idle,
+            ..
         } = self;
         match drain_behind(&mut end, room.as_mut_slice(), count) {
             DrainAnswer::More { count: more } => {
@@ -69,23 +74,19 @@ impl<'p> Reader<'p> {
                 if count == room.len() {
                     return Turn::Done(hand_back(end, room, count));
                 }
-                let idle = IdleTurns::none();
                 Turn::Again(HopTask::Reads(Reader {
                     end,
                     room,
                     count,
-                    idle,
+                    moved: true,
                 }))
             }
-            DrainAnswer::NotYet { prod: _, cons: _ } => {
-                let idle = idle.one_more();
-                Turn::Again(HopTask::Reads(Reader {
-                    end,
-                    room,
-                    count,
-                    idle,
-                }))
-            }
+            DrainAnswer::NotYet { prod: _, cons: _ } => Turn::Again(HopTask::Reads(Reader {
+                end,
+                room,
+                count,
+                moved: false,
+            })),
             DrainAnswer::AllRead => Turn::Done(hand_back(end, room, count)),
             DrainAnswer::PeerGone { prod: _, cons: _ } => Turn::Done(hand_back(end, room, count)),
         }

@@ -45,4 +45,13 @@ impl<'p> PoolTask for HopTask<'p> {
             HopTask::Over(done) => Turn::Done(done),
         }
     }
+
+    fn moved(&self) -> bool {
+        match self {
+            HopTask::Writes(writer) => writer.moved(),
+            HopTask::Passes(hop) => hop.moved(),
+            HopTask::Reads(reader) => reader.moved(),
+            HopTask::Over(_) => true,
+        }
+    }
 }

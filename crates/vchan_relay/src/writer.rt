@@ -1,5 +1,4 @@
 //! The task that sends all bytes.
-use crate::idle::IdleTurns;
 use crate::task::{HopDone, HopTask};
 use std::marker::Model;
 use task_pool::Turn;
@@ -13,7 +12,8 @@ pub(crate) struct Writer<'p> {
     end: End<'p>,
     bytes: Vec<u8>,
     sent: usize,
-    idle: IdleTurns,
+    // Whether the last turn sent bytes.
+    moved: bool,
 }
 
 impl<'p> Model for Writer<'p> {
@@ -47,8 +47,13 @@ impl<'p> Writer<'p> {
             end,
             bytes,
             sent: 0,
-            idle: IdleTurns::none(),
+            moved: true,
         }
+    }
+
+    /// Whether the last turn sent bytes, or there was none yet.
+    pub(crate) fn moved(&self) -> bool {
+        self.moved
     }
 
     /// Sends what has room. After the last byte, and where the reader
@@ -60,7 +65,7 @@ impl<'p> Writer<'p> {
             mut end,
             bytes,
             sent,
-            idle,
+            ..
         } = self;
         if sent == bytes.len() {
             return Turn::Done(HopDone::Wrote(retire(end)));
@@ -70,13 +75,13 @@ impl<'p> Writer<'p> {
                 end,
                 bytes,
                 sent: sent + count as usize,
-                idle: IdleTurns::none(),
+                moved: true,
             })),
             WriteAnswer::Full { prod: _, cons: _ } => Turn::Again(HopTask::Writes(Writer {
                 end,
                 bytes,
                 sent,
-                idle: idle.one_more(),
+                moved: false,
             })),
             WriteAnswer::PeerClosed => Turn::Done(HopDone::Wrote(retire(end))),
         }
