@@ -117,4 +117,11 @@ impl<'p, 's> PoolTask for RunTask<'p, 's> {
             Turn::Done(done) => Turn::Done(done),
         }
     }
+
+    fn moved(&self) -> bool {
+        match &self.stage {
+            Stage::Broker(_) | Stage::Domain(..) => true,
+            Stage::Made(task) => task.moved(),
+        }
+    }
 }
