@@ -1,5 +1,5 @@
 -- What the name of a page tells, and what stands of the page under it.
-use Rattle.std.proofs.Common.{◌≡◌, ℕ, ◌≤◌, List, ◌∷◌, refl, ap, subst, sym, ◌∙◌}
+use Rattle.std.proofs.Common.{◌≡◌, ℕ, ◌≤◌, refl, ap, subst, sym, ◌∙◌}
 use Rattle.std.proofs.Math.Bridge.{le_prop}
 use Rattle.atomic_table.specs.Seated.{TableId}
 use Rattle.ring_words.specs.declared.order.Order.{Order}
@@ -62,10 +62,7 @@ same_orders a b s t name n m = same_rings a b (same_order a.left b.left (sym n.l
 
 -- and of the same start
 pub same_start : (a b : Orders) (s t : ℕ) (name : TableId) → IsNameOf a s name → IsNameOf b t name → s ≡ t
-same_start a b s t name n m = same_first (sym n.begins.1 ∙ m.begins.1)
-  where
-    same_first : {x y : ℕ} {xs ys : List ℕ} → x ∷ xs ≡ y ∷ ys → x ≡ y
-    same_first e = cc
+same_start a b s t name n m = sym n.begins ∙ m.begins
 
 -- ---- what stands of a page, under the name
 

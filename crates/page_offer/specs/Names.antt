@@ -24,9 +24,14 @@ name_of e orders start = record {
   slot_names = start ∷ address e.words (address e.slots []);
 }
 
+-- at which number the indices of the page begin whose name has these numbers
+abbrev pub start_in : List ℕ → ℕ
+start_in [] = 0
+start_in (start ∷ address) = start
+
 -- a name is that of a page of these orders whose indices begin at this number, and of no table
 pub record IsNameOf (orders : Orders) (start : ℕ) (name : TableId) : Type 0 where
   pub no_words : name.words ≡ 0
   pub left : name.block ≡ number_of orders.left
   pub right : name.offset ≡ number_of orders.right
-  pub begins : (address : List ℕ) × (name.slot_names ≡ start ∷ address)
+  pub begins : start_in name.slot_names ≡ start

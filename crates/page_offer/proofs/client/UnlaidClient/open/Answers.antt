@@ -19,6 +19,6 @@ returns-clause-words c =
     let same : o.0 ≡ c.pop_known-taken.result = same_first (o.1.1 ∙ c.pop_known-taken.ensures.received.1) in
     let orders : c.attach.result.side.orders ≡ inside.orders = ap (λ (s : Side). s.orders) c.attach.ensures.side ∙ ap (λ (x : Offer). x.page.orders) (sym same) ∙ o.2 in
     let start : c.attach.result.start ≡ inside.first = c.attach.ensures.page.1 ∙ ap (λ (x : Offer). x.page.start) (sym same) ∙ o.3 in
-    let is : IsNameOf inside.orders inside.first (name_of inside.offers.end inside.orders inside.first) = record { no_words = refl; left = refl; right = refl; begins = (_, refl) } in
+    let is : IsNameOf inside.orders inside.first (name_of inside.offers.end inside.orders inside.first) = record { no_words = refl; left = refl; right = refl; begins = refl } in
     let own : IsNameOf inside.orders inside.first c.args.self = subst (λ (n : TableId). IsNameOf inside.orders inside.first n) c.self.view_is is in
     subst (λ (o : Orders). IsNameOf o c.attach.result.start c.args.self) (sym orders) (subst (λ (s : ℕ). IsNameOf inside.orders s c.args.self) (sym start) own)

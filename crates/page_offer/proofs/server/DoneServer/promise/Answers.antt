@@ -8,6 +8,6 @@ use Rattle.page_offer.proofs.server.DoneServer.promise.Goals as goal
 pub returns : goal.returns
 returns c =
     let name = name_of c.self.inside.offers.end c.self.inside.orders c.self.inside.first in
-    let is : IsNameOf c.self.inside.orders c.self.inside.first name = record { no_words = refl; left = refl; right = refl; begins = (_, refl) } in
+    let is : IsNameOf c.self.inside.orders c.self.inside.first name = record { no_words = refl; left = refl; right = refl; begins = refl } in
     subst (λ (d : DoneEnd). IsNameOf d.orders d.start d.end.page) c.self.view_is
     (subst (λ (n : TableId). IsNameOf c.self.inside.orders c.self.inside.first n) (sym (server_page name c.self.inside.last)) is)
