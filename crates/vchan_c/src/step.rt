@@ -57,6 +57,7 @@ pub struct Step {
 }
 
 /// Where a word lies in the page, and how wide it is there.
+#[inline(always)]
 fn offset_and_width(word: WordName) -> (u16, u8)
     ensures offset { result.0 ≡ offset_of word }
     ensures width { result.1 ≡ width_of word }
@@ -81,6 +82,7 @@ fn offset_and_width(word: WordName) -> (u16, u8)
     }
 }
 
+#[inline(always)]
 fn ring_number(ring: Ring) -> u8
     ensures { result ≡ ring_number_of ring }
 {
@@ -91,6 +93,7 @@ fn ring_number(ring: Ring) -> u8
 }
 
 /// Whether bytes are moved, and which.
+#[inline(always)]
 fn moved(moves: Moves) -> (u8, Bytes)
     ensures number { result.0 ≡ moves_number moves }
     ensures bytes { result.1 ≡ bytes_in moves }
@@ -112,6 +115,7 @@ fn moved(moves: Moves) -> (u8, Bytes)
 }
 
 /// A store: the offset and the width of its word, and its number.
+#[inline(always)]
 fn stored(store: Option<Stored>) -> (u16, u8, u64)
     ensures offset { result.0 ≡ store_offset store }
     ensures width { result.1 ≡ store_width store }
@@ -150,6 +154,7 @@ impl Awaited {
         bits: 0,
     };
 
+    #[inline(always)]
     fn at(kind: u8, word: WordName, bits: u64) -> Awaited
         ensures { result ≡ record { kind = kind; offset = offset_of word; width = width_of word; bits = bits } }
     {
@@ -162,6 +167,7 @@ impl Awaited {
         }
     }
 
+    #[inline(always)]
     fn of(op: Op) -> Awaited
         ensures kind { result.kind ≡ (numbers_of_event op).0 }
         ensures offset { result.offset ≡ (numbers_of_event op).1 }
@@ -181,6 +187,7 @@ impl Awaited {
 }
 
 /// What stands behind a stretch: what is awaited, and the answer.
+#[inline(always)]
 fn ended(last: Last) -> (Awaited, AnswerNumbers)
     ensures kind { result.0.kind ≡ (numbers_of_last last).0 }
     ensures offset { result.0.offset ≡ (numbers_of_last last).1 }
@@ -202,6 +209,7 @@ fn ended(last: Last) -> (Awaited, AnswerNumbers)
 
 impl Step {
     /// A stretch of events, as numbers.
+    #[inline(always)]
     pub(crate) fn of(stretch: Stretch) -> Step
         ensures { result ≡ step_of stretch }
     {

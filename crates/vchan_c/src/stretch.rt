@@ -68,6 +68,7 @@ pub struct Stretch {
 }
 
 /// Whether the value of an event tells how the call goes on.
+#[inline(always)]
 fn awaits(op: Op) -> bool
     ensures { result ≡ awaits_of op }
 {
@@ -80,6 +81,7 @@ fn awaits(op: Op) -> bool
 /// The next bytes of a span: as many as go on up to the ring's end, and from its front up to where
 /// the first of them lies.
 #[tactic(auto, using(ring_words::proofs::RingLaws::place_wraps, ring_words::proofs::RingLaws::place_within))]
+#[inline(always)]
 fn bytes_of(span: Span) -> Bytes
     requires { span.at < span.count }
     ensures { AreBytes span result }
@@ -97,6 +99,7 @@ fn bytes_of(span: Span) -> Bytes
 }
 
 /// Goes past the bytes that come next.
+#[inline(always)]
 fn pass_bytes(machine: &mut Machine) -> Moves
     ensures events { (values : ℕ → ℕ) → Leads (rest machine.old) (moved values result) (rest machine.new) }
     ensures standing { standing machine.new ≡ standing machine.old }
@@ -121,6 +124,7 @@ fn pass_bytes(machine: &mut Machine) -> Moves
 }
 
 /// Goes past a store, where one comes next that is no signal.
+#[inline(always)]
 fn pass_store(machine: &mut Machine) -> (Option<Stored>, Option<Answer>)
     requires { ¬ IsIdle machine.old }
     ensures events { Leads (rest machine.old) (stored result.0) (rest_or_answer result.1 machine.new) }
@@ -139,6 +143,7 @@ fn pass_store(machine: &mut Machine) -> (Option<Stored>, Option<Answer>)
 }
 
 /// Goes past a signal to the peer, where one comes next.
+#[inline(always)]
 fn pass_signal(machine: &mut Machine) -> (bool, Option<Answer>)
     requires { ¬ IsIdle machine.old }
     ensures events { Leads (rest machine.old) (signalled (standing machine.old) result.0) (rest_or_answer result.1 machine.new) }
@@ -155,6 +160,7 @@ fn pass_signal(machine: &mut Machine) -> (bool, Option<Answer>)
 }
 
 /// Takes the value of the event that is awaited, where one is.
+#[inline(always)]
 fn pass_awaited(machine: &mut Machine, value: u64) -> Option<Answer>
     requires { ¬ IsIdle machine.old }
     ensures rest { rest_or_answer result machine.new ≡ plan_behind machine.old value }
@@ -170,6 +176,7 @@ fn pass_awaited(machine: &mut Machine, value: u64) -> Option<Answer>
 }
 
 /// What stands behind the events whose values are known.
+#[inline(always)]
 fn last_of(machine: &Machine) -> Last
     requires { ¬ IsIdle machine.now }
     ensures { IsLast result machine.now }
@@ -183,6 +190,7 @@ fn last_of(machine: &Machine) -> Last
 }
 
 /// The answer of a call, with no event before it.
+#[inline(always)]
 fn answered(answer: Answer) -> Stretch
     ensures { result ≡ answered_by answer }
 {
@@ -195,6 +203,7 @@ fn answered(answer: Answer) -> Stretch
 }
 
 /// The events that come next: the end goes past those whose values are known.
+#[inline(always)]
 pub(crate) fn stretch_of(machine: &mut Machine) -> Stretch
     requires { ¬ IsIdle machine.old }
     ensures stretch { IsStretch (rest machine.old) (standing machine.old) result machine.new }
@@ -226,6 +235,7 @@ pub(crate) fn stretch_of(machine: &mut Machine) -> Stretch
 }
 
 /// The same behind the event that is awaited, which took this value.
+#[inline(always)]
 pub(crate) fn stretch_behind(machine: &mut Machine, value: u64) -> Stretch
     requires { ¬ IsIdle machine.old }
     ensures stretch { IsStretch (plan_behind machine.old value) (standing_behind machine.old) result machine.new }
