@@ -63,7 +63,40 @@ pub extern "C" fn vchan_end_begin(end: &mut Kept, call: u8, len: u32, step: &mut
     ensures refused { result ≢ 0 → (end.new ≡ end.old) × (step.new ≡ step.old) }
     ensures answer { (machine : Machine) → IsShort machine → kept_of machine ≡ end.old → result ≡ answer_to machine call len }
 {
-    let Some(mut machine) = end.machine() else {
+    match (end.phase, call) {
+        (0, 1) => begin_in::<1, 101>(end, len, step),
+        (0, 2) => begin_in::<2, 102>(end, len, step),
+        (0, 3) => begin_in::<3, 103>(end, len, step),
+        (0, 4) => begin_in::<4, 104>(end, len, step),
+        _ => {
+            let kept = *end;
+            begin::<100>(end, kept, call, len, step)
+        }
+    }
+}
+
+/// [`vchan_end_begin`] of an end between two calls and of this call. Each frequent call has a copy of
+/// its own, in which the end is read and kept again with no case of another one.
+#[inline(never)]
+fn begin_in<const CALL: u8, const COPY: u8>(end: &mut Kept, len: u32, step: &mut Step) -> u8
+    requires { end.old.phase ≡ 0 }
+    ensures begun { result ≡ 0 → Begins end.old CALL len end.new step.new }
+    ensures refused { result ≢ 0 → (end.new ≡ end.old) × (step.new ≡ step.old) }
+    ensures answer { (machine : Machine) → IsShort machine → kept_of machine ≡ end.old → result ≡ answer_to machine CALL len }
+{
+    let kept = Kept { phase: 0, ..*end };
+    begin::<COPY>(end, kept, CALL, len, step)
+}
+
+/// [`vchan_end_begin`] of an end that was read. Each number is a copy.
+#[inline(always)]
+fn begin<const COPY: u8>(end: &mut Kept, kept: Kept, call: u8, len: u32, step: &mut Step) -> u8
+    requires { kept ≡ end.old }
+    ensures begun { result ≡ 0 → Begins end.old call len end.new step.new }
+    ensures refused { result ≢ 0 → (end.new ≡ end.old) × (step.new ≡ step.old) }
+    ensures answer { (machine : Machine) → IsShort machine → kept_of machine ≡ end.old → result ≡ answer_to machine call len }
+{
+    let Some(mut machine) = kept.machine() else {
         return 7;
     };
     let Some(call) = call_of(call, len) else {
@@ -73,7 +106,7 @@ pub extern "C" fn vchan_end_begin(end: &mut Kept, call: u8, len: u32, step: &mut
         return refusal_number(refusal);
     }
     machine.begin(call);
-    *step = Step::of(stretch_of(&mut machine));
+    *step = Step::of(stretch_of::<COPY>(&mut machine));
     *end = machine.kept();
     0
 }
@@ -89,13 +122,49 @@ pub extern "C" fn vchan_end_took(end: &mut Kept, value: u64, step: &mut Step) ->
     ensures refused { result ≡ false → (end.new ≡ end.old) × (step.new ≡ step.old) }
     ensures accepted { (machine : Machine) → IsShort machine → kept_of machine ≡ end.old → (IsTrue result ↔ ¬ IsIdle machine) }
 {
-    let Some(mut machine) = end.machine() else {
+    match end.phase {
+        1 => took_in::<1>(end, value, step),
+        2 => took_in::<2>(end, value, step),
+        9 => took_in::<9>(end, value, step),
+        39 => took_in::<39>(end, value, step),
+        _ => {
+            let kept = *end;
+            took::<0>(end, kept, value, step)
+        }
+    }
+}
+
+/// [`vchan_end_took`] of an end in this phase. Each frequent phase has a copy of its own, in which the
+/// end is read, moved on and kept again with no case of another one.
+#[inline(never)]
+fn took_in<const PHASE: u8>(end: &mut Kept, value: u64, step: &mut Step) -> bool
+    requires { end.old.phase ≡ PHASE }
+    ensures moved { result ≡ true → Goes end.old value end.new step.new }
+    ensures refused { result ≡ false → (end.new ≡ end.old) × (step.new ≡ step.old) }
+    ensures accepted { (machine : Machine) → IsShort machine → kept_of machine ≡ end.old → (IsTrue result ↔ ¬ IsIdle machine) }
+{
+    let kept = Kept {
+        phase: PHASE,
+        ..*end
+    };
+    took::<PHASE>(end, kept, value, step)
+}
+
+/// [`vchan_end_took`] of an end that was read. Each number is a copy.
+#[inline(always)]
+fn took<const COPY: u8>(end: &mut Kept, kept: Kept, value: u64, step: &mut Step) -> bool
+    requires { kept ≡ end.old }
+    ensures moved { result ≡ true → Goes end.old value end.new step.new }
+    ensures refused { result ≡ false → (end.new ≡ end.old) × (step.new ≡ step.old) }
+    ensures accepted { (machine : Machine) → IsShort machine → kept_of machine ≡ end.old → (IsTrue result ↔ ¬ IsIdle machine) }
+{
+    let Some(mut machine) = kept.machine() else {
         return false;
     };
     if machine.idle() {
         return false;
     }
-    *step = Step::of(stretch_behind(&mut machine, value));
+    *step = Step::of(stretch_behind::<COPY>(&mut machine, value));
     *end = machine.kept();
     true
 }

@@ -204,7 +204,7 @@ fn answered(answer: Answer) -> Stretch
 
 /// The events that come next: the end goes past those whose values are known.
 #[inline(always)]
-pub(crate) fn stretch_of(machine: &mut Machine) -> Stretch
+pub(crate) fn stretch_of<const COPY: u8>(machine: &mut Machine) -> Stretch
     requires { ¬ IsIdle machine.old }
     ensures stretch { IsStretch (rest machine.old) (standing machine.old) result machine.new }
     ensures payload_left { payload_needed machine.new ≤ payload_needed machine.old }
@@ -236,7 +236,7 @@ pub(crate) fn stretch_of(machine: &mut Machine) -> Stretch
 
 /// The same behind the event that is awaited, which took this value.
 #[inline(always)]
-pub(crate) fn stretch_behind(machine: &mut Machine, value: u64) -> Stretch
+pub(crate) fn stretch_behind<const COPY: u8>(machine: &mut Machine, value: u64) -> Stretch
     requires { ¬ IsIdle machine.old }
     ensures stretch { IsStretch (plan_behind machine.old value) (standing_behind machine.old) result machine.new }
     ensures payload_left { payload_needed machine.new ≤ payload_needed machine.old }
@@ -245,6 +245,6 @@ pub(crate) fn stretch_behind(machine: &mut Machine, value: u64) -> Stretch
 {
     match pass_awaited(machine, value) {
         Some(answer) => answered(answer),
-        None => stretch_of(machine),
+        None => stretch_of::<COPY>(machine),
     }
 }

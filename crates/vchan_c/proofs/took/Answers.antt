@@ -1,13 +1,13 @@
-use Rattle.std.proofs.Common.{sym, rules, arith}
+use Rattle.std.proofs.Common.{sym, ◌∙◌, rules, arith}
 use Rattle.vchan_core.specs.OneMachine.Phases.{standing}
 use Rattle.vchan_c.specs.Stretches.{standing_behind}
 use Rattle.vchan_c.proofs.StretchLaws.{alone, moves_more, behind_role, behind_orders}
-use Rattle.vchan_c.proofs.vchan_end_took.Goals as goal
+use Rattle.vchan_c.proofs.took.Goals as goal
 
 pub returns-clause-moved : goal.returns-clause-moved
-returns-clause-moved c = λ _. record {
+returns-clause-moved g c = λ _. record {
   machine = c.in-Some.machine;
-  kept = record { same = c.in-Some.ensures.kept; alone = λ other short is. alone _ _ (c.in-Some.ensures.again other short is) };
+  kept = record { same = c.in-Some.ensures.kept ∙ c.requires; alone = λ other short is. alone _ _ (c.in-Some.ensures.again other short (is ∙ sym c.requires)) };
   busy = search rules;
   tells = record {
     now = c.stretch_behind.new.machine;
