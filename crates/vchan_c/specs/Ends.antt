@@ -73,10 +73,15 @@ pub record IsKept (kept : Kept) (m : Machine) : Type 0 where
   pub same : kept_of m ≡ kept
   pub alone : (other : Machine) → IsShort other → kept_of other ≡ kept → other ≡ m
 
+-- no machine is kept as these bytes
+abbrev pub IsNoEnd : Kept → Type 0
+IsNoEnd kept = (m : Machine) → kept_of m ≢ kept
+
 -- an end that was made of these numbers is between two calls
 pub record Made (role state left right prod cons : ℕ) (new : Kept) : Type 0 where
   pub machine : Machine
   pub kept : IsKept new machine
+  pub short : IsShort machine
   pub idle : IsIdle machine
   pub standing : IsStanding role state left right prod cons (standing machine)
 
@@ -86,6 +91,7 @@ pub record Tells (plan : Plan) (e : Standing) (payload buffer : ℕ) (new : Kept
   pub now : Machine
   pub stretch : Stretch
   pub kept : IsKept new now
+  pub short : IsShort now
   pub step_is : step ≡ step_of stretch
   pub does : IsStretch plan e stretch now
   pub payload_left : payload_needed now ≤ payload

@@ -15,7 +15,7 @@ ghost use Rattle.std.specs.Prelude.{◌≡◌, ◌≢◌, ◌↔◌, IsTrue, tru
 ghost use Rattle.vchan_core.specs.OneMachine.Keeping.{kept_of, IsShort};
 ghost use Rattle.vchan_core.specs.OneMachine.Phases.{IsIdle};
 ghost use Rattle.vchan_core.specs.declared.machine.Machine.{Machine};
-ghost use Rattle.vchan_c.specs.Ends.{AreEndNumbers, Made, Begins, Goes, answer_to};
+ghost use Rattle.vchan_c.specs.Ends.{AreEndNumbers, IsNoEnd, Made, Begins, Goes, answer_to};
 
 use numbers::{call_of, end_of, refusal_number};
 pub use step::Step;
@@ -62,6 +62,7 @@ pub extern "C" fn vchan_end_begin(end: &mut Kept, call: u8, len: u32, step: &mut
     ensures begun { result ≡ 0 → Begins end.old call len end.new step.new }
     ensures refused { result ≢ 0 → (end.new ≡ end.old) × (step.new ≡ step.old) }
     ensures answer { (machine : Machine) → IsShort machine → kept_of machine ≡ end.old → result ≡ answer_to machine call len }
+    ensures none { IsNoEnd end.old → result ≡ 7 }
 {
     match (end.phase, call) {
         (0, 1) => begin_in::<1, 101>(end, len, step),
@@ -83,6 +84,7 @@ fn begin_in<const CALL: u8, const COPY: u8>(end: &mut Kept, len: u32, step: &mut
     ensures begun { result ≡ 0 → Begins end.old CALL len end.new step.new }
     ensures refused { result ≢ 0 → (end.new ≡ end.old) × (step.new ≡ step.old) }
     ensures answer { (machine : Machine) → IsShort machine → kept_of machine ≡ end.old → result ≡ answer_to machine CALL len }
+    ensures none { IsNoEnd end.old → result ≡ 7 }
 {
     let kept = Kept { phase: 0, ..*end };
     begin::<COPY>(end, kept, CALL, len, step)
@@ -95,6 +97,7 @@ fn begin<const COPY: u8>(end: &mut Kept, kept: Kept, call: u8, len: u32, step: &
     ensures begun { result ≡ 0 → Begins end.old call len end.new step.new }
     ensures refused { result ≢ 0 → (end.new ≡ end.old) × (step.new ≡ step.old) }
     ensures answer { (machine : Machine) → IsShort machine → kept_of machine ≡ end.old → result ≡ answer_to machine call len }
+    ensures none { IsNoEnd end.old → result ≡ 7 }
 {
     let Some(mut machine) = kept.machine() else {
         return 7;
@@ -121,6 +124,7 @@ pub extern "C" fn vchan_end_took(end: &mut Kept, value: u64, step: &mut Step) ->
     ensures moved { result ≡ true → Goes end.old value end.new step.new }
     ensures refused { result ≡ false → (end.new ≡ end.old) × (step.new ≡ step.old) }
     ensures accepted { (machine : Machine) → IsShort machine → kept_of machine ≡ end.old → (IsTrue result ↔ ¬ IsIdle machine) }
+    ensures none { IsNoEnd end.old → result ≡ false }
 {
     match end.phase {
         1 => took_in::<1>(end, value, step),
@@ -142,6 +146,7 @@ fn took_in<const PHASE: u8>(end: &mut Kept, value: u64, step: &mut Step) -> bool
     ensures moved { result ≡ true → Goes end.old value end.new step.new }
     ensures refused { result ≡ false → (end.new ≡ end.old) × (step.new ≡ step.old) }
     ensures accepted { (machine : Machine) → IsShort machine → kept_of machine ≡ end.old → (IsTrue result ↔ ¬ IsIdle machine) }
+    ensures none { IsNoEnd end.old → result ≡ false }
 {
     let kept = Kept {
         phase: PHASE,
@@ -157,6 +162,7 @@ fn took<const COPY: u8>(end: &mut Kept, kept: Kept, value: u64, step: &mut Step)
     ensures moved { result ≡ true → Goes end.old value end.new step.new }
     ensures refused { result ≡ false → (end.new ≡ end.old) × (step.new ≡ step.old) }
     ensures accepted { (machine : Machine) → IsShort machine → kept_of machine ≡ end.old → (IsTrue result ↔ ¬ IsIdle machine) }
+    ensures none { IsNoEnd end.old → result ≡ false }
 {
     let Some(mut machine) = kept.machine() else {
         return false;

@@ -21,6 +21,7 @@ returns-clause-begun g c = λ _.
         now = c.stretch_of.new.machine;
         stretch = c.stretch_of.result;
         kept = record { same = sym c.kept.ensures.kept; alone = c.kept.ensures.alone };
+        short = c.kept.ensures.short;
         step_is = c.of.ensures;
         does = subst (λ (p : Plan). IsStretch p (standing c.in-Some.machine) c.stretch_of.result c.stretch_of.new.machine) c.begin.ensures.rest
             (subst (λ (e : Standing). IsStretch (rest inside) e c.stretch_of.result c.stretch_of.new.machine) c.begin.ensures.standing stretch);

@@ -13,6 +13,7 @@ returns-clause-moved g c = λ _. record {
     now = c.stretch_behind.new.machine;
     stretch = c.stretch_behind.result;
     kept = record { same = sym c.kept.ensures.kept; alone = c.kept.ensures.alone };
+    short = c.kept.ensures.short;
     step_is = c.of.ensures;
     does = c.stretch_behind.ensures.stretch;
     payload_left = c.stretch_behind.ensures.payload_left;
