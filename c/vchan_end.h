@@ -1,0 +1,70 @@
+/*
+ * One end of a vchan as the proved library has it (crates/vchan_c). It names no memory: it tells a
+ * caller which bytes to move and which words of the shared page to load or store, and takes the values
+ * that were found there. vchan_page.h makes whole calls of it.
+ */
+#ifndef VCHAN_END_H
+#define VCHAN_END_H
+
+#include <stdbool.h>
+#include <stdint.h>
+
+enum vchan_role { VCHAN_SERVER, VCHAN_CLIENT };
+enum vchan_state { VCHAN_FRESH, VCHAN_OPEN, VCHAN_SHUT };
+
+enum vchan_call {
+	VCHAN_WRITE = 1, VCHAN_SEND, VCHAN_READ, VCHAN_RECV, VCHAN_DRAIN, VCHAN_DATA_READY, VCHAN_BUFFER_SPACE,
+	VCHAN_CONNECT, VCHAN_CLOSE, VCHAN_TAKE_EVENT
+};
+
+/* Why an end can't begin a call. */
+enum vchan_refusal {
+	VCHAN_BEGUN, VCHAN_BUSY, VCHAN_IS_SHUT, VCHAN_UNCONNECTED, VCHAN_IS_CONNECTED, VCHAN_NO_BYTES, VCHAN_NO_CALL,
+	VCHAN_NO_END
+};
+
+/* What a step awaits: the answer is there, the value of a word, or nothing but to go on. */
+enum vchan_kind { VCHAN_ANSWER, VCHAN_LOAD, VCHAN_OR, VCHAN_AND, VCHAN_SWAP, VCHAN_FURTHER };
+
+enum vchan_moves { VCHAN_NOTHING, VCHAN_PUT, VCHAN_TAKE };
+
+enum vchan_answer {
+	VCHAN_WROTE = 1, VCHAN_FULL, VCHAN_SENT, VCHAN_NO_ROOM, VCHAN_GOT, VCHAN_EMPTY, VCHAN_SHORT, VCHAN_PEER_CLOSED,
+	VCHAN_READY, VCHAN_SPACE, VCHAN_CONNECTED, VCHAN_BAD_ORDERS, VCHAN_DONE, VCHAN_EVENT, VCHAN_NOT_YET,
+	VCHAN_ALL_READ, VCHAN_PEER_GONE, VCHAN_GONE
+};
+
+/* Opaque. Any bytes are allowed: those of no end are refused. */
+struct vchan_end {
+	uint32_t numbers[8];
+};
+
+/* What is to be done, in this order: bytes, a store, a signal, and then what is awaited. A word lies at
+ * an offset of struct vchan_interface and is so many bytes wide; where the width is 0 that struct has no
+ * such word. */
+struct vchan_step {
+	uint8_t kind, width;
+	uint16_t offset;
+	uint8_t moves, ring; /* the ring: 0 left, 1 right */
+	uint8_t store_width, signals;
+	uint16_t store_offset;
+	uint8_t answer, spare;
+	uint32_t place, at, first, second; /* bytes: `first` from `place` on, `second` from the ring's front on */
+	uint32_t answer_first, answer_second, spares;
+	uint64_t stored, bits;
+};
+
+_Static_assert(sizeof(struct vchan_end) == 32, "an end is 32 bytes");
+_Static_assert(sizeof(struct vchan_step) == 56, "a step is 56 bytes");
+
+/* False, with the end as it was, where the numbers are those of no end. */
+bool vchan_end_init(struct vchan_end *end, uint8_t role, uint8_t state, uint16_t left_order, uint16_t right_order,
+		    uint32_t prod, uint32_t cons);
+
+/* An enum vchan_refusal. Only where that is 0 do the end and the step change. */
+uint8_t vchan_end_begin(struct vchan_end *end, uint8_t call, uint32_t len, struct vchan_step *step);
+
+/* False, with the end as it was, where it is between two calls, or none. */
+bool vchan_end_took(struct vchan_end *end, uint64_t value, struct vchan_step *step);
+
+#endif
