@@ -106,6 +106,8 @@ static int make(struct vchan_page *page, enum vchan_call call, uint32_t len, con
 			page->notify(page->context);
 		if (step->kind == VCHAN_ANSWER)
 			return 0;
+		if (step->kind == VCHAN_FURTHER && !step->moves && !step->store_width && !step->signals)
+			return refuse(EBADF); /* nothing was to be done, and nothing is awaited: no end does that */
 		if (!vchan_end_took(&page->end, step->kind == VCHAN_FURTHER ? 0 : awaited(page, step), step))
 			return refuse(EBADF);
 	}

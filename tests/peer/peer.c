@@ -12,57 +12,29 @@
  * it, and BYTES are those that a read or recv got. `head` and `image` print bytes of the page. Behind
  * each script come the two lines of lengths of `vchan step`, and a line `end`.
  *
- * The library calls grants, event channels and the xenstore by functions of other libraries. Those
- * stand here too, so the linker finds these first: they hand out memory of this process, and a signal
- * is a flag. The library itself is the one that the system has, and only its public header is used.
+ * The library calls grants, event channels and the xenstore by functions of other libraries. stand_ins.c
+ * has them too, so the linker finds those first. The library itself is the one that the system has, and
+ * only its public header is used.
  */
-#include <errno.h>
-#include <libxenvchan.h>
-#include <stdbool.h>
-#include <stdint.h>
+#include "stand_ins.h"
 #include <stdio.h>
 #include <stdlib.h>
 #include <string.h>
-#include <sys/syscall.h>
-#include <unistd.h>
-#include <xenstore.h>
 
-#define PAGE_SIZE 4096
 #define LEAST_ORDER 10
 #define LEAST_ORDER_OUTSIDE 12
-#define GREATEST_ORDER 20
-#define GREATEST_RING ((size_t)1 << GREATEST_ORDER)
 #define OFFSET_OF_ORDER_10 1024
-#define HEAD_SIZE offsetof(struct vchan_interface, grants)
-#define ANY_PORT 1
-#define ANY_REFERENCE "1"
 
 struct end {
 	const char *name;
+	enum who who;
 	/* NULL before the end is there, and once it has closed. */
 	struct libxenvchan *vchan;
-	/* What stands for the end's event channel: whether a signal wasn't taken yet. */
-	bool pending;
 	uint64_t sent, got;
 };
 
-struct xenevtchn_handle {
-	struct end *end;
-};
-
-static struct end server = { .name = "server" };
-static struct end client = { .name = "client" };
-static struct xenevtchn_handle server_events = { &server };
-static struct xenevtchn_handle client_events = { &client };
-/* The end whose control structure the library is making. */
-static struct xenevtchn_handle *made;
-
-static _Alignas(PAGE_SIZE) union {
-	struct vchan_interface header;
-	uint8_t bytes[PAGE_SIZE];
-} page;
-/* The pages of the grant list, in the order of the list. */
-static _Alignas(PAGE_SIZE) uint8_t granted[2 * GREATEST_RING];
+static struct end server = { .name = "server", .who = SERVER };
+static struct end client = { .name = "client", .who = CLIENT };
 static uint8_t *left_ring, *right_ring;
 static uint8_t data[2 * GREATEST_RING];
 
@@ -71,195 +43,6 @@ static void fail(const char *why)
 	fflush(stdout);
 	fprintf(stderr, "peer: %s\n", why);
 	exit(1);
-}
-
-static struct end *other(const struct end *end)
-{
-	return end == &server ? &client : &server;
-}
-
-/* What stands in for the libraries below. */
-
-enum stand_in { NOTIFY, PENDING, SHARE_PAGE, SHARE_PAGES, MAP_PAGE, MAP_PAGES, UNMAP, STORE, STAND_INS };
-
-static bool is_reached[STAND_INS];
-
-xenevtchn_handle *xenevtchn_open(struct xentoollog_logger *logger, unsigned int flags)
-{
-	return made;
-}
-
-int xenevtchn_close(xenevtchn_handle *events)
-{
-	return 0;
-}
-
-int xenevtchn_fd(xenevtchn_handle *events)
-{
-	return -1;
-}
-
-int xenevtchn_notify(xenevtchn_handle *events, evtchn_port_t port)
-{
-	is_reached[NOTIFY] = true;
-	other(events->end)->pending = true;
-	return 0;
-}
-
-xenevtchn_port_or_error_t xenevtchn_bind_unbound_port(xenevtchn_handle *events, uint32_t domain)
-{
-	return ANY_PORT;
-}
-
-xenevtchn_port_or_error_t xenevtchn_bind_interdomain(xenevtchn_handle *events, uint32_t domain,
-						     evtchn_port_t port)
-{
-	return ANY_PORT;
-}
-
-int xenevtchn_unbind(xenevtchn_handle *events, evtchn_port_t port)
-{
-	return 0;
-}
-
-/* The real one waits where no signal came; this one fails, so that a wait never blocks. */
-xenevtchn_port_or_error_t xenevtchn_pending(xenevtchn_handle *events)
-{
-	is_reached[PENDING] = true;
-	if (!events->end->pending) {
-		errno = EAGAIN;
-		return -1;
-	}
-	events->end->pending = false;
-	return ANY_PORT;
-}
-
-int xenevtchn_unmask(xenevtchn_handle *events, evtchn_port_t port)
-{
-	return 0;
-}
-
-/* The address of a page by its place in the grant list. */
-static void *granted_at(const uint32_t *references)
-{
-	return granted + (references - page.header.grants) * PAGE_SIZE;
-}
-
-xengntshr_handle *xengntshr_open(struct xentoollog_logger *logger, unsigned flags)
-{
-	return (xengntshr_handle *)&server;
-}
-
-int xengntshr_close(xengntshr_handle *grants)
-{
-	return 0;
-}
-
-void *xengntshr_share_pages(xengntshr_handle *grants, uint32_t domain, int count, uint32_t *references,
-			    int writable)
-{
-	is_reached[SHARE_PAGES] = true;
-	for (int i = 0; i < count; i++)
-		references[i] = references + i - page.header.grants;
-	return granted_at(references);
-}
-
-void *xengntshr_share_page_notify(xengntshr_handle *grants, uint32_t domain, uint32_t *reference,
-				  int writable, uint32_t offset, evtchn_port_t port)
-{
-	is_reached[SHARE_PAGE] = true;
-	*reference = 0;
-	return page.bytes;
-}
-
-int xengntshr_unshare(xengntshr_handle *grants, void *start, uint32_t count)
-{
-	return 0;
-}
-
-xengnttab_handle *xengnttab_open(struct xentoollog_logger *logger, unsigned flags)
-{
-	return (xengnttab_handle *)&client;
-}
-
-int xengnttab_close(xengnttab_handle *grants)
-{
-	return 0;
-}
-
-void *xengnttab_map_domain_grant_refs(xengnttab_handle *grants, uint32_t count, uint32_t domain,
-				      uint32_t *references, int protection)
-{
-	is_reached[MAP_PAGES] = true;
-	return granted_at(references);
-}
-
-void *xengnttab_map_grant_ref_notify(xengnttab_handle *grants, uint32_t domain, uint32_t reference,
-				     int protection, uint32_t offset, evtchn_port_t port)
-{
-	is_reached[MAP_PAGE] = true;
-	return page.bytes;
-}
-
-int xengnttab_unmap(xengnttab_handle *grants, void *start, uint32_t count)
-{
-	return 0;
-}
-
-/* The library unmaps rings by this function itself; every other mapping is the system's. */
-int munmap(void *start, size_t length)
-{
-	uint8_t *at = start;
-
-	if (at >= granted && at < granted + sizeof granted) {
-		is_reached[UNMAP] = true;
-		return 0;
-	}
-	return syscall(SYS_munmap, start, length);
-}
-
-struct xs_handle *xs_open(unsigned long flags)
-{
-	return (struct xs_handle *)&page;
-}
-
-void xs_close(struct xs_handle *store)
-{
-}
-
-void *xs_read(struct xs_handle *store, xs_transaction_t transaction, const char *path, unsigned int *length)
-{
-	is_reached[STORE] = true;
-	if (length)
-		*length = strlen(ANY_REFERENCE);
-	return strdup(ANY_REFERENCE);
-}
-
-bool xs_write(struct xs_handle *store, xs_transaction_t transaction, const char *path, const void *value,
-	      unsigned int length)
-{
-	return true;
-}
-
-bool xs_rm(struct xs_handle *store, xs_transaction_t transaction, const char *path)
-{
-	return true;
-}
-
-bool xs_set_permissions(struct xs_handle *store, xs_transaction_t transaction, const char *path,
-			struct xs_permissions *permissions, unsigned int count)
-{
-	return true;
-}
-
-xs_transaction_t xs_transaction_start(struct xs_handle *store)
-{
-	return 1;
-}
-
-bool xs_transaction_end(struct xs_handle *store, xs_transaction_t transaction, bool abort)
-{
-	return true;
 }
 
 /* A page with two ends. */
@@ -282,7 +65,7 @@ static void open_server(int left, int right)
 {
 	struct vchan_interface *header = &page.header;
 
-	made = &server_events;
+	make_next(SERVER);
 	server.vchan = libxenvchan_server_init(NULL, 0, "/local", (size_t)1 << left, (size_t)1 << right);
 	if (!server.vchan)
 		fail("the library made no server");
@@ -300,7 +83,7 @@ static void open_server(int left, int right)
 
 static void open_client(void)
 {
-	made = &client_events;
+	make_next(CLIENT);
 	client.vchan = libxenvchan_client_init(NULL, 0, "/local");
 	if (!client.vchan)
 		fail("the library made no client");
@@ -320,7 +103,8 @@ static void open_page(int left, int right)
 	open_client();
 	memset(page.bytes + HEAD_SIZE, 0, sizeof page - HEAD_SIZE);
 	server.vchan->blocking = client.vchan->blocking = 0;
-	server.pending = client.pending = false;
+	take_signal(SERVER);
+	take_signal(CLIENT);
 	server.sent = server.got = client.sent = client.got = 0;
 }
 
@@ -340,31 +124,15 @@ static void end_script(void)
 	fflush(stdout);
 }
 
-/* Every function that stands in above has to be the one that the library calls. */
+/* Every function that stands in has to be the one that the library calls. */
 static void check_stand_ins(void)
 {
-	static const char *const names[STAND_INS] = {
-		[NOTIFY] = "xenevtchn_notify",
-		[PENDING] = "xenevtchn_pending",
-		[SHARE_PAGE] = "xengntshr_share_page_notify",
-		[SHARE_PAGES] = "xengntshr_share_pages",
-		[MAP_PAGE] = "xengnttab_map_grant_ref_notify",
-		[MAP_PAGES] = "xengnttab_map_domain_grant_refs",
-		[UNMAP] = "munmap",
-		[STORE] = "xs_read",
-	};
-
 	open_page(LEAST_ORDER_OUTSIDE, LEAST_ORDER_OUTSIDE);
 	libxenvchan_write(client.vchan, "a", 1);
 	libxenvchan_wait(server.vchan);
 	close_end(&client);
 	close_end(&server);
-	for (int i = 0; i < STAND_INS; i++) {
-		if (!is_reached[i]) {
-			fprintf(stderr, "peer: the library doesn't reach the %s of this program\n", names[i]);
-			exit(1);
-		}
-	}
+	check_reached();
 }
 
 /* Lines of a script. They are those that tests/peer/run draws, so a line that isn't one ends the run. */
@@ -519,7 +287,7 @@ static void play_end(struct end *end)
 	if (!act)
 		fail("a line without an act");
 	if (strcmp(act, "signal") == 0)
-		other(end)->pending = true;
+		give_signal(!end->who);
 	else if (strcmp(act, "poke") == 0)
 		poke(word, number(strtok(NULL, " ")));
 	else
@@ -557,6 +325,7 @@ int main(void)
 	bool is_open = false;
 	int left, right;
 
+	begin_stand_ins(false);
 	check_stand_ins();
 	while ((length = getline(&line, &room, stdin)) > 0) {
 		if (line[length - 1] == '\n')
