@@ -36,6 +36,9 @@ static const int orders[][2] = { { 10, 11 }, { 11, 10 }, { 11, 12 }, { 12, 11 },
 		} \
 	} while (0)
 
+/* What counted.h counts. */
+unsigned long loads, entered;
+
 static uint64_t seed = 1;
 
 static uint32_t draw(void)
@@ -152,7 +155,7 @@ static void by_turns(int left, int right, int calls)
 		struct vchan_page *end = &line.end[who];
 		uint8_t *ask = line.head + (who ? SRV_NOTIFY : CLI_NOTIFY), *asked = line.head + (who ? CLI_NOTIFY : SRV_NOTIFY);
 		size_t most, n;
-		uint8_t before = *asked, *data;
+		uint8_t before = *asked, own = *ask, *data;
 		bool is_write = act < 2, is_read = act == 2 || act == 3;
 		uint8_t bit = is_write ? BIT_WRITTEN : BIT_CONSUMED;
 		int count;
@@ -162,7 +165,7 @@ static void by_turns(int left, int right, int calls)
 		n = draw() % 4 == 0 ? draw() % 40 : draw() % 3 == 0 ? most + draw() % 3 - (most && draw() % 2) : draw() % (size[ring] / 3 + 1);
 		if (act == 4 || act == 5) {
 			CHECK((act == 4 ? vchan_page_data_ready(end) : vchan_page_buffer_space(end)) == (int)most);
-			CHECK(*ask & (act == 4 ? BIT_WRITTEN : BIT_CONSUMED));
+			CHECK(*ask == (own | (act == 4 ? BIT_WRITTEN : BIT_CONSUMED)));
 			CHECK(!vchan_page_take_event(&line.end[!who]));
 			continue;
 		}
@@ -170,11 +173,15 @@ static void by_turns(int left, int right, int calls)
 		CHECK(data);
 		for (size_t k = 0; is_write && k < n; k++)
 			data[k] = (uint8_t)draw();
+		loads = entered = 0;
 		count = act == 0   ? vchan_page_write(end, data, n)
 			: act == 1 ? vchan_page_send(end, data, n)
 			: act == 2 ? vchan_page_read(end, data, n)
 				   : vchan_page_recv(end, data, n);
 		CHECK(count == (int)(n <= most ? n : act == 0 || act == 2 ? most : 0));
+		/* each look is one load, and there is a second one behind an ask alone */
+		CHECK(loads <= (is_write ? 2u : count ? 1u : 2u) + (n > most));
+		CHECK(entered <= (is_write ? 4u : 3u) + (n > most ? 2u : 0u));
 		if (is_write) {
 			memcpy(queue[ring] + held[ring], data, (size_t)count);
 			held[ring] += (size_t)count, prod[ring] += (uint32_t)count;
@@ -186,8 +193,7 @@ static void by_turns(int left, int right, int calls)
 		free(data);
 		for (int r = 0; r < 2; r++)
 			CHECK(index_at(&line, r ? RIGHT_PROD : LEFT_PROD) == prod[r] && index_at(&line, r ? RIGHT_CONS : LEFT_CONS) == cons[r]);
-		if (n > most)
-			CHECK(*ask & (is_write ? BIT_CONSUMED : BIT_WRITTEN));
+		CHECK(*ask == (n > most ? own | (is_write ? BIT_CONSUMED : BIT_WRITTEN) : own));
 		if (count) {
 			CHECK(vchan_page_take_event(&line.end[!who]) == !!(before & bit));
 			CHECK(*asked == (before & ~bit));
