@@ -1,0 +1,63 @@
+//! The proved library as C has it: c/vchan_end.h.
+
+/// 32 bytes that only the library changes. It refuses what is no end, so any bytes are allowed.
+#[repr(C)]
+#[derive(Clone, Copy, Debug, Default, PartialEq, Eq)]
+pub struct Kept([u32; 8]);
+
+/// What is to be done next: bytes, a store, a signal, and then what is awaited.
+#[repr(C)]
+#[derive(Clone, Copy, Debug, Default)]
+pub struct Step {
+    pub kind: u8,
+    pub width: u8,
+    pub offset: u16,
+    pub moves: u8,
+    pub ring: u8,
+    pub store_width: u8,
+    pub signals: u8,
+    pub store_offset: u16,
+    pub answer: u8,
+    pub spare: u8,
+    pub place: u32,
+    pub at: u32,
+    pub first: u32,
+    pub second: u32,
+    pub answer_first: u32,
+    pub answer_second: u32,
+    pub spares: u32,
+    pub stored: u64,
+    pub bits: u64,
+}
+
+const _: () = assert!(size_of::<Kept>() == 32 && size_of::<Step>() == 56);
+
+#[link(name = "vchan_c", kind = "static")]
+unsafe extern "C" {
+    fn vchan_end_init(
+        end: &mut Kept,
+        role: u8,
+        state: u8,
+        left: u16,
+        right: u16,
+        prod: u32,
+        cons: u32,
+    ) -> bool;
+    fn vchan_end_begin(end: &mut Kept, call: u8, len: u32, step: &mut Step) -> u8;
+    fn vchan_end_took(end: &mut Kept, value: u64, step: &mut Step) -> bool;
+}
+
+// SAFETY of all three: the declarations are those of c/vchan_end.h, and the functions take any numbers.
+
+pub fn init(role: u8, state: u8, orders: (u16, u16), prod: u32, cons: u32) -> Option<Kept> {
+    let mut end = Kept::default();
+    unsafe { vchan_end_init(&mut end, role, state, orders.0, orders.1, prod, cons) }.then_some(end)
+}
+
+pub fn begin(end: &mut Kept, call: u8, len: u32, step: &mut Step) -> u8 {
+    unsafe { vchan_end_begin(end, call, len, step) }
+}
+
+pub fn took(end: &mut Kept, value: u64, step: &mut Step) -> bool {
+    unsafe { vchan_end_took(end, value, step) }
+}
