@@ -425,3 +425,8 @@ impl<'page, E: Events> End<'page, E> {
         }
     }
 }
+
+/// The lines of Rust in docs/LIBRARY.md are run as a test.
+#[cfg(doctest)]
+#[doc = include_str!("../../docs/LIBRARY.md")]
+struct LibraryDocument;
