@@ -2,10 +2,12 @@
 
 Each row is a name, the program's words and perhaps an input; without one it is 4 MiB of all values. Both programs
 read it N times (5 where `--rounds N` is left out), in turn, and the medians of the wall times and of the processor
-times are set beside one another. What both print has to be the same, and both have to end with status 0. Nothing is built: run
-./vchan once before.
+times are set beside one another. With `--busy` two busy loops a processor run beside both, from the first row to the
+last. What both print has to be the same, and both have to end with status 0. Nothing is built: run ./vchan once
+before.
 """
 
+import contextlib
 import os
 import resource
 import statistics
@@ -17,6 +19,18 @@ import time
 ROOT = os.path.dirname(os.path.dirname(os.path.abspath(__file__)))
 OWN = os.path.join(ROOT, "crates/vchan/out/vchan")
 INPUT = bytes(k * k % 251 for k in range(1 << 16)) * 64
+
+
+@contextlib.contextmanager
+def loops(busy):
+    """Where busy, two busy loops a processor, which end with the block."""
+    began = [subprocess.Popen(["sh", "-c", "while :; do :; done"]) for _ in range(2 * os.cpu_count() if busy else 0)]
+    try:
+        yield
+    finally:
+        for loop in began:
+            loop.kill()
+            loop.wait()
 
 
 def run(program, words, path, out, environment=None):
@@ -37,20 +51,28 @@ def measured(program, words, path, environment=None):
 
 def compare(usage, rows):
     words, rounds = sys.argv[1:], 5
+    busy = "--busy" in words
+    if busy:
+        words.remove("--busy")
     if "--rounds" in words[:-1]:
         at = words.index("--rounds")
         rounds = int(words[at + 1])
         del words[at:at + 2]
     if len(words) != 2 or words[0] != "--beside":
         sys.exit(usage)
-    for name, what, *own_input in rows:
-        with tempfile.NamedTemporaryFile() as source:
-            source.write(own_input[0] if own_input else INPUT)
-            source.flush()
-            both = OWN, words[1]
-            if len({run(program, what, source.name, subprocess.PIPE) for program in both}) != 1:
-                sys.exit(f"{name}: the two programs print different texts")
-            pairs = [[measured(program, what, source.name) for program in both] for _ in range(rounds)]
-            wall, processor = ([statistics.median(pair[side][kind] for pair in pairs) for side in (0, 1)] for kind in (0, 1))
-            print(f"{name:24} wall {wall[0] * 1e3:7.0f} ms, {wall[1] * 1e3:.0f} ms: {wall[0] / wall[1]:.2f}; "
-                  f"processors {processor[0] * 1e3:.0f} ms, {processor[1] * 1e3:.0f} ms: {processor[0] / processor[1]:.2f}", flush=True)
+    with loops(busy):
+        for row in rows:
+            compare_row(words[1], rounds, *row)
+
+
+def compare_row(other, rounds, name, what, own_input=INPUT):
+    with tempfile.NamedTemporaryFile() as source:
+        source.write(own_input)
+        source.flush()
+        both = OWN, other
+        if len({run(program, what, source.name, subprocess.PIPE) for program in both}) != 1:
+            sys.exit(f"{name}: the two programs print different texts")
+        pairs = [[measured(program, what, source.name) for program in both] for _ in range(rounds)]
+        wall, processor = ([statistics.median(pair[side][kind] for pair in pairs) for side in (0, 1)] for kind in (0, 1))
+        print(f"{name:24} wall {wall[0] * 1e3:7.0f} ms, {wall[1] * 1e3:.0f} ms: {wall[0] / wall[1]:.2f}; "
+              f"processors {processor[0] * 1e3:.0f} ms, {processor[1] * 1e3:.0f} ms: {processor[0] / processor[1]:.2f}", flush=True)
