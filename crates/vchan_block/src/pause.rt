@@ -2,19 +2,16 @@
 use std::time::{Clock, Duration};
 use std::{hint, thread};
 
-/// How many tries are made with the processor kept.
-const SPINS: u32 = 64;
-
-/// Up to how many tries the processor is only given away.
-const YIELDS: u32 = 1_024;
+/// How many tries are made with the processor kept: for as long as a peer that runs takes for a round.
+const SPINS: u32 = 256;
 
 /// The shortest and the longest sleep, in microseconds.
 const SHORTEST: u64 = 16;
 
 const LONGEST: u64 = 1_000;
 
-/// The pauses of one wait, which grow: first none, then the thread gives way, then it sleeps, each time
-/// for twice as long.
+/// The pauses of one wait, which grow: first none, then the thread sleeps, each time for twice as long. It
+/// never gives way, which costs a whole slice of time where others want the processor.
 #[derive(Clone, Copy)]
 pub struct Pauses {
     tries: u32,
@@ -33,12 +30,10 @@ impl Pauses {
     pub fn pause(&mut self, clock: &impl Clock) {
         if self.tries < SPINS {
             hint::spin_loop();
-        } else if self.tries < YIELDS {
-            thread::yield_now();
-        } else {
-            thread::sleep(clock, Duration::from_micros(self.sleep));
-            self.sleep = self.sleep.saturating_mul(2).min(LONGEST);
+            self.tries = self.tries.saturating_add(1);
+            return;
         }
-        self.tries = self.tries.saturating_add(1);
+        thread::sleep(clock, Duration::from_micros(self.sleep));
+        self.sleep = self.sleep.saturating_mul(2).min(LONGEST);
     }
 }
