@@ -47,7 +47,7 @@ fn prints_texts_without_nul(rt: HostRuntime) -> Result<(), Fail> {
 
 /// How many messages a decoder gives of these bytes, fed one at a time, and after how many bytes the first.
 fn fed_in_single_bytes(decoder: &mut Decoder, bytes: &[u8]) -> Result<(usize, usize), Fail> {
-    let mut given = 0;
+    let mut given: usize = 0;
     let mut first = 0;
     for (at, byte) in bytes.iter().enumerate() {
         decoder.feed(&[*byte])?;
@@ -55,7 +55,7 @@ fn fed_in_single_bytes(decoder: &mut Decoder, bytes: &[u8]) -> Result<(usize, us
             if given == 0 {
                 first = at + 1;
             }
-            given += 1;
+            given = given.saturating_add(1);
         }
     }
     Ok((given, first))
