@@ -446,8 +446,94 @@ static void any_bytes(int rounds)
 	CHECK(accepted > rounds / 20);
 }
 
+static struct vchan_page *nested;
+
+static bool call_again(void *context)
+{
+	uint8_t byte = 0;
+
+	(void)context;
+	CHECK(vchan_page_read(nested, &byte, 1) == -1 && errno == EBUSY);
+	return true;
+}
+
+static bool wait_fails(void *context)
+{
+	(void)context;
+	errno = EINTR;
+	return false;
+}
+
+#define REFUSES(call, why) CHECK((errno = 0, (call) == -1) && errno == (why))
+
+/* What a caller can get wrong is answered, and changes nothing. */
+static void misuse(void)
+{
+	struct line line;
+	struct vchan_page page = { .head = NULL }, before = page, *end;
+	uint8_t byte = 1;
+
+	lay(&line, zeros, 11, 12, 0);
+#define OPEN(role, state, head, left, right, left_order, right_order, notify) \
+	REFUSES(vchan_page_open(&page, role, state, head, left, right, left_order, right_order, 0, 0, notify, NULL, NULL, NULL), EINVAL); \
+	CHECK(memcmp(&page, &before, sizeof page) == 0)
+	OPEN(VCHAN_SERVER, VCHAN_OPEN, NULL, line.ring[0], line.ring[1], 11, 12, notify);
+	OPEN(VCHAN_SERVER, VCHAN_OPEN, line.head + 1, line.ring[0], line.ring[1], 11, 12, notify);
+	OPEN(VCHAN_SERVER, VCHAN_OPEN, line.head, NULL, line.ring[1], 11, 12, notify);
+	OPEN(VCHAN_SERVER, VCHAN_OPEN, line.head, line.ring[0], line.ring[0], 11, 12, notify);
+	OPEN(VCHAN_SERVER, VCHAN_OPEN, line.head, line.ring[0], line.ring[1], 11, 12, NULL);
+	OPEN(VCHAN_SERVER, VCHAN_OPEN, line.head, line.ring[0], line.ring[1], 11, 11, notify);
+	OPEN(VCHAN_SERVER, VCHAN_OPEN, line.head, line.ring[0], line.ring[1], 9, 12, notify);
+	OPEN(VCHAN_SERVER, VCHAN_OPEN, line.head, line.ring[0], line.ring[1], 12, 21, notify);
+	OPEN(VCHAN_SERVER, VCHAN_FRESH, line.head, line.ring[0], line.ring[1], 11, 12, notify);
+	OPEN((enum vchan_role)2, VCHAN_OPEN, line.head, line.ring[0], line.ring[1], 11, 12, notify);
+	OPEN(VCHAN_CLIENT, (enum vchan_state)3, line.head, line.ring[0], line.ring[1], 11, 12, notify);
+	REFUSES(vchan_page_open(NULL, VCHAN_SERVER, VCHAN_OPEN, line.head, line.ring[0], line.ring[1], 11, 12, 0, 0, notify, NULL, NULL, NULL), EINVAL);
+
+	/* an end that was never opened, and none */
+	REFUSES(vchan_page_write(&page, &byte, 1), EBADF);
+	REFUSES(vchan_page_read(NULL, &byte, 1), EINVAL);
+	REFUSES(vchan_page_send_wait(NULL, &byte, 1), EINVAL);
+	CHECK(vchan_page_is_open(&page) == 0 && vchan_page_is_open(NULL) == 0);
+
+	/* no buffer, and lengths that are never moved */
+	end = &line.end[0];
+	REFUSES(vchan_page_write(end, NULL, 1), EINVAL);
+	REFUSES(vchan_page_recv(end, NULL, 1), EINVAL);
+	CHECK(vchan_page_write(end, NULL, 0) == 0 && vchan_page_recv(end, NULL, 0) == 0);
+	REFUSES(vchan_page_send_wait(end, &byte, 4097), EMSGSIZE);
+	REFUSES(vchan_page_recv_wait(end, &byte, 2049), EMSGSIZE);
+	REFUSES(vchan_page_write_all(end, &byte, (size_t)1 << 31), EMSGSIZE);
+
+	/* waits that can't be, or fail */
+	end->wait_for_event = NULL;
+	REFUSES(vchan_page_read_wait(end, &byte, 1), EAGAIN);
+	end->wait_for_event = wait_fails;
+	REFUSES(vchan_page_read_wait(end, &byte, 1), EINTR);
+
+	/* a callback that makes a call of the end that is inside one */
+	nested = end;
+	end->take_event = call_again;
+	CHECK(vchan_page_take_event(end) == 1);
+	end->take_event = NULL;
+	CHECK(vchan_page_take_event(end) == 0);
+
+	/* a client that says it has other rings than its page */
+	CHECK(vchan_page_open(&page, VCHAN_CLIENT, VCHAN_FRESH, line.head, line.ring[0], line.ring[1], 11, 13, 0, 0, notify, NULL, NULL, &line.ear[1]) == 0);
+	REFUSES(vchan_page_connect(&page), EPROTO);
+
+	/* a server that stays open without a client, and one that doesn't */
+	CHECK(vchan_page_close(&line.end[1]) == 0);
+	REFUSES(vchan_page_close(&line.end[1]), ENOTCONN);
+	REFUSES(vchan_page_write(end, &byte, 1), EPIPE);
+	end->persists = true;
+	CHECK(vchan_page_is_open(end) == 1 && vchan_page_write(end, &byte, 1) == 1 && vchan_page_read(end, &byte, 1) == 0);
+	clear(&line);
+}
+
 int main(void)
 {
+	misuse();
 	any_bytes(300000);
 	for (size_t i = 0; i < PAIRS; i++) {
 		int left = orders[i][0], right = orders[i][1];
