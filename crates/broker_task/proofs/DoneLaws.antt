@@ -136,7 +136,7 @@ ends-honest [] (r ∷ rs) pairs = absurd pairs
 ends-honest (x ∷ ds) [] pairs = absurd pairs
 ends-honest (x ∷ ds) (r ∷ rs) pairs = (pairs.0.honest, ends-honest ds rs pairs.1)
 
--- ---- what each domain was told, and has said
+-- ---- what each domain was sent, and has sent
 
 said-whole : (greeted : Bool) (own : ℕ) (said : List Message) (sent : List ℕ) → own ≡ broker_version → Each (λ m. (to_agent m ≡ true) × IsSpellable m) said → SentWhole greeted own said sent → IsSaid broker_version to_agent said sent
 said-whole false own said sent is each whole = record { each = each; whole = inl whole }

@@ -1,4 +1,4 @@
--- A domain that is dropped: its entry of the journal, what it leaves unsaid, and the Connects that may go without it.
+-- A domain that is dropped: its entry of the journal, what it leaves unsent, and the Connects that may be sent without it.
 use Rattle.std.proofs.Common.{◌≡◌, ◌≢◌, ℕ, Bool, true, false, List, [], ◌∷◌, ◌++◌, refl, sym, ap, ◌∙◌, subst, arith, None, inl}
 use Rattle.std.specs.Prelude.{◌==◌, ◌||◌, IsPermutation}
 use Rattle.std.proofs.lemmas.List.{append-nil}
@@ -116,7 +116,7 @@ posting-drop hub journal t decided old new moves is there h =
           (λ d x apart p. posted-apart hub journal h.said t decided d x apart p) h.posted;
     }
 
--- all that it has said was heard before
+-- all that the domain has sent was heard before
 pub read-drop : (journal : List Entry) (t : ℕ) (decided : Decision) (old new : List Daemon) → EachMoves (Alone t HangsUp) old new → HasHeardOut t journal old → HaveRead (journal ++ record { event = Dropped t; decision = decided } ∷ []) new
 read-drop journal t decided old new moves h =
     let more : List Entry = journal ++ record { event = Dropped t; decision = decided } ∷ [] in
@@ -125,7 +125,7 @@ read-drop journal t decided old new moves h =
     (λ d x y same up p. record { all = up.got ∙ (p.1 same).all ∙ sym (drop-read journal t d decided); on = λ still. cc (up.gone, still) })
     (λ d x apart p. subst (λ es. HasRead x es) (sym (drop-read journal t d decided)) (p.0 apart)) both_ways
 
--- a Connect to a domain that was dropped may go
+-- a Connect to a domain that was dropped may be sent
 pub goes-without : (journal : List Entry) (said : ℕ → List Message) (t f : ℕ) → is_dropped journal t ≡ true → (m : Message) → connects t None m ≡ true → MayGo journal said f m
 goes-without journal said t f dropped (Connect to q ident) h = let same : t ≡ to = sym (same-number to t (both (to == t) true h).0) in inl (subst (λ k. is_dropped journal k ≡ true) same dropped)
 goes-without journal said t f dropped (Hello v) h = tt

@@ -23,7 +23,7 @@ use Rattle.broker_task.proofs.LineLaws.{read-still}
 use Rattle.broker_task.specs.Posting.{EachAt, EachMoves, SamePort, SameEnd, MovesPort, HasPosted, IsLetter, IsPosting, IsHearing, HasHeardOut}
 use Rattle.broker_task.proofs.PostLaws.{each-moved, moves-one, moves-as, moves-then, same-number}
 
--- ---- what was said and waits, while ports move
+-- ---- what was sent and waits, while ports move
 
 pub port-stays : (d : ℕ) (x : Daemon) → MovesPort d x x
 port-stays d x = record { domain = refl; awaited = refl; outbox = refl; counted = refl; gone = refl; line = λ h. h; said = λ said h. h }
@@ -79,7 +79,7 @@ read-port x y events port domain h =
     read-still x y events domain (ap (λ (q : PortState). (view q.end).got) port) (ap (λ (q : PortState). is_shut (view q.end).state) port) (ap (λ (q : PortState). q.fault) port)
     (λ heard g. subst (λ (q : PortState). HasHeard q heard) (sym port) g) h
 
--- what was read of a domain stands where its port has heard the same
+-- what was read of a domain stays so if its port has heard the same
 pub reads-heard : (x y : Daemon) (events : List Event) → y.domain ≡ x.domain → y.port.fault ≡ x.port.fault → ((heard : List Message) → HasHeard x.port heard → HasHeard y.port heard) → ReadsOn x events → ReadsOn y events
 reads-heard x y events domain fault hears r = record {
   heard = r.heard;
@@ -186,7 +186,7 @@ left-falls ds new i x y there fewer ports =
     let here : IsAt (set ds i y) i y = record { within = less; is = sym (get_or-set_same ds i y y there.within) } in
     omega (arith, fewer, left-same (set ds i y) new i less ports, left-at (set ds i y) i y here, left-at ds i x there)
 
--- all that the domain has said was heard
+-- all that the domain has sent was heard
 pub heard-out : (domain : ℕ) (journal : List Entry) (ds : List Daemon) (i : ℕ) (x y : Daemon) → IsAt ds i x → i + 1 ≡ domain
     → ((events : List Event) → ReadsOn x events → HandsOut y events None) → IsHearing domain journal ds → HasHeardOut domain journal (set ds i y)
 heard-out domain journal ds i x y there number hands h =

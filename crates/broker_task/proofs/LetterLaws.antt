@@ -12,7 +12,7 @@ released-true target meant l is = ap (λ b. if b then record { message = l.messa
 released-false : (target : ℕ) (meant : Option ℕ) (l : Letter) → false ≡ connects target meant l.message → released target meant l ≡ l
 released-false target meant l is = ap (λ b. if b then record { message = l.message; held = false } else l) (sym is)
 
--- a letter is released where its message is one that may go now
+-- a letter is released if its message is one that may be sent now
 pub release-next : (target : ℕ) (meant : Option ℕ) (all now new : List Letter) (at : ℕ) (d : Letter) → at < length all → now ≡ mapped (released target meant) all at → d ≡ get_or now at d
     → true ≡ connects target meant (get_or now at d).message → new ≡ set now at (record { message = (get_or now at d).message; held = false }) → new ≡ mapped (released target meant) all (at + 1)
 release-next target meant all now new at d less so_far is connects new_is =
@@ -20,7 +20,7 @@ release-next target meant all now new at d less so_far is connects new_is =
     new_is ∙ ap (λ l. set now at l) (sym (released-true target meant (get_or now at d) connects)) ∙ ap (λ l. set l at (released target meant (get_or now at d))) so_far
     ∙ mapped-next (released target meant) all at (get_or now at d) less here ∙ ap (λ n. mapped (released target meant) all n) (sym (add-one at))
 
--- and stays as it is where it isn't
+-- a letter stays as it is if its message isn't one of these
 pub keep-next : (target : ℕ) (meant : Option ℕ) (all now new : List Letter) (at : ℕ) (d : Letter) → at < length all → now ≡ mapped (released target meant) all at → d ≡ get_or now at d
     → false ≡ connects target meant (get_or now at d).message → new ≡ set now at (get_or now at d) → new ≡ mapped (released target meant) all (at + 1)
 keep-next target meant all now new at d less so_far is connects new_is =

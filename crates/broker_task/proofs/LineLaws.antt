@@ -1,4 +1,4 @@
--- What was read from a domain and said to it, through the calls of its port.
+-- What was read from a domain and sent to it, through the calls of its port.
 use Rattle.std.proofs.Common.{◌≡◌, ℕ, ◌≤◌, List, [], ◌∷◌, ◌++◌, refl, sym, ap, ◌∙◌, subst, arith, Option, Some, None, true}
 use Rattle.std.specs.Prelude.{filter_map, ◌==◌}
 use Rattle.std.proofs.lemmas.Bool.Decides.{nat_tests}
@@ -24,7 +24,7 @@ use Rattle.task_duties.specs.Broker.Owes.{broker_version}
 use Rattle.broker_task.specs.declared.daemon.Daemon.{Daemon}
 use Rattle.broker_task.specs.Lines.{end_of, is_shut, is_gone, ReadsOn, HasRead, HandsOut, HasRoom}
 
--- ---- what a port has said stands while it hears
+-- ---- what a port has sent stays so while it hears
 
 pub said-hearing : (old new : PortState) (said : List Message) → OnlyHears old new → HasSaid old said → HasSaid new said
 said-hearing old new said only h = record {
@@ -118,7 +118,7 @@ hands-none old new events same talker own reads hands =
       on = λ none. record { heard = reads.heard; hears_them = h.1 none; are = are; fine = none };
     }
 
--- ---- what was read stands while a port sends
+-- ---- what was read stays so while a port sends
 
 pub read-still : (old new : Daemon) (events : List Event) → new.domain ≡ old.domain → (end_of new).got ≡ (end_of old).got → is_gone new ≡ is_gone old → new.port.fault ≡ old.port.fault
     → ((heard : List Message) → HasHeard old.port heard → HasHeard new.port heard) → HasRead old events → HasRead new events

@@ -178,7 +178,7 @@ posts-accepted hub (Trigger f t s i) decision.PassedOver from to d exec connect 
 posts-accepted hub (Terminated f o p) decided from to d exec connect x y own is fit a = absurd is
 posts-accepted hub (Dropped o) decided from to d exec connect x y own is fit a = absurd is
 
--- ---- where a call may want memory
+-- ---- where a call may run out of memory
 
 pub on-ok : {A E : Type 0} {P Q : Type 0} (r : Result A E) → OnOk r P → (P → Q) → OnOk r Q
 on-ok (Ok a) p go = go p

@@ -45,7 +45,7 @@ pub messages-append : (xs ys : List Letter) → messages_in (xs ++ ys) ≡ messa
 messages-append [] ys = refl
 messages-append (x ∷ xs) ys = ap (λ r. x.message ∷ r) (messages-append xs ys)
 
--- more is put behind what waits, and what was given up stays behind all
+-- more is put after what waits, and what was given up stays after all
 pub put-behind : (said waits lost all more : List Message) → IsPermutation (said ++ (waits ++ lost)) all → IsPermutation (said ++ ((waits ++ more) ++ lost)) (all ++ more)
 put-behind said waits lost all more kept =
     let swapped : IsPermutation ((waits ++ more) ++ lost) ((waits ++ lost) ++ more) =

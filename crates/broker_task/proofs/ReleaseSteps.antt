@@ -1,4 +1,4 @@
--- The Connects that may go behind a message that has gone.
+-- The Connects that may be sent after a message.
 use Rattle.std.proofs.Common.{◌≡◌, ◌≢◌, ℕ, ◌+◌, ◌<◌, Bool, true, false, List, [], ◌∷◌, ◌++◌, length, map, refl, sym, ap, ◌∙◌, subst, arith, suc, zero, Option, Some, None, inr}
 use Rattle.std.specs.Prelude.{◌==◌, Contains, IsPermutation, if◌then◌else◌}
 use Rattle.std.proofs.Math.ListN.{set}
@@ -40,7 +40,7 @@ pub released-messages : (t : ℕ) (meant : Option ℕ) (letters : List Letter) �
 released-messages t meant [] = refl
 released-messages t meant (l ∷ letters) = ap (λ m. m ∷ messages_in (map (released t meant) letters)) (released-message t meant l) ∙ ap (λ r. l.message ∷ r) (released-messages t meant letters)
 
--- and lets go only what may
+-- a release lets go only what may be sent
 letter-released : (hub : Domains) (journal : List Entry) (said : ℕ → List Message) (d t : ℕ) (meant : Option ℕ) (l : Letter) → ((m : Message) → connects t meant m ≡ true → MayGo journal said d m)
     → IsLetter hub journal said d l → IsLetter hub journal said d (released t meant l)
 letter-released hub journal said d t meant l go is = by_test (connects t meant l.message) refl
@@ -54,7 +54,7 @@ pub letters-released : (hub : Domains) (journal : List Entry) (said : ℕ → Li
 letters-released hub journal said d t meant [] go each = tt
 letters-released hub journal said d t meant (l ∷ letters) go each = (letter-released hub journal said d t meant l go each.0, letters-released hub journal said d t meant letters go each.1)
 
--- the Connect of a call may go once its Exec was said
+-- the Connect of a call may be sent once its Exec was sent
 pub goes-after-exec : (journal : List Entry) (said : ℕ → List Message) (f t port : ℕ) (line : List ℕ) → Contains (said t) (Exec f port line) → (m : Message) → connects t (Some port) m ≡ true → MayGo journal said f m
 goes-after-exec journal said f t port line there (Connect to q ident) h =
     let tests = both (to == t) (q == port) h in
@@ -136,7 +136,7 @@ fewer-out [] at l there = absurd (omega (arith, there.within))
 fewer-out (x ∷ letters) zero l there = omega arith
 fewer-out (x ∷ letters) (suc at) l there = omega (arith, fewer-out letters at l (record { within = omega (arith, there.within); is = there.is }))
 
--- one letter fewer waits for the domain that was said to
+-- one letter fewer waits for the domain that was sent to
 pub waiting-sent : (hub : Domains) (journal : List Entry) (domain : ℕ) (m : Message) (ds : List Daemon) (i : ℕ) (x y : Daemon) → IsAt ds i x → Sends m x y → IsSending hub domain journal ds → waiting_in (set ds i y) i < waiting_in ds i
 waiting-sent hub journal domain m ds i x y there s p =
     let h = p.posting.posted i x there in

@@ -36,7 +36,7 @@ line-fits hub event from target service ident line is numbered room short line_i
     let clean : length (cleaned_service service) ≡ length service = simp length-map in
     record { within = omega (arith, long, clean, name, room'.1.within); no_nul = no_nul }
 
--- a call is accepted for a domain that there is
+-- a call is accepted for a domain that exists
 pub within-reply : (hub : Domains) (before : List Event) (event : Event) (decided : Decision) (reply : Reply) → decided ≡ decision hub before event → IsReplyTo hub event decided reply → IsWithin (count_of hub) reply
 within-reply hub before event decided Nothing is says = tt
 within-reply hub before event decided (Refused m) is says = tt
@@ -67,7 +67,7 @@ last-entry journal e d n long is =
 pub written-back : {A : Type 0} (new old : List A) (n : ℕ) → length new ≡ length old → n ≡ length old → take n (new ++ drop (length new) old) ≡ new
 written-back new old n same all = grind (arith, common_steps, same, all)
 
--- an event of a domain that there is
+-- an event of a domain that exists
 pub numbered-from : (hub : Domains) (from : ℕ) (event : Event) → is_from from event ≡ true → is_domain hub from ≡ true → HasRoom event → IsNumbered hub event
 numbered-from hub from (Trigger f t s i) own there room = ap (is_domain hub) (same-number f from own) ∙ there
 numbered-from hub from (Terminated f o p) own there room = ap (is_domain hub) (same-number f from own) ∙ there

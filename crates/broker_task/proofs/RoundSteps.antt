@@ -82,7 +82,7 @@ listened hub domain journal ds i x y (Ok b) there number p read up only line now
       whether = each-here (IsThere b) domain (set ds i y) i y here number (is-there b y (λ is. opens (ap (λ (k : Bool). Ok k) is)) (λ is. cause (ap (λ (k : Bool). Ok k) is)));
     }
 
--- ---- what it said was heard
+-- ---- what it sent was heard
 
 there-on : (b : Bool) (x y : Daemon) → y.port.end ≡ x.port.end → IsThere b x → IsThere b y
 there-on true x y same h = subst (λ (e : SeatedEnd). IsOpen e) (sym same) h
@@ -146,7 +146,7 @@ goes-on-ok (Err e) s0 s1 s2 s3 ready broker first hub ends hub' last posting rea
 
 -- ---- a release, domain by domain
 
--- the first few domains were let go
+-- the first `n` domains were let go
 abbrev pub LetsGoUpTo : ℕ → ℕ → ℕ → Daemon → Daemon → Type 0
 LetsGoUpTo t n d x y = (d ≤ n → LetsGo t None x y) × (n < d → y ≡ x)
 

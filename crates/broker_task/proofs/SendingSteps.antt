@@ -1,4 +1,4 @@
--- A message that has gone, and the Connects that may go behind it.
+-- A message that was sent, and the Connects that may be sent after it.
 use Rattle.std.proofs.Common.{◌≡◌, ◌≢◌, ℕ, ◌+◌, Bool, true, false, List, [], ◌∷◌, ◌++◌, refl, sym, ap, ◌∙◌, subst, arith, suc, zero, append_assoc, Some}
 use Rattle.std.specs.Prelude.{◌==◌, Contains, IsPermutation, if◌then◌else◌}
 use Rattle.std.specs.List.{remove}
@@ -45,15 +45,15 @@ each-there P [] at l there each = absurd (omega (arith, there.within))
 each-there P (x ∷ letters) zero l there each = subst P (sym there.is) each.0
 each-there P (x ∷ letters) (suc at) l there each = each-there P letters at l (record { within = omega (arith, there.within); is = there.is }) each.1
 
--- a message that waited has gone
+-- a message that waited was sent
 pub gone-on : (said waits rest lost all : List Message) (m : Message) → IsPermutation waits (m ∷ rest) → IsPermutation (said ++ (waits ++ lost)) all → IsPermutation ((said ++ m ∷ []) ++ (rest ++ lost)) all
 gone-on said waits rest lost all m out kept =
     let moved : IsPermutation (said ++ (waits ++ lost)) (said ++ ((m ∷ rest) ++ lost)) = IsPermutation-append_right said (waits ++ lost) ((m ∷ rest) ++ lost) (IsPermutation-append_left lost waits (m ∷ rest) out) in
     subst (λ l. IsPermutation l all) (sym (append_assoc said (m ∷ []) (rest ++ lost))) (IsPermutation-trans _ _ _ (IsPermutation-sym _ _ moved) kept)
 
--- ---- what was said, with one message more
+-- ---- what was sent, with one message more
 
--- a domain says a message of its letters
+-- a domain is sent a message of its letters
 pub record Sends (m : Message) (x y : Daemon) : Type 0 where
   pub sends : (said : List Message) → HasSaid x.port said → SendsOne x y said (Some m)
   pub same : IsSameDaemon x y
@@ -138,7 +138,7 @@ Alone domain R d x y = (d ≡ domain → R x y) × (d ≢ domain → y ≡ x)
 pub moves-alone : (domain : ℕ) (R : Daemon → Daemon → Type 0) (ds : List Daemon) (i : ℕ) (x y : Daemon) → IsAt ds i x → i + 1 ≡ domain → R x y → EachMoves (Alone domain R) ds (set ds i y)
 moves-alone domain R ds i x y there number r = moves-one (Alone domain R) ds i x y there ((λ same. r), (λ apart. absurd (apart number))) (λ d z apart. ((λ same. absurd (apart (same ∙ sym number))), (λ away. refl)))
 
--- what holds of each domain holds still, where it does of the one that moved
+-- what holds of each domain still holds if it holds of the one that moved
 pub each-alone : (domain : ℕ) (R : Daemon → Daemon → Type 0) (P Q : ℕ → Daemon → Type 0) (old new : List Daemon) → EachMoves (Alone domain R) old new
     → ((d : ℕ) (x y : Daemon) → d ≡ domain → R x y → P d x → Q d y) → ((d : ℕ) (x : Daemon) → d ≢ domain → P d x → Q d x) → EachAt P old → EachAt Q new
 each-alone domain R P Q old new moves own other each =
@@ -165,7 +165,7 @@ sending-sent hub journal domain m old new moves p = record {
   opened = each-alone domain (Sends m) (λ d x. d ≡ domain → IsOpen x.port.end) (λ d x. d ≡ domain → IsOpen x.port.end) old new moves (λ d x y same s h here. s.opened) (λ d x apart h. h) p.opened;
 }
 
--- the message is one of those that were said then, and names a domain
+-- the message is one of those that were sent then, and names a domain
 pub gone-one : (hub : Domains) (journal : List Entry) (domain : ℕ) (m : Message) (ds : List Daemon) (i : ℕ) (x y : Daemon) → IsAt ds i x → i + 1 ≡ domain → Sends m x y → IsSending hub domain journal ds
     → HasGone hub domain journal (set ds i y) m
 unfolding sending-sent

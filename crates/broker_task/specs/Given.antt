@@ -24,7 +24,7 @@ pub record BrokerGiven : Type 0 where
 abbrev pub task_given : BrokerGiven → TaskGiven
 task_given given = Broker given.hub given.awaited given.ends
 
--- what was given, by what it is now
+-- what was given, read off what the task has now
 abbrev pub given_of : Switchboard → BrokerGiven
 given_of s = record {
   hub = s.broker.hub;
@@ -36,7 +36,7 @@ given_of s = record {
 abbrev pub IsNewClient : SeatedEnd → Type 0
 IsNewClient e = IsUnused (view e) × ((view e).role ≡ Client)
 
--- the end of a domain, once it is given back
+-- the end of a domain, when it is given back
 pub record IsRetiredOf (x : Daemon) (r : RetiredEnd) : Type 0 where
   pub place : r.place ≡ Control x.domain
   pub retired : done_view r.retired ≡ retired_view (end_of x)

@@ -5,7 +5,7 @@ use Rattle.qrexec_frame.specs.declared.message.Message.{Message}
 use Rattle.qrexec_frame.specs.declared.message.Message.TheVariants.{Connect}
 use Rattle.broker_task.specs.declared.letter.Letter.{Letter}
 
--- what is at this place of a list
+-- this element is at this place of a list
 pub record IsAt {A : Type 0} (xs : List A) (at : ℕ) (x : A) : Type 0 where
   pub within : at < length xs
   pub is : x ≡ slice_index_or xs at x
@@ -14,7 +14,7 @@ pub record IsAt {A : Type 0} (xs : List A) (at : ℕ) (x : A) : Type 0 where
 abbrev pub messages_in : List Letter → List Message
 messages_in letters = map (λ l. l.message) letters
 
--- whether a port is the one that is meant, or any is
+-- whether a port is the one that is meant, or any is meant
 abbrev pub is_meant : Option ℕ → ℕ → Bool
 is_meant None port = true
 is_meant (Some meant) port = port == meant
@@ -24,6 +24,6 @@ abbrev pub connects : ℕ → Option ℕ → Message → Bool
 connects target meant (Connect to port ident) = to == target && is_meant meant port
 connects target meant message = false
 
--- a letter once the Connects to this target may go, at this port or at any
+-- a letter after the Connects to this target were let go, at this port or at any
 abbrev pub released : ℕ → Option ℕ → Letter → Letter
 released target meant l = if connects target meant l.message then record l { held = false } else l

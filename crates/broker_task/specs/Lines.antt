@@ -1,4 +1,4 @@
--- One domain at the task of the broker: its port, what was read by it, and what was said.
+-- One domain at the task of the broker: its port, what was read by it, and what was sent.
 -- Source: this project's own.
 use Rattle.std.specs.Prelude.{◌≡◌, ◌⊎◌, ℕ, Bool, true, false, List, [], ◌∷◌, ◌++◌, filter_map, Option, Some, None, IsSome}
 use Rattle.std.specs.List.{remove}
@@ -31,15 +31,15 @@ is_shut Fresh = false
 is_shut Open = false
 is_shut Shut = true
 
--- its end was retired, as the domain was dropped
+-- its end was retired when the domain was dropped
 abbrev pub is_gone : Daemon → Bool
 is_gone x = is_shut (end_of x).state
 
--- an end as it was given, by what it is now
+-- an end as it was given, read off what it is now
 abbrev pub first_view : EndView → EndView
 first_view e = record e { state = state_at_first e.role; idle = true; sent = []; got = []; saw = false; ended = None; drained = false; misled = false; retired = false }
 
--- a domain may be dropped: its end found its peer shut or gone, or was refused, or what the domain said is wrong
+-- a domain may be dropped: its end found its peer shut or gone, or was refused, or what the domain sent is wrong
 abbrev pub MayDrop : EndView → Type 0
 MayDrop e = (e.saw ≡ true) ⊎ (e.misled ≡ true) ⊎ IsSome (hears broker_version to_broker e.got).fault
 
@@ -56,7 +56,7 @@ pub record IsLine (d : ℕ) (x : Daemon) : Type 0 where
 
 -- ---- what was read
 
--- the events that the bytes got say, up to what is wrong
+-- the events in the bytes got, up to what is wrong
 abbrev pub events_got : Daemon → List Event
 events_got x = filter_map (event_of x.domain) (hears broker_version to_broker (end_of x).got).messages
 
@@ -67,13 +67,13 @@ pub record ReadsOn (x : Daemon) (events : List Event) : Type 0 where
   pub are : events ≡ filter_map (event_of x.domain) heard
   pub fine : x.port.fault ≡ None
 
--- all that the bytes got say was handed out, up to what is wrong, and is these events
+-- all events in the bytes got were handed out, up to what is wrong, and they are these
 pub record HasReadAll (x : Daemon) (events : List Event) : Type 0 where
   pub all : events_got x ≡ events
   pub faulty : (hears broker_version to_broker (end_of x).got).fault ≡ x.port.fault
   pub on : x.port.fault ≡ None → ReadsOn x events
 
--- the same, between two turns: of a domain that wasn't dropped nothing is wrong
+-- the same, between two turns: nothing is wrong with what came from a domain that wasn't dropped
 pub record HasRead (x : Daemon) (events : List Event) : Type 0 where
   pub all : events_got x ≡ events
   pub on : is_gone x ≡ false → ReadsOn x events
@@ -89,13 +89,13 @@ abbrev pub HandsOut : Daemon → List Event → Option Event → Type 0
 HandsOut x events (Some event) = ReadsOn x (events ++ event ∷ []) × (is_from x.domain event ≡ true) × HasRoom event
 HandsOut x events None = HasReadAll x events
 
--- ---- what was said
+-- ---- what was sent
 
--- a message that the broker may say, and that has a spelling
+-- a message that the broker may send, and that has a spelling
 abbrev pub IsReply : Message → Type 0
 IsReply m = (to_agent m ≡ true) × IsSpellable m
 
--- a message of its letters has gone, or none
+-- a message of its letters was sent, or none
 abbrev pub SendsOne : Daemon → Daemon → List Message → Option Message → Type 0
 SendsOne old new said (Some m) =
     (at : ℕ) × (l : Letter) × IsAt old.outbox.letters.items at l × (l.held ≡ false) × (m ≡ l.message) × (new.outbox.letters.items ≡ remove old.outbox.letters.items at)
@@ -104,7 +104,7 @@ SendsOne old new said None = (new.outbox.letters.items ≡ old.outbox.letters.it
 
 -- ---- what stays
 
--- another state of the same domain: its number, its awaited calls and its end as it was given are the same
+-- another state of the same domain, with the same number, awaited calls and end as it was given
 pub record IsSameDaemon (old new : Daemon) : Type 0 where
   pub domain : new.domain ≡ old.domain
   pub awaited : new.awaited ≡ old.awaited

@@ -1,4 +1,4 @@
--- The outboxes of all domains beside the broker's journal: what was said, what waits, and what was given up.
+-- The outboxes of all domains beside the broker's journal: what was sent, what waits, and what was given up.
 -- Source: this project's own.
 use Rattle.std.specs.Prelude.{◌≡◌, ◌≢◌, ◌⊎◌, ℕ, zero, suc, ◌+◌, Bool, true, false, List, [], ◌∷◌, ◌++◌, length, Contains, IsPermutation, Option, map}
 use Rattle.qrexec_frame.specs.declared.message.Message.{Message}
@@ -18,11 +18,11 @@ use Rattle.broker_task.specs.Replies.{IsFit, NamesDomain}
 
 -- ---- all domains in turn
 
--- each domain has P, by its number
+-- P holds of each domain, by its number
 abbrev pub EachAt : (ℕ → Daemon → Type 0) → List Daemon → Type 0
 EachAt P ds = (i : ℕ) (x : Daemon) → IsAt ds i x → P (i + 1) x
 
--- each domain was this and is that
+-- R relates each domain before and after
 pub record EachMoves (R : ℕ → Daemon → Daemon → Type 0) (old new : List Daemon) : Type 0 where
   pub count : length new ≡ length old
   pub each : (i : ℕ) (y : Daemon) → IsAt new i y → (x : Daemon) × IsAt old i x × R (i + 1) x y
@@ -45,19 +45,19 @@ pub record LetsGo (t : ℕ) (meant : Option ℕ) (x y : Daemon) : Type 0 where
 
 -- ---- what may go
 
--- a Connect may go once the Exec of its call was said to its target, or the target was dropped
+-- a Connect may be sent once the Exec of its call was sent to its target, or the target was dropped
 abbrev pub MayGo : List Entry → (ℕ → List Message) → ℕ → Message → Type 0
 MayGo journal said f (Connect t port ident) = (is_dropped journal t ≡ true) ⊎ ((line : List ℕ) × Contains (said t) (Exec f port line))
 MayGo journal said f m = Unit {0}
 
--- a letter for a domain is a reply, and may go where it isn't held
+-- a letter for a domain is a reply, and may be sent unless it is held
 pub record IsLetter (hub : Domains) (journal : List Entry) (said : ℕ → List Message) (d : ℕ) (l : Letter) : Type 0 where
   pub fits : IsFit hub l.message
   pub may : l.held ≡ false → MayGo journal said d l.message
 
 -- ---- the outbox of a domain
 
--- what the journal puts there was said, waits, or was given up as the domain was dropped; and as many of its triggers were answered
+-- what the journal puts there was sent, waits, or was given up when the domain was dropped; and as many of its triggers were answered
 pub record HasPosted (hub : Domains) (journal : List Entry) (said : ℕ → List Message) (d : ℕ) (x : Daemon) : Type 0 where
   pub says : HasSaid x.port (said d)
   pub lost : List Message
@@ -89,7 +89,7 @@ abbrev pub one_if : Bool → ℕ
 one_if true = 1
 one_if false = 0
 
--- the letters of an entry were put behind those of a domain
+-- the letters of an entry were put after those of a domain
 pub record Posts (hub : Domains) (e : Entry) (d : ℕ) (x y : Daemon) : Type 0 where
   pub domain : y.domain ≡ x.domain
   pub port : y.port ≡ x.port
@@ -103,7 +103,7 @@ pub record Posts (hub : Domains) (e : Entry) (d : ℕ) (x y : Daemon) : Type 0 w
 
 -- ---- a port that moves
 
--- only its port has moved, and it stands for what was said as it did
+-- only its port has moved, and what it stands for was sent as before
 pub record MovesPort (d : ℕ) (x y : Daemon) : Type 0 where
   pub domain : y.domain ≡ x.domain
   pub awaited : y.awaited ≡ x.awaited
@@ -119,7 +119,7 @@ pub record IsHearing (domain : ℕ) (journal : List Entry) (ds : List Daemon) : 
   pub others : EachAt (λ d x. d ≢ domain → HasRead x (read_from journal d)) ds
   pub own : EachAt (λ d x. d ≡ domain → ReadsOn x (read_from journal d)) ds
 
--- and once all that it has said was heard
+-- the same, once all that the domain has sent was heard
 pub record HasHeardOut (domain : ℕ) (journal : List Entry) (ds : List Daemon) : Type 0 where
   pub others : EachAt (λ d x. d ≢ domain → HasRead x (read_from journal d)) ds
   pub own : EachAt (λ d x. d ≡ domain → HasReadAll x (read_from journal d)) ds
@@ -140,13 +140,13 @@ waiting_in [] i = 0
 waiting_in (x ∷ ds) zero = length x.outbox.letters.items
 waiting_in (x ∷ ds) (suc i) = waiting_in ds i
 
--- ---- one domain that is said to
+-- ---- one domain that is sent to
 
 pub record IsSending (hub : Domains) (domain : ℕ) (journal : List Entry) (ds : List Daemon) : Type 0 where
   pub posting : IsPosting hub journal ds
   pub read : HaveRead journal ds
   pub opened : EachAt (λ d x. d ≡ domain → IsOpen x.port.end) ds
 
--- this message has gone to the domain
+-- this message was sent to the domain
 abbrev pub HasGone : Domains → ℕ → List Entry → List Daemon → Message → Type 0
 HasGone hub domain journal ds m = (p : IsSending hub domain journal ds) × Contains (p.posting.said domain) m × NamesDomain hub m

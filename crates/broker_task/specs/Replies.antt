@@ -1,4 +1,4 @@
--- What the task says on what the broker decided.
+-- What the task sends after the broker's decision.
 -- Source: the messages are those of the qrexec protocol.
 use Rattle.std.specs.Prelude.{◌≡◌, ℕ, ◌≤◌, true, length}
 use Rattle.qrexec_frame.specs.Names.{cleaned_service}
@@ -43,7 +43,7 @@ AreFit hub (Accepted to exec connect) = IsFit hub exec × IsFit hub connect
 abbrev pub HasShortNames : Domains → Type 0
 HasShortNames hub = (d : ℕ) → is_domain hub d ≡ true → length (name_of hub d) ≤ 31
 
--- the domain that is to serve is one of so many
+-- the domain that will serve has a number from 1 to `count`
 abbrev pub IsWithin : ℕ → Reply → Type 0
 IsWithin count (Accepted to exec connect) = (1 ≤ to) × (to ≤ count)
 IsWithin count reply = Unit {0}

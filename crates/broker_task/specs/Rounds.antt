@@ -12,7 +12,7 @@ use Rattle.broker_task.specs.Lines.{end_of, is_gone, MayDrop, IsSameDaemon}
 use Rattle.broker_task.specs.Replies.{HasShortNames}
 use Rattle.broker_task.specs.Posting.{EachAt, EachMoves, IsPosting, IsHearing, HaveRead}
 
--- all that was read was decided, and what follows was said or waits
+-- all that was read was decided, and what follows was sent or waits
 pub record IsReady (s : Switchboard) : Type 0 where
   pub names : HasShortNames s.broker.hub
   pub posting : IsPosting s.broker.hub s.broker.journal s.daemons.items
@@ -43,6 +43,6 @@ pub record HasListened (hub : Domains) (domain : ℕ) (journal : List Entry) (ds
 
 -- ---- the end
 
--- a domain was dropped; or its awaited calls were answered and are over, and where there were some all of its messages have gone
+-- if a domain wasn't dropped, its awaited calls were answered and are over, and if there were some, all of its messages were sent
 abbrev pub IsSettled : Domains → List Entry → ℕ → ℕ → Daemon → Type 0
 IsSettled hub journal count d x = is_gone x ≡ false → (x.awaited + live_calls hub journal (numbers 1 1 count) d ≤ x.answered) × (0 < x.awaited → x.outbox.letters.items ≡ [])

@@ -1,4 +1,4 @@
--- The task at first: for each domain its end, how many of its calls are awaited, and nothing heard or said.
+-- The task at first: each domain's end, how many of its calls are awaited, and nothing heard or sent.
 -- Source: this project's own.
 use Rattle.std.specs.Prelude.{◌≡◌, ℕ, ◌+◌, false, List, [], ◌∷◌}
 use Rattle.vchan_rule.specs.Seated.{SeatedEnd, view}

@@ -1,4 +1,4 @@
-//! One domain at the broker.
+//! One domain's side of the broker.
 ghost use Rattle.std.specs.Prelude.{◌≡◌, ℕ, ◌+◌, ◌<◌, ◌≤◌, ◌++◌, ◌∷◌, List, [], false, true, None, Some, Ok, OnOk, IfOk, IfSome, length, is_none, ◌↔◌, IsTrue, IsSome};
 ghost use Rattle.ring_words.specs.declared.page.Role.TheVariants.{Client};
 ghost use Rattle.vchan_rule.specs.Seated.{view, IsOpen};
@@ -25,10 +25,10 @@ use vchan_lifecycle::DrainAnswer;
 use vchan_packet::SendAnswer;
 use vchan_rule::End;
 
-/// The version of the broker, which it announces to each domain.
+/// The version that the broker announces to each domain.
 const VERSION: u32 = 3;
 
-/// What the broker has for one domain: the work of a `qrexec-daemon`.
+/// What the broker keeps for one domain: the work of a `qrexec-daemon`.
 #[derive(Drop)]
 pub(crate) struct Daemon<'p> {
     pub(crate) domain: u32,
@@ -60,7 +60,7 @@ impl<'p> Daemon<'p> {
         }
     }
 
-    /// Whether the domain was dropped, and its end retired.
+    /// Returns whether the domain was dropped, so that its end is retired.
     pub(crate) fn is_gone(&self) -> bool
         ensures { result ≡ is_gone self.now }
     {
@@ -70,14 +70,14 @@ impl<'p> Daemon<'p> {
         }
     }
 
-    /// Whether nothing is wrong with what was handed out.
+    /// Returns whether nothing is wrong with what was handed out.
     pub(crate) fn is_fine(&self) -> bool
         ensures { result ≡ is_none self.now.port.fault }
     {
         self.port.fault().is_none()
     }
 
-    // Connects in the first turn. It answers whether the page has the orders that it should.
+    // Connects in the first turn. Returns whether the page has the orders that it should have.
     fn is_connected(&mut self) -> bool
         requires line { IsLine self.old.domain self.old }
         requires up { is_gone self.old ≡ false }
@@ -94,16 +94,16 @@ impl<'p> Daemon<'p> {
         self.port.state() != EndState::Fresh || self.port.connect().is_ok()
     }
 
-    // Whether the domain isn't read, since its outbox is full. One that hasn't greeted is read on: nothing
-    // that waits for it may go before its greeting was read.
+    // Whether the domain isn't read because its outbox is full. A domain that hasn't greeted is still read:
+    // nothing that waits for it may be sent before its greeting was read.
     fn is_unread(&self) -> bool
         ensures { IsTrue result ↔ IsSome self.now.port.version × (64 ≤ length self.now.outbox.letters.items) }
     {
         self.port.version().is_some() && self.outbox.is_full()
     }
 
-    /// Takes what has come, after the connect of the first turn. While a domain that has greeted has a
-    /// full outbox it only asks whether that is gone. It answers whether the domain is still there.
+    /// Takes what has come, after the connect of the first turn. If a domain that has greeted has a full
+    /// outbox, it only asks whether the domain is gone. Returns whether the domain is still there.
     pub(crate) fn listen(&mut self, buf: &mut [u8]) -> Result<bool, Memory>
         requires line { IsLine self.old.domain self.old }
         requires up { is_gone self.old ≡ false }
@@ -132,8 +132,8 @@ impl<'p> Daemon<'p> {
         }
     }
 
-    /// Hands out the next event that the domain has said. `None` comes where none is left of what was
-    /// taken, and where something is wrong with it.
+    /// Hands out the next event that the domain has sent. Returns `None` if none is left of what was taken,
+    /// or if something is wrong with it.
     pub(crate) fn next(&mut self) -> Result<Option<Event>, Memory>
         requires line { IsLine self.old.domain self.old }
         requires fine { self.old.port.fault ≡ None }
@@ -150,8 +150,8 @@ impl<'p> Daemon<'p> {
         }
     }
 
-    /// Says the first of its messages that isn't held, where it has room; the own greeting goes before all,
-    /// once that of the domain was read. It gives the message back that has gone.
+    /// Sends the first of its messages that isn't held, if there is room. The own greeting is sent before all
+    /// others, once the domain's greeting was read. Returns the message that was sent.
     pub(crate) fn send(&mut self) -> Result<Option<Message>, Memory>
         requires line { IsLine self.old.domain self.old }
         requires open { IsOpen self.old.port.end }
@@ -175,7 +175,7 @@ impl<'p> Daemon<'p> {
         Ok(Some(self.outbox.take(at)))
     }
 
-    // Says the own greeting, once that of the domain was read. It answers whether it has gone.
+    // Sends the own greeting, once the domain's greeting was read. Returns whether it was sent.
     fn greet(&mut self) -> Result<bool, Memory>
         requires line { IsLine self.old.domain self.old }
         requires open { IsOpen self.old.port.end }
@@ -197,7 +197,7 @@ impl<'p> Daemon<'p> {
         Ok(self.port.greet()? == SendAnswer::Sent)
     }
 
-    /// Puts the answer to one of its triggers behind its other messages.
+    /// Puts the answer to one of the domain's triggers after its other messages.
     pub(crate) fn answer(&mut self, answer: Message, held: bool) -> Result<(), Memory>
         requires { self.old.answered < usize.MAX }
         ensures port { self.new.port ≡ self.old.port }
@@ -210,7 +210,7 @@ impl<'p> Daemon<'p> {
         Ok(())
     }
 
-    /// Retires the end of a domain that is dropped, and gives up what waits for it.
+    /// Retires the end of a domain that is dropped, and gives up the messages that wait for it.
     pub(crate) fn hang_up(&mut self)
         requires line { IsLine self.old.domain self.old }
         requires cause { MayDrop (end_of self.old) }
@@ -229,14 +229,14 @@ impl<'p> Daemon<'p> {
 impl<'p> Daemon<'p> {
     ghost use Rattle.broker_task.specs.Given.{IsRetiredOf};
 
-    /// Whether all messages have gone, where calls of the domain are awaited.
+    /// Returns whether all messages were sent, if calls of the domain are awaited.
     pub(crate) fn has_said_all(&self) -> bool
         ensures { IsTrue result ↔ (0 < self.now.awaited → self.now.outbox.letters.items ≡ []) }
     {
         self.awaited == 0 || self.outbox.is_empty()
     }
 
-    /// Gives its end back, which retires where that wasn't done as the domain was dropped.
+    /// Gives its end back, and retires it first unless that was done when the domain was dropped.
     pub(crate) fn retire(self) -> RetiredEnd
         requires { IsLine self.domain self }
         ensures { IsRetiredOf self.entry result }
@@ -258,7 +258,7 @@ impl<'p> Daemon<'p> {
         }
     }
 
-    /// Retires its end, and drops it.
+    /// Retires its end and drops it.
     pub(crate) fn give_up(self)
         requires { (end_of self).idle ≡ true }
     {
@@ -267,7 +267,7 @@ impl<'p> Daemon<'p> {
     }
 }
 
-// The event that a message of a domain is.
+// The event that a domain's message stands for.
 fn event_of(domain: u32, message: Message) -> Event
     requires { to_broker message ≡ true }
     ensures { Some result ≡ event_of domain message }

@@ -1,4 +1,4 @@
-//! The ends of the task, as it begins and as it is done.
+//! The ends of the task, at its start and when it is done.
 ghost use Rattle.std.specs.Prelude.{◌≡◌, ◌<◌, ◌^◌, true, length, IfOk};
 ghost use Rattle.qrexec_frame.specs.Streams.{Each};
 ghost use Rattle.task_duties.specs.Pairwise.{EachPair};
@@ -12,7 +12,7 @@ use task_duties::RetiredEnd;
 use vchan_io::Memory;
 use vchan_rule::End;
 
-/// What the broker has for each domain at first, whose awaited calls and control end these are.
+/// Makes what the broker keeps for each domain at first, from these awaited calls and control ends.
 pub(crate) fn daemons_of<'p>(
     alloc: Global,
     awaited: &[u32],
@@ -33,7 +33,7 @@ pub(crate) fn daemons_of<'p>(
     Ok(daemons)
 }
 
-/// Gives all ends back in their order, retired. Where memory runs out they retire too.
+/// Retires all ends and gives them back in their order. If memory runs out, they retire too.
 pub(crate) fn retire_all(alloc: Global, daemons: Vec<Daemon<'_>>) -> Result<Vec<RetiredEnd>, Memory>
     requires { Each (λ x. IsLine x.domain x) daemons.items }
     ensures { IfOk result (λ ends. EachPair IsRetiredOf daemons.entry.items ends.items) }
@@ -48,7 +48,7 @@ pub(crate) fn retire_all(alloc: Global, daemons: Vec<Daemon<'_>>) -> Result<Vec<
     Ok(ends)
 }
 
-/// Retires all ends, and drops them.
+/// Retires all ends and drops them.
 pub(crate) fn give_up(daemons: Vec<Daemon<'_>>)
     requires { Each (λ x. (end_of x).idle ≡ true) daemons.items }
 {

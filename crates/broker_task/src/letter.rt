@@ -5,6 +5,6 @@ use qrexec_frame::Message;
 #[derive(Drop)]
 pub(crate) struct Letter {
     pub(crate) message: Message,
-    // It waits for another message to go first.
+    // Whether it waits for another message to be sent first.
     pub(crate) held: bool,
 }

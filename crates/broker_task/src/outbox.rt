@@ -10,11 +10,11 @@ use std::alloc::Global;
 use std::collections::VecDeque;
 use vchan_io::Memory;
 
-/// How many messages fill an outbox: while it has so many, its domain isn't read.
+/// The number of messages that fill an outbox. While an outbox has that many, its domain isn't read.
 const FULL: usize = 64;
 
-/// The messages that wait to go to a domain, in the order in which they were put there. One that is
-/// held lets those behind it pass.
+/// The messages that wait to be sent to a domain, in the order in which they were put there. A message that
+/// is held lets those after it pass.
 #[derive(Drop)]
 pub(crate) struct Outbox {
     letters: VecDeque<Letter>,
@@ -35,14 +35,14 @@ impl Outbox {
         self.letters.is_empty()
     }
 
-    /// Whether so many messages wait that the domain isn't read.
+    /// Returns whether so many messages wait that the domain isn't read.
     pub(crate) fn is_full(&self) -> bool
         ensures { IsTrue result ↔ FULL ≤ length self.now.letters.items }
     {
         self.letters.len() >= FULL
     }
 
-    /// Puts a message behind the others, which may go now or is held.
+    /// Puts a message after the others. It may be sent now, or is held.
     pub(crate) fn put(&mut self, message: Message, held: bool) -> Result<(), Memory>
         ensures { OnOk result (self.new.letters.items ≡ self.old.letters.items ++ record { message = message; held = held } ∷ []) }
     {
@@ -50,21 +50,21 @@ impl Outbox {
         Ok(())
     }
 
-    /// Lets the Connect of a call to this target at this port go.
+    /// Lets the Connect of the call to this target at this port be sent.
     pub(crate) fn release_call(&mut self, target: u32, port: u32)
         ensures { self.new.letters.items ≡ map (released target (Some port)) self.old.letters.items }
     {
         release(self.letters.make_contiguous(), target, Some(port));
     }
 
-    /// Lets the Connects of all calls to this target go.
+    /// Lets the Connects of all calls to this target be sent.
     pub(crate) fn release_target(&mut self, target: u32)
         ensures { self.new.letters.items ≡ map (released target None) self.old.letters.items }
     {
         release(self.letters.make_contiguous(), target, None);
     }
 
-    /// The place of the first message that isn't held.
+    /// Returns the place of the first message that isn't held.
     pub(crate) fn first_ready(&self) -> Option<usize>
         ensures { IfSome result (λ at. (l : Put) × IsAt self.now.letters.items at l × (l.held ≡ false)) }
     {
@@ -76,7 +76,7 @@ impl Outbox {
         None
     }
 
-    /// The message at a place.
+    /// Returns the message at a place.
     pub(crate) fn message(&self, at: usize) -> &Message
         requires { at < length self.now.letters.items }
         ensures { (l : Put) → IsAt self.now.letters.items at l → result.now ≡ l.message }
@@ -84,7 +84,7 @@ impl Outbox {
         &self.letters[at].message
     }
 
-    /// Takes the message at a place out.
+    /// Removes the message at a place and returns it.
     pub(crate) fn take(&mut self, at: usize) -> Message
         requires { at < length self.old.letters.items }
         ensures message { (l : Put) → IsAt self.old.letters.items at l → result ≡ l.message }
@@ -96,7 +96,7 @@ impl Outbox {
         }
     }
 
-    /// Gives all messages up.
+    /// Gives up all messages.
     pub(crate) fn clear(&mut self)
         ensures { self.new.letters.items ≡ [] }
     {
@@ -104,7 +104,7 @@ impl Outbox {
     }
 }
 
-// Lets the Connects to a target go, at this port or at any.
+// Lets the Connects to a target be sent, at this port or at any.
 fn release(letters: &mut [Letter], target: u32, meant: Option<u32>)
     ensures { letters.new ≡ map (released target meant) letters.old }
 {

@@ -1,4 +1,4 @@
-//! What the task says on what the broker decided.
+//! What the task sends after the broker's decision.
 ghost use Rattle.std.specs.Prelude.{◌≡◌, ◌++◌, ◌∷◌, [], List, true, IfOk, IfSome, codes};
 ghost use Rattle.qrexec_frame.specs.Names.{cleaned_service};
 ghost use Rattle.call_broker.specs.Domains.{is_domain, name_of};
@@ -13,10 +13,10 @@ use qrexec_frame::{Message, Text, TextError, clean_service};
 use std::alloc::Global;
 use vchan_io::Memory;
 
-/// How the line of a MSG_EXEC_CMDLINE for a service begins.
+/// The beginning of the line of a MSG_EXEC_CMDLINE for a service.
 const USER: &[u8] = b"DEFAULT:QUBESRPC ";
 
-/// How much room a line begins with, in bytes: a usual one fits.
+/// The room that a line has at first, in bytes. A usual line fits.
 const USUAL_LINE: usize = 64;
 
 /// The messages that follow from a decision.
@@ -27,7 +27,7 @@ pub(crate) enum Reply {
     Refused {
         refused: Message,
     },
-    // For the domain that is to serve, and for the caller.
+    // For the domain that will serve, and for the caller.
     Accepted {
         to: u32,
         exec: Message,
@@ -35,7 +35,7 @@ pub(crate) enum Reply {
     },
 }
 
-/// The reply to an event, once it was decided.
+/// Returns the reply to an event that was decided.
 pub(crate) fn reply_to(
     alloc: Global,
     broker: &Broker,
@@ -86,7 +86,7 @@ pub(crate) fn reply_to(
     }
 }
 
-// The line by which a domain of this name asks for this service, whose name is clean.
+// The line by which a domain of this name asks for this service. The service's name is clean.
 fn line_of(alloc: Global, service: &Text, from: &Text) -> Result<Text, Memory>
     ensures line { IfOk result (λ line. line ≡ exec_line service.now from.now) }
     ensures no_nul { IfOk result (λ line. HasNoNul line) }

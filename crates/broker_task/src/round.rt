@@ -25,8 +25,8 @@ impl<'p> Switchboard<'p> {
         Ok(())
     }
 
-    // Takes and decides what a domain has said, and says to it what waits. A domain that is gone, or that
-    // has said something wrong, is dropped.
+    // Takes and decides what a domain has sent, and sends to it what waits. A domain that is gone, or that
+    // has sent something wrong, is dropped.
     fn attend(&mut self, domain: u32, buf: &mut [u8]) -> Result<(), Memory>
         requires ready { IsReady self.old }
         requires number { is_domain self.old.broker.hub domain ≡ true }
@@ -48,7 +48,7 @@ impl<'p> Switchboard<'p> {
         self.send(domain)
     }
 
-    // Takes what has come from a domain. It answers whether the domain is still there.
+    // Takes what has come from a domain. Returns whether the domain is still there.
     fn listen(&mut self, domain: u32, buf: &mut [u8]) -> Result<bool, Memory>
         requires ready { IsReady self.old }
         requires number { is_domain self.old.broker.hub domain ≡ true }
@@ -62,8 +62,8 @@ impl<'p> Switchboard<'p> {
         self.daemons[domain as usize - 1].listen(buf)
     }
 
-    // Drops a domain: its end retires, what waits for it is given up, and the Connects of calls to it wait
-    // no more.
+    // Drops a domain: its end retires, the messages that wait for it are given up, and the Connects of calls
+    // to it are no longer held.
     fn drop_domain(&mut self, domain: u32) -> Result<(), Memory>
         requires number { is_domain self.old.broker.hub domain ≡ true }
         requires posting { IsPosting self.old.broker.hub self.old.broker.journal self.old.daemons.items }
@@ -82,7 +82,7 @@ impl<'p> Switchboard<'p> {
     }
 }
 
-// Lets the Connects of all calls to a domain go.
+// Lets the Connects of all calls to a domain be sent.
 fn release_target(daemons: &mut [Daemon<'_>], target: u32)
     ensures { EachMoves (λ d. LetsGo target None) daemons.old daemons.new }
 {

@@ -10,8 +10,8 @@ use crate::daemon::Daemon;
 use crate::switchboard::Switchboard;
 
 impl<'p> Switchboard<'p> {
-    /// Whether of each domain that wasn't dropped the awaited calls were answered and are over, and, where
-    /// some were awaited, all messages have gone.
+    /// Returns whether each domain is dropped or settled. A domain is settled if its awaited calls were
+    /// answered and are over and, if some were awaited, all its messages were sent.
     pub(crate) fn is_settled(&self) -> bool
         requires { EachAt IsLine self.now.daemons.items }
         ensures { IsTrue result ↔ EachAt (IsSettled self.now.broker.hub self.now.broker.journal (length self.now.daemons.items)) self.now.daemons.items }
@@ -24,7 +24,7 @@ impl<'p> Switchboard<'p> {
         true
     }
 
-    // The same of one domain.
+    // Whether one domain is dropped or settled.
     fn is_domain_settled(&self, daemon: &Daemon<'p>) -> bool
         requires { EachAt IsLine self.now.daemons.items }
         ensures { IsTrue result ↔ IsSettled self.now.broker.hub self.now.broker.journal (length self.now.daemons.items) daemon.now.domain daemon.now }

@@ -19,7 +19,7 @@ use call_broker::{Broker, Event};
 use qrexec_frame::Message;
 use vchan_io::Memory;
 
-/// The broker with what it has for each domain, in the order of their numbers.
+/// The broker with what it keeps for each domain, in the order of their numbers.
 #[derive(Drop)]
 pub(crate) struct Switchboard<'p> {
     pub(crate) broker: Broker,
@@ -27,7 +27,7 @@ pub(crate) struct Switchboard<'p> {
 }
 
 impl<'p> Switchboard<'p> {
-    /// How often the broker's ends have moved something. Nothing is promised of the count.
+    /// Returns how often the broker's ends have moved something. Nothing is promised of the count.
     pub(crate) fn moves(&self) -> u64 {
         let mut moves: u64 = 0;
         for daemon in &self.daemons {
@@ -36,7 +36,7 @@ impl<'p> Switchboard<'p> {
         moves
     }
 
-    // Decides all that a domain has said, as far as it was taken.
+    // Decides all that a domain has sent, as far as it was taken.
     pub(crate) fn hear(&mut self, domain: u32) -> Result<(), Memory>
         requires posting { IsPosting self.old.broker.hub self.old.broker.journal self.old.daemons.items }
         requires names { HasShortNames self.old.broker.hub }
@@ -53,7 +53,7 @@ impl<'p> Switchboard<'p> {
         Ok(())
     }
 
-    // Says to a domain what waits for it, as far as it may go and has room.
+    // Sends to a domain what waits for it, as far as it isn't held and there is room.
     pub(crate) fn send(&mut self, domain: u32) -> Result<(), Memory>
         requires number { is_domain self.old.broker.hub domain ≡ true }
         requires sending { IsSending self.old.broker.hub domain self.old.broker.journal self.old.daemons.items }
@@ -66,7 +66,7 @@ impl<'p> Switchboard<'p> {
         Ok(())
     }
 
-    // Says one message to a domain. It answers whether one has gone.
+    // Sends one message to a domain. Returns whether one was sent.
     fn send_one(&mut self, domain: u32) -> Result<bool, Memory>
         requires number { is_domain self.old.broker.hub domain ≡ true }
         requires sending { IsSending self.old.broker.hub domain self.old.broker.journal self.old.daemons.items }
@@ -85,7 +85,7 @@ impl<'p> Switchboard<'p> {
         }
     }
 
-    // Where an Exec has gone to a domain, the Connect of its call may go.
+    // Once an Exec was sent to a domain, the Connect of its call may be sent.
     fn let_go(&mut self, domain: u32, gone: &Message)
         requires { HasGone self.old.broker.hub domain self.old.broker.journal self.old.daemons.items gone.now }
         ensures broker { self.new.broker ≡ self.old.broker }
@@ -105,7 +105,7 @@ impl<'p> Switchboard<'p> {
         }
     }
 
-    // Decides an event of a domain, and puts what follows into the outboxes.
+    // Decides an event of a domain, and puts the messages that follow into the outboxes.
     fn decide(&mut self, from: u32, event: Event) -> Result<(), Memory>
         requires posting { IsPosting self.old.broker.hub self.old.broker.journal self.old.daemons.items }
         requires names { HasShortNames self.old.broker.hub }
@@ -126,7 +126,7 @@ impl<'p> Switchboard<'p> {
     }
 }
 
-// Puts what follows from a decision on an event of a domain into the outboxes.
+// Puts the messages that follow from the decision on an event of a domain into the outboxes.
 fn post(daemons: &mut [Daemon<'_>], from: u32, reply: Reply) -> Result<(), Memory>
     requires sender { (1 ≤ from) × (from ≤ length daemons.old) }
     requires target { IsWithin (length daemons.old) reply }

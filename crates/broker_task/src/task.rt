@@ -10,16 +10,16 @@ use task_duties::RetiredEnd;
 use vchan_io::Memory;
 use vchan_rule::End;
 
-/// How many bytes of a control channel are taken at once.
+/// The number of bytes taken from a control channel at once.
 const CHUNK: usize = 4_096;
 
-/// The broker of calls, with its ends of all control pages. Contracts see of it what it was given, which
-/// no turn changes.
+/// The broker of calls, with its ends of all control pages. Contracts see what the task was given, which no
+/// turn changes.
 #[derive(Drop)]
 pub struct BrokerTask<'p> {
     alloc: Global,
     switchboard: Switchboard<'p>,
-    // What is taken of a control channel at once.
+    // The bytes taken from a control channel at once.
     buf: Vec<u8>,
     // Whether the last turn moved anything.
     moved: bool,
@@ -37,13 +37,13 @@ impl<'p> Model for BrokerTask<'p> {
     ghost invariant = { λ t. IsReady t.switchboard × (0 < length t.buf.items) };
 }
 
-/// What a turn of the task gives.
+/// What a turn of the task returns.
 pub enum BrokerTurn<'p> {
     /// The task wants another turn.
     Again(BrokerTask<'p>),
     /// All domains are settled or dropped.
     Done(BrokerDone),
-    /// Memory ran out. All ends have retired.
+    /// Memory ran out. All ends are retired.
     NoMemory,
 }
 
@@ -69,11 +69,11 @@ impl<'p> BrokerTask<'p> {
     ghost use Rattle.broker_task.specs.Replies.{HasShortNames};
     ghost use Rattle.broker_task.specs.Given.{IsNewClient, task_given};
 
-    /// The task of a broker that has decided nothing yet. `awaited` has how many calls of each domain are
-    /// awaited, and `controls` the broker's end of each domain's control page, those of the first domain
-    /// standing first.
+    /// Makes the task of a broker that has decided nothing yet. `awaited` has the number of awaited calls of
+    /// each domain, and `controls` the broker's end of each domain's control page, both in the order of the
+    /// domains.
     ///
-    /// After want of memory all that it took is dropped, the ends unretired.
+    /// Returns `Memory` if memory runs out; all that it took is dropped then, and the ends aren't retired.
     pub fn new(
         alloc: Global,
         broker: Broker,
@@ -98,13 +98,14 @@ impl<'p> BrokerTask<'p> {
         })
     }
 
-    /// Whether the last turn moved anything that another task may wait for, or there was none yet. No contract
-    /// relies on it.
+    /// Returns whether the last turn moved anything that another task may wait for, or whether there was no
+    /// turn yet. No contract relies on it.
     pub fn moved(&self) -> bool {
         self.moved
     }
 
-    /// One turn: a round over all domains. Once all of them are settled or dropped, the ends retire.
+    /// Makes one turn, which is a round over all domains. Once all of them are settled or dropped, the ends
+    /// retire.
     pub fn turn(self) -> BrokerTurn<'p>
         ensures { Pays self.entry result }
     {
@@ -128,7 +129,7 @@ impl<'p> BrokerTask<'p> {
     }
 }
 
-// The task after a round, which moved something or nothing.
+// The task after a round, which may have moved something.
 fn after_round<'p>(
     alloc: Global,
     switchboard: Switchboard<'p>,

@@ -15,7 +15,7 @@ use Rattle.control_port.specs.Port.{EachMay, HearsSoFar, Nothing, Greeted}
 the_messages : List (Placed Message) → List Message
 the_messages placed = map (λ p. p.message) placed
 
--- messages that may be said are heard as they are, and then what follows
+-- messages that may be heard are heard as they are, and then what follows
 pub allowed-on : (may : Message → Bool) (placed more : List (Placed Message)) → EachMay may placed → allowed may (placed ++ more) ≡ map (λ p. p.message) placed ++ allowed may more
 allowed-on may [] more each = refl
 allowed-on may (p ∷ placed) more each = rw each.0 (ap (λ r. p.message ∷ r) (allowed-on may placed more each.1))
@@ -29,7 +29,7 @@ pub accepted : (own v : ℕ) (may : Message → Bool) (p : Placed Message) (plac
     → hears_on own may (p ∷ placed) e ≡ record { version = Some v; messages = allowed may placed; fault = first_fault may placed e }
 accepted own v may p placed e is = rw is refl
 
--- and one whose greeting isn't
+-- a stream whose greeting isn't accepted
 pub refused : (own : ℕ) (may : Message → Bool) (p : Placed Message) (placed : List (Placed Message)) (e : Ending Fault) (f : HelloFault) → greeting own p.message ≡ Err f
     → hears_on own may (p ∷ placed) e ≡ record { version = None; messages = []; fault = Some (fault.Hello f) }
 refused own may p placed e f is = rw is refl
@@ -65,7 +65,7 @@ one-more own may given v heard p (Greeted q placed u given_is greets version eac
     messages-on [] = refl
     messages-on (x ∷ placed) = ap (λ r. x.message ∷ r) (messages-on placed)
 
--- one more that may not: nothing behind it counts
+-- one more that may not be heard: nothing after it counts
 pub one-wrong : (own : ℕ) (may : Message → Bool) (given all : List (Placed Message)) (v : ℕ) (heard : List Message) (p : Placed Message) (e : Ending Fault) → HearsSoFar own may given (Some v) heard
     → may p.message ≡ false → IsPrefixOf (given ++ p ∷ []) all
     → hears_on own may all e ≡ record { version = Some v; messages = heard; fault = Some (fault.WrongSide (offset p.at) (number p.message)) }
@@ -77,7 +77,7 @@ one-wrong own may given all v heard p e so_far is prefix =
     behind [] rest = refl
     behind (x ∷ given) rest = ap (λ r. x ∷ r) (behind given rest)
 
--- before the greeting nothing was heard
+-- nothing was heard before the greeting
 pub silent : (own : ℕ) (may : Message → Bool) (given : List (Placed Message)) (heard : List Message) → HearsSoFar own may given None heard → (given ≡ []) × (heard ≡ [])
 silent own may given heard (Nothing a b c) = (a, c)
 silent own may given heard (Greeted p placed v is greets version each heard_is) = cc

@@ -44,7 +44,7 @@ each-more : (P : Message → Type 0) (ms : List Message) (m : Message) → Each 
 each-more P [] m each last = (last, tt)
 each-more P (x ∷ ms) m each last = (each.0, each-more P ms m each.1 last)
 
--- what was said is said, as far as an end is the same but for what it sent
+-- what was sent stays so while the end only moves and sends nothing
 kept : (old new : PortState) (said : List Message) → OnlySends old new → (view new.end).sent ≡ (view old.end).sent → HasSaid old said → HasSaid new said
 kept old new said only sent h =
     let P : PortState → Type 0 = λ p. HasSaid p said in
@@ -71,13 +71,13 @@ pub says : (old new : PortState) (said : List Message) (m : Message) (result : R
 says old new said m (Ok sent) h greeted fits may only view_is = said-more old new said m sent h greeted fits may only view_is
 says old new said m (Err e) h greeted fits may only view_is = tt
 
--- what was heard is heard, while the end got no more
+-- what was heard stays so while the end gets nothing more
 pub heard-still : (old new : PortState) (heard : List Message) → OnlySends old new → (view new.end).got ≡ (view old.end).got → HasHeard old heard → HasHeard new heard
 heard-still old new heard only got h =
     let P : PortState → Type 0 = λ p. HasHeard p heard in
     subst P (sym only) (record { given = h.given; channel = h.channel; stands = subst (λ g. StandsFor old.decoder g h.given) (sym got) h.stands; fine = h.fine; so_far = h.so_far })
 
--- whether the greeting has gone says nothing of what was heard
+-- whether the greeting was sent changes nothing of what was heard
 pub heard-greeted : (p : PortState) (heard : List Message) (b : Bool) → HasHeard p heard → HasHeard (record p { greeted = b }) heard
 heard-greeted p heard b h = record { given = h.given; channel = h.channel; stands = h.stands; fine = h.fine; so_far = h.so_far }
 
@@ -170,7 +170,7 @@ takes-fault old inside q heard f is h reads =
     ∙ ap (λ s. hears_on inside.own (may_hear inside.talker) s.placed s.ending) r.3 ∙ heard-all inside.own (may_hear inside.talker) i.given inside.version heard _ i.so_far
     ∙ ap (λ g. record { version = inside.version; messages = heard; fault = Some (fault.Frame g) }) (sym r.4)
 
--- the greeting was one
+-- the message was a greeting
 pub greets-ok : (old new inside : PortState) (heard : List Message) (m : Message) (v : ℕ) → new ≡ inside → TakesOne old new heard m → old.version ≡ None → OnlyHears old new → greeting inside.own m ≡ Ok v
     → HasHeard (record inside { version = Some v }) heard
 greets-ok old new inside heard m v is t none only greets =
@@ -187,7 +187,7 @@ greets-ok old new inside heard m v is t none only greets =
       so_far = Greeted p [] v (ap (λ g. g ++ p ∷ []) nothing.0) greets refl tt nothing.1;
     }
 
--- it wasn't
+-- it was no greeting
 pub greets-not : (old new inside : PortState) (heard : List Message) (m : Message) (f : HelloFault) → new ≡ inside → TakesOne old new heard m → old.version ≡ None → OnlyHears old new → new.version ≡ old.version
     → greeting inside.own m ≡ Err f → HasHeardAll (record inside { fault = Some (fault.Hello f) }) heard
 greets-not old new inside heard m f is t none only same greets =
@@ -200,7 +200,7 @@ greets-not old new inside heard m f is t none only same greets =
     ap (λ ps. hears_on inside.own (may_hear inside.talker) ps (reading Control (view inside.end).got).ending) placed
     ∙ refused inside.own (may_hear inside.talker) p i.begins.0 (reading Control (view inside.end).got).ending f greets ∙ rw (version, nothing.1) refl
 
--- a message that the other side may say
+-- a message that may be heard from the other side
 pub hands-on : (old new : PortState) (heard : List Message) (m : Message) → TakesOne old new heard m → IsSome old.version → OnlyHears old new → new.version ≡ old.version → may_hear new.talker m ≡ true
     → Hands new heard (Some m)
 hands-on old new heard m t some only same may = by_version old.version refl some
@@ -224,7 +224,7 @@ hands-on old new heard m t some only same may = by_version old.version refl some
           t.fault_is,
         )
 
--- one that it may not
+-- one that may not
 pub hands-not : (old new inside : PortState) (heard : List Message) (m : Message) (at kind : ℕ) → new ≡ inside → TakesOne old new heard m → IsSome old.version → OnlyHears old new → new.version ≡ old.version
     → may_hear inside.talker m ≡ false → at ≡ old.decoder.at → kind ≡ number m → HasHeardAll (record inside { fault = Some (fault.WrongSide at kind) }) heard
 hands-not old new inside heard m at kind is t some only same may at_is kind_is = by_version old.version refl some

@@ -1,4 +1,4 @@
--- What a control port stands for: the messages that went out by its end, and those that were handed out.
+-- What a control port stands for: the messages that its end sent, and those that it handed out.
 use Rattle.std.specs.Prelude.{◌≡◌, ◌%◌, ◌^◌, ◌<◌, ℕ, length, Bool, false, List, [], ◌∷◌, ◌++◌, Option, Some, None, IsSome, true, map, Ok}
 use Rattle.qrexec_frame.specs.declared.channel.Channel.TheVariants.{Control}
 use Rattle.qrexec_frame.specs.declared.message.Message.{Message}
@@ -21,24 +21,24 @@ pub record PortState : Type 0 where
   pub end : SeatedEnd
   pub talker : Talker
   pub own : ℕ
-  -- whether its greeting has gone
+  -- whether its greeting was sent
   pub greeted : Bool
   pub decoder : DecoderState
-  -- the version that both sides go on with, once the other's greeting was read, and what is wrong with the bytes got
+  -- the version that both sides go on with, once the other side's greeting was read, and what is wrong with the bytes got
   pub version : Option ℕ
   pub fault : Option SessionFault
 
--- nothing was sent before the greeting, and then the greeting and these messages
+-- nothing was sent before the greeting; then the greeting and these messages were
 abbrev pub SentWhole : Bool → ℕ → List Message → List ℕ → Type 0
 SentWhole false own said sent = (sent ≡ []) × (said ≡ [])
 SentWhole true own said sent = sent ≡ flat_map written (Hello own ∷ said)
 
--- what its end sent is the greeting, once that has gone, and then these messages
+-- its end sent the greeting, if that was sent at all, and then these messages
 pub record HasSaid (p : PortState) (said : List Message) : Type 0 where
   pub each : Each (λ m. (may_say p.talker m ≡ true) × IsSpellable m) said
   pub whole : SentWhole p.greeted p.own said (view p.end).sent
 
--- each message is one that the other side may say
+-- each message is one that may be heard from the other side
 abbrev pub EachMay : (Message → Bool) → List (Placed Message) → Type 0
 EachMay may placed = Each (λ p. may p.message ≡ true) placed
 
@@ -48,7 +48,7 @@ pub data HearsSoFar (own : ℕ) (may : Message → Bool) (given : List (Placed M
   Greeted : (greets : Placed Message) (placed : List (Placed Message)) (v : ℕ) → given ≡ greets ∷ placed → greeting own greets.message ≡ Ok v → version ≡ Some v
       → EachMay may placed → heard ≡ map (λ p. p.message) placed → HearsSoFar own may given version heard
 
--- these messages were handed out: they are all behind the greeting in the bytes that the decoder gave out, and nothing was wrong
+-- these messages were handed out: they are all that follow the greeting in the bytes that the decoder gave out, and nothing was wrong
 pub record HasHeard (p : PortState) (heard : List Message) : Type 0 where
   pub given : List (Placed Message)
   pub channel : p.decoder.channel ≡ Control
@@ -56,7 +56,7 @@ pub record HasHeard (p : PortState) (heard : List Message) : Type 0 where
   pub fine : p.decoder.fault ≡ None
   pub so_far : HearsSoFar p.own (may_hear p.talker) given p.version heard
 
--- one message more was given by the decoder, where these had been
+-- the decoder gave one message more than these
 pub record TakesOne (old new : PortState) (heard : List Message) (m : Message) : Type 0 where
   pub given : List (Placed Message)
   pub at : ℕ
@@ -68,32 +68,32 @@ pub record TakesOne (old new : PortState) (heard : List Message) (m : Message) :
   pub stands : StandsFor new.decoder (view new.end).got (given ++ record { at = at; message = m } ∷ [])
   pub begins : IsPrefixOf (given ++ record { at = at; message = m } ∷ []) (reading Control (view new.end).got).placed
 
--- a message more has gone, or none
+-- one message more was sent, or none
 abbrev pub HasSaidMore : PortState → List Message → Message → SendAnswer → Type 0
 HasSaidMore p said m Sent = HasSaid p (said ++ m ∷ [])
 HasSaidMore p said m (NoRoom prod cons) = HasSaid p said
 HasSaidMore p said m PeerClosed = HasSaid p said
 
--- of the bytes got nothing more is to be handed out: these messages are all, up to what is wrong
+-- nothing more will be handed out of the bytes got: these messages are all, up to what is wrong
 abbrev pub HasHeardAll : PortState → List Message → Type 0
 HasHeardAll p heard = hears p.own (may_hear p.talker) (view p.end).got ≡ record { version = p.version; messages = heard; fault = p.fault }
 
--- the next message was taken, of whatever type: where it was given, or none is there, or the bytes are no message
+-- the next message was taken, of any type; or none is there, or the bytes are no message
 abbrev pub Takes : PortState → PortState → List Message → Option Message → Type 0
 Takes old new heard (Some m) = TakesOne old new heard m
 Takes old new heard None = HasHeardAll new heard × (new.fault ≡ None → HasHeard new heard)
 
--- the other side's greeting was taken, or all of what it is to hand out was: none
+-- the other side's greeting was taken, or nothing more will be handed out
 abbrev pub Greets : PortState → List Message → Bool → Type 0
 Greets new heard true = HasHeard new heard × IsSome new.version × (new.fault ≡ None)
 Greets new heard false = HasHeardAll new heard × (new.fault ≡ None → HasHeard new heard)
 
--- a message more was handed out, or all were
+-- one message more was handed out, or all were
 abbrev pub Hands : PortState → List Message → Option Message → Type 0
 Hands new heard (Some m) = HasHeard new (heard ++ m ∷ []) × (may_hear new.talker m ≡ true) × IsSome new.version × (new.fault ≡ None)
 Hands new heard None = HasHeardAll new heard × (new.fault ≡ None → HasHeard new heard)
 
--- fewer of the bytes got are left that were not handed out
+-- fewer of the bytes got are left to hand out
 abbrev pub HasFewerLeft : PortState → PortState → Type 0
 HasFewerLeft old new = length new.decoder.left < length old.decoder.left
 
@@ -101,6 +101,6 @@ HasFewerLeft old new = length new.decoder.left < length old.decoder.left
 abbrev pub OnlySends : PortState → PortState → Type 0
 OnlySends old new = new ≡ record old { end = new.end }
 
--- its end is as it was, and what it said too
+-- its end is as it was, and so is what it sent
 abbrev pub OnlyHears : PortState → PortState → Type 0
 OnlyHears old new = (new.end ≡ old.end) × (new.talker ≡ old.talker) × (new.own ≡ old.own) × (new.greeted ≡ old.greeted)

@@ -1,4 +1,4 @@
--- Which messages a side of a control channel may say, and which it may hear.
+-- Which messages a side of a control channel may send, and which it may hear.
 -- Source: the messages are those of the qrexec protocol.
 use Rattle.std.specs.Prelude.{Bool}
 use Rattle.qrexec_frame.specs.declared.message.Message.{Message}

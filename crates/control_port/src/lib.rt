@@ -1,8 +1,8 @@
-//! One end of a control channel: whole messages go out by it, and those that come are handed out one
-//! by one, up to the first that is wrong.
+//! One end of a control channel. It sends whole messages and hands out those that come one by one, up to the
+//! first wrong one.
 //!
-//! It serves the two sides of such a channel, an agent and the broker. The messages are those of the
-//! qrexec protocol; that each goes as one packet, and who greets first, is this project's own.
+//! It serves the two sides of such a channel, an agent and the broker. The messages are those of the qrexec
+//! protocol. This project decided that each goes as one packet, and which side greets first.
 #![tactic(auto)]
 
 mod moves;

@@ -1,6 +1,6 @@
 //! How often a port has moved something.
 
-/// How often a port has moved something that its other side may wait for: a connect, bytes that came or went,
+/// Counts how often a port has moved something that its other side may wait for: a connect, bytes in or out,
 /// the end. No contract speaks of it.
 #[derive(Drop)]
 pub(crate) struct Moves {
@@ -8,12 +8,12 @@ pub(crate) struct Moves {
 }
 
 impl Moves {
-    /// Nothing yet.
+    /// Returns a count of nothing.
     pub(crate) fn none() -> Moves {
         Moves { count: 0 }
     }
 
-    /// Once more, where it did.
+    /// Counts one move more if there was one.
     pub(crate) fn note(&mut self, moved: bool) {
         if moved {
             self.count = self.count.wrapping_add(1);

@@ -35,7 +35,7 @@ use vchan_notify::{buffer_space, peer_gone};
 use vchan_packet::{SendAnswer, send};
 use vchan_rule::{End, Retired};
 
-/// One side's end of a control channel, with what it has read and not handed out.
+/// One side's end of a control channel, with the bytes that it has read and not handed out.
 #[derive(Drop)]
 pub struct ControlPort<'p> {
     end: End<'p>,
@@ -45,7 +45,7 @@ pub struct ControlPort<'p> {
     decoder: Decoder,
     version: Option<u32>,
     fault: Option<SessionFault>,
-    // The spelling of the message that is sent, kept for its room.
+    // The spelling of the last message, kept so that its memory is used again.
     spelling: Vec<u8>,
     moves: Moves,
 }
@@ -62,7 +62,7 @@ impl<'p> Model for ControlPort<'p> {
 }
 
 impl<'p> ControlPort<'p> {
-    /// The port of a side of this version, 2 or 3, over an end that has moved nothing.
+    /// Makes the port of a side with this version, 2 or 3, over an end that has moved nothing.
     pub fn new(alloc: Global, end: End<'p>, talker: Talker, own: u32) -> ControlPort<'p>
         requires own { (2 ≤ own) × (own ≤ 3) }
         requires unused { ((view end).sent ≡ []) × ((view end).got ≡ []) }
@@ -84,35 +84,35 @@ impl<'p> ControlPort<'p> {
         }
     }
 
-    /// The version that both sides go on with, once the other's greeting was read.
+    /// Returns the version that both sides go on with, once the other side's greeting was read.
     pub fn version(&self) -> Option<u32>
         ensures { result ≡ self.now.version }
     {
         self.version
     }
 
-    /// What is wrong with the bytes that came, where something is.
+    /// Returns what is wrong with the bytes that came, if something is.
     pub fn fault(&self) -> Option<SessionFault>
         ensures { result ≡ self.now.fault }
     {
         self.fault
     }
 
-    /// How often the port has moved something: a connect, bytes, the end. No contract relies on it: a task of
-    /// whose ports none moved has nothing to do until another one's has.
+    /// Returns how often the port has moved something: a connect, bytes, the end. No contract relies on it. A
+    /// task none of whose ports moved has nothing to do until another task's port has moved.
     pub fn moves(&self) -> u64 {
         self.moves.count()
     }
 
-    /// Whether the own greeting has gone.
+    /// Returns whether the own greeting was sent.
     pub fn greeted(&self) -> bool
         ensures { result ≡ self.now.greeted }
     {
         self.greeted
     }
 
-    /// Connects the end of a client, which is open then. The error comes exactly where the two order
-    /// words that it loaded don't say the page's orders; the client stays fresh.
+    /// Connects the end of a client, which is open afterwards. Returns the error if and only if the two order
+    /// words that it loaded aren't the page's orders; the client then stays fresh.
     pub fn connect(&mut self) -> Result<(), BadOrders>
         requires idle { (view self.old.end).idle ≡ true }
         requires fresh { (view self.old.end).state ≡ Fresh }
@@ -129,7 +129,7 @@ impl<'p> ControlPort<'p> {
         connect(&mut self.end)
     }
 
-    /// Whether the other side is gone. Nothing is taken of what has come.
+    /// Returns whether the other side is gone. It takes none of the bytes that have come.
     pub fn peer_gone(&mut self) -> bool
         requires open { IsOpen self.old.end }
         ensures end { IsSameEnd self.old.end self.new.end }
@@ -144,7 +144,7 @@ impl<'p> ControlPort<'p> {
         peer_gone(&mut self.end)
     }
 
-    /// How many bytes have room to be sent now. It asks for a signal at more room.
+    /// Returns how many bytes there is room to send now. It asks for a signal when there is more room.
     pub fn room(&mut self) -> u32
         requires open { IsOpen self.old.end }
         ensures end { IsSameEnd self.old.end self.new.end }
@@ -159,9 +159,9 @@ impl<'p> ControlPort<'p> {
         buffer_space(&mut self.end)
     }
 
-    /// Sends the own greeting, which is the first message. It has gone where the answer is `Sent`; each
-    /// answer comes exactly where its cause is in what the call's events loaded. After want of memory
-    /// all is as it was.
+    /// Sends the own greeting, which is the first message. The greeting was sent if the answer is `Sent`.
+    /// Each answer comes if and only if its cause is in what the call's events loaded. Returns `Memory` if
+    /// memory runs out; nothing was changed then.
     pub fn greet(&mut self) -> Result<SendAnswer, Memory>
         requires open { IsOpen self.old.end }
         requires first { self.old.greeted ≡ false }
@@ -183,9 +183,9 @@ impl<'p> ControlPort<'p> {
         Ok(answer)
     }
 
-    /// Sends a message that this side may say, as one packet. It has gone where the answer is `Sent`; each
-    /// answer comes exactly where its cause is in what the call's events loaded. After want of memory
-    /// all is as it was.
+    /// Sends a message that this side may send, as one packet. The message was sent if the answer is `Sent`.
+    /// Each answer comes if and only if its cause is in what the call's events loaded. Returns `Memory` if
+    /// memory runs out; nothing was changed then.
     pub fn say(&mut self, message: &Message) -> Result<SendAnswer, Memory>
         requires open { IsOpen self.old.end }
         requires greeted { self.old.greeted ≡ true }
@@ -224,9 +224,9 @@ impl<'p> ControlPort<'p> {
         Ok(answer)
     }
 
-    /// Takes what has come, or hears that no more comes; each answer comes exactly where its cause is in
-    /// what the call's events loaded. What was taken is handed out by `next`. After want of memory the end
-    /// can still be retired, and no more is said of what was heard.
+    /// Takes what has come, or finds that no more will come. Each answer comes if and only if its cause is in
+    /// what the call's events loaded. `next` hands out what was taken. Returns `Memory` if memory runs out;
+    /// the end can still be retired then, and nothing is promised of the messages heard.
     pub fn drain(&mut self, buf: &mut [u8]) -> Result<DrainAnswer, Memory>
         requires open { IsOpen self.old.end }
         requires some { 0 < length buf.old }
@@ -253,9 +253,9 @@ impl<'p> ControlPort<'p> {
         }
     }
 
-    /// Hands out the next message behind the other side's greeting. `None` comes where no whole message is
-    /// left of what was taken, and where something is wrong with it, which `fault` tells. After want of
-    /// memory the end can still be retired, and no more is said of what was heard.
+    /// Hands out the next message after the other side's greeting. Returns `None` if no whole message is left
+    /// of what was taken, or if something is wrong with it; `fault` then tells what. Returns `Memory` if
+    /// memory runs out; the end can still be retired then, and nothing is promised of the messages heard.
     pub fn next(&mut self) -> Result<Option<Message>, Memory>
         requires fine { self.old.fault ≡ None }
         ensures hands { (heard : List Said) → HasHeard self.old heard → IfOk result (λ message. Hands self.new heard message) }
@@ -296,7 +296,8 @@ impl<'p> ControlPort<'p> {
         Ok(None)
     }
 
-    // Takes the other side's greeting, which is its first message. It answers whether that was one.
+    // Takes the other side's greeting, which is its first message. Returns whether that message was a
+    // greeting.
     fn take_greeting(&mut self) -> Result<bool, Memory>
         requires fine { self.old.fault ≡ None }
         requires first { self.old.version ≡ None }
@@ -340,14 +341,14 @@ impl<'p> ControlPort<'p> {
         }
     }
 
-    /// Where the end stands in its life.
+    /// Returns where the end stands in its life.
     pub fn state(&self) -> EndState
         ensures { result ≡ (view self.now.end).state }
     {
         self.end.state()
     }
 
-    /// Retires the end in its place, so that its peer learns of it now. `rest` gives it back.
+    /// Retires the end in its place, so that its peer learns of it now. `rest` gives the end back.
     pub fn hang_up(&mut self)
         requires idle { (view self.old.end).idle ≡ true }
         ensures end { IsSameEnd self.old.end self.new.end }
@@ -359,7 +360,7 @@ impl<'p> ControlPort<'p> {
         let _ = self.end.do_call(Call::Retire, &[], &mut []);
     }
 
-    /// Gives the end back that was retired in its place.
+    /// Gives back the end that was retired in its place.
     pub fn rest(self) -> Retired
         requires idle { (view self.end).idle ≡ true }
         requires retired { (view self.end).retired ≡ true }
@@ -370,7 +371,7 @@ impl<'p> ControlPort<'p> {
         end.rest()
     }
 
-    /// Retires the end.
+    /// Retires the end and gives it back.
     pub fn retire(self) -> Retired
         requires idle { (view self.end).idle ≡ true }
         ensures end { last_view result ≡ retired_view (view self.entry.end) }

@@ -1,4 +1,4 @@
-//! Who may say what on a control channel.
+//! Who may send what on a control channel.
 ghost use Rattle.std.specs.Prelude.{◌≡◌};
 ghost use Rattle.task_duties.specs.Hearing.{to_agent, to_broker};
 ghost use Rattle.control_port.specs.Talking.{may_say, may_hear};
@@ -8,14 +8,14 @@ use qrexec_frame::Message;
 /// A side of a control channel.
 #[derive(Clone, Copy, Debug, PartialEq, Eq)]
 pub enum Talker {
-    /// The side of a domain: it triggers calls, and says which of those to it are over.
+    /// The side of a domain. It triggers calls, and reports which calls to it are over.
     Agent,
-    /// The side of the broker: it answers triggers, and asks for calls to be served.
+    /// The side of the broker. It answers triggers, and asks for calls to be served.
     Broker,
 }
 
 impl Talker {
-    /// Whether this side may say the message behind its greeting.
+    /// Returns whether this side may send the message after its greeting.
     pub fn says(self, message: &Message) -> bool
         ensures { result ≡ may_say self message.now }
     {
@@ -25,7 +25,7 @@ impl Talker {
         }
     }
 
-    /// Whether the other side may say the message behind its greeting.
+    /// Returns whether the other side may send the message after its greeting.
     pub fn hears(self, message: &Message) -> bool
         ensures { result ≡ may_hear self message.now }
     {

@@ -8,19 +8,19 @@ use Rattle.run_laws.specs.declared.report.CallLine.{CallLine}
 use Rattle.run_report.specs.Summary.{DoneCall, Totals, totals, counted, done_of, done_calls}
 use Rattle.run_report.specs.Summing.{IsSumming}
 
--- a fold goes on behind the first elements
+-- a fold goes on after the first elements
 fold-append : {A B : Type 0} (f : B → A → B) (b : B) (xs ys : List A) → fold f b (xs ++ ys) ≡ fold f (fold f b xs) ys
 fold-append f b [] ys = refl
 fold-append f b (x ∷ xs) ys = fold-append f (f b x) xs ys
 
--- a call that is done, behind the others
+-- a call that is done, after the others
 totals-more : (dones : List DoneCall) (d : DoneCall) → counted (Some d) (totals dones) ≡ totals (dones ++ d ∷ [])
 totals-more dones d =
     rw (length-append dones (d ∷ [])) (rw (fold-append (λ a (x : DoneCall). a + x.stdin) 0 dones (d ∷ []))
     (rw (fold-append (λ a (x : DoneCall). a + x.stdout) 0 dones (d ∷ [])) (rw (fold-append (λ a (x : DoneCall). a + x.stderr) 0 dones (d ∷ []))
     (rw (fold-append (λ sum (x : DoneCall). sum +ℤ x.code) (pos 0) dones (d ∷ [])) refl))))
 
--- the calls that are left, with the next one where it is done
+-- the calls that are left, with the next one if it is done
 abbrev next-done : Option DoneCall → List DoneCall → List DoneCall
 next-done None dones = dones
 next-done (Some d) dones = d ∷ dones
@@ -31,7 +31,7 @@ calls-on : (call : CallPlan) (calls : List CallPlan) (line : CallLine) (lines : 
 calls-on call calls line lines None is = rw is refl
 calls-on call calls line lines (Some d) is = rw is refl
 
--- nothing is left where either list is at its end
+-- nothing is left if either list is at its end
 pub none-left : (calls : List CallPlan) (lines : List CallLine) → (length calls ≡ 0) ⊎ (length lines ≡ 0) → done_calls calls lines ≡ []
 none-left [] lines e = refl
 none-left (call ∷ calls) [] e = refl
@@ -62,7 +62,7 @@ sums-on sums call calls line lines all most s = on (done_of (length call.stdin) 
       few = omega (arith, s.few, length-append s.dones (d ∷ []));
     }
 
--- the totals of all calls, where none is left
+-- the totals of all calls, if none is left
 pub sums-all : (sums : Totals) (calls : List CallPlan) (lines : List CallLine) (all : List DoneCall) (most : ℕ)
     → IsSumming sums calls lines all most → done_calls calls lines ≡ [] → sums ≡ totals all
 sums-all sums calls lines all most s none =

@@ -19,7 +19,7 @@ abbrev pub spaced : List (List ℕ) → List ℕ
 spaced [] = []
 spaced (word ∷ words) = 32 ∷ (word ++ spaced words)
 
--- how a session with a hostile domain came out
+-- how a session with a hostile domain ended
 abbrev pub outcome_word : MixedOutcome → List ℕ
 outcome_word (Done code) = codes "done:" ++ signed_decimal code
 outcome_word Refused = codes "refused"
@@ -33,7 +33,7 @@ cause_word cause.NoDomain = codes "no-domain"
 cause_word cause.SameDomain = codes "same-domain"
 cause_word cause.NoService = codes "no-service"
 
--- what came of a call; bytes are in lower case hexadecimal, none are `-`
+-- what came of a call; bytes are in lower case hexadecimal, and none are `-`
 abbrev pub result_words : CallResult → List (List ℕ)
 result_words (result.Done code stdout stderr page) = codes "done" ∷ signed_decimal code ∷ shown_bytes stdout ∷ shown_bytes stderr ∷ []
 result_words (result.Refused cause) = codes "refused" ∷ cause_word cause ∷ []

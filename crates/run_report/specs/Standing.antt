@@ -1,4 +1,4 @@
--- What stands of a page of a run, whenever it was laid.
+-- What is known of a page of a run, whether it was laid at first or at its first use.
 -- Source: this project's own.
 use Rattle.end_view.specs.Settled.{Settled}
 use Rattle.run_report.specs.declared.standing.Laid.{Laid}

@@ -17,7 +17,7 @@ pub record DoneCall : Type 0 where
   pub stderr : ℕ
   pub code : ℤ
 
--- what came of a call with an input of so many bytes, where it is done
+-- a call with an input of `stdin` bytes, if it is done
 abbrev pub done_of : ℕ → CallResult → Option DoneCall
 done_of stdin (result.Done code stdout stderr page) = Some (record { stdin = stdin; stdout = length stdout; stderr = length stderr; code = code })
 done_of stdin (result.Refused cause) = None
@@ -27,7 +27,7 @@ done_of stdin (result.Mixed outcome got) = None
 abbrev pub done_at : CallPlan × CallLine → Option DoneCall
 done_at (call, line) = done_of (length call.stdin) line.result
 
--- the calls that are done, each call standing beside its line
+-- the calls that are done, when each call is put beside its line
 abbrev pub done_calls : List CallPlan → List CallLine → List DoneCall
 done_calls calls lines = filter_map done_at (zip calls lines)
 
@@ -58,7 +58,7 @@ totals dones = record {
   codes = code_sum dones;
 }
 
--- the totals of at most 4,096 calls, whose lengths are below 2^64 and whose codes have 32 bits
+-- the totals of at most 4,096 calls, with lengths below 2^64 and codes of 32 bits
 pub record AreWithin (t : Totals) : Type 0 where
   pub few : t.done ≤ 4096
   pub stdin : t.stdin ≤ t.done * 2 ^ 64
@@ -67,7 +67,7 @@ pub record AreWithin (t : Totals) : Type 0 where
   pub most : t.codes ≤ℤ pos (t.done * 2 ^ 31)
   pub least : neg_ℤ (pos (t.done * 2 ^ 31)) ≤ℤ t.codes
 
--- the text of some totals
+-- the text of totals
 abbrev pub sums_text : ℕ → Totals → List ℕ
 sums_text calls t =
     sum_line (codes "calls") (decimal calls)
@@ -77,6 +77,6 @@ sums_text calls t =
     ++ (sum_line (codes "stderr") (decimal t.stderr)
     ++ sum_line (codes "codes") (signed_decimal t.codes)))))
 
--- the summary of a report of some calls
+-- the summary of a report of these calls
 abbrev pub summary_of : List CallPlan → Report → List ℕ
 summary_of calls r = sums_text (length r.calls) (totals (done_calls calls r.calls))

@@ -1,8 +1,9 @@
 //! The report of a run, and its text.
 //!
-//! It serves whoever runs a scenario: what came of each call and of each session with a hostile
-//! caller, and the pages on which it came. What a lawful report is, `run_laws` says; here it gets its
-//! types, its text, and the text of its sums; whoever prints other lines takes its words of them.
+//! It serves programs that run a scenario: it has what came of each call and of each session with a hostile
+//! caller, and the pages on which they ran. `run_laws` says what a lawful report is. This crate has the
+//! report's type, its text, the text of its sums, and the words with which other crates print lines of their
+//! own.
 #![tactic(auto)]
 
 mod lines;

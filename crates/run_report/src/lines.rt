@@ -1,4 +1,4 @@
-//! Words and lines, each put behind the text that was printed before.
+//! Words and lines, each appended to the text that was printed before.
 ghost use Rattle.std.specs.Prelude.{◌≡◌, ◌++◌, ◌∷◌, [], OnOk};
 ghost use Rattle.run_report.specs.Lines.{call_line, cause_word, outcome_word, result_words, served_line, spaced, sum_line};
 ghost use Rattle.qrexec_frame.specs.Lines.{shown_bytes};
@@ -9,7 +9,7 @@ use run_laws::{CallLine, CallResult, MixedOutcome, ServedLine};
 use scenario_file::LineCause;
 use std::alloc::AllocError;
 
-/// The line of a call.
+/// Appends the line of a call.
 pub(crate) fn push_call(out: &mut Vec<u8>, line: &CallLine) -> Result<(), AllocError>
     ensures { OnOk result (out.new.items ≡ out.old.items ++ call_line line.now) }
 {
@@ -23,7 +23,7 @@ pub(crate) fn push_call(out: &mut Vec<u8>, line: &CallLine) -> Result<(), AllocE
     Ok(())
 }
 
-/// The line of a session with a hostile caller.
+/// Appends the line of a session with a hostile caller.
 pub(crate) fn push_served(out: &mut Vec<u8>, line: &ServedLine) -> Result<(), AllocError>
     ensures { OnOk result (out.new.items ≡ out.old.items ++ served_line line.now) }
 {
@@ -37,7 +37,7 @@ pub(crate) fn push_served(out: &mut Vec<u8>, line: &ServedLine) -> Result<(), Al
     Ok(())
 }
 
-/// The line of a name and a number.
+/// Appends the line of a name and a number.
 pub(crate) fn push_sum<I: Integer>(out: &mut Vec<u8>, name: &[u8], sum: I) -> Result<(), AllocError>
     ensures { OnOk result (out.new.items ≡ out.old.items ++ sum_line name.now (I.text sum)) }
 {
@@ -106,15 +106,16 @@ fn push_word(out: &mut Vec<u8>, word: &[u8]) -> Result<(), AllocError>
     out.extend_from_slice(word)
 }
 
-/// A space and a decimal number, behind what was printed before. Want of memory may leave a part of it.
+/// Appends a space and a decimal number. Returns the error if memory runs out; a part of the text may have
+/// been appended then.
 pub fn push_number<I: Integer>(out: &mut Vec<u8>, number: I) -> Result<(), AllocError>
     ensures { OnOk result (out.new.items ≡ out.old.items ++ spaced (I.text number ∷ [])) }
 {
     push_word(out, Buffer::new().format(number).as_bytes())
 }
 
-/// A space and bytes in lower case hexadecimal, or `-` where there are none, behind what was printed
-/// before. Want of memory may leave a part of it.
+/// Appends a space and the bytes in lower case hexadecimal, or `-` if there are none. Returns the error if
+/// memory runs out; a part of the text may have been appended then.
 pub fn push_bytes(out: &mut Vec<u8>, bytes: &[u8]) -> Result<(), AllocError>
     ensures { OnOk result (out.new.items ≡ out.old.items ++ spaced (shown_bytes bytes.now ∷ [])) }
 {

@@ -4,12 +4,12 @@ use run_laws::{CallLine, ServedLine};
 use std::marker::Model;
 use task_duties::PagePlace;
 
-/// A page that is done with, and where it lay.
+/// A page that is done with, and its place.
 #[derive(Drop)]
 pub struct SettledPage {
-    /// Where it lay.
+    /// The page's place among the pages of the run.
     pub place: PagePlace,
-    /// What stands of it.
+    /// What is known of it.
     pub settled: Standing,
 }
 
@@ -26,8 +26,8 @@ impl Model for SettledPage {
 pub struct Report {
     /// A line for each call, in the order of the scenario.
     pub calls: Vec<CallLine>,
-    /// A line for each session in which an honest domain served a hostile one, in order of the
-    /// caller's number, the server's number and the port.
+    /// A line for each session in which an honest domain served a hostile one, in order of the caller's
+    /// number, the server's number and the port.
     pub served: Vec<ServedLine>,
     /// All pages of the run.
     pub pages: Vec<SettledPage>,

@@ -1,4 +1,4 @@
-//! What stands of a page of a run.
+//! What is known of a page of a run.
 ghost use Rattle.std.specs.Prelude.{◌≡◌};
 
 use page_offer::OfferedPage;
@@ -14,7 +14,7 @@ pub(crate) enum Laid {
     InUse(OfferedPage),
 }
 
-/// What stands of a page that is done with, whenever it was laid.
+/// What is known of a page that is done with, whether it was laid at first or at its first use.
 #[derive(Drop)]
 pub struct Standing {
     page: Laid,
@@ -30,7 +30,7 @@ impl Model for Standing {
 }
 
 impl Standing {
-    /// That of a page that was laid before the first turn.
+    /// Makes it for a page that was laid before the first turn.
     pub fn laid(page: Settled) -> Standing
         ensures { result ≡ page }
     {
@@ -39,7 +39,7 @@ impl Standing {
         }
     }
 
-    /// That of a page that was to be laid when it was first used.
+    /// Makes it for a page that was to be laid at its first use.
     pub fn offered(page: OfferedPage) -> Standing
         ensures { result ≡ page }
     {

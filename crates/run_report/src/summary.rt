@@ -10,8 +10,8 @@ use std::alloc::{AllocError, Global};
 use std::marker::Model;
 use vchan_io::Memory;
 
-/// What is summed over the calls that are done, of which there are at most 4,096. A length is below
-/// 2^64 and a code below 2^31, so that no sum is out of its type.
+/// What is summed over the calls that are done, of which there are at most 4,096. A length is below 2^64 and
+/// a code below 2^31, so no sum leaves its type.
 #[derive(Drop)]
 struct Sums {
     done: u32,
@@ -32,7 +32,7 @@ impl Model for Sums {
 }
 
 impl Sums {
-    /// Counts a call with an input of so many bytes, where it is done.
+    /// Counts a call with an input of `stdin` bytes, if it is done.
     fn count(&mut self, stdin: usize, outcome: &CallResult)
         requires { self.old.done < 4096 }
         ensures { self.new ≡ counted (done_of stdin outcome.now) self.old }
@@ -53,9 +53,9 @@ impl Sums {
     }
 }
 
-/// The text of the sums over the calls of a scenario that are done, by the report of its run: how many
-/// calls there are, how many are done, how many bytes their streams have in all, and the sum of their
-/// exit codes.
+/// Returns the text of the sums over the calls of a scenario that are done, by the report of its run: the
+/// number of calls, how many are done, how many bytes their streams have in all, and the sum of their exit
+/// codes. Returns `Memory` if memory runs out.
 pub fn summary_text(alloc: Global, scenario: &Scenario, report: &Report) -> Result<Vec<u8>, Memory>
     ensures { IfOk result (λ text. text.items ≡ summary_of scenario.now.calls report.now) }
 {

@@ -6,7 +6,7 @@ use std::alloc::Global;
 use std::test::Fail;
 use vchan_io::Memory;
 
-// What came of a call, on no page.
+// What came of a call that ran on no page.
 fn result_of(told: LineResult) -> CallResult {
     match told {
         LineResult::Refused { cause } => CallResult::Refused { cause },
@@ -23,7 +23,7 @@ fn result_of(told: LineResult) -> CallResult {
     }
 }
 
-// The report of a scenario without hostile domains, told by its services alone: it has no pages.
+// The report of a scenario without hostile domains, computed from its services alone: it has no pages.
 fn report_of(alloc: Global, scenario: &Scenario) -> Result<Report, Memory> {
     let mut calls = Vec::new(alloc);
     for line in honest_lines(alloc, scenario)? {

@@ -9,9 +9,9 @@ use run_laws::{CallLine, ServedLine};
 use std::alloc::{AllocError, Global};
 use vchan_io::Memory;
 
-/// The text of a report: a line for each call and for each session with a hostile caller, in the order
-/// of the report, and the number of calls. Streams are in lower case hexadecimal, and `-` stands for an
-/// empty one.
+/// Returns the text of a report: a line for each call and for each session with a hostile caller, in the
+/// order of the report, and the number of calls. Streams are in lower case hexadecimal, and `-` stands for an
+/// empty one. Returns `Memory` if memory runs out.
 pub fn report_text(alloc: Global, report: &Report) -> Result<Vec<u8>, Memory>
     ensures { IfOk result (λ text. text.items ≡ text_of report.now) }
 {

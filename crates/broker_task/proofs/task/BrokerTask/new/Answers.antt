@@ -1,4 +1,4 @@
--- The task begins with nothing decided, heard or said.
+-- The task begins with nothing decided, heard or sent.
 use Rattle.std.proofs.Common.{List, ℕ, subst, arith}
 use Rattle.broker_task.specs.Starting.{AreStarted}
 use Rattle.broker_task.proofs.StartLaws.{ready-new, given-new}
