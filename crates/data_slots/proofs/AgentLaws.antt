@@ -1,4 +1,4 @@
--- What an agent concludes from its data ends once they are given back.
+-- What an agent concludes from its data ends after they are given back.
 use Rattle.std.proofs.Common.{◌≡◌, List, [], ◌∷◌, map, ap, ◌∙◌, subst, inl, inr}
 use Rattle.end_view.specs.EndView.{EndView}
 use Rattle.task_duties.specs.declared.place.PagePlace.{PagePlace}
@@ -17,7 +17,7 @@ same-ends (g ∷ given) (e ∷ ends) h =
     let more : map held_at ends ≡ map held_at given = cc in
     (record { place = ap (λ (k : Held). k.place) first; page = ap (λ (k : Held). k.page) first; role = ap (λ (k : Held). k.role) first }, same-ends given ends more)
 
--- what some end at a place is like, the end at that place is like
+-- what holds of some end at a place holds of the end at that place
 pub end-there : (ends : List EndAt) (end : PagePlace → EndView) (place : PagePlace) (P : EndView → Type 0) → AreEnds end ends → HasEnd ends place P → P (end place)
 end-there [] end place P are h = absurd h
 end-there (e ∷ ends) end place P are (inl h) = subst P (are.0 ∙ ap end h.0) h.1

@@ -1,4 +1,4 @@
--- An unused end that was found, and what contracts see once it is put to use.
+-- An unused end that was found, and what contracts see after it is put to use.
 use Rattle.std.proofs.Common.{◌≡◌, ℕ, List, get_or, refl, ap, sym, ◌∙◌, Option, Some}
 use Rattle.std.specs.Prelude.{slice_get, Bool}
 use Rattle.std.proofs.lemmas.Option.{get_or_from_slice_get}
@@ -70,7 +70,7 @@ from-is a b c f t p e = cc
 to-is : (a b c f t p : ℕ) → Payload a b c ≡ Payload f t p → b ≡ t
 to-is a b c f t p e = cc
 
--- it is a server's where the agent calls, and a client's where it is called
+-- it is a server's if the agent calls, and a client's if it is called
 pub free-server : (domain version to port : ℕ) (slots : List Slot) (at : ℕ) (slot : Slot) → Each (λ s. IsStage version s.stage) slots → Each (λ h. IsEndOf domain h.place h.role) (held_in slots)
     → IsFree slots at (Payload domain to port) slot → IsUnusedBy Server slot.stage
 free-server domain version to port slots at slot stages ends free =
@@ -85,7 +85,7 @@ free-client domain version from port slots at slot stages ends free =
     (client-role domain slot.from slot.to slot.port (end_of slot.stage).role (to-is slot.from slot.to slot.port from domain port free.lies)
     (each-get (λ h. IsEndOf domain h.place h.role) (held_in slots) at (frame_of slot).held ends (get-map (λ s. (frame_of s).held) slots at slot free.here)))
 
--- two states are the same where their lists are
+-- two states are the same if their lists are
 pub same-state : (domain version : ℕ) (held held' : List Held) (unused unused' : List PagePlace) (called called' : List (Option Called)) (served served' : List ServedHere) (count count' : ℕ) (spent : Bool)
     → held ≡ held' → unused ≡ unused' → called ≡ called' → served ≡ served' → count ≡ count'
     → ◌≡◌ {A = SlotsState} (record { domain = domain; version = version; held = held; unused = unused; called = called; served = served; open_count = count; spent = spent })

@@ -51,7 +51,7 @@ one-more slots rest slot retired x held honest h = record {
 pub all-held : (slots : List Slot) (retired : List RetiredEnd) → AreRetiring slots [] retired → map held_at (all_retired retired) ≡ held_in slots
 all-held slots retired h = sym (append-nil (map held_at (all_retired retired))) ∙ h.held
 
--- what more is reported of the rest is reported of all
+-- what is reported of the rest is reported of all
 abbrev pub ReportsOn : ℕ → List Slot → List Slot → List RetiredEnd → List Report → Type 0
 ReportsOn version slots rest retired reports =
     (ends : List EndAt) (more : List Report) → AreReported version (frames rest) ends more → AreReported version (frames slots) (all_retired retired ++ ends) (reports ++ more)
@@ -70,7 +70,7 @@ report-all version slots retired reports h =
 
 -- ---- reports by their numbers
 
--- what is reported of the end of a number
+-- what is reported of the end with this number
 record At (version : ℕ) (place : PagePlace) (used : Use) (at : ℕ) (ends : List EndAt) (reports : List Report) : Type 0 where
   pub end : EndAt
   pub report : Report
@@ -127,7 +127,7 @@ are-servings version domain fs ends reports calls served h have number n is =
     let r = serving-report version n.from domain n.port number n.service.value a.end.view a.report a.is in
     (r.0, a.report_is ∙ ap Some r.1)
 
--- ---- and what contracts say of them
+-- ---- what contracts promise of them
 
 pairs : {A B C : Type 0} (R : B → C → Type 0) (f : A → B) (g : A → C) (xs : List A) → ((m : ℕ) (x : A) → slice_get xs m ≡ Some x → R (f x) (g x)) → EachPair R (map f xs) (map g xs)
 pairs R f g [] h = tt
@@ -149,7 +149,7 @@ reports-called version domain fs ends reports calls served h have = pairs (Repor
         let a = used-at version fs ends reports n.at (Payload domain n.to n.port) (ForCall m n.input.value.items) h (have.called m n is) in
         subst (λ o. ReportsCalled domain version ends (Some (called_of n)) o) (sym (ap (option_and_then call_in) a.report_is)) (reports-of m n a.end a.report a.end_is a.lies a.is)
 
--- a list of answers that are there
+-- a list of answers that exist
 some-pairs : {A B C : Type 0} (R : B → C → Type 0) (f : A → B) (g : A → Option C) (xs : List A) (ys : List C) → map Some ys ≡ map g xs
     → ((m : ℕ) (x : A) → slice_get xs m ≡ Some x → (y : C) × (g x ≡ Some y) × R (f x) y) → EachPair R (map f xs) ys
 some-pairs R f g [] [] same h = tt

@@ -20,7 +20,7 @@ same-number a b h = grind (arith, nat_tests, h)
 self : (n : ℕ) → (n == n) ≡ true
 self n = grind (arith, nat_tests)
 
--- keys that are the same say the same place
+-- keys that are the same name the same place
 same-place : (a b c f t p : ℕ) → same_key (a, b, c) (f, t, p) ≡ true → Payload a b c ≡ Payload f t p
 same-place a b c f t p h =
     let one = both (a == f && b == t) (c == p) h in
@@ -33,7 +33,7 @@ same-place a b c f t p h =
 key-self : (a b c : ℕ) → same_key (a, b, c) (a, b, c) ≡ true
 key-self a b c = rw (self a, self b, self c) refl
 
--- the index of the ends up to a number
+-- the index of the ends before a number
 pub record IsIndexUpTo (count : ℕ) (places : List PagePlace) (index : PlaceIndex) : Type 0 where
   pub has : (i from to port : ℕ) → i < count → slice_get places i ≡ Some (Payload from to port) → end_at index from to port ≡ Some i
   pub has_only : (i from to port : ℕ) → end_at index from to port ≡ Some i → (i < count) × (slice_get places i ≡ Some (Payload from to port))

@@ -36,7 +36,7 @@ pub each-push : {A : Type 0} (P : A → Type 0) (xs : List A) (y : A) → Each P
 each-push P [] y each h = (h, tt)
 each-push P (z ∷ xs) y each h = (each.0, each-push P xs y each.1 h)
 
--- an element of a list with one more is one of the list, or that one
+-- an element of a list with one more is one of the list, or the last one
 pub get-push : {A : Type 0} (xs : List A) (y : A) (i : ℕ) (x : A) → slice_get (xs ++ y ∷ []) i ≡ Some x → (slice_get xs i ≡ Some x) ⊎ ((i ≡ length xs) × (y ≡ x))
 get-push [] y zero x h = inr (refl, cc)
 get-push [] y (suc i) x h = cc
@@ -56,7 +56,7 @@ pub get-push-last : {A : Type 0} (xs : List A) (y : A) → slice_get (xs ++ y �
 get-push-last [] y = refl
 get-push-last (z ∷ xs) y = get-push-last xs y
 
--- an element of a map comes from one of the list
+-- an element of a mapped list comes from one of the list
 pub get-map-back : {A B : Type 0} (f : A → B) (xs : List A) (i : ℕ) (y : B) → slice_get (map f xs) i ≡ Some y → (x : A) × (slice_get xs i ≡ Some x) × (f x ≡ y)
 get-map-back f [] i y h = cc
 get-map-back f (x ∷ xs) zero y h = (x, refl, cc)
@@ -65,7 +65,7 @@ get-map-back f (x ∷ xs) (suc i) y h = get-map-back f xs i y h
 pub get-map : {A B : Type 0} (f : A → B) (xs : List A) (i : ℕ) (x : A) → slice_get xs i ≡ Some x → slice_get (map f xs) i ≡ Some (f x)
 get-map f xs i x h = slice_get-map f xs i ∙ ap (option_map f) h
 
--- a map that doesn't see what is put at a place
+-- a map whose function doesn't see a change at a place
 pub map-set-same : {A B : Type 0} (f : A → B) (xs : List A) (i : ℕ) (x y : A) → slice_get xs i ≡ Some x → f y ≡ f x → map f (set xs i y) ≡ map f xs
 map-set-same f [] i x y h same = refl
 map-set-same f (z ∷ xs) zero x y h same = let e : x ≡ z = cc in ap (λ w. w ∷ map f xs) (same ∙ ap f e)

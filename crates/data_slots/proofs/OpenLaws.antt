@@ -1,4 +1,4 @@
--- Which sessions are open, where one is begun or is over.
+-- Which sessions are open when one begins or is over.
 use Rattle.std.proofs.Common.{◌≡◌, ◌≢◌, ℕ, ◌+◌, ◌<◌, ◌≤◌, zero, suc, List, [], ◌∷◌, ◌++◌, length, get_or, set, refl, ap, sym, subst, ◌∙◌, arith, Option, Some, None}
 use Rattle.std.specs.Prelude.{true, false, Bool, ◌==◌, slice_get, unwrap_or, if◌then◌else◌}
 use Rattle.std.specs.List.{swap_remove}
@@ -76,7 +76,7 @@ open-at are numbers k i h less at = by_option (slice_get are i) refl
     by_option (Some false) is = absurd (let e : times i numbers ≡ 0 = h i ∙ ap (λ (o : Option Bool). if unwrap_or o false then 1 else 0) is in omega (arith, some, e))
     by_option None is = absurd (let e : times i numbers ≡ 0 = h i ∙ ap (λ (o : Option Bool). if unwrap_or o false then 1 else 0) is in omega (arith, some, e))
 
--- where the list is empty no session is open
+-- if the list is empty, no session is open
 pub none-open : (are : List Bool) (i : ℕ) (b : Bool) → AreOpen are [] → slice_get are i ≡ Some b → b ≡ false
 none-open are i true h is = absurd (let e : 0 ≡ 1 = h i ∙ ap (λ (o : Option Bool). if unwrap_or o false then 1 else 0) is in omega (arith, e))
 none-open are i false h is = refl

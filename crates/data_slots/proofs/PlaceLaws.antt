@@ -64,7 +64,7 @@ pub slot-here : (slots : List Slot) (index : PlaceIndex) (at f t p : ℕ) (slot 
     → slice_get slots at ≡ Some slot
 slot-here slots index at f t p slot indexed is read = slice_get_read slots (length slots) at slot refl (slot-there slots index at f t p indexed is) read
 
--- whether the end at a place is unused, and that none is where none lies there
+-- whether the end at a place is unused, and that none is unused if none lies there
 pub unused-there : (slots : List Slot) (index : PlaceIndex) (at f t p : ℕ) (slot : Slot) → IsIndexOf (places slots) index → end_at index f t p ≡ Some at → slot ≡ get_or slots at slot
     → is_nothing (use_of slot.stage) ≡ has_place (Payload f t p) (unused_in (frames slots))
 unused-there slots index at f t p slot indexed is read = by_found (has_place (Payload f t p) (unused_in (frames slots))) refl

@@ -24,13 +24,13 @@ use Rattle.data_slots.specs.declared.side.Side.TheVariants as side
 use Rattle.data_slots.specs.Slots.{held_of}
 use Rattle.data_slots.specs.Sides.{seen_under}
 
--- an end that is the same one is held as the same one
+-- an end that is the same one as before is held as the same one
 pub same-held : (s : Side) (place : PagePlace) (before now : EndView) → now.page ≡ before.page → now.role ≡ before.role → held_of place (seen_under s now) ≡ held_of place (seen_under s before)
 same-held side.Laid place before now page role = λ i. record { place = place; page = page i; role = role i }
 same-held (side.Server s) place before now page role = λ i. record { place = place; page = s.name; role = role i }
 same-held (side.Client c) place before now page role = λ i. record { place = place; page = c.name; role = role i }
 
--- what is reported of an end speaks of nothing that the name changes
+-- what is reported of an end depends on nothing that the name changes
 closed-named : (e : EndView) (name : TableId) → IsClosed e → IsClosed (named name e)
 closed-named e name h = record { saw = h.saw; ended = h.ended; drained = h.drained }
 
@@ -49,7 +49,7 @@ serving-owes-seen side.Laid version name outcome got e h = h
 serving-owes-seen (side.Server s) version name outcome got e h = record { owed = h.owed; is_service = h.is_service; got_is = h.got_is; sent = h.sent; fits = h.fits; ended = serving-ended outcome version h.owed e s.name h.ended }
 serving-owes-seen (side.Client c) version name outcome got e h = record { owed = h.owed; is_service = h.is_service; got_is = h.got_is; sent = h.sent; fits = h.fits; ended = serving-ended outcome version h.owed e c.name h.ended }
 
--- what a side that serves has once its call is over, and its end as it is seen then
+-- what a side that serves has when its call is over, and the view of its end then
 pub serving-over : (version : ℕ) (name : List ℕ) (s : Side) (came : ServingResult) (end : DoneEnd) (outcome : Outcome) (got : List ℕ) (e : EndView)
     → came ≡ record { outcome = outcome; got = got } → done_view end ≡ seen_under s e → ServingOwes version name outcome got e → ServingOwes version name came.outcome came.got (done_view end)
 serving-over version name s came end outcome got e is seen h =

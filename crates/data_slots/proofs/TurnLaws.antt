@@ -57,7 +57,7 @@ can-turn version (ServingIsOver number service came end) h is = bad is
     bad e = cc
 can-turn version Taken h is = absurd h
 
--- a slot that is still what it was used for
+-- a slot that still has its use
 turns : (domain version : ℕ) (slots : List Slot) (index : PlaceIndex) (busy busy' : List ℕ) (calls : List (Option CallNote)) (served : List ServedNote) (at : ℕ) (slot slot' : Slot)
     → AreWhole domain version slots index busy calls served → slice_get slots at ≡ Some slot → frame_of slot' ≡ frame_of slot → IsStage version slot'.stage
     → AreOpen (set (sessions slots) at (is_session slot'.stage)) busy' → AreWhole domain version (set slots at slot') index busy' calls served
@@ -90,7 +90,7 @@ turns-over domain version slots index busy next calls served at slot slot' whole
     turns domain version slots index busy (swap_remove busy next at) calls served at slot slot' whole is.here same stage
     (subst (λ b. AreOpen (set (sessions slots) at b) (swap_remove busy next at)) (sym session) (open-less (sessions slots) busy next at whole.are_open less read was))
 
--- ---- what is told
+-- ---- what is reported
 
 begun : (e : Ends) (place : PagePlace) (used : Use) (told : SessionOver) → IsNoted e.domain e.calls.items e.served.items place used → Tells place used told → IsToldOver (state_of e false) told
 begun e (Payload from to port) (ForCall number input) told noted tells =

@@ -1,4 +1,4 @@
--- What stays of all ends where one of them is put to use.
+-- What stays of all ends when one of them is put to use.
 use Rattle.std.proofs.Common.{◌≡◌, ◌≢◌, ℕ, zero, suc, List, [], ◌∷◌, ◌++◌, length, set, refl, ap, sym, ◌∙◌, ◌⊎◌, inl, inr, Option, Some, None, subst}
 use Rattle.std.specs.Prelude.{true, false, Bool, ◌==◌, slice_get}
 use Rattle.std.proofs.lemmas.List.{map-set}
@@ -25,7 +25,7 @@ each-more : {A : Type 0} (P Q : A → Type 0) (xs : List A) → ((x : A) → P x
 each-more P Q [] go each = tt
 each-more P Q (x ∷ xs) go each = (go x each.0, each-more P Q xs go each.1)
 
--- an end that is used stays as it is where an unused one is put to use
+-- an end that is used stays as it is when an unused one is put to use
 used-stays : (fs : List Frame) (i at : ℕ) (f f' : Frame) (place : PagePlace) (used : Use) → slice_get fs i ≡ Some f → f.used ≡ ForNothing → (used ≡ ForNothing → ⊥) → IsUsedAt fs at place used
     → IsUsedAt (set fs i f') at place used
 used-stays fs i at f f' place used here unused is_used h = record {
@@ -40,7 +40,7 @@ used-stays fs i at f f' place used here unused is_used h = record {
         let k' : record { held = h.held; used = used } ≡ f = cc in
         is_used (ap (λ (x : Frame). x.used) k' ∙ unused)
 
--- and the one that is put to use is used
+-- the one that is put to use is used
 now-used : (fs : List Frame) (i : ℕ) (f : Frame) (place : PagePlace) (used : Use) → slice_get fs i ≡ Some f → f.held.place ≡ place → IsUsedAt (set fs i (record f { used = used })) i place used
 now-used fs i f place used here lies = record { held = f.held; is = get-set-same fs i f (record f { used = used }) here; lies = lies }
 
@@ -91,7 +91,7 @@ call-ends domain number note fs f calls served here unused lies free h = record 
         bad : ForServing m n.service.value ≡ ForNothing → ⊥
         bad e = cc
 
--- the end of what is served from now on
+-- the end that serves from now on
 serving-ends : (domain : ℕ) (note : ServedNote) (fs : List Frame) (f : Frame) (calls : List (Option CallNote)) (served : List ServedNote) → slice_get fs note.at ≡ Some f → f.used ≡ ForNothing
     → f.held.place ≡ Payload note.from domain note.port → HaveEnds domain fs calls served
     → HaveEnds domain (set fs note.at (record f { used = ForServing (length served) note.service.value })) calls (served ++ note ∷ [])
@@ -204,7 +204,7 @@ begins-serving domain version slots index busy calls served note slot slot' whol
     (λ f. served-more domain note calls served f.held.place f.used)
     (note, get-push-last served note, lies)
 
--- ---- the unused ends, once one of them is put to use
+-- ---- the unused ends, after one of them is put to use
 
 without-none : (p : PagePlace) (fs : List Frame) → ((j : ℕ) (g : Frame) → slice_get fs j ≡ Some g → is_place p g.held.place ≡ false) → without p (unused_in fs) ≡ unused_in fs
 without-none p [] apart = refl

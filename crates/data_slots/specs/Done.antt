@@ -14,7 +14,7 @@ use Rattle.data_slots.specs.declared.done.CallOver.{CallOver}
 use Rattle.data_slots.specs.declared.done.SessionOver.{SessionOver}
 use Rattle.data_slots.specs.Slots.{Called, Serves, SlotsState}
 
--- some end at this place is as P says
+-- P holds of some end at this place
 abbrev pub HasEnd : List EndAt → PagePlace → (EndView → Type 0) → Type 0
 HasEnd ends place P = SomeOf (λ e. (e.place ≡ place) × P e.view) ends
 
@@ -22,20 +22,20 @@ HasEnd ends place P = SomeOf (λ e. (e.place ≡ place) × P e.view) ends
 abbrev pub caller_done : CallOver → CallerDone
 caller_done c = record { outcome = c.outcome; stdout = c.stdout; stderr = c.stderr; got = c.got }
 
--- a call that has a session reports it, and owes that of the end at its place; any other call reports nothing
+-- a call that has a session reports it, and owes what the end at its place owes; any other call reports nothing
 abbrev pub ReportsCalled : ℕ → ℕ → List EndAt → Option Called → Option CallOver → Type 0
 ReportsCalled domain version ends None None = Unit {0}
 ReportsCalled domain version ends (Some c) (Some over) =
     (over.to ≡ c.to) × (over.port ≡ c.port) × HasEnd ends (Payload domain c.to c.port) (CallerOwes version c.input (caller_done over))
 ReportsCalled domain version ends _ _ = ⊥
 
--- and so does what was served, whatever name the service has
+-- what was served does so too, under any service name
 abbrev pub ReportsServes : ℕ → ℕ → List EndAt → Serves → ServedDone → Type 0
 ReportsServes domain version ends s done =
     (done.from ≡ s.from) × (done.port ≡ s.port)
     × HasEnd ends (Payload s.from domain s.port) (λ view. (name : List ℕ) → IsService name (builtin_owes s.service) → ServingOwes version name done.outcome done.got view)
 
--- a session that is told to be over is one that was begun: of a call of the agent's own, by its number, or of what it serves
+-- a session that is reported over is one that was begun: of a call of the agent's own, by its number, or of what it serves
 abbrev pub IsBegun : SlotsState → Option ℕ → ℕ → ℕ → Type 0
 IsBegun s (Some number) domain port = (c : Called) × (slice_get s.called number ≡ Some (Some c)) × (c.to ≡ domain) × (c.port ≡ port)
 IsBegun s None domain port = SomeOf (λ x. (x.from ≡ domain) × (x.port ≡ port)) s.served
@@ -43,6 +43,6 @@ IsBegun s None domain port = SomeOf (λ x. (x.from ≡ domain) × (x.port ≡ po
 abbrev pub IsToldOver : SlotsState → SessionOver → Type 0
 IsToldOver s over = IsBegun s over.number over.domain over.port
 
--- sessions that are told to be over are put behind those before
+-- sessions that are reported over come after those before
 abbrev pub TellsMore : SlotsState → List SessionOver → List SessionOver → Type 0
 TellsMore s before now = (told : List SessionOver) × (now ≡ before ++ told) × Each (IsToldOver s) told

@@ -1,4 +1,4 @@
--- What ends report once all of them are retired.
+-- What ends report when all of them are retired.
 use Rattle.std.specs.Prelude.{◌≡◌, ◌≢◌, ℕ, List, [], ◌∷◌, slice_get, option_and_then, Option, Some, None, IsSome}
 use Rattle.task_duties.specs.declared.done.ServedDone.{ServedDone}
 use Rattle.task_duties.specs.TaskOwes.{EndAt}
@@ -11,13 +11,13 @@ use Rattle.data_slots.specs.Slots.{held_at}
 use Rattle.data_slots.specs.Reports.{call_in, served_in}
 use Rattle.data_slots.specs.Stages.{Frame, IsReportOf}
 
--- each end is the one that it was, and its report is that of its use
+-- each end is the same one as before, and its report is that of its use
 abbrev pub AreReported : ℕ → List Frame → List EndAt → List Report → Type 0
 AreReported version [] [] [] = Unit {0}
 AreReported version (f ∷ fs) (e ∷ ends) (r ∷ reports) = (held_at e ≡ f.held) × IsReportOf version f.held.place f.used e.view r × AreReported version fs ends reports
 AreReported version _ _ _ = ⊥
 
--- what a noted call came to, and a noted session that served
+-- what came of a noted call, and of a noted session that served
 abbrev pub call_at : List Report → Option CallNote → Option CallOver
 call_at reports None = None
 call_at reports (Some n) = option_and_then call_in (slice_get reports n.at)
@@ -25,7 +25,7 @@ call_at reports (Some n) = option_and_then call_in (slice_get reports n.at)
 abbrev pub served_at : List Report → ServedNote → Option ServedDone
 served_at reports n = option_and_then served_in (slice_get reports n.at)
 
--- each of them has a report of its own number
+-- each of them has a report with its own number
 abbrev pub AreCalls : List Report → List (Option CallNote) → Type 0
 AreCalls reports calls = (number : ℕ) (n : CallNote) → slice_get calls number ≡ Some (Some n) → (over : CallOver) × (slice_get reports n.at ≡ Some (Call number over))
 
@@ -41,7 +41,7 @@ abbrev pub HasCall : List Report → Option CallNote → Type 0
 HasCall reports None = Unit {0}
 HasCall reports (Some n) = IsSome (call_at reports (Some n))
 
--- only the report of a noted call is another one
+-- this place isn't that of a noted call's report
 abbrev pub IsElsewhere : Option CallNote → ℕ → Type 0
 IsElsewhere None at = Unit {0}
 IsElsewhere (Some n) at = at ≢ n.at

@@ -6,7 +6,7 @@ use Rattle.std.specs.declared.hash.BuildHasherDefault.{BuildHasherDefault}
 use Rattle.task_duties.specs.declared.place.PagePlace.{PagePlace}
 use Rattle.task_duties.specs.declared.place.PagePlace.TheVariants.{Payload}
 
--- which end lies where: by the domain that calls, the one that is called, and the port
+-- which end lies at a place: by the domain that calls, the domain that is called, and the port
 abbrev pub PlaceIndex : Type 0
 PlaceIndex = HashMap (ℕ × ℕ × ℕ) ℕ (BuildHasherDefault FoldHasher)
 

@@ -1,4 +1,4 @@
--- An end of a page that is laid when it is first used is seen under the page's name.
+-- An end of a page that is laid at its first use is seen under the page's name.
 -- The forms are this project's own.
 use Rattle.std.specs.Prelude.{◌≡◌, Option, Some, None}
 use Rattle.ring_words.specs.declared.page.Role.TheVariants.{Server, Client}
@@ -10,19 +10,19 @@ use Rattle.task_duties.specs.declared.ends.UnusedEnd.TheVariants as unused
 use Rattle.data_slots.specs.declared.side.Side.{Side}
 use Rattle.data_slots.specs.declared.side.Side.TheVariants as side
 
--- how an end in use is seen
+-- the view of an end in use
 abbrev pub seen_under : Side → EndView → EndView
 seen_under side.Laid end = end
 seen_under (side.Server s) end = named s.name end
 seen_under (side.Client c) end = named c.name end
 
--- what keeps the end's place is of this end
+-- what keeps the end's place belongs to this end
 abbrev pub IsSideOf : Side → EndView → Type 0
 IsSideOf side.Laid end = Unit {0}
 IsSideOf (side.Server s) end = (end.page ≡ s.table) × (end.role ≡ Server)
 IsSideOf (side.Client c) end = (end.page ≡ c.table) × (end.role ≡ Client)
 
--- the page of an unused end is laid, where it is the server that lays it
+-- the page of an unused end is laid, if the server must lay it
 abbrev pub HasLaid : UnusedEnd → Option LaidPage → Type 0
 HasLaid (unused.Server s) (Some laid) = (laid.page.orders ≡ s.orders) × (laid.page.start ≡ s.start)
 HasLaid (unused.Server s) None = ⊥

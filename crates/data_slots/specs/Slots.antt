@@ -10,7 +10,7 @@ use Rattle.task_duties.specs.declared.place.PagePlace.{PagePlace}
 use Rattle.task_duties.specs.declared.place.PagePlace.TheVariants.{Control, Payload}
 use Rattle.task_duties.specs.TaskOwes.{EndAt}
 
--- what stays the same of an end: where it lies, and which end of which page it is
+-- what stays the same of an end: its place, and which end of which page it is
 pub record Held : Type 0 where
   pub place : PagePlace
   pub page : TableId
@@ -22,7 +22,7 @@ held_of place view = record { place = place; page = view.page; role = view.role 
 abbrev pub held_at : EndAt → Held
 held_at e = held_of e.place e.view
 
--- a call of the agent's own that has a session: whom it calls, at which port, and with which input
+-- a call of the agent's own that has a session: which domain it calls, at which port, and with which input
 pub record Called : Type 0 where
   pub to : ℕ
   pub port : ℕ
@@ -38,21 +38,21 @@ pub record Serves : Type 0 where
 pub record SlotsState : Type 0 where
   pub domain : ℕ
   pub version : ℕ
-  -- the ends, and where those lie that are still unused, each in the order in which the ends were given
+  -- the ends, and the places of those that are still unused, each in the order in which the ends were given
   pub held : List Held
   pub unused : List PagePlace
-  -- the session of each of the agent's own calls, where it has one
+  -- the session of each of the agent's own calls, if it has one
   pub called : List (Option Called)
-  -- what it serves, in the order in which that was begun
+  -- what it serves, in the order in which that began
   pub served : List Serves
   -- how many sessions are open
   pub open_count : ℕ
-  -- memory didn't suffice for a turn, and the ends can only be given up
+  -- memory ran out in a turn, and the ends can only be given up
   pub spent : Bool
 
 -- ---- what is given
 
--- an end of a domain: a server's where the domain calls, a client's where it is called
+-- an end of a domain: a server's if the domain calls, a client's if it is called
 abbrev pub IsEndOf : ℕ → PagePlace → Role → Type 0
 IsEndOf domain (Control d) role = ⊥
 IsEndOf domain (Payload from to port) Server = (from ≡ domain) × (to ≢ domain)

@@ -79,7 +79,7 @@ pub record IsNewServing (serving : ServingState Builtin) : Type 0 where
 abbrev pub result_of : CallerResult → CallerDone
 result_of r = record { outcome = r.outcome; stdout = r.stdout; stderr = r.stderr; got = r.got }
 
--- what stands of an end of an agent of this version
+-- what holds of an end of an agent of this version
 abbrev pub IsStage : ℕ → Stage → Type 0
 IsStage version (Unused end) = IsUnused (fresh_view end)
 IsStage version (Calls number input side session) =
@@ -93,7 +93,7 @@ IsStage version (ServingIsOver number service came end) =
     (name : List ℕ) → IsService name (builtin_owes service.value) → ServingOwes version name came.outcome came.got (done_view end)
 IsStage version Taken = ⊥
 
--- the end is between two calls, or it is retired and was given up to nobody
+-- the end is between two calls, or it is retired and wasn't turned over
 abbrev pub CanRetire : Stage → Type 0
 CanRetire (Unused end) = (fresh_view end).idle ≡ true
 CanRetire (Calls number input side session) = IsOpen session.end × IsSideOf side (view session.end)
@@ -103,12 +103,12 @@ CanRetire (CallIsOver number input came end) = (done_view end).turned ≡ false
 CanRetire (ServingIsOver number service came end) = (done_view end).turned ≡ false
 CanRetire Taken = ⊥
 
--- an end of this role that did nothing yet
+-- an end of this role that has done nothing yet
 abbrev pub IsUnusedBy : Role → Stage → Type 0
 IsUnusedBy role (Unused end) = IsUnused (fresh_view end) × ((fresh_view end).role ≡ role)
 IsUnusedBy role _ = ⊥
 
--- the page of an unused end is laid, where that is left to it
+-- the page of an unused end is laid, if that is the end's part
 abbrev pub HasPage : Stage → Option LaidPage → Type 0
 HasPage (Unused end) laid = HasLaid end laid
 HasPage _ laid = Unit {0}
@@ -120,7 +120,7 @@ CanTurn (Awaits number service serving side) = IsNewServing serving
 CanTurn (Serves number service side session) = IsAtWork session.serving session.end
 CanTurn _ = ⊥
 
--- a session that came out so can be finished
+-- a session that ended like this can be finished
 abbrev pub HasComeOut : Outcome → Stage → Type 0
 HasComeOut outcome (Calls number input side session) = IsCalling session.caller session.end × (session.caller.replies.outcome ≡ Some outcome)
 HasComeOut outcome (Serves number service side session) = IsAtWork session.serving session.end × (session.serving.answering.outcome ≡ Some outcome)
@@ -132,7 +132,7 @@ Tells (Payload from to port) (ForCall number input) told = told ≡ record { dom
 Tells (Payload from to port) (ForServing number service) told = told ≡ record { domain = from; port = port; number = None }
 Tells place used told = ⊥
 
--- a report is that of an end at this place that was used so and is now seen so
+-- a report is that of an end at this place, with this use and this view
 abbrev pub IsReportOf : ℕ → PagePlace → Use → EndView → Report → Type 0
 IsReportOf version place ForNothing end report = Unit {0}
 IsReportOf version (Payload from to port) (ForCall number input) end (Call n over) =

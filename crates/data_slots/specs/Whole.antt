@@ -28,7 +28,7 @@ places slots = map place_of slots
 abbrev pub sessions : List Slot → List Bool
 sessions slots = map (λ s. is_session s.stage) slots
 
--- where an end lies that is used for nothing
+-- the place of an end that is used for nothing
 abbrev pub unused_at : PagePlace → Use → Option PagePlace
 unused_at place ForNothing = Some place
 unused_at place used = None
@@ -54,13 +54,13 @@ AreOpen are_sessions numbers = (i : ℕ) → times i numbers ≡ (if unwrap_or (
 
 -- ---- which end is used by what
 
--- the end of this number lies there, and is used so
+-- the end with this number lies there, and has this use
 pub record IsUsedAt (fs : List Frame) (at : ℕ) (place : PagePlace) (used : Use) : Type 0 where
   pub held : Held
   pub is : slice_get fs at ≡ Some (record { held = held; used = used })
   pub lies : held.place ≡ place
 
--- each noted call has its end, and each served session
+-- each noted call and each served session has its end
 pub record HaveEnds (domain : ℕ) (fs : List Frame) (calls : List (Option CallNote)) (served : List ServedNote) : Type 0 where
   pub called : (number : ℕ) (n : CallNote) → slice_get calls number ≡ Some (Some n) → IsUsedAt fs n.at (Payload domain n.to n.port) (ForCall number n.input.value.items)
   pub serving : (number : ℕ) (n : ServedNote) → slice_get served number ≡ Some n → IsUsedAt fs n.at (Payload n.from domain n.port) (ForServing number n.service.value)
@@ -85,7 +85,7 @@ pub record AreWhole (domain version : ℕ) (slots : List Slot) (index : PlaceInd
 abbrev pub IsWhole : Ends → Type 0
 IsWhole e = AreWhole e.domain e.version e.slots.items e.index e.busy.items e.calls.items e.served.items
 
--- as contracts see it
+-- the state that contracts see
 abbrev pub state_of : Ends → Bool → SlotsState
 state_of e spent = record {
   domain = e.domain;
@@ -100,7 +100,7 @@ state_of e spent = record {
 
 -- ---- a turn
 
--- all ends are whole after it, and only fewer sessions are open: those that were told
+-- after the turn all ends are whole, and the only sessions that are no longer open are those that were reported
 pub record IsTurned (old new : Ends) (before now : List SessionOver) : Type 0 where
   pub whole : IsWhole new
   pub state : state_of new false ≡ record (state_of old false) { open_count = length new.busy.items }

@@ -3,14 +3,14 @@ use qrexec_data::Outcome;
 use qrexec_frame::Bytes;
 use task_duties::{RetiredEnd, ServedDone};
 
-/// A session that is over, as the broker is told of it by MSG_CONNECTION_TERMINATED.
+/// A session that is over, as MSG_CONNECTION_TERMINATED reports it to the broker.
 #[derive(Clone, Copy, Debug, PartialEq, Eq)]
 pub struct SessionOver {
-    /// The domain at its other end.
+    /// The domain at the other end.
     pub domain: u32,
-    /// Its port.
+    /// The port of the session.
     pub port: u32,
-    /// Which of the agent's own calls it is, counted from 0, where it is one of these.
+    /// Which of the agent's own calls it is, counted from 0, or `None` if the agent served it.
     pub number: Option<usize>,
 }
 
@@ -21,23 +21,23 @@ pub struct CallOver {
     pub to: u32,
     /// The port of the session.
     pub port: u32,
-    /// How the session came out.
+    /// How the session ended.
     pub outcome: Outcome,
     /// What was read of the output.
     pub stdout: Bytes,
-    /// What was read of the errors.
+    /// What was read of the error stream.
     pub stderr: Bytes,
     /// All bytes that were got.
     pub got: Bytes,
 }
 
-/// The data ends of an agent, once it is done with them.
+/// The data ends of an agent that is done with them.
 #[derive(Drop)]
 pub struct DataDone {
     /// The ends, in the order in which they were given.
     pub ends: Vec<RetiredEnd>,
-    /// What came of each of the agent's own calls that had a session, by their numbers.
+    /// What came of each of the agent's own calls that had a session, by the numbers of the calls.
     pub calls: Vec<Option<CallOver>>,
-    /// What was served, in the order in which it was begun.
+    /// What was served, in the order in which it began.
     pub served: Vec<ServedDone>,
 }

@@ -41,15 +41,15 @@ pub(crate) struct Ends<'p> {
     pub(crate) busy: Vec<usize>,
     /// The sessions of the agent's own calls, by the numbers of the calls.
     pub(crate) calls: Vec<Option<CallNote>>,
-    /// What is served, in the order in which it was begun.
+    /// What is served, in the order in which it began.
     pub(crate) served: Vec<ServedNote>,
-    /// Which of the ends may still await the other end of their page, whose memory is given back then.
-    /// An end that is missing here gives it back with all the others.
+    /// The ends that may still wait for the other end of their page; the page's memory is freed once that end
+    /// is taken back. The memory of an end that is missing here is freed with all the others.
     pub(crate) waiting: Vec<usize>,
 }
 
 impl<'p> Ends<'p> {
-    /// Ends that are all unused, for an agent that has so many calls of its own.
+    /// Makes the ends of an agent that has `calls` calls of its own. All ends are unused.
     pub(crate) fn new(
         alloc: Global,
         domain: u32,
@@ -88,7 +88,7 @@ impl<'p> Ends<'p> {
         })
     }
 
-    /// Whether there is an unused end at this place.
+    /// Returns whether there is an unused end at this place.
     pub(crate) fn is_unused(&self, from: u32, to: u32, port: u32) -> bool
         requires whole { IsWhole self.now }
         requires retire { Each (λ s. CanRetire s.stage) self.now.slots.items }
@@ -97,7 +97,7 @@ impl<'p> Ends<'p> {
         find_unused(&self.index, &self.slots, from, to, port).is_some()
     }
 
-    /// Opens the unused end for the own call of this number.
+    /// Opens the unused end for the agent's own call with this number.
     pub(crate) fn call(
         &mut self,
         number: usize,
@@ -137,7 +137,7 @@ impl<'p> Ends<'p> {
         Ok(())
     }
 
-    /// Opens the unused end for what this service is asked for.
+    /// Opens the unused end for a call that this service serves.
     pub(crate) fn serve(&mut self, from: u32, port: u32, service: Builtin) -> Result<(), Memory>
         requires whole { IsWhole self.old }
         requires retire { Each (λ s. CanRetire s.stage) self.old.slots.items }
@@ -170,8 +170,8 @@ impl<'p> Ends<'p> {
         Ok(())
     }
 
-    /// One turn of each open session. Those that are over now are put behind `over`. It answers whether any
-    /// moved bytes or is over. Pages of sessions that are over at both ends are given back before.
+    /// Makes one turn of each open session, and appends those that are over now to `over`. Returns whether
+    /// any moved bytes or is over. It first gives back the pages of sessions that are over at both ends.
     pub(crate) fn turn(
         &mut self,
         scratch: &mut [u8],
@@ -200,7 +200,7 @@ impl<'p> Ends<'p> {
         take_back_all(&mut self.slots, &mut self.waiting);
     }
 
-    // One turn of each open session. Those that are over now are put behind `over`. It answers whether any
+    // Makes one turn of each open session, and appends those that are over now to `over`. Returns whether any
     // moved bytes or is over.
     fn turn_open(&mut self, scratch: &mut [u8], over: &mut Vec<SessionOver>) -> Result<bool, Memory>
         requires whole { IsWhole self.old }
@@ -224,7 +224,7 @@ impl<'p> Ends<'p> {
         Ok(moved)
     }
 
-    /// How many open sessions are on pages that are laid when they are first used.
+    /// Returns how many open sessions are on pages that are laid at their first use.
     pub(crate) fn pages_in_use(&self) -> usize {
         let mut count: usize = 0;
         for at in &self.busy {
@@ -237,7 +237,7 @@ impl<'p> Ends<'p> {
         count
     }
 
-    // Whether the last turn of the session of this place among the open ones moved bytes.
+    // Whether the last turn of the session at this place among the open ones moved bytes.
     fn has_moved(&self, next: usize) -> bool {
         let Some(at) = self.busy.get(next) else {
             return false;
@@ -248,8 +248,8 @@ impl<'p> Ends<'p> {
         }
     }
 
-    // One turn of the session of this place among the open ones. It answers whether the session is over
-    // now, where another has its place.
+    // Makes one turn of the session at this place among the open ones. Returns whether the session is over
+    // now; another session has its place then.
     fn turn_one(
         &mut self,
         next: usize,
@@ -276,8 +276,8 @@ impl<'p> Ends<'p> {
         Ok(true)
     }
 
-    /// Retires all ends, of which no session is open, and says what their sessions came to. The list has
-    /// room for them. Where memory doesn't suffice all of them are retired first.
+    /// Retires all ends and returns what came of their sessions, none of which is open. The list has room for
+    /// the ends. If memory runs out, all of them are retired first.
     pub(crate) fn finish(self, retired: Vec<RetiredEnd>) -> Result<DataDone, Memory>
         requires whole { IsWhole self }
         requires retire { Each (λ s. CanRetire s.stage) self.slots.items }
@@ -310,7 +310,7 @@ impl<'p> Ends<'p> {
         })
     }
 
-    /// Retires all ends, whatever they are used for. The list has room for them.
+    /// Retires all ends, used or not. The list has room for them.
     pub(crate) fn give_up(self, retired: Vec<RetiredEnd>) -> Vec<RetiredEnd>
         requires retire { Each (λ s. CanRetire s.stage) self.slots.items }
         requires empty { retired.items ≡ [] }
@@ -344,7 +344,7 @@ fn unused_slots<'p>(alloc: Global, ends: Vec<DataEnd<'p>>) -> Result<Vec<Slot<'p
     Ok(slots)
 }
 
-// Notes of so many calls, none of which has a session.
+// Notes of `count` calls, none of which has a session.
 fn no_notes(alloc: Global, count: usize) -> Result<Vec<Option<CallNote>>, AllocError>
     ensures { IfOk result (λ notes. notes.items ≡ replicate count None) }
 {
@@ -355,7 +355,7 @@ fn no_notes(alloc: Global, count: usize) -> Result<Vec<Option<CallNote>>, AllocE
     Ok(notes)
 }
 
-// The end at this place, where there is one and it is unused.
+// Finds the end at this place, if there is one and it is unused.
 fn find_unused(index: &Index, slots: &[Slot], from: u32, to: u32, port: u32) -> Option<usize>
     requires indexed { IsIndexOf (places slots.now) index.now }
     requires retire { Each (λ s. CanRetire s.stage) slots.now }
@@ -370,12 +370,12 @@ fn find_unused(index: &Index, slots: &[Slot], from: u32, to: u32, port: u32) -> 
     }
 }
 
-// Lists this end, which may await the other end of its page. Where there is no room it isn't listed.
+// Lists this end, which may wait for the other end of its page. If there is no room, the end isn't listed.
 fn await_other_end(waiting: &mut Vec<usize>, at: usize) {
     let _ = waiting.push(at);
 }
 
-// Takes the other ends of pages back where they are there, and drops these ends from the list.
+// Takes back the other ends of pages that are there, and drops these ends from the list.
 fn take_back_all(slots: &mut [Slot], waiting: &mut Vec<usize>)
     ensures { slots.new ≡ slots.old }
 {
@@ -389,8 +389,7 @@ fn take_back_all(slots: &mut [Slot], waiting: &mut Vec<usize>)
     }
 }
 
-// Takes the other end of the page of this end back where it is there, and answers whether it is still
-// awaited.
+// Takes back the other end of this end's page if it is there. Returns whether it is still awaited.
 fn take_back_at(slots: &mut [Slot], at: usize) -> bool
     ensures { slots.new ≡ slots.old }
 {

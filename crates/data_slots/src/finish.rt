@@ -1,4 +1,4 @@
-//! What comes back of ends that are done with.
+//! What is given back of ends that are done with.
 ghost use Rattle.std.specs.Prelude.{◌≡◌, ◌≢◌, ◌≤◌, [], ℕ, Some, IsSome, false, IfOk, length, map, slice_get, vec_capacity};
 ghost use Rattle.qrexec_frame.specs.Streams.{Each};
 ghost use Rattle.task_duties.specs.GivenEnds.{all_retired};
@@ -15,7 +15,7 @@ use crate::slot::Slot;
 use std::alloc::{AllocError, Global};
 use task_duties::{RetiredEnd, ServedDone};
 
-/// Retires all ends, whatever they are used for, into a list that has room for them.
+/// Retires all ends, used or not, into a list that has room for them.
 pub(crate) fn give_up_all(slots: Vec<Slot>, mut retired: Vec<RetiredEnd>) -> Vec<RetiredEnd>
     requires retire { Each (λ s. CanRetire s.stage) slots.items }
     requires empty { retired.items ≡ [] }
@@ -29,8 +29,8 @@ pub(crate) fn give_up_all(slots: Vec<Slot>, mut retired: Vec<RetiredEnd>) -> Vec
     retired
 }
 
-/// Retires all ends, of which no session is open, and says what their sessions came to. Both lists have
-/// room for them.
+/// Retires all ends and returns what came of their sessions, none of which is open. Both lists have room for
+/// them.
 pub(crate) fn finish_all(
     slots: Vec<Slot>,
     mut retired: Vec<RetiredEnd>,
@@ -52,8 +52,8 @@ pub(crate) fn finish_all(
     retired
 }
 
-/// What all sessions came to: the agent's own calls by their numbers, and what was served in the order in
-/// which it was begun.
+/// Returns what came of all sessions: the agent's own calls by their numbers, and what was served in the
+/// order in which it began.
 pub(crate) fn session_ends(
     alloc: Global,
     calls: &[Option<CallNote>],
@@ -70,7 +70,7 @@ pub(crate) fn session_ends(
     Ok((calls, served))
 }
 
-// What the agent's own calls came to, by their numbers.
+// What came of the agent's own calls, by their numbers.
 fn call_ends(
     alloc: Global,
     calls: &[Option<CallNote>],
@@ -87,7 +87,7 @@ fn call_ends(
     Ok(done)
 }
 
-// What was served came to, in the order in which it was begun.
+// What came of the sessions that were served, in the order in which they began.
 fn served_ends(
     alloc: Global,
     served: &[ServedNote],
@@ -103,7 +103,7 @@ fn served_ends(
     Ok(done)
 }
 
-// What a call came to, where it has a session.
+// What came of a call, if it has a session.
 fn call_end(note: &Option<CallNote>, reports: &mut [Report]) -> Option<CallOver>
     requires { HasCall reports.old note.now }
     ensures end { result ≡ call_at reports.old note.now }
@@ -115,7 +115,7 @@ fn call_end(note: &Option<CallNote>, reports: &mut [Report]) -> Option<CallOver>
     }
 }
 
-// What a served session came to.
+// What came of a served session.
 fn served_end(note: &ServedNote, reports: &mut [Report]) -> ServedDone
     requires { IsSome (served_at reports.old note.now) }
     ensures end { served_at reports.old note.now ≡ Some result }

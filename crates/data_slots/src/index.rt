@@ -8,10 +8,10 @@ use crate::slot::Slot;
 use std::alloc::{AllocError, Global};
 use std::collections::HashMap;
 
-/// Which of the ends lies where: by the domain that calls, the one that is called, and the port.
+/// Which end lies at a place: by the domain that calls, the domain that is called, and the port.
 pub(crate) type Index = HashMap<(u32, u32, u32), usize>;
 
-/// The index of ends that lie at different places.
+/// Makes the index of ends that lie at different places.
 pub(crate) fn index_of(alloc: Global, slots: &[Slot]) -> Result<Index, AllocError>
     requires { AreApart (map place_of slots.now) }
     ensures { IfOk result (λ index. IsIndexOf (map place_of slots.now) index) }
@@ -23,7 +23,7 @@ pub(crate) fn index_of(alloc: Global, slots: &[Slot]) -> Result<Index, AllocErro
     Ok(index)
 }
 
-/// Which of the ends lies at this place, where one does.
+/// Returns which end lies at this place, if one does.
 pub(crate) fn end_at(index: &Index, from: u32, to: u32, port: u32) -> Option<usize>
     ensures { result ≡ end_at index.now from to port }
 {

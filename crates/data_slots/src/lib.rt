@@ -1,8 +1,8 @@
-//! All data ends of one agent: which are unused, which have a session open, and which are over.
+//! All data ends of one agent: which are unused, which have an open session, and which are over.
 //!
-//! It serves the task of an agent, which says when a session begins and tells the broker which are
-//! over. The ends stay in the order in which they were given, and all of them come back retired. A page
-//! that isn't laid yet is laid once the agent calls, and a session that serves awaits that.
+//! It serves the task of an agent, which decides when a session begins and reports to the broker which are
+//! over. The ends stay in the order in which they were given, and all of them come back retired. A page that
+//! isn't laid yet is laid when the agent calls, and a session that serves waits for that.
 #![tactic(auto)]
 
 mod done;

@@ -1,4 +1,4 @@
-//! Which end the sessions of an agent have.
+//! Which end each session of an agent has.
 use service_gate::Builtin;
 use std::snapshot::Snapshot;
 

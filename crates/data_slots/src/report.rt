@@ -5,7 +5,7 @@ use crate::done::CallOver;
 use std::mem;
 use task_duties::ServedDone;
 
-/// What the session of an end came to, where it had one.
+/// What came of the session of an end, if it had one.
 #[derive(Drop)]
 pub(crate) enum Report {
     Nothing,
@@ -17,7 +17,7 @@ impl Report {
     ghost use Rattle.std.specs.Prelude.{Some, IsSome};
     ghost use Rattle.data_slots.specs.Reports.{call_in, served_in};
 
-    /// Takes out what a call came to.
+    /// Takes out what came of a call.
     pub(crate) fn take_call(&mut self) -> CallOver
         requires { IsSome (call_in self.old) }
         ensures { call_in self.old ≡ Some result }
@@ -28,7 +28,7 @@ impl Report {
         }
     }
 
-    /// Takes out what a served session came to.
+    /// Takes out what came of a served session.
     pub(crate) fn take_served(&mut self) -> ServedDone
         requires { IsSome (served_in self.old) }
         ensures { served_in self.old ≡ Some result }

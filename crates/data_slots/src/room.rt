@@ -1,7 +1,7 @@
 //! Lists that have room.
 ghost use Rattle.std.specs.Prelude.{◌≡◌, ◌<◌, ◌≤◌, ◌++◌, ◌∷◌, [], length, vec_capacity};
 
-/// Puts a value behind a list that has room for it.
+/// Appends a value to a list that has room for it.
 pub(crate) fn push_within<T: Drop>(list: &mut Vec<T>, value: T)
     requires { length list.old.items < vec_capacity list.old }
     ensures items { list.new.items ≡ list.old.items ++ value ∷ [] }

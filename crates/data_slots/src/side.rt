@@ -12,8 +12,8 @@ use task_duties::{DoneEnd, UnusedEnd};
 use vchan_lifecycle::retire;
 use vchan_rule::{End, Retired};
 
-/// What keeps the place of an end while it is in use: nothing where its page was laid before the first
-/// turn, else the end's side of the page.
+/// What keeps the place of an end while it is in use: nothing if its page was laid before the first turn, and
+/// otherwise the end's side of the page.
 #[derive(Drop)]
 pub(crate) enum Side {
     /// The page was laid before the first turn.
@@ -25,7 +25,7 @@ pub(crate) enum Side {
 }
 
 impl Side {
-    /// Whether the page is one that is laid when it is first used.
+    /// Returns whether the page is one that is laid at its first use.
     pub(crate) fn is_offered(&self) -> bool {
         match self {
             Side::Laid => false,
@@ -33,7 +33,8 @@ impl Side {
         }
     }
 
-    /// Whether the page was offered to a client whose task was dropped. Nothing is promised of the answer.
+    /// Returns whether the page was offered to a client whose task was dropped. Nothing is promised of the
+    /// answer.
     pub(crate) fn is_abandoned(&mut self) -> bool
         ensures { self.new ≡ self.old }
     {
@@ -43,7 +44,7 @@ impl Side {
         }
     }
 
-    /// The end once it is retired.
+    /// Returns the end after it was retired.
     pub(crate) fn finish(self, retired: Retired) -> DoneEnd
         requires { IsSideOf self (last_view retired) }
         ensures { done_view result ≡ seen_under self (last_view retired) }
@@ -56,7 +57,7 @@ impl Side {
     }
 }
 
-/// An unused end of a server, whose page is laid, and what keeps its place.
+/// Opens an unused end of a server whose page is laid. Returns the end and what keeps its place.
 pub(crate) fn open_server<'p>(end: UnusedEnd<'p>, laid: Option<LaidPage>) -> (End<'p>, Side)
     requires unused { IsUnused (fresh_view end) × ((fresh_view end).role ≡ Server) }
     requires laid { HasLaid end laid }

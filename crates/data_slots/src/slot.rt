@@ -45,7 +45,7 @@ pub(crate) struct Slot<'p> {
 /// What an end is used for.
 #[derive(Drop)]
 pub(crate) enum Stage<'p> {
-    /// Nothing yet.
+    /// Not used yet.
     Unused {
         end: UnusedEnd<'p>,
     },
@@ -56,7 +56,7 @@ pub(crate) enum Stage<'p> {
         side: Side,
         session: CallerSession<'p>,
     },
-    /// A call that the agent serves, whose page its server hasn't offered yet.
+    /// A call that the agent serves, and whose caller hasn't offered the page yet.
     Awaits {
         number: usize,
         service: Snapshot<Builtin>,
@@ -84,11 +84,11 @@ pub(crate) enum Stage<'p> {
         came: ServingResult,
         end: DoneEnd,
     },
-    /// Its end is being put to another use. No call leaves a slot so.
+    /// Its end is being put to another use. No call leaves a slot like this.
     Taken,
 }
 
-/// What a caller has once its call is over.
+/// What a caller has when its call is over.
 #[derive(Drop)]
 pub(crate) struct CallerResult {
     outcome: Outcome,
@@ -97,7 +97,7 @@ pub(crate) struct CallerResult {
     got: Bytes,
 }
 
-/// What a side that serves has once its call is over.
+/// What a side that serves has when its call is over.
 #[derive(Drop)]
 pub(crate) struct ServingResult {
     outcome: Outcome,
@@ -105,7 +105,7 @@ pub(crate) struct ServingResult {
 }
 
 impl<'p> Slot<'p> {
-    /// Whether the end is unused.
+    /// Returns whether the end is unused.
     pub(crate) fn is_unused(&self) -> bool
         requires retire { CanRetire self.now.stage }
         ensures { result ≡ is_nothing (use_of self.now.stage) }
@@ -113,7 +113,7 @@ impl<'p> Slot<'p> {
         matches!(self.stage, Stage::Unused { .. })
     }
 
-    /// Lays the page of an unused end, where that is left to it. Its error is want of memory.
+    /// Lays the page of an unused end, if that is the end's part. Returns `Memory` if memory runs out.
     pub(crate) fn lay(&self, alloc: Global) -> Result<Option<LaidPage>, Memory>
         ensures { IfOk result (λ laid. HasPage self.now.stage laid) }
     {
@@ -123,8 +123,7 @@ impl<'p> Slot<'p> {
         }
     }
 
-    /// The end of the own call of this number, for which the caller has this input, once its page is
-    /// laid.
+    /// Puts the end to the agent's own call with this number and this input. Its page is laid.
     pub(crate) fn call(
         &mut self,
         number: usize,
@@ -145,7 +144,7 @@ impl<'p> Slot<'p> {
         self.stage = stage.call(number, input, caller, laid);
     }
 
-    /// The end of what is served under this number, by a side that has this service.
+    /// Puts the end to a call that is served under this number, by a side that has this service.
     pub(crate) fn serve(
         &mut self,
         number: usize,
@@ -164,9 +163,9 @@ impl<'p> Slot<'p> {
         self.stage = stage.serve(number, service, serving);
     }
 
-    /// One turn of an open session. It answers what the broker is told of the session, where it is
-    /// over now. After want of memory the end can still be retired; where the task at the other end ran
-    /// out of memory before it opened that end, so did the run.
+    /// Makes one turn of an open session. Returns what the broker must be told if the session is over now.
+    /// Returns `Memory` if memory runs out; the end can still be retired then. It also fails if the task at
+    /// the other end ran out of memory before it opened that end.
     pub(crate) fn turn(&mut self, scratch: &mut [u8]) -> Result<Option<SessionOver>, Memory>
         requires open { CanTurn self.old.stage }
         requires retire { CanRetire self.old.stage }
@@ -194,7 +193,7 @@ impl<'p> Slot<'p> {
         }
     }
 
-    /// Whether the last turn of an open session moved bytes.
+    /// Returns whether the last turn of an open session moved bytes.
     pub(crate) fn moved(&self) -> bool {
         match &self.stage {
             Stage::Calls { session, .. } => session.moved(),
@@ -203,7 +202,7 @@ impl<'p> Slot<'p> {
         }
     }
 
-    /// Whether a session is open on a page that is laid when it is first used.
+    /// Returns whether a session is open on a page that is laid at its first use.
     pub(crate) fn is_offered(&self) -> bool {
         match &self.stage {
             Stage::Calls { side, .. } => side.is_offered(),
@@ -213,8 +212,8 @@ impl<'p> Slot<'p> {
         }
     }
 
-    /// Takes the other end back, where the page was laid for a call of the agent's own that is over, so
-    /// that its memory is given back. It answers whether that end is still awaited.
+    /// Takes the other end back, if the page was laid for a call of the agent's own that is over, so that its
+    /// memory is freed. Returns whether that end is still awaited.
     pub(crate) fn take_back(&mut self) -> bool
         ensures { self.new ≡ self.old }
     {
@@ -244,7 +243,7 @@ impl<'p> Slot<'p> {
         }
     }
 
-    /// Retires the end, whatever it is used for.
+    /// Retires the end, used or not.
     pub(crate) fn give_up(self) -> RetiredEnd
         requires retire { CanRetire self.stage }
         ensures held { held_at (retired_at result) ≡ (frame_of self.entry).held }
@@ -262,7 +261,7 @@ impl<'p> Slot<'p> {
         }
     }
 
-    /// Retires the end, of which no session is open, and says what its session came to.
+    /// Retires the end, which has no open session, and returns what came of its session.
     pub(crate) fn finish(self) -> (RetiredEnd, Report)
         requires retire { CanRetire self.stage }
         requires closed { is_session self.stage ≡ false }
@@ -311,8 +310,7 @@ impl<'p> Slot<'p> {
 }
 
 impl<'p> Stage<'p> {
-    // The end of the own call of this number, for which the caller has this input, once its page is
-    // laid.
+    // Puts the end to the agent's own call with this number and this input. Its page is laid.
     fn call(
         self,
         number: usize,
@@ -343,7 +341,7 @@ impl<'p> Stage<'p> {
         }
     }
 
-    // The end of what is served under this number, by a side that has this service.
+    // Puts the end to a call that is served under this number, by a side that has this service.
     fn serve(
         self,
         number: usize,
@@ -364,7 +362,7 @@ impl<'p> Stage<'p> {
         }
     }
 
-    // One turn of an open session, and how it came out.
+    // Makes one turn of an open session. Returns how it ended, if it is over.
     fn turn(&mut self, scratch: &mut [u8]) -> Result<Option<Outcome>, Memory>
         requires open { CanTurn self.old }
         requires retire { CanRetire self.old }
@@ -385,7 +383,7 @@ impl<'p> Stage<'p> {
         }
     }
 
-    // The session of an awaited page begins, where that is offered.
+    // Begins the session of an awaited page, if the page is offered.
     fn open_offered(&mut self)
         requires open { CanTurn self.old }
         requires retire { CanRetire self.old }
@@ -401,7 +399,7 @@ impl<'p> Stage<'p> {
         *self = stage.opened();
     }
 
-    // The same, where the page is offered with its session.
+    // Does the same by value, if the page is offered with its session.
     fn opened(self) -> Stage<'p>
         requires open { CanTurn self }
         requires retire { CanRetire self }
@@ -449,7 +447,7 @@ impl<'p> Stage<'p> {
         }
     }
 
-    // A session that came out so is finished.
+    // Finishes a session that ended like this.
     fn finish(self, outcome: Outcome) -> Stage<'p>
         requires over { HasComeOut outcome self }
         requires retire { CanRetire self }
@@ -492,7 +490,7 @@ impl<'p> Stage<'p> {
     }
 }
 
-// Lays the page of an unused end, where that is left to it.
+// Lays the page of an unused end, if that is the end's part.
 fn lay(end: &UnusedEnd, alloc: Global) -> Result<Option<LaidPage>, Memory>
     ensures { IfOk result (λ laid. HasLaid end.now laid) }
 {
@@ -502,7 +500,7 @@ fn lay(end: &UnusedEnd, alloc: Global) -> Result<Option<LaidPage>, Memory>
     }
 }
 
-// An unused end of a client, put to what is served under this number.
+// Puts an unused end of a client to a call that is served under this number.
 fn serve_unused<'p>(
     end: UnusedEnd<'p>,
     number: usize,
@@ -529,7 +527,7 @@ fn serve_unused<'p>(
     }
 }
 
-// What is served under this number once its page is offered.
+// The serving under this number, once its page is offered.
 fn open_awaited<'p>(
     number: usize,
     service: Snapshot<Builtin>,
@@ -553,7 +551,7 @@ fn open_awaited<'p>(
     }
 }
 
-// What is served under this number at this end, which did nothing yet.
+// The serving under this number at this end, which has done nothing yet.
 fn serve_at<'p>(
     number: usize,
     service: Snapshot<Builtin>,
@@ -578,7 +576,7 @@ fn serve_at<'p>(
     }
 }
 
-// What a caller has once its call is over, and its end.
+// What a caller has when its call is over, and its end.
 fn caller_result(ended: CallerEnd, side: Side) -> (CallerResult, DoneEnd)
     requires { IsSideOf side (last_view ended.retired) }
     ensures result { result_of result.0 ≡ done_of ended }
@@ -600,7 +598,7 @@ fn caller_result(ended: CallerEnd, side: Side) -> (CallerResult, DoneEnd)
     (came, side.finish(retired))
 }
 
-// What a side that serves has once its call is over, and its end.
+// What a side that serves has when its call is over, and its end.
 fn serving_result(ended: ServingEnd, side: Side) -> (ServingResult, DoneEnd)
     requires { IsSideOf side (last_view ended.retired) }
     ensures result { result.0 ≡ record { outcome = ended.outcome; got = ended.got } }
@@ -614,7 +612,8 @@ fn serving_result(ended: ServingEnd, side: Side) -> (ServingResult, DoneEnd)
     (ServingResult { outcome, got }, side.finish(retired))
 }
 
-// Takes the other end of a page back, where it is its server's, and answers whether that is awaited.
+// Takes the other end of a page back, if this end is the server's. Returns whether the other end is still
+// awaited.
 fn take_back(end: &mut DoneEnd) -> bool
     ensures { end.new ≡ end.old }
 {
@@ -624,7 +623,7 @@ fn take_back(end: &mut DoneEnd) -> bool
     }
 }
 
-// What a call came to.
+// What came of a call.
 fn call_over(to: u32, port: u32, came: CallerResult) -> CallOver
     ensures place { (result.to ≡ to) × (result.port ≡ port) }
     ensures done { caller_done result ≡ result_of came }
@@ -645,7 +644,7 @@ fn call_over(to: u32, port: u32, came: CallerResult) -> CallOver
     }
 }
 
-// What a session that served came to.
+// What came of a served session.
 fn served_done(from: u32, port: u32, came: ServingResult) -> ServedDone
     ensures { result ≡ record { from = from; port = port; outcome = came.outcome; got = came.got } }
 {
@@ -658,7 +657,7 @@ fn served_done(from: u32, port: u32, came: ServingResult) -> ServedDone
     }
 }
 
-// One turn of a caller that has no outcome yet, and how it came out.
+// Makes one turn of a caller that has no outcome yet. Returns how it ended, if it is over.
 fn turn_caller(session: &mut CallerSession, scratch: &mut [u8]) -> Result<Option<Outcome>, Memory>
     requires calling { IsCalling session.old.caller session.old.end }
     requires some { 0 < length scratch.old }
@@ -675,7 +674,7 @@ fn turn_caller(session: &mut CallerSession, scratch: &mut [u8]) -> Result<Option
     Ok(session.outcome())
 }
 
-// One turn of a side that serves and has no outcome yet, and how it came out.
+// Makes one turn of a side that serves and has no outcome yet. Returns how it ended, if it is over.
 fn turn_serving(session: &mut ServingSession, scratch: &mut [u8]) -> Result<Option<Outcome>, Memory>
     requires work { IsAtWork session.old.serving session.old.end }
     requires some { 0 < length scratch.old }

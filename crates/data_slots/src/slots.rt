@@ -18,14 +18,14 @@ use vchan_io::Memory;
 
 /// All data ends of an agent, in the order in which they were given.
 ///
-/// A turn costs what is open, and an end is found by its place without a search. After want of memory
-/// in a turn the ends can only be given up.
+/// A turn costs time only for open sessions, and an end is found by its place without a search. If memory ran
+/// out in a turn, the ends can only be given up.
 #[derive(Drop)]
 pub struct DataSlots<'p> {
     ends: Ends<'p>,
-    // Room for all ends once they are retired, so that giving up takes no memory.
+    // Room for all ends when they are retired, so that giving up takes no memory.
     retired: Vec<RetiredEnd>,
-    // Whether memory didn't suffice for a turn.
+    // Whether memory ran out in a turn.
     spent: Snapshot<bool>,
 }
 
@@ -49,11 +49,11 @@ impl<'p> DataSlots<'p> {
     ghost use Rattle.data_slots.specs.Slots.{held_at, IsGiven, AreApart};
     ghost use Rattle.data_slots.specs.Done.{ReportsCalled, ReportsServes, TellsMore};
 
-    /// The data ends of an agent of this domain and version, 2 or 3, which has so many calls of its
-    /// own. All ends are unused, each is a server's where the domain calls and a client's where it is
-    /// called, and no two lie at one place.
+    /// Makes the data ends of an agent of this domain and version, 2 or 3, which has `calls` calls of its
+    /// own. All ends are unused. Each is a server's if the domain calls on its page, and a client's if the
+    /// domain is called. No two lie at one place.
     ///
-    /// Want of memory drops the ends, unretired.
+    /// Returns `Memory` if memory runs out; the ends are dropped then, and not retired.
     pub fn new(
         alloc: Global,
         domain: u32,
@@ -86,7 +86,7 @@ impl<'p> DataSlots<'p> {
         })
     }
 
-    /// Whether there is an unused end for a call of the agent's own to this domain at this port.
+    /// Returns whether there is an unused end for a call of the agent's own to this domain at this port.
     pub fn can_call(&self, to: u32, port: u32) -> bool
         requires whole { self.now.spent ≡ false }
         ensures { result ≡ has_place (Payload self.now.domain to port) self.now.unused }
@@ -94,7 +94,7 @@ impl<'p> DataSlots<'p> {
         self.ends.is_unused(self.ends.domain, to, port)
     }
 
-    /// Whether there is an unused end for a call of this domain to the agent at this port.
+    /// Returns whether there is an unused end for a call of this domain to the agent at this port.
     pub fn can_serve(&self, from: u32, port: u32) -> bool
         requires whole { self.now.spent ≡ false }
         ensures { result ≡ has_place (Payload from self.now.domain port) self.now.unused }
@@ -102,10 +102,10 @@ impl<'p> DataSlots<'p> {
         self.ends.is_unused(from, self.ends.domain, port)
     }
 
-    /// Opens the unused end at this place, where [`DataSlots::can_call`] is true, for the agent's own call
-    /// that stands here in the order of its calls, with this input.
+    /// Opens the unused end at this place for the agent's own call with this number and input. The number
+    /// counts the agent's calls in their order, and [`DataSlots::can_call`] must be true of the place.
     ///
-    /// Want of memory drops the input and changes nothing else.
+    /// Returns `Memory` if memory runs out; the input is dropped then, and nothing else changes.
     pub fn call(&mut self, number: usize, to: u32, port: u32, input: Vec<u8>) -> Result<(), Memory>
         requires whole { self.old.spent ≡ false }
         requires number { slice_get self.old.called number ≡ Some None }
@@ -120,10 +120,10 @@ impl<'p> DataSlots<'p> {
         self.ends.call(number, to, port, input)
     }
 
-    /// Opens the unused end at this place, where [`DataSlots::can_serve`] is true, for a call of this
-    /// domain, which is served by this service.
+    /// Opens the unused end at this place for a call of this domain, which this service serves.
+    /// [`DataSlots::can_serve`] must be true of the place.
     ///
-    /// Want of memory changes nothing.
+    /// Returns `Memory` if memory runs out; nothing changes then.
     pub fn serve(&mut self, from: u32, port: u32, service: Builtin) -> Result<(), Memory>
         requires whole { self.old.spent ≡ false }
         requires unused { has_place (Payload from self.old.domain port) self.old.unused ≡ true }
@@ -137,11 +137,12 @@ impl<'p> DataSlots<'p> {
         self.ends.serve(from, port, service)
     }
 
-    /// One turn of each open session. Those that are over now are put behind `over`. It answers whether
-    /// any moved bytes or is over, of which nothing is promised. A session whose page its server hasn't
-    /// offered yet awaits that.
+    /// Makes one turn of each open session, and appends those that are over now to `over`. Returns whether
+    /// any moved bytes or is over; nothing is promised of that answer. A session waits if the server of its
+    /// page hasn't offered the page yet.
     ///
-    /// After want of memory the ends can only be given up, and nothing is said of `over`.
+    /// Returns `Memory` if memory runs out; the ends can only be given up then, and nothing is promised of
+    /// `over`.
     pub fn turn(&mut self, scratch: &mut [u8], over: &mut Vec<SessionOver>) -> Result<bool, Memory>
         requires whole { self.old.spent ≡ false }
         requires some { 0 < length scratch.old }
@@ -156,23 +157,23 @@ impl<'p> DataSlots<'p> {
         turned
     }
 
-    /// How many open sessions are on pages that are laid when they are first used. Nothing is promised of
+    /// Returns how many open sessions are on pages that are laid at their first use. Nothing is promised of
     /// the answer.
     pub fn pages_in_use(&self) -> usize {
         self.ends.pages_in_use()
     }
 
-    /// Whether no session is open.
+    /// Returns whether no session is open.
     pub fn is_idle(&self) -> bool
         ensures { IsTrue result ↔ (self.now.open_count ≡ 0) }
     {
         self.ends.busy.is_empty()
     }
 
-    /// Retires the ends that were never used, and says what came of the others, of which no session is
-    /// open. The ends come back in the order in which they were given.
+    /// Retires the ends that were never used, and returns what came of the others, none of which has an open
+    /// session. The ends come back in the order in which they were given.
     ///
-    /// Want of memory drops all ends, which are retired then.
+    /// Returns `Memory` if memory runs out; all ends are retired and dropped then.
     pub fn finish(self) -> Result<DataDone, Memory>
         requires whole { self.spent ≡ false }
         requires idle { self.open_count ≡ 0 }
@@ -185,8 +186,8 @@ impl<'p> DataSlots<'p> {
         ends.finish(retired)
     }
 
-    /// Retires all ends, whatever they are used for, and gives them back in the order in which they
-    /// were given. It takes no memory.
+    /// Retires all ends, used or not, and returns them in the order in which they were given. It takes no
+    /// memory.
     pub fn give_up(self) -> Vec<RetiredEnd>
         ensures held { map held_at (all_retired result.items) ≡ self.entry.held }
         ensures honest { Each (λ e. e.view.turned ≡ false) (all_retired result.items) }

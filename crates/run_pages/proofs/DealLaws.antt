@@ -52,7 +52,7 @@ gives-set old number h h' end some at control payload = record { count = length-
         )
         by (inr e) = (hand, e.1, rw (ne_eqb (k + 1) number (λ s. e.0 (omega (arith, s)))) (sym (append-nil (hand_ends (k + 1) hand))))
 
--- the ends of all hands still fit once a hand has an end more that fits
+-- the ends of all hands still fit after a hand got one more end that fits
 pub orders-set : (s : Scenario) (old : List Hand) (number : ℕ) (h h' : Hand) (end : DataEnd) → 1 ≤ number → slice_get old (number - 1) ≡ Some h
     → h'.control ≡ h.control → h'.payload.items ≡ h.payload.items ++ end ∷ [] → FitsDomain s number end.end → HaveOrders s old → HaveOrders s (set old (number - 1) h')
 orders-set s old number h h' end some at control payload fits ordered k hand is = by (get-set old (number - 1) k h' hand is)
@@ -69,7 +69,7 @@ orders-set s old number h h' end some at control payload fits ordered k hand is 
               (each-more (λ (e : DataEnd). FitsDomain s (k + 1) e.end) h.payload.items end has.of_payload (subst (λ n. FitsDomain s n end.end) now fits));
         })
 
--- a hand that has a control end alone comes behind the others
+-- a hand that has a control end alone comes after the others
 pub adds-hand : (old : List Hand) (h : Hand) → h.payload.items ≡ [] → AddsHand h.control old (old ++ h ∷ [])
 adds-hand old h none = record { count = length-append old (h ∷ []); each = each }
   where
@@ -80,7 +80,7 @@ adds-hand old h none = record { count = length-append old (h ∷ []); each = eac
         by (inl e) = inl e
         by (inr e) = inr (e.0, ap (λ (x : Hand). x.control) (sym e.1), ap (λ (x : Hand). x.payload.items) (sym e.1) ∙ none)
 
--- and the ends of all hands still fit then
+-- the ends of all hands still fit then
 pub orders-more : (s : Scenario) (old : List Hand) (h : Hand) → h.control.side.orders ≡ s.control → h.payload.items ≡ [] → HaveOrders s old → HaveOrders s (old ++ h ∷ [])
 orders-more s old h control payload ordered k hand is = by (get-more old h hand k is)
   where
@@ -114,7 +114,7 @@ attached-orders s e seat p laid side = ap (λ x. x.orders) side ∙ laid.orders
 pub ends-more : (pages : List PageAt) (p : PageAt) (number : ℕ) → new_ends (pages ++ p ∷ []) number ≡ new_ends pages number ++ new_ends (p ∷ []) number
 ends-more pages p number = filter_map-append (end_on number) pages (p ∷ [])
 
--- the server's end is that of its domain, the client's that of its
+-- the server's end is that of the server's domain, and the client's end that of the client's domain
 pub ends-server : (p : PageAt) (number : ℕ) → server_of p.place ≡ number → new_ends (p ∷ []) number ≡ new_end p Server ∷ []
 ends-server p number e = rw (same-test (server_of p.place) number e) refl
 

@@ -73,7 +73,7 @@ is-next pages k p x seats all-seats controls hands all is got d =
       taken = take_more pages k p within ∙ ap (λ q. take k pages ++ q ∷ []) (got within);
     }
 
--- all are dealt, where no seats are left
+-- all are dealt if no seats are left
 pub all-dealt : (before left : List PageAt) (controls : List SeatedEnd) (hands : List Hand) (all : ℕ) → IsDealing before left [] controls hands all
     → AreDealt before controls hands × (left ≡ []) × (length hands ≡ all)
 all-dealt before [] controls hands all d = (d.dealt, refl, omega (arith, d.count))

@@ -15,7 +15,7 @@ end-laid s domain e hostile (unused.Laid end) is fits = record { end = end; is =
 end-laid s domain e hostile (unused.Server side) is fits = absurd (let both : true ≡ false = sym hostile ∙ fits in cc)
 end-laid s domain e hostile (unused.Client side) is fits = absurd (let both : true ≡ false = sym hostile ∙ fits in cc)
 
--- and so are all data ends of its hand
+-- so are all data ends of its hand
 pub all-laid : (s : Scenario) (domain : ℕ) (hand : Hand) → hostile_at s domain ≡ true → HasOrders s domain hand → Each (IsLaidWith s.payload) hand.payload.items
 all-laid s domain hand hostile has = each hand.payload.items has.of_payload
   where

@@ -22,7 +22,7 @@ get-set (z ∷ xs) (suc i) (suc k) y x is = up (get-set xs i k y x is)
     up (inl e) = inl (ap suc e.0, e.1)
     up (inr e) = inr ((λ s. e.0 (omega (arith, s))), e.1)
 
--- an element of a list with one more behind it
+-- an element of a list with one element more at its end
 pub get-more : {A : Type 0} (xs : List A) (y x : A) (k : ℕ) → slice_get (xs ++ y ∷ []) k ≡ Some x → (slice_get xs k ≡ Some x) ⊎ ((k ≡ length xs) × (y ≡ x))
 get-more [] y x zero is = inr (refl, some-eq is)
   where
@@ -39,7 +39,7 @@ get-more (z ∷ xs) y x (suc k) is = up (get-more xs y x k is)
     up (inl e) = inl e
     up (inr e) = inr (ap suc e.0, e.1)
 
--- facts of each element, or of each two, with one more
+-- what holds of each element, or of each pair, with one more
 pub each-more : {A : Type 0} (P : A → Type 0) (xs : List A) (x : A) → Each P xs → P x → Each P (xs ++ x ∷ [])
 each-more P [] y e p = (p, tt)
 each-more P (x ∷ xs) y e p = (e.0, each-more P xs y e.1 p)
@@ -84,7 +84,7 @@ each-here P [] k x within here each = absurd (omega (arith, within))
 each-here P (y ∷ xs) zero x within here each = subst P here each.0
 each-here P (y ∷ xs) (suc k) x within here each = each-here P xs k x (omega (arith, within)) here each.1
 
--- and still of each once one is another of which it holds
+-- it still holds of each after one is replaced by another of which it holds
 pub each-set : {A : Type 0} (P : A → Type 0) (xs : List A) (k : ℕ) (y : A) → Each P xs → P y → Each P (set xs k y)
 each-set P [] k y each holds = tt
 each-set P (x ∷ xs) zero y each holds = (holds, each.1)

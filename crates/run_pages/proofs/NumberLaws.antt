@@ -9,7 +9,7 @@ numbers-more : (from by k : ℕ) → numbers from by (suc k) ≡ numbers from by
 numbers-more from by zero = ap (λ n. n ∷ []) (omega arith)
 numbers-more from by (suc k) = ap (λ l. from ∷ l) (numbers-more (from + by) by k ∙ ap (λ n. numbers (from + by) by k ++ n ∷ []) (omega arith))
 
--- what is made of the numbers, behind what was there before
+-- what is made of the numbers, after what was there before
 pub map-more : {A : Type 0} (f : ℕ → A) (from by k n : ℕ) (old now : List A) → n ≡ from + by * k
     → now ≡ old ++ map f (numbers from by k) → now ++ f n ∷ [] ≡ old ++ map f (numbers from by (k + 1))
 map-more f from by k n old now e is =

@@ -1,4 +1,4 @@
--- What is dealt lies where the tasks of a scenario are to have their ends.
+-- What is dealt lies where the tasks of a scenario must have their ends.
 use Rattle.std.proofs.Common.{◌≡◌, ℕ, ◌+◌, ◌≤◌, List, [], ◌∷◌, map, length, refl, ap, sym, ◌∙◌, arith}
 use Rattle.std.specs.Prelude.{◌==◌, ◌||◌, Bool, true, false, filter}
 use Rattle.std.proofs.lemmas.Bool.{ne_eqb}
@@ -11,7 +11,7 @@ use Rattle.task_duties.specs.TaskOwes.{places_in, broker_ends}
 use Rattle.run_laws.specs.Laid.{is_end_of, laid, places_of, server_of, client_of}
 use Rattle.run_pages.specs.Pages.{PageAt, AreLaid, new_ends}
 
--- a domain has an end of a page where the server's or the client's is its own
+-- a domain has an end of a page if it is the server or the client there
 is-end : (d : ℕ) (place : PagePlace) → 1 ≤ d → is_end_of d place ≡ (server_of place == d || client_of place == d)
 is-end d (Control domain) some = by (domain == d)
   where
@@ -23,7 +23,7 @@ is-end d (Control domain) some = by (domain == d)
     by false = sym none
 is-end d (Payload from to port) some = refl
 
--- an end of a domain on a page, and then those on the others
+-- an end of a domain on a page, and then its ends on the others
 place-on : (d : ℕ) (p : PageAt) (pages : List PageAt) → 1 ≤ d → places_in (new_ends pages d) ≡ filter (is_end_of d) (map (λ p. p.place) pages)
     → places_in (new_ends (p ∷ pages) d) ≡ filter (is_end_of d) (map (λ p. p.place) (p ∷ pages))
 place-on d p pages some rest = by (server_of p.place == d) refl (client_of p.place == d) refl

@@ -9,7 +9,7 @@ use Rattle.scenario_file.specs.declared.scenario.Domain.{Domain}
 use Rattle.run_laws.specs.Laid.{calls_between, pages_between}
 use Rattle.run_pages.specs.Routes.{route_of, routes_of, is_from, is_to}
 
--- one element more, where those behind it are counted
+-- one element more, when those after it are counted
 count-more : {X Y : Type 0} (f : X → Y) (p q : Y → Bool) (x : X) (xs : List X) (b : Bool) → p (f x) ≡ b
     → count_by q (filter p (map f xs)) ≡ count_by (λ y. p (f y) && q (f y)) xs
     → count_by q (filter p (map f (x ∷ xs))) ≡ count_by (λ y. p (f y) && q (f y)) (x ∷ xs)
@@ -42,11 +42,11 @@ routes-within s from = omega (arith, length-filter (is_from from) (routes_of s),
 pub between-calls : (s : Scenario) (from to : ℕ) → (from == to) ≡ false → hostile_at s from ≡ false → pages_between s from to ≡ calls_between s from to
 between-calls s from to apart honest = rw apart (rw honest refl)
 
--- and for a hostile one as many as it has ports
+-- for a hostile caller there are as many pages as it has ports
 pub between-ports : (s : Scenario) (from to : ℕ) (domain : Domain) → (from == to) ≡ false → domain_of s from ≡ Some domain → is_hostile domain ≡ true
     → pages_between s from to ≡ domain.ports
 between-ports s from to domain apart is hostile = rw apart (rw is (rw hostile refl))
 
--- so is a domain that is honest
+-- an honest domain isn't hostile by its number
 pub honest-at : (s : Scenario) (number : ℕ) (domain : Domain) → domain_of s number ≡ Some domain → is_hostile domain ≡ false → hostile_at s number ≡ false
 honest-at s number domain is honest = rw is honest

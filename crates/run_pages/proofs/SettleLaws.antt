@@ -56,7 +56,7 @@ still-has number other end old new apart gives has = by (slice_get_cases new oth
 
 -- ---- the last page that is left
 
--- where two lists with one more are the same
+-- if two lists with one more element are the same, so are the lists and the elements
 pub same-last : {A : Type 0} (xs ys : List A) (x y : A) → xs ++ x ∷ [] ≡ ys ++ y ∷ [] → (xs ≡ ys) × (x ≡ y)
 same-last [] [] x y e = (refl, cc)
 same-last [] (b ∷ ys) x y e = absurd (omega (arith, ap length e, length-append ys (y ∷ [])))
@@ -84,7 +84,7 @@ follows-first count [] place f = tt
 follows-first count (Control d ∷ places) place f = (f.0, follows-first (count + 1) places place f.1)
 follows-first count (Payload from to port ∷ places) place f = (f.0, f.1, f.2, f.3, f.4, follows-first count places place f.5)
 
--- its two domains are others, and both have ends
+-- its two domains differ, and both have ends
 pub record IsLast (place : PagePlace) (many : ℕ) : Type 0 where
   pub apart : server_of place ≢ client_of place
   pub server : server_of place < many
@@ -100,7 +100,7 @@ last-is places (Payload from to port) many f m =
     let n = controls-append places (Payload from to port ∷ []) in
     record { apart = l.0; server = omega (arith, l.2, n, m); client = omega (arith, l.4, n, m) }
 
--- the task of a number has its end of the last page, behind its ends of the others
+-- the task with this number has its end of the last page after its ends of the others
 pub record EndsWith (left : List PageAt) (p : PageAt) (role : Role) (number : ℕ) (hands : List (List EndAt)) : Type 0 where
   pub rest : List EndAt
   pub end : EndAt
@@ -120,7 +120,7 @@ ends-with left p role number hands ends within back = by (slice_get_cases hands 
 
 -- ---- one page more is settled
 
--- the pairs but for the last one
+-- the pairs without the last one
 but-last : (given : List EndAt) (e : EndAt) (hand : List EndAt) (x : EndAt) → EachPair IsSameEnd (given ++ e ∷ []) (hand ++ x ∷ []) → EachPair IsSameEnd given hand
 but-last given e hand x pairs =
     let l = last-pair IsSameEnd given e (hand ++ x ∷ []) pairs in
@@ -244,7 +244,7 @@ gave-back p role number end hands first gave within =
     subst (λ l. Contains l end) (sym (get_or_from_slice_get first number ((gave.rest ++ end ∷ []) ++ before.0) [] before.1))
     (Contains-append_left (gave.rest ++ end ∷ []) before.0 end (Contains-append_right gave.rest (end ∷ []) end (0, omega arith, refl)))
 
--- the ends that are left behind one task's last end
+-- after a task gave up its last end, what each task has left is still the first part of what it gave back
 still-there : (number : ℕ) (end : EndAt) (old new first : List (List EndAt)) → GivesUp number end old new
     → ((k : ℕ) (hand : List EndAt) → slice_get old k ≡ Some hand → (taken : List EndAt) × (slice_get first k ≡ Some (hand ++ taken)))
     → (k : ℕ) (hand : List EndAt) → slice_get new k ≡ Some hand → (taken : List EndAt) × (slice_get first k ≡ Some (hand ++ taken))

@@ -60,7 +60,8 @@ pub record AreEndsOf (p : PageAt) (place : PagePlace) (server client : EndView) 
 
 -- ---- in which order
 
--- behind the control pages of so many domains these places follow: the control pages of the next domains, in order, and data pages between domains whose control pages came before
+-- after the control pages of the first `count` domains these places follow: the control pages of the next domains, in order, and data pages
+-- between domains whose control pages came before
 abbrev pub Follows : ℕ → List PagePlace → Type 0
 Follows count [] = Unit {0}
 Follows count (Control domain ∷ places) = (domain ≡ count + 1) × Follows (count + 1) places
@@ -72,19 +73,19 @@ controls_in [] = 0
 controls_in (Control domain ∷ places) = suc (controls_in places)
 controls_in (Payload from to port ∷ places) = controls_in places
 
--- these pages were dealt: no others have an end yet
+-- these pages were dealt, and no other page has an end yet
 pub record AreDealt (pages : List PageAt) (controls : List SeatedEnd) (hands : List Hand) : Type 0 where
   pub controls_are : ControlsDealt pages controls
   pub hands_are : HandsDealt pages hands
   pub as_many : length controls ≡ length hands
   pub beyond : (number : ℕ) → length hands < number → new_ends pages number ≡ []
 
--- how many hands there are once a page at this place is dealt
+-- how many hands there are after a page at this place is dealt
 abbrev pub hands_after : PagePlace → ℕ → ℕ
 hands_after (Control domain) count = count + 1
 hands_after (Payload from to port) count = count
 
--- a hand with this control end alone comes behind the others
+-- a hand with this control end alone comes after the others
 pub record AddsHand (control : SeatedEnd) (old new : List Hand) : Type 0 where
   pub count : length new ≡ length old + 1
   pub each : (k : ℕ) (hand : Hand) → slice_get new k ≡ Some hand
@@ -96,7 +97,7 @@ pub record Gives (number : ℕ) (end : EndAt) (old new : List Hand) : Type 0 whe
   pub each : (k : ℕ) (hand : Hand) → slice_get new k ≡ Some hand
       → (before : Hand) × (slice_get old k ≡ Some before) × (hand_ends (k + 1) hand ≡ hand_ends (k + 1) before ++ (if k + 1 == number then end ∷ [] else []))
 
--- while they are dealt: these pages were, those that are left follow, and have these seats; in the end there are so many hands
+-- while pages are dealt: those before were dealt, those left follow and have these seats, and there will be `all` hands in the end
 pub record IsDealing (before left : List PageAt) (seats : List PageSeats) (controls : List SeatedEnd) (hands : List Hand) (all : ℕ) : Type 0 where
   pub dealt : AreDealt before controls hands
   pub follows : Follows (length hands) (map (λ p. p.place) left)

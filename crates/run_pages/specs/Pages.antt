@@ -18,7 +18,7 @@ use Rattle.run_pages.specs.declared.lay.RunPage.TheVariants as page
 use Rattle.run_pages.specs.declared.lay.PageSeats.{PageSeats}
 use Rattle.run_pages.specs.declared.lay.PageSeats.TheVariants as seats
 
--- a page, and where it lies; the table of a page that is laid when it is first used, and so is offered, is its name
+-- a page and its place; a page that is laid at its first use, and so is offered, has its name as its table
 pub record PageAt : Type 0 where
   pub place : PagePlace
   pub page : PageView
@@ -40,7 +40,7 @@ abbrev pub is_offered : Scenario → PagePlace → Bool
 is_offered s (Control domain) = false
 is_offered s (Payload from to port) = are_offered s from to
 
--- a page has the orders of its place, and the first index of the scenario, and is offered where its place says so
+-- a page has the orders of its place and the first index of the scenario, and is offered if its place says so
 pub record IsLaidFor (s : Scenario) (p : PageAt) : Type 0 where
   pub orders : p.page.orders ≡ orders_of s p.place
   pub start : p.page.start ≡ s.start
@@ -66,7 +66,7 @@ HasSeats pages seats = EachPair AreSeatsOf pages seats
 abbrev pub new_end : PageAt → Role → EndAt
 new_end p role = record { place = p.place; view = view_of p.page.table true (new_side role p.page.orders p.page.start (state_at_first role)) }
 
--- the end that a domain has of a page, or the broker, whose number is 0
+-- the end that a domain has on a page, or the broker, whose number is 0
 abbrev pub end_on : ℕ → PageAt → Option EndAt
 end_on number p =
     if server_of p.place == number then Some (new_end p Server)

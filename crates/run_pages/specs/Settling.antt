@@ -14,7 +14,7 @@ use Rattle.run_laws.specs.Report.{SettledPage}
 use Rattle.run_pages.specs.Pages.{PageAt, IsLaidFor, new_ends}
 use Rattle.run_pages.specs.Dealt.{Follows, controls_in}
 
--- each task, that of the broker first and then those of the domains, gives back the ends that it was dealt, in order
+-- each task gives back the ends that it was dealt, in order: the broker's task first, and then those of the domains
 abbrev pub HandsBack : List PageAt → List (List EndAt) → Type 0
 HandsBack pages hands = (k : ℕ) (hand : List EndAt) → slice_get hands k ≡ Some hand → EachPair IsSameEnd (new_ends pages k) hand
 
@@ -43,7 +43,7 @@ pub record IsSettledBy (s : Scenario) (hands : List (List EndAt)) (page : Settle
   pub server : Contains (hand_of hands (server_of page.place)) (record { place = page.place; view = page.settled.server })
   pub client : Contains (hand_of hands (client_of page.place)) (record { place = page.place; view = page.settled.client })
 
--- a page that began with these words as it was settled by two ends that are seen so
+-- a page that began with these words was settled by two ends with these views
 pub record IsSettledAs (place : PagePlace) (words : PageStart) (server client : EndView) (page : SettledPage) : Type 0 where
   pub place_is : page.place ≡ place
   pub words_are : began_with page.settled ≡ words
@@ -59,7 +59,8 @@ pub record AreSettledBy (s : Scenario) (pages : List PageAt) (hands : List (List
   pub places : map (λ p. p.place) settled ≡ map (λ p. p.place) pages
   pub each : Each (IsSettledBy s hands) settled
 
--- while they are settled: these pages are left, with the ends that the tasks still have, of those that they gave back at first; the others are settled, the last one first
+-- while pages are settled: these pages are left, with the ends that the tasks still have of those that they gave back at first; the others
+-- are settled, the last one first
 pub record IsSettling (s : Scenario) (left all : List PageAt) (hands first : List (List EndAt)) (settled : List SettledPage) : Type 0 where
   pub follows : Follows 0 (map (λ p. p.place) left)
   pub laid : Each (IsLaidFor s) left

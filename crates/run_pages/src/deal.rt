@@ -15,12 +15,12 @@ use task_duties::{DataEnd, PagePlace, UnusedEnd};
 use vchan_io::Memory;
 use vchan_rule::End;
 
-/// The ends of a domain.
+/// The ends that are dealt to one domain.
 #[derive(Drop)]
 pub struct Hand<'p> {
-    /// Its end of its control page.
+    /// The domain's end of its control page.
     pub control: End<'p>,
-    /// Its ends of data pages, in order of caller, target and port.
+    /// The domain's ends of data pages, in order of caller, target and port.
     pub payload: Vec<DataEnd<'p>>,
 }
 
@@ -29,14 +29,14 @@ pub struct Hand<'p> {
 pub struct Dealt<'p> {
     /// The broker's ends of the control pages, in the order of the domains.
     pub controls: Vec<End<'p>>,
-    /// The ends of each domain, in their order.
+    /// The ends of each domain, in the order of the domains.
     pub hands: Vec<Hand<'p>>,
 }
 
 impl RunPages {
-    /// The ends of all pages, dealt to the broker and the domains of the scenario for which they were
-    /// made, from the seats and sides that came with them. Its error is want of memory, and drops the
-    /// seats.
+    /// Deals the ends of all pages to the broker and to the domains of the scenario for which the pages were
+    /// made, from the seats and sides that came with them. Returns `Memory` if memory runs out; the seats are
+    /// dropped then.
     pub fn deal<'p>(
         &'p self,
         alloc: Global,

@@ -4,14 +4,14 @@ ghost use Rattle.scenario_file.specs.Scenario.{hostile_among, hostile_at};
 
 use scenario_file::{Domain, Scenario};
 
-/// Whether the domain of a number is hostile.
+/// Returns whether the domain with this number is hostile.
 pub fn is_hostile(scenario: &Scenario, number: u32) -> bool
     ensures { result ≡ hostile_at scenario.now number }
 {
     is_hostile_among(&scenario.domains, number)
 }
 
-/// Whether the domain of a number is hostile, among these.
+/// Returns whether the domain with this number is hostile, among these domains.
 fn is_hostile_among(domains: &[Domain], number: u32) -> bool
     ensures { result ≡ hostile_among domains.now number }
 {

@@ -14,17 +14,17 @@ use task_duties::PagePlace;
 use vchan_io::Memory;
 use vchan_rule::{IdleSeat, Page};
 
-/// A page of a run, and where it lies.
+/// A page of a run, and its place.
 #[derive(Drop)]
 pub(crate) enum RunPage {
     /// A page that is laid before the first turn.
     Laid { place: PagePlace, page: Page },
-    /// A data page that is laid when it is first used.
+    /// A data page that is laid at its first use.
     Offered(Offering),
 }
 
-/// A data page that is laid when it is first used: where it lies, and its client's side as it was made,
-/// for the proof alone.
+/// A data page that is laid at its first use: its place, and its client's side as it was made, for the proof
+/// alone.
 #[derive(Drop)]
 pub(crate) struct Offering {
     pub(crate) from: u32,
@@ -39,7 +39,7 @@ pub(crate) struct Offering {
 impl RunPage {
     ghost use Rattle.run_pages.specs.Pages.{page_at};
 
-    /// Where it lies.
+    /// Returns the page's place.
     pub(crate) fn place(&self) -> PagePlace
         ensures { result ≡ (page_at self.now).place }
     {
@@ -54,27 +54,27 @@ impl RunPage {
     }
 }
 
-/// The two seats of a page whose ends have done nothing, or the two sides of one that isn't laid yet.
+/// The two seats of a page whose ends have done nothing, or the two sides of a page that isn't laid yet.
 #[derive(Drop)]
 pub enum PageSeats<'p> {
     /// The seats of a page that is laid.
     Laid {
-        /// The server's.
+        /// The server's seat.
         server: IdleSeat,
-        /// The client's.
+        /// The client's seat.
         client: IdleSeat,
     },
-    /// The sides of a page that is laid when it is first used.
+    /// The sides of a page that is laid at its first use.
     Offered {
-        /// The server's.
+        /// The server's side.
         server: UnlaidServer<'p>,
-        /// The client's.
+        /// The client's side.
         client: UnlaidClient,
     },
 }
 
-/// The pages of a run, in the order of their places. Contracts see a page that is laid when it is first
-/// used by the name that it has before that.
+/// The pages of a run, in the order of their places. Contracts see a page that is laid at its first use by
+/// the name that it has before that.
 #[derive(Drop)]
 pub struct RunPages {
     pub(crate) pages: Vec<RunPage>,
@@ -93,9 +93,9 @@ impl RunPages {
     ghost use Rattle.run_pages.specs.Pages.{AreLaid, HasSeats};
     ghost use Rattle.run_pages.specs.Starts.{AreStartsOf};
 
-    /// The pages of a scenario, with the seats or the sides of each: a page with a hostile domain at one
-    /// end, and each control page, is laid; any other is laid when it is first used. Its error is want
-    /// of memory.
+    /// Makes the pages of a scenario, with the seats or the sides of each. Each control page is laid at once,
+    /// and so is each page with a hostile domain at one end; any other page is laid at its first use. Returns
+    /// `Memory` if memory runs out.
     pub fn lay<'s>(
         alloc: Global,
         starts: &'s RunStarts,

@@ -1,9 +1,9 @@
 //! The pages of a run: made for a scenario, dealt to its tasks, and settled once the tasks are done.
 //!
-//! It serves whoever runs a scenario. Each domain has a control page with the broker, and each call a
-//! data page between its caller and its target; a hostile caller has as many as it has ports. A data
-//! page between two honest domains is laid when it is first used, and each other page before the first
-//! turn. Where the pages lie, and when they are laid, is this project's own.
+//! It serves programs that run a scenario. Each domain has a control page with the broker, and each call a
+//! data page between its caller and its target; a hostile caller has as many as it has ports. A data page
+//! between two honest domains is laid at its first use, and each other page before the first turn. The order
+//! of the pages' places, and when pages are laid, are this project's own.
 #![tactic(auto)]
 
 mod deal;

@@ -1,4 +1,4 @@
-//! Where the pages of a scenario lie.
+//! The places of the pages of a scenario.
 ghost use Rattle.std.specs.Prelude.{◌≡◌, ◌≤◌, ◌++◌, filter, length, map, IfOk, OnOk};
 ghost use Rattle.std.specs.List.{flat_map};
 ghost use Rattle.call_broker.specs.Domains.{first_port};
@@ -14,8 +14,9 @@ use std::alloc::{AllocError, Global};
 use task_duties::PagePlace;
 use vchan_io::Memory;
 
-/// How many data pages are laid for each ordered pair of domains, those from the first domain first:
-/// as many as the caller has calls to the target, and for a hostile caller as many as it has ports.
+/// Returns the number of data pages for each ordered pair of domains, with the pairs of the first domain
+/// first: as many as the caller has calls to the target, and for a hostile caller as many as it has ports.
+/// Returns `Memory` if memory runs out.
 pub fn page_table(alloc: Global, scenario: &Scenario) -> Result<Vec<u32>, Memory>
     ensures { IfOk result (λ table. table.items ≡ page_table scenario.now) }
 {
@@ -28,7 +29,7 @@ pub fn page_table(alloc: Global, scenario: &Scenario) -> Result<Vec<u32>, Memory
     Ok(table)
 }
 
-/// The numbers of pages for the calls of one domain to each, by the routes from it.
+/// Appends the numbers of pages for the calls from one domain to each other, by the routes from it.
 fn push_row(
     table: &mut Vec<u32>,
     scenario: &Scenario,
@@ -45,8 +46,8 @@ fn push_row(
     Ok(())
 }
 
-/// Where all pages lie: a control page for each domain, then the data pages in order of caller, target
-/// and port.
+/// Returns the places of all pages: a control page for each domain, then the data pages in order of caller,
+/// target and port.
 pub(crate) fn places(alloc: Global, scenario: &Scenario) -> Result<Vec<PagePlace>, Memory>
     ensures { IfOk result (λ places. places.items ≡ laid scenario.now) }
 {
@@ -70,7 +71,7 @@ fn push_controls(places: &mut Vec<PagePlace>, count: u32) -> Result<(), AllocErr
     Ok(())
 }
 
-/// The places of the pages for the calls of one domain, by the routes from it.
+/// Appends the places of the pages for the calls of one domain, by the routes from it.
 fn push_from(
     places: &mut Vec<PagePlace>,
     scenario: &Scenario,
@@ -88,7 +89,7 @@ fn push_from(
     Ok(())
 }
 
-/// The places of so many pages for the calls from one domain to another.
+/// Appends the places of `count` pages for the calls from one domain to another.
 fn push_between(
     places: &mut Vec<PagePlace>,
     from: u32,

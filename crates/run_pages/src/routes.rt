@@ -1,4 +1,4 @@
-//! From which domain to which one the calls of a scenario go.
+//! From which domain and to which domain the calls of a scenario go.
 ghost use Rattle.std.specs.Prelude.{◌≡◌, ◌≤◌, filter, length, Some, IfOk};
 ghost use Rattle.scenario_file.specs.Scenario.{domain_at};
 ghost use Rattle.std.specs.List.{count_by};
@@ -9,14 +9,14 @@ use scenario_file::{Domain, Scenario, number_named};
 use std::alloc::{AllocError, Global};
 use vchan_io::Memory;
 
-/// Where a call goes from, and to which domain, where one has the target's name.
+/// The domain from which a call goes, and the domain to which it goes, if one has the target's name.
 #[derive(Clone, Copy)]
 pub(crate) struct Route {
     from: u32,
     to: Option<u32>,
 }
 
-/// The routes of all calls of a scenario, in order.
+/// Returns the routes of all calls of a scenario, in order.
 pub(crate) fn routes(alloc: Global, scenario: &Scenario) -> Result<Vec<Route>, Memory>
     ensures { IfOk result (λ routes. routes.items ≡ routes_of scenario.now) }
 {
@@ -30,7 +30,7 @@ pub(crate) fn routes(alloc: Global, scenario: &Scenario) -> Result<Vec<Route>, M
     Ok(routes)
 }
 
-/// The routes from one domain, in order.
+/// Returns the routes from one domain, in order.
 pub(crate) fn routes_from(
     alloc: Global,
     routes: &[Route],
@@ -47,7 +47,7 @@ pub(crate) fn routes_from(
     Ok(mine)
 }
 
-/// How many data pages are laid for the calls from one domain to another, by the routes from it.
+/// Returns how many data pages there are for the calls from one domain to another, by the routes from it.
 pub(crate) fn pages_between(scenario: &Scenario, routes: &[Route], from: u32, to: u32) -> u32
     requires routes { routes.now ≡ filter (is_from from) (routes_of scenario.now) }
     requires there { (1 ≤ from) × (from ≤ length scenario.now.domains) }
@@ -64,7 +64,7 @@ pub(crate) fn pages_between(scenario: &Scenario, routes: &[Route], from: u32, to
     calls_to(routes, to)
 }
 
-/// The domain of a number.
+/// Returns the domain with this number.
 fn domain_at(domains: &[Domain], number: u32) -> &Domain
     requires { (1 ≤ number) × (number ≤ length domains.now) }
     ensures { domain_at domains.now number ≡ Some result.now }
@@ -72,7 +72,7 @@ fn domain_at(domains: &[Domain], number: u32) -> &Domain
     &domains[number as usize - 1]
 }
 
-/// How many of these routes go to a domain.
+/// Returns how many of these routes go to a domain.
 fn calls_to(routes: &[Route], to: u32) -> u32
     requires few { length routes.now ≤ 4096 }
     ensures count { result ≡ count_by (is_to to) routes.now }

@@ -22,10 +22,10 @@ use vchan_io::Memory;
 use vchan_rule::{Page, Retired};
 
 impl RunPages {
-    /// Settles all pages, in the order of their places, by the ends that the tasks give back: those of
-    /// the broker first, then those of each domain, each in the order in which they were dealt. The
-    /// start words are those by which the pages were made. Its error is want of memory, and drops the
-    /// pages and all ends.
+    /// Settles all pages, in the order of their places, by the ends that the tasks give back: those of the
+    /// broker first, then those of each domain, each in the order in which they were dealt. `starts` must be
+    /// the start words by which the pages were made. Returns `Memory` if memory runs out; the pages and all
+    /// ends are dropped then.
     pub fn settle(
         self,
         alloc: Global,
@@ -52,7 +52,7 @@ impl RunPages {
     }
 }
 
-/// A page that is settled by its two ends.
+/// Settles a page by its two ends.
 fn settle_page(
     alloc: Global,
     starts: &RunStarts,
@@ -73,8 +73,8 @@ fn settle_page(
     }
 }
 
-/// A page that was laid before the first turn, settled by its two ends. They are ends of a laid page too:
-/// a table has words, and the name of a page that is laid when it is first used has none.
+/// Settles a page that was laid before the first turn by its two ends. They must be ends of a laid page too:
+/// a table has words, and the name of a page that is laid at its first use has none.
 fn settle_laid(
     place: PagePlace,
     page: Page,
@@ -95,7 +95,7 @@ fn settle_laid(
     })
 }
 
-/// The end of a page that was laid before the first turn.
+/// Returns the end of a page that was laid before the first turn.
 fn laid_end(done: DoneEnd) -> Result<Retired, Memory>
     ensures { IfOk result (λ end. done ≡ DoneEnd.Laid end) }
 {
@@ -105,7 +105,7 @@ fn laid_end(done: DoneEnd) -> Result<Retired, Memory>
     }
 }
 
-/// A page that was laid when it was first used, settled by its two sides.
+/// Settles a page that was laid at its first use by its two sides.
 fn settle_offered(
     alloc: Global,
     starts: &RunStarts,
@@ -130,7 +130,7 @@ fn settle_offered(
     })
 }
 
-/// The server's side of a page that was laid when it was first used.
+/// Returns the server's side of a page that was laid at its first use.
 fn server_side(done: DoneEnd) -> Result<DoneServer, Memory>
     ensures { IfOk result (λ side. done ≡ DoneEnd.Server side) }
 {
@@ -140,7 +140,7 @@ fn server_side(done: DoneEnd) -> Result<DoneServer, Memory>
     }
 }
 
-/// The client's side of such a page.
+/// Returns the client's side of a page that was laid at its first use.
 fn client_side(done: DoneEnd) -> Result<DoneClient, Memory>
     ensures { IfOk result (λ side. done ≡ DoneEnd.Client side) }
 {
@@ -150,7 +150,7 @@ fn client_side(done: DoneEnd) -> Result<DoneClient, Memory>
     }
 }
 
-/// The server's and the client's end of the page at a place, which are the last ones of their tasks.
+/// Takes the server's and the client's end of the page at a place. They are the last ends of their tasks.
 fn take_ends(hands: &mut [Vec<RetiredEnd>], place: PagePlace) -> (RetiredEnd, RetiredEnd)
     requires apart { server_of place ≢ client_of place }
     requires server { HasEnd (server_of place) (map (λ h. all_retired h.items) hands.old) }
@@ -163,7 +163,7 @@ fn take_ends(hands: &mut [Vec<RetiredEnd>], place: PagePlace) -> (RetiredEnd, Re
     }
 }
 
-/// The last end of the task of a number.
+/// Takes the last end of the task with this number.
 fn take_end(hands: &mut [Vec<RetiredEnd>], number: u32) -> RetiredEnd
     requires { HasEnd number (map (λ h. all_retired h.items) hands.old) }
     ensures { GivesUp number (retired_at result) (map (λ h. all_retired h.items) hands.old) (map (λ h. all_retired h.items) hands.new) }

@@ -12,8 +12,7 @@ use task_duties::PagePlace;
 use vchan_io::Memory;
 use vchan_rule::{Page, StartWords};
 
-/// The words with which the pages of a scenario begin, and the orders and the first index of its data
-/// pages.
+/// The words with which the pages of a scenario begin, and the orders and the first index of its data pages.
 #[derive(Drop)]
 pub struct RunStarts {
     control: StartWords,
@@ -30,8 +29,8 @@ impl RunStarts {
     ghost use Rattle.run_pages.specs.Pages.{IsLaying, are_offered, is_offered, page_at};
     ghost use Rattle.run_pages.specs.Starts.{AreStartsOf, IsMadeFor};
 
-    /// The start words of a scenario's control pages, and those of its data pages. Its error is want of
-    /// memory.
+    /// Makes the start words of a scenario's control pages and of its data pages. Returns `Memory` if memory
+    /// runs out.
     pub fn new(alloc: Global, scenario: &Scenario) -> Result<RunStarts, Memory>
         ensures { IfOk result (AreStartsOf scenario.now) }
     {
@@ -43,7 +42,7 @@ impl RunStarts {
         })
     }
 
-    /// The pages at these places, with the seats or sides of each.
+    /// Makes the pages at these places, with the seats or sides of each.
     pub(crate) fn pages<'s>(
         &'s self,
         alloc: Global,
@@ -62,7 +61,7 @@ impl RunStarts {
         Ok((pages, seats))
     }
 
-    // The page at a place, with its seats or sides.
+    // Makes the page at a place, with its seats or sides.
     fn page<'s>(
         &'s self,
         alloc: Global,
@@ -83,7 +82,7 @@ impl RunStarts {
         }
     }
 
-    // A page that is laid at once by these words, with its seats.
+    // Lays a page at once by these words, and gives it with its seats.
     fn laid<'s>(
         alloc: Global,
         start: &StartWords,
@@ -98,7 +97,7 @@ impl RunStarts {
         ))
     }
 
-    // A data page that is laid when it is first used, with its sides.
+    // Makes a data page that is laid at its first use, with its sides.
     fn offered<'s>(
         &'s self,
         alloc: Global,
