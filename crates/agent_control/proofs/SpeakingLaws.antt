@@ -1,4 +1,4 @@
--- What an agent has said, through each message more.
+-- What an agent has sent, through one message more.
 use Rattle.std.proofs.Common.{◌≡◌, ℕ, ◌<◌, List, [], ◌∷◌, ◌++◌, length, refl, ap, sym, ◌∙◌, inl, inr, Option, Some, None, subst, append_assoc, zero, suc, arith, drop, Bor}
 use Rattle.std.specs.Prelude.{Bool, true, false, map, filter_map, nat_lt, slice_get, slice_set, if◌then◌else◌}
 use Rattle.std.specs.Slice.{IsItemAt}
@@ -34,7 +34,7 @@ some-at P (y ∷ xs) (suc i) x is h = inr (some-at P xs i x is h)
 
 -- ---- nothing more
 
--- where a message had no room, all that was said still is
+-- if there was no room for a message, all that was sent stays so
 still : (old new : AgentControl) (w : Message) (heard said : List Message) → Says old new w false → Speaks old heard said → Speaks new heard said
 still old new w heard said s h = record {
   said_is = s.said_is said h.said_is;
@@ -90,7 +90,7 @@ says-then a b c p q = record {
 
 -- ---- one message more
 
--- with another queue that has the same answers
+-- the same with another queue that has the same answers
 with-queue : (mid : AgentControl) (queue : QueueState) → asked_by queue ≡ asked_by mid.queue → CanSpeak mid → CanSpeak (record mid { queue = queue })
 with-queue mid queue asked can = record {
   is_open = can.is_open;
@@ -101,7 +101,7 @@ with-queue mid queue asked can = record {
   calls = subst (λ l. Each (λ e. HasCall l e.call) mid.unsaid.items) (sym asked) can.calls;
 }
 
--- the message that has gone is one that may be said, and the queue stands for it
+-- the message that was sent is one that may be sent, and the queue stands for it
 goes : (old mid : AgentControl) (queue : QueueState) (w : Message) (heard said : List Message) → Says old mid w true → asked_by queue ≡ asked_by mid.queue → Asks queue (said ++ w ∷ []) → IsOfVersion mid.port.version w
     → IsTold (asked_by queue) heard w → Speaks old heard said → Speaks (record mid { queue = queue }) heard (said ++ w ∷ [])
 goes old mid queue w heard said s asked asks version told h =
@@ -171,7 +171,7 @@ is-told asked heard version call = by_version (nat_lt version 3)
     by_version true = tt
     by_version false = tt
 
--- a trigger tells no end of a session
+-- a trigger reports no end of a session
 tells-no-end : (version : ℕ) (call : CallPlan) (w : Message) → w ≡ trigger_of version call → filter_map end_told (w ∷ []) ≡ []
 tells-no-end version call w is = ap (λ x. filter_map end_told (x ∷ [])) is ∙ by_version (nat_lt version 3)
   where
@@ -197,14 +197,14 @@ says-trigger old mid queue version w v end s says is asks =
       speaks = λ heard said h. (w ∷ [], goes old mid queue w heard said s same (asks said version w now (subst (λ q. Asks q said) (sym s.queue) h.asks)) of_version (subst (λ x. IsTold (asked_by queue) heard x) (sym now.2) (is-told (asked_by queue) heard version now.0.call)) h, tells-no-end version now.0.call w now.2);
     }
 
--- the call that is to be told of is one of the queue
+-- the call whose end is to be reported is one of the queue
 pub within-queue : (old mid : AgentControl) (e : SessionEnd) (place : ℕ) (w : Message) → HasCall (asked_by old.queue) e.call → e.call ≡ Some place → Says old mid w true → place < length mid.queue.calls
 within-queue old mid e place w has own s =
     let here : place < length (asked_by old.queue) = subst (λ o. HasCall (asked_by old.queue) o) own has in
     let there : place < length (asked_by mid.queue) = subst (λ q. place < length (asked_by q)) (sym s.queue) here in
     subst (λ n. place < n) (length-map mid.queue.calls asked_as) there
 
--- the first end that was unsaid was told, and is taken out
+-- the first end that wasn't reported was reported, and is removed
 pub tells-first : (old mid new : AgentControl) (e : SessionEnd) (rest : List SessionEnd) → Tells old mid e true → mid.unsaid.items ≡ e ∷ rest → new.unsaid.items ≡ rest → new ≡ record mid { unsaid = new.unsaid } → SaysMore old new
 tells-first old mid new e rest t first rest_is new_is =
     let was : old.unsaid.items ≡ e ∷ rest = ap (λ u. u.items) (sym t.unsaid) ∙ first in
@@ -238,7 +238,7 @@ tells-first old mid new e rest t first rest_is new_is =
           );
     })
 
--- and where it had no room it is unsaid still
+-- if there was no room for it, it still isn't reported
 pub tells-not : (old mid : AgentControl) (e : SessionEnd) (rest : List SessionEnd) → Tells old mid e false → old.unsaid.items ≡ e ∷ rest → SaysMore old mid
 tells-not old mid e rest t first = record {
   end = t.end;
@@ -251,7 +251,7 @@ tells-not old mid e rest t first = record {
   speaks = λ heard said h. t.speaks heard said h (subst (λ l. Each (IsTellable (asked_by old.queue) heard) l) first h.unsaid).0;
 }
 
--- what is lent of the front is the first element
+-- what is borrowed of the front is the first element
 pub first-of : (items : List SessionEnd) (o : Option (Bor SessionEnd)) (e : SessionEnd) → IsItemAt items 0 o → option_copied o ≡ Some e → items ≡ e ∷ drop 1 items
 first-of items None e item is = cc
 first-of [] (Some x) e item is = absurd (omega (arith, item.3.0))

@@ -1,4 +1,4 @@
--- What an agent says on its control channel: its port and the queue of its calls, tied to the messages that were said and heard.
+-- What an agent sends on its control channel: its port and the queue of its calls, tied to the messages that were sent and heard.
 -- Source: the messages are those of the qrexec protocol; the order and the limit are this project's own.
 use Rattle.std.specs.Prelude.{◌≡◌, ℕ, ◌<◌, Bool, true, false, List, [], ◌∷◌, ◌++◌, length, map, filter_map, slice_get, Option, Some, None, if◌then◌else◌}
 use Rattle.qrexec_frame.specs.declared.message.Message.{Message}
@@ -16,7 +16,7 @@ use Rattle.call_queue.specs.Asking.{Asks}
 use Rattle.agent_control.specs.declared.control.AgentControl.{AgentControl}
 use Rattle.agent_control.specs.declared.control.SessionEnd.{SessionEnd}
 
--- an end of a session that may be told: of a call of the agent's own that has that domain and port, or of what it was asked to serve
+-- an end of a session that may be reported: of a call of the agent's own with that domain and port, or of what it was asked to serve
 abbrev pub MayTell : List Asked → List Message → Option ℕ → ℕ → ℕ → Type 0
 MayTell asked heard (Some place) domain port = (a : Asked) × (slice_get asked place ≡ Some a) × (is_at domain port a.answer ≡ true)
 MayTell asked heard None domain port = SomeOf (AsksToServe domain port) heard
@@ -24,12 +24,13 @@ MayTell asked heard None domain port = SomeOf (AsksToServe domain port) heard
 abbrev pub IsTellable : List Asked → List Message → SessionEnd → Type 0
 IsTellable asked heard e = MayTell asked heard e.call e.domain e.port
 
--- the call of an end of a session is there
+-- the call of an end of a session exists
 abbrev pub HasCall : List Asked → Option ℕ → Type 0
 HasCall asked (Some place) = place < length asked
 HasCall asked None = Unit {0}
 
--- the agent has said these messages, having heard those: its triggers in their order and within the limit, each of the version that was agreed on, and ends of calls that it may tell
+-- the agent has sent these messages, having heard those: its triggers in their order and within the limit, each in the version that was
+-- agreed on, and ends of sessions that it may report
 pub record Speaks (c : AgentControl) (heard said : List Message) : Type 0 where
   pub said_is : HasSaid c.port said
   pub asks : Asks c.queue said
@@ -37,7 +38,8 @@ pub record Speaks (c : AgentControl) (heard said : List Message) : Type 0 where
   pub told : Each (IsTold (asked_by c.queue) heard) said
   pub unsaid : Each (IsTellable (asked_by c.queue) heard) c.unsaid.items
 
--- the agent can say more: its channel is open, its greeting has gone, a version is agreed on, and each call that it is to tell of is there
+-- the agent can send more: its channel is open, its greeting was sent, a version is agreed on, and each call whose end it has to report
+-- exists
 pub record CanSpeak (c : AgentControl) : Type 0 where
   pub is_open : IsOpen c.port.end
   pub talker : c.port.talker ≡ Agent
@@ -46,20 +48,21 @@ pub record CanSpeak (c : AgentControl) : Type 0 where
   pub version_is : c.port.version ≡ Some version
   pub calls : Each (λ e. HasCall (asked_by c.queue) e.call) c.unsaid.items
 
--- the domain and the port of the session that a message tells to have ended, where it tells one
+-- the domain and the port of the session whose end a message reports, if it reports one
 abbrev pub end_told : Message → Option (ℕ × ℕ)
 end_told (Terminated domain port) = Some (domain, port)
 end_told message = None
 
--- those of an end of a session
+-- the domain and the port of an end of a session
 abbrev pub end_of : SessionEnd → ℕ × ℕ
 end_of e = (e.domain, e.port)
 
--- of a port only the end moved, by no drain
+-- only the end of the port moved, and by no drain
 abbrev pub OnlyTalks : PortState → PortState → Type 0
 OnlyTalks old new = OnlySends old new × ((view new.end).ended ≡ (view old.end).ended)
 
--- the agent said more, and nothing else changed: the first ends of sessions were told, just these and in their order, and the others are unsaid still
+-- the agent sent more, and nothing else changed: the first ends of sessions were reported, only these and in their order, and the others
+-- aren't reported yet
 pub record SaysMore (old new : AgentControl) : Type 0 where
   pub end : IsSameEnd old.port.end new.port.end
   pub port : OnlyTalks old.port new.port
@@ -70,7 +73,7 @@ pub record SaysMore (old new : AgentControl) : Type 0 where
   pub unsaid : old.unsaid.items ≡ told ++ new.unsaid.items
   pub speaks : (heard said : List Message) → Speaks old heard said → (more : List Message) × Speaks new heard (said ++ more) × (filter_map end_told more ≡ map end_of told)
 
--- an end of a session was told, or had no room; it isn't taken out of those unsaid
+-- an end of a session was reported, or there was no room for it; it isn't removed from those to report
 pub record Tells (old new : AgentControl) (e : SessionEnd) (gone : Bool) : Type 0 where
   pub end : IsSameEnd old.port.end new.port.end
   pub port : OnlyTalks old.port new.port
@@ -81,12 +84,12 @@ pub record Tells (old new : AgentControl) (e : SessionEnd) (gone : Bool) : Type 
   pub speaks : (heard said : List Message) → Speaks old heard said → IsTellable (asked_by old.queue) heard e
       → (more : List Message) × Speaks new heard (said ++ more) × (filter_map end_told more ≡ (if gone then end_of e ∷ [] else []))
 
--- a message more has gone, or none
+-- one message more was sent, or none
 abbrev pub HasSaidOne : PortState → List Message → Message → Bool → Type 0
 HasSaidOne p said m true = HasSaid p (said ++ m ∷ [])
 HasSaidOne p said m false = HasSaid p said
 
--- one message was said or had no room: only the end of the port moved
+-- one message was sent, or there was no room for it: only the end of the port moved
 pub record Says (old new : AgentControl) (m : Message) (gone : Bool) : Type 0 where
   pub port : OnlyTalks old.port new.port
   pub can : CanSpeak new

@@ -3,24 +3,24 @@ use call_queue::CallQueue;
 use control_port::ControlPort;
 use std::collections::VecDeque;
 
-/// The end of a session, as the broker is told of it by MSG_CONNECTION_TERMINATED.
+/// The end of a session, as MSG_CONNECTION_TERMINATED reports it to the broker.
 #[derive(Clone, Copy, Debug, PartialEq, Eq)]
 pub struct SessionEnd {
-    /// The domain at its other end.
+    /// The domain at the other end.
     pub domain: u32,
-    /// Its port.
+    /// The port of the session.
     pub port: u32,
-    /// Which of the agent's own calls it is, counted from 0, where it is one of these.
+    /// Which of the agent's own calls it is, counted from 0, or `None` if the agent served it.
     pub call: Option<usize>,
 }
 
-/// An agent's port, the queue of its calls, and what it has to say of sessions that are over.
+/// An agent's port, the queue of its calls, and the ends of sessions that it has to report.
 #[derive(Drop)]
 pub struct AgentControl<'p> {
     /// The port of its control channel.
     pub port: ControlPort<'p>,
-    /// The calls that it makes.
+    /// The calls that the agent makes.
     pub queue: CallQueue,
-    /// The ends of sessions that weren't told yet, the first one first.
+    /// The ends of sessions that weren't reported yet, the first one first.
     pub unsaid: VecDeque<SessionEnd>,
 }

@@ -1,4 +1,4 @@
-//! What an agent says.
+//! What an agent sends.
 ghost use Rattle.std.specs.Prelude.{◌≡◌, true, false, Some, OnOk, IfOk};
 ghost use Rattle.qrexec_frame.specs.Messages.{IsSpellable as Fits};
 ghost use Rattle.qrexec_frame.specs.declared.message.Message.{Message as Said};
@@ -15,9 +15,9 @@ use vchan_io::Memory;
 use vchan_packet::SendAnswer;
 
 impl<'p> AgentControl<'p> {
-    /// Says what there is to say, as far as it has room: the ends of sessions, and then the triggers of at
-    /// most so many calls. After want of memory the end can still be retired, and no more is said of what
-    /// went out.
+    /// Sends what there is to send, as far as there is room: the ends of sessions, and then the triggers of
+    /// at most `calls` calls. Returns `Memory` if memory runs out; the end can still be retired then, and
+    /// nothing is promised of what was sent.
     pub fn say_on(&mut self, alloc: Global, calls: usize) -> Result<(), Memory>
         requires can { CanSpeak self.old }
         ensures end { IsSameEnd self.old.port.end self.new.port.end }
@@ -31,7 +31,7 @@ impl<'p> AgentControl<'p> {
         Ok(())
     }
 
-    // Says the ends of sessions, and answers whether all have gone.
+    // Sends the ends of sessions. Returns whether all were sent.
     fn say_ends(&mut self) -> Result<bool, Memory>
         requires can { CanSpeak self.old }
         ensures end { IsSameEnd self.old.port.end self.new.port.end }
@@ -46,7 +46,7 @@ impl<'p> AgentControl<'p> {
         Ok(true)
     }
 
-    // Says the first end of a session that is unsaid, and answers whether that has gone.
+    // Sends the first end of a session that wasn't reported. Returns whether it was sent.
     fn say_end(&mut self) -> Result<bool, Memory>
         requires can { CanSpeak self.old }
         ensures end { IsSameEnd self.old.port.end self.new.port.end }
@@ -63,7 +63,7 @@ impl<'p> AgentControl<'p> {
         Ok(true)
     }
 
-    // Tells the end of a session, and answers whether that has gone.
+    // Reports the end of a session. Returns whether the message was sent.
     fn tell(&mut self, end: SessionEnd) -> Result<bool, Memory>
         requires can { CanSpeak self.old }
         requires call { HasCall (asked_by self.old.queue) end.call }
@@ -87,7 +87,7 @@ impl<'p> AgentControl<'p> {
         }
     }
 
-    // Says the triggers of at most so many calls, as far as the limit and the room allow.
+    // Sends the triggers of at most `calls` calls, as far as the limit and the room allow.
     fn say_triggers(&mut self, alloc: Global, calls: usize) -> Result<(), Memory>
         requires can { CanSpeak self.old }
         ensures end { IsSameEnd self.old.port.end self.new.port.end }
@@ -102,8 +102,8 @@ impl<'p> AgentControl<'p> {
         Ok(())
     }
 
-    // Says the trigger that is next, and answers whether one has gone. One that has no room isn't made: a
-    // turn in which nothing has room takes no memory.
+    // Sends the next trigger. Returns whether one was sent. A trigger for which there is no room isn't made,
+    // so a turn without room takes no memory.
     fn say_trigger(&mut self, alloc: Global) -> Result<bool, Memory>
         requires can { CanSpeak self.old }
         ensures end { IsSameEnd self.old.port.end self.new.port.end }
@@ -122,7 +122,7 @@ impl<'p> AgentControl<'p> {
         Ok(self.say_front(alloc, version)?)
     }
 
-    // Whether so many bytes have room now.
+    // Whether there is room for `len` bytes now.
     fn has_room(&mut self, len: usize) -> bool
         requires can { CanSpeak self.old }
         ensures end { IsSameEnd self.old.port.end self.new.port.end }
@@ -132,8 +132,7 @@ impl<'p> AgentControl<'p> {
         len <= self.port.room() as usize
     }
 
-    // Makes the trigger that is next and says it, in the version that was agreed on. It answers whether it
-    // has gone.
+    // Makes the next trigger, in the version that was agreed on, and sends it. Returns whether it was sent.
     fn say_front(&mut self, alloc: Global, version: u32) -> Result<bool, Memory>
         requires can { CanSpeak self.old }
         requires version { self.old.port.version ≡ Some version }
@@ -151,7 +150,7 @@ impl<'p> AgentControl<'p> {
         Ok(true)
     }
 
-    // Says one message, and answers whether it has gone.
+    // Sends one message. Returns whether it was sent.
     fn say(&mut self, message: &Message) -> Result<bool, Memory>
         requires can { CanSpeak self.old }
         requires fits { Fits message.now }
@@ -162,7 +161,7 @@ impl<'p> AgentControl<'p> {
     {
         match self.port.say(message)? {
             SendAnswer::Sent => Ok(true),
-            // No room, or a peer that shut, which a later drain tells.
+            // There is no room, or the peer has shut, which a later drain finds.
             SendAnswer::NoRoom { .. } | SendAnswer::PeerClosed => Ok(false),
         }
     }

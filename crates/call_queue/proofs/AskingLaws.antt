@@ -29,7 +29,7 @@ keeps-more : (answer : List ℕ → Answer) (target : List ℕ) (said : List Mes
 keeps-more answer target [] m calls k few = (few, tt)
 keeps-more answer target (s ∷ said) m calls k few = (k.0, keeps-more answer target said m (open_after answer target s calls) k.1 few)
 
--- what was open by one list of messages is open by the queue after one more, and before
+-- what was open by the messages before is open by the queue after one more message
 within-more : (q new : QueueState) (said : List Message) (m : Message) (answer : List ℕ → Answer) (target : List ℕ) → IsWithin q said answer target
     → (asks_for target (asking m) ≡ true → open_count target q.calls < 16)
     → Sub (open_after answer target m (open_along answer target [] said)) (open_idents target new.calls) → IsWithin new (said ++ m ∷ []) answer target
@@ -45,7 +45,7 @@ within-more q new said m answer target w few sub =
 abbrev IsLast : (List ℕ → Answer) → Asked → Type 0
 IsLast answer a = waits a.answer ≡ false → answer (ident_of a.call.number) ≡ a.answer
 
--- no open call is one that is refused in the end
+-- no open call is refused in the end
 opened-not : (answer : List ℕ → Answer) (target : List ℕ) (o : Option Asking) (calls : List (List ℕ)) → Each (λ x. is_refusal (answer x) ≡ false) calls
     → Each (λ x. is_refusal (answer x) ≡ false) (opened answer target o calls)
 opened-not answer target None calls each = each
@@ -87,7 +87,7 @@ along-not answer target (m ∷ said) calls each = along-not answer target said (
 
 -- ---- a trigger
 
--- the calls with the one at a place open or not, where none from there on was
+-- the open calls when the call at a place is opened or closed, if none from that place on was open
 opens-at : (target : List ℕ) (calls : List Queued) (i : ℕ) (c : Queued) (b : Bool) → Each (λ x. x.is_open ≡ false) (drop i calls) → slice_get calls i ≡ Some c
     → open_idents target (slice_set calls i (record c { is_open = b })) ≡ (if b && bytes_eq c.call.to target then ident_of c.call.number ∷ open_idents target calls else open_idents target calls)
 opens-at target [] i c b closed is = cc
@@ -327,7 +327,7 @@ asks-ended q place d port c said is at a = record {
         (sub-filter (goes_on final d port) (goes_on final d port) calls (open_idents target q.calls) w.some (each-any (λ x. goes_on final d port x ≡ true → goes_on final d port x ≡ true) (λ x e. e) calls))
         (end-keeps final target d port q.calls place c is no))
 
--- the end of another's session, or of one that isn't served
+-- the end of another agent's session, or of one that isn't served
 pub asks-stranger : (q : QueueState) (d port : ℕ) (said : List Message) → Asks q said → Asks q (said ++ m.Terminated d port ∷ [])
 asks-stranger q d port said a = record {
   asked = filter_map-append asking said (m.Terminated d port ∷ []) ∙ (append-nil (filter_map asking said) ∙ a.asked);
@@ -359,12 +359,12 @@ behind a asked [] apart each = tt
 behind a asked (b ∷ rest) apart each =
     (λ done. rw (other-bytes (asked_ident a) (asked_ident b) apart.0) (each.0 done), behind a asked rest apart.1 each.1)
 
--- where no two calls have one ident, the answers so far are final ones that agree with themselves
+-- if no two calls have the same ident, the answers so far are final ones that agree with themselves
 pub own-answers : (asked : List Asked) → AreDifferent (map asked_ident asked) → Extends asked (answer_in asked)
 own-answers [] apart = tt
 own-answers (a ∷ asked) apart = (λ done. rw (own-bytes (asked_ident a)) refl, behind a asked asked apart.0 (own-answers asked apart.1))
 
--- so the triggers are those of its first calls, and the limit is kept
+-- so the triggers are those of the first calls, and the limit is kept
 pub asks-in-order : (q : QueueState) (said : List Message) → Asks q said → IsPrefixOf (filter_map asking said) (map (λ c. asking_of c.call) q.calls)
 asks-in-order q said a =
     let all = map (λ c. asking_of c.call) q.calls in

@@ -1,4 +1,4 @@
--- The open calls to a target and their count, where one call changes.
+-- The open calls to a target and their count when one call changes.
 use Rattle.std.proofs.Common.{◌≡◌, ℕ, ◌+◌, ◌<◌, suc, zero, List, [], ◌∷◌, length, length-append, refl, ap, sym, ◌∙◌, arith, Option, Some, None, subst, get_or-set_same, get_or-set_other}
 use Rattle.std.specs.Prelude.{true, false, Bool, bytes_eq, slice_get, slice_set, slice_index, if◌then◌else◌, option_map}
 use Rattle.std.proofs.lemmas.Slice.Eq.{bytes_eq-Decides}
@@ -51,7 +51,7 @@ one-place names x y k px py = let at_x = name-at names x k px in let at_y = name
 
 -- ---- the counts
 
--- the count at one place follows a call that is open or not, before and then, and the others are as they were
+-- the count at one place follows whether a call was open before and is open now, and the other counts are as they were
 pub record Recounts (counts new : List ℕ) (target : ℕ) (before now : Bool) : Type 0 where
   pub here : slice_index new target + one before ≡ slice_index counts target + one now
   pub others : (k : ℕ) → (k ≡ target → ⊥) → slice_index new k ≡ slice_index counts k

@@ -1,4 +1,4 @@
--- A queue before anything was heard or said.
+-- A queue before anything was heard or sent.
 use Rattle.std.proofs.Common.{◌≡◌, ◌≢◌, ℕ, ◌<◌, ◌≤◌, ◌^◌, suc, zero, List, [], ◌∷◌, ◌++◌, length, map, drop, refl, ap, sym, ◌∙◌, arith, Some, subst, decimal}
 use Rattle.std.specs.Prelude.{true, false, Bool, bytes_eq, slice_index, replicate, unwrap_or, option_map, if◌then◌else◌}
 use Rattle.std.specs.Global.{Vec}
@@ -45,7 +45,7 @@ pub idents-apart : (calls : List CallPlan) → Each IsSmall calls → AreDiffere
 idents-apart [] small apart = tt
 idents-apart (c ∷ calls) small apart = (others-apart c calls small.0 small.1 apart.0, idents-apart calls small.1 apart.1)
 
--- so do those of calls that nothing was heard of
+-- so do those of calls of which nothing was heard
 pub fresh-apart : (calls : List CallPlan) → Each IsSmall calls → AreDifferent (map (λ x. x.number) calls) → AreDifferent (map (λ a. ident_of a.call.number) (map asked_as (map fresh calls)))
 fresh-apart calls small apart = subst (λ l. AreDifferent l) (sym (same calls)) (idents-apart calls small apart)
   where

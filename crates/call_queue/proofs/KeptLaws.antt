@@ -1,4 +1,4 @@
--- How a queue is kept inside, where one of its calls changes.
+-- How a queue is kept inside when one of its calls changes.
 use Rattle.std.proofs.Common.{◌≡◌, ℕ, ◌+◌, ◌<◌, ◌≤◌, suc, zero, List, [], ◌∷◌, length, map, drop, refl, ap, sym, ◌∙◌, arith, Option, Some, None, subst, get_or}
 use Rattle.std.specs.Prelude.{true, false, Bool, ◌&&◌, ◌||◌, bytes_eq, slice_get, slice_set, slice_index, ◌==◌, if◌then◌else◌, option_map}
 use Rattle.std.specs.List.{list_any}
@@ -105,7 +105,7 @@ none-here : (ident : List ℕ) (calls : List Queued) → Each (λ i. ident ≡ i
 none-here ident [] apart = refl
 none-here ident (c ∷ calls) apart = rw (other-bytes (ident_at c) ident (λ e. apart.0 (sym e))) (none-here ident calls apart.1)
 
--- no name is one that has no place
+-- a name that has no place is none of the names
 pub no-place : (names : List (List ℕ)) (name : List ℕ) → place_of names name ≡ None → Each (λ i. name ≡ i → ⊥) names
 no-place [] name none = tt
 no-place (n ∷ names) name none = by_test (bytes_eq n name) refl (λ h. no-place names name h) none
@@ -122,11 +122,11 @@ idents-same : (cs : List QueuedCall) → idents cs ≡ map ident_at (all_queued 
 idents-same [] = refl
 idents-same (c ∷ cs) = ap (λ r. ident_of c.given.value.number ∷ r) (idents-same cs)
 
--- a queue without a call of this ident has none that waits by it
+-- no call waits by an ident that no call of the queue has
 pub none-waits : (calls : List QueuedCall) (ident : List ℕ) → place_of (idents calls) ident ≡ None → list_any (waits_as ident) (map asked_as (all_queued calls)) ≡ false
 none-waits calls ident none = none-here ident (all_queued calls) (subst (λ l. Each (λ i. ident ≡ i → ⊥) l) (idents-same calls) (no-place (idents calls) ident none))
 
--- a call that waits no more is the only one of its ident
+-- a call that no longer waits is the only one with its ident
 done-here : (ident : List ℕ) (calls : List Queued) (i : ℕ) (c : Queued) → AreDifferent (map ident_at calls) → slice_get calls i ≡ Some c → ident_at c ≡ ident → waits c.answer ≡ false
     → list_any (waits_as ident) (map asked_as calls) ≡ false
 done-here ident [] i c apart is named done = refl
@@ -176,7 +176,7 @@ answered-at calls ident answer i c apart is w =
     answered-one ident answer (all_queued calls) i (queued c) (subst (λ l. AreDifferent l) (idents-same calls) apart) (map-get queued calls i c is) w
     ((bytes_eq-Decides (ident_of c.given.value.number) ident).0 (and-left (bytes_eq (ident_of c.given.value.number) ident) (waits (answer_of c.answer)) w))
 
--- where none waits by it, an answer changes nothing
+-- an answer changes nothing if no call waits by its ident
 pub answered-none : (ident : List ℕ) (answer : Answer) (calls : List Queued) → list_any (waits_as ident) (map asked_as calls) ≡ false → map (answered_call ident answer) calls ≡ calls
 answered-none ident answer [] none = refl
 answered-none ident answer (c ∷ calls) none = by_test (waits_as ident (asked_as c)) refl none (λ h. answered-none ident answer calls h)

@@ -36,13 +36,13 @@ map-get f [] i x is = cc
 map-get f (y ∷ xs) zero x is = let same : y ≡ x = cc in ap (λ z. Some (f z)) same
 map-get f (y ∷ xs) (suc i) x is = map-get f xs i x is
 
--- what is at a place of a map comes from that place
+-- what is at a place of a mapped list comes from that place
 pub map-got : {A B : Type 0} (f : A → B) (xs : List A) (i : ℕ) (y : B) → slice_get (map f xs) i ≡ Some y → (x : A) × (slice_get xs i ≡ Some x) × (f x ≡ y)
 map-got f [] i y is = cc
 map-got f (x ∷ xs) zero y is = (x, refl, cc)
 map-got f (x ∷ xs) (suc i) y is = map-got f xs i y is
 
--- a map doesn't see a change that f doesn't see
+-- a mapped list doesn't see a change that f doesn't see
 pub map-set-same : {A B : Type 0} (f : A → B) (xs : List A) (i : ℕ) (x y : A) → slice_get xs i ≡ Some x → f y ≡ f x → map f (slice_set xs i y) ≡ map f xs
 map-set-same f [] i x y is same = refl
 map-set-same f (z ∷ xs) zero x y is same = let there : z ≡ x = cc in ap (λ b. b ∷ map f xs) (same ∙ ap f (sym there))
@@ -58,7 +58,7 @@ length-set-one [] i y = refl
 length-set-one (z ∷ xs) zero y = refl
 length-set-one (z ∷ xs) (suc i) y = ap suc (length-set-one xs i y)
 
--- what stands behind a place is as it was
+-- what stands after a place is as it was
 pub drop-set : {A : Type 0} (P : A → Type 0) (n : ℕ) (xs : List A) (i : ℕ) (y : A) → Each P (drop n xs) → P y → Each P (drop n (slice_set xs i y))
 drop-set P zero xs i y each new = each-set P xs i y each new
 drop-set P (suc n) [] i y each new = tt

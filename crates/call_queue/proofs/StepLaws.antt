@@ -25,7 +25,7 @@ use Rattle.call_queue.proofs.AskingLaws.{asks-triggered, asks-ended}
 use Rattle.std.proofs.lemmas.List.{length-map}
 use Rattle.std.proofs.lemmas.Slice.Eq.{bytes_eq-Decides}
 
--- what contracts see of these calls, so many of which were asked for
+-- what contracts see of these calls, the first `next` of which were requested
 abbrev pub seen : List QueuedCall → ℕ → QueueState
 seen calls next = record { calls = all_queued calls; next = next }
 
@@ -57,7 +57,7 @@ counts-some calls index counts next i c k is o =
     let was : one (is_open_to c.given.value.to (queued c)) ≡ 1 = ap one (own-name c o) in
     omega (arith, counted, set, was)
 
--- ---- a trigger has gone
+-- ---- a trigger was sent
 
 abbrev pub counted_in : QueuedCall → QueuedCall
 counted_in c = record c { is_open = not (is_refusal (answer_of c.answer)) }
@@ -123,7 +123,7 @@ due-few calls index counts next c k is due =
     let few : open_count c.given.value.to (all_queued calls) < 16 = subst (λ (y : Queued). open_count y.call.to (all_queued calls) < 16) same due.1.1 in
     omega (arith, counted, few)
 
--- ---- a call is open no more
+-- ---- a call is no longer open
 
 abbrev pub counted_out : CallAnswer → QueuedCall → QueuedCall
 counted_out answer c = record c { answer = answer; is_open = false }
@@ -216,7 +216,7 @@ stdin-at calls index counts next i c x ident k is at x_is =
 
 -- ---- what is next
 
--- the call that is next has room for its count
+-- if the call that is next has no room for its count, the limit holds it back
 pub held-by : (calls : List QueuedCall) (index : BTreeMap (Vec ℕ) ℕ) (counts : List ℕ) (next : ℕ) (c : QueuedCall) → AreKept calls index counts next → slice_get calls next ≡ Some c → 16 ≤ slice_index counts c.target
     → IsHeld (seen calls next)
 held-by calls index counts next c k is full =
@@ -230,11 +230,11 @@ due-by calls index counts next c k is few =
     let counted = is-counted calls index counts next next c k is in
     (map-get queued calls next c is, omega (arith, counted, few))
 
--- where not all were asked for there is a next one
+-- if not all were requested, there is a next one
 pub next-at : (calls : List QueuedCall) (index : BTreeMap (Vec ℕ) ℕ) (counts : List ℕ) (next : ℕ) (c : QueuedCall) → AreKept calls index counts next → (next ≡ length calls → ⊥) → c ≡ get_or calls next c → slice_get calls next ≡ Some c
 next-at calls index counts next c k more is = let within = k.within in get-or-get calls next c (omega (arith, within, more)) is
 
--- a trigger says the texts of its call, its input apart
+-- a trigger has the texts of its call, but not its input
 pub same-trigger : (version : ℕ) (c : QueuedCall) → IsFaithful c → trigger_of version c.plan ≡ trigger_of version c.given.value
 same-trigger version c f = rw (f.number, f.to, f.service) refl
 
@@ -256,7 +256,7 @@ found-at calls index counts next i ident k is =
 pub found-within : (calls : List QueuedCall) (index : BTreeMap (Vec ℕ) ℕ) (counts : List ℕ) (next i : ℕ) (ident : List ℕ) → AreKept calls index counts next → place_in index ident ≡ Some i → i < length calls
 found-within calls index counts next i ident k is = let f = found-at calls index counts next i ident k is in within-get calls i f.0 f.1
 
--- the call that the index has waits by the ident, where it waits
+-- the call that the index has waits by the ident, if it waits at all
 pub found-waits : (calls : List QueuedCall) (index : BTreeMap (Vec ℕ) ℕ) (counts : List ℕ) (next i : ℕ) (ident : List ℕ) (c : QueuedCall) → AreKept calls index counts next → place_in index ident ≡ Some i → c ≡ get_or calls i c
     → waits (answer_of c.answer) ≡ true → IsWaitingAt (seen calls next) i ident
 found-waits calls index counts next i ident c k is c_is w =
@@ -266,7 +266,7 @@ found-waits calls index counts next i ident c k is c_is w =
     let named : bytes_eq (ident_of c.given.value.number) ident ≡ true = (bytes_eq-Decides (ident_of c.given.value.number) ident).1 (ap (λ x. ident_of x.given.value.number) (sym same) ∙ f.2) in
     (queued c, map-get queued calls i c at, rw (named, w) refl)
 
--- and else none does
+-- if it doesn't wait, no call does
 pub found-done : (calls : List QueuedCall) (index : BTreeMap (Vec ℕ) ℕ) (counts : List ℕ) (next i : ℕ) (ident : List ℕ) (c : QueuedCall) → AreKept calls index counts next → place_in index ident ≡ Some i → c ≡ get_or calls i c
     → waits (answer_of c.answer) ≡ false → list_any (waits_as ident) (map asked_as (all_queued calls)) ≡ false
 found-done calls index counts next i ident c k is c_is w =

@@ -1,4 +1,4 @@
--- Some of a list, in its order: more on it.
+-- Some elements of a list, in its order: more about them.
 use Rattle.std.proofs.Common.{List, [], ◌∷◌, ◌++◌, refl, ◌∙◌, inl, inr}
 use Rattle.task_duties.proofs.SubLists.{Sub, sub-more}
 

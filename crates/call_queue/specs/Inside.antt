@@ -25,7 +25,7 @@ all_queued calls = map queued calls
 abbrev pub state_of : Inside → QueueState
 state_of q = record { calls = all_queued q.calls.items; next = q.next }
 
--- a call is kept as it was given, its input until its session takes it, and its texts fit a trigger
+-- a call is kept as it was given, with its input until its session takes it, and its texts fit a trigger
 pub record IsFaithful (c : QueuedCall) : Type 0 where
   pub number : c.plan.number ≡ c.given.value.number
   pub to : c.plan.to ≡ c.given.value.to
@@ -44,7 +44,7 @@ targets calls = map (λ c. c.given.value.to) calls
 abbrev pub IsCounted : List Queued → List ℕ → QueuedCall → Type 0
 IsCounted calls counts c = slice_index counts c.target ≡ open_count c.given.value.to calls
 
--- the calls, the index of their idents, the counts of open calls, and how many calls were asked for
+-- the calls, the index of their idents, the counts of open calls, and how many calls were requested
 pub record AreKept (calls : List QueuedCall) (index : BTreeMap (Vec ℕ) ℕ) (counts : List ℕ) (next : ℕ) : Type 0 where
   pub faithful : Each IsFaithful calls
   pub differ : AreDifferent (idents calls)
@@ -53,14 +53,14 @@ pub record AreKept (calls : List QueuedCall) (index : BTreeMap (Vec ℕ) ℕ) (c
   pub first : Each (λ c. place_of (targets calls) c.given.value.to ≡ Some c.target) calls
   pub as_many : length counts ≡ length calls
   pub counted : Each (IsCounted (all_queued calls) counts) calls
-  -- none is open that wasn't asked for
+  -- no call is open that wasn't requested
   pub closed : Each (λ c. c.is_open ≡ false) (drop next calls)
   pub within : next ≤ length calls
 
 abbrev pub IsKept : Inside → Type 0
 IsKept q = AreKept q.calls.items q.by_ident q.counts.items q.next
 
--- a call before anything was heard or said of it, with its target's place by an index
+-- a call before anything was heard or sent of it, with its target's place in an index
 pub record IsFresh (index : BTreeMap (Vec ℕ) ℕ) (call : CallPlan) (c : QueuedCall) : Type 0 where
   pub plan : c.plan ≡ call
   pub given : c.given.value ≡ call

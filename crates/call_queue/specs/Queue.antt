@@ -1,4 +1,4 @@
--- An agent's own calls in their order: which of them were asked for, what they were answered, and which are open.
+-- An agent's own calls in their order: which of them were requested, what they were answered, and which are open.
 -- Source: the messages are those of the qrexec protocol; the order, the idents and the limit are this project's own.
 use Rattle.std.specs.Prelude.{◌≡◌, ◌≢◌, ℕ, ◌+◌, ◌<◌, ◌≤◌, ◌&&◌, not, nat_lt, bytes_eq, Bool, false, List, [], ◌∷◌, ◌++◌, length, map, Option, Some, None, MatchOption, true, slice_get, slice_set, if◌then◌else◌}
 use Rattle.qrexec_frame.specs.declared.message.Message.{Message}
@@ -12,13 +12,13 @@ use Rattle.task_duties.specs.Agent.Saying.{is_at, is_refusal}
 use Rattle.call_queue.specs.declared.call.CallAnswer.{CallAnswer}
 use Rattle.call_queue.specs.declared.call.CallAnswer.TheVariants as given
 
--- a call with its answer, and whether it is open: asked for, not refused, and not told to have ended since
+-- a call with its answer, and whether it is open: requested, not refused, and not reported as ended since
 pub record Queued : Type 0 where
   pub call : CallPlan
   pub answer : Answer
   pub is_open : Bool
 
--- the calls in their order, and how many of them were asked for
+-- the calls in their order, and how many of them were requested
 pub record QueueState : Type 0 where
   pub calls : List Queued
   pub next : ℕ
@@ -36,7 +36,7 @@ asked_as c = record { call = c.call; answer = c.answer }
 abbrev pub asked_by : QueueState → List Asked
 asked_by q = map asked_as q.calls
 
--- a call that nothing was heard or said of
+-- a call of which nothing was heard or sent
 abbrev pub fresh : CallPlan → Queued
 fresh call = record { call = call; answer = Waits; is_open = false }
 
@@ -55,11 +55,11 @@ open_idents target (c ∷ calls) = open_idents target calls ++ (if is_open_to ta
 abbrev pub open_count : List ℕ → List Queued → ℕ
 open_count target calls = length (open_idents target calls)
 
--- the trigger of this call is next, and the limit lets it go
+-- the trigger of this call is next, and the limit allows it
 abbrev pub IsDue : QueueState → Queued → Type 0
 IsDue q c = (slice_get q.calls q.next ≡ Some c) × (open_count c.call.to q.calls < 16)
 
--- all triggers were said, or the limit holds the next one back
+-- all triggers were sent, or the limit holds the next one back
 abbrev pub IsHeld : QueueState → Type 0
 IsHeld q = MatchOption (slice_get q.calls q.next) (Unit {0}) (λ c. 16 ≤ open_count c.call.to q.calls)
 
@@ -68,12 +68,12 @@ abbrev pub trigger_of : ℕ → CallPlan → Message
 trigger_of version call =
     if nat_lt version 3 then Trigger call.to (ident_of call.number) call.service else Trigger3 call.to (ident_of call.number) call.service
 
--- what a queue has to say: the trigger that is due, or nothing
+-- what a queue has to send: the trigger that is due, or nothing
 abbrev pub HasToSay : QueueState → ℕ → Option Message → Type 0
 HasToSay q version None = IsHeld q
 HasToSay q version (Some m) = (c : Queued) × IsDue q c × (m ≡ trigger_of version c.call)
 
--- the length of what it has to say, as it is written on a channel
+-- the length of what it has to send, as it is written on a channel
 abbrev pub HasToSayOfLen : QueueState → ℕ → Option ℕ → Type 0
 HasToSayOfLen q version None = IsHeld q
 HasToSayOfLen q version (Some len) = (m : Message) × HasToSay q version (Some m) × (len ≡ length (written m))
@@ -84,7 +84,7 @@ HasToSayOfLen q version (Some len) = (m : Message) × HasToSay q version (Some m
 abbrev pub after_trigger : QueueState → Queued → QueueState
 after_trigger q c = record { calls = slice_set q.calls q.next (record c { is_open = not (is_refusal c.answer) }); next = q.next + 1 }
 
--- after an answer: the call of this ident has it, where it waited; one that is refused isn't open any more
+-- after an answer: the call with this ident has it, if it waited; a call that is refused is no longer open
 abbrev pub answered_call : List ℕ → Answer → Queued → Queued
 answered_call ident answer c =
     if waits_as ident (asked_as c) then record { call = c.call; answer = answer; is_open = (if is_refusal answer then false else c.is_open) } else c
@@ -92,7 +92,7 @@ answered_call ident answer c =
 abbrev pub after_answer : QueueState → List ℕ → Answer → QueueState
 after_answer q ident answer = record { calls = map (answered_call ident answer) q.calls; next = q.next }
 
--- ---- what is asked of the calls
+-- ---- what is required of the calls
 
 -- no element comes twice
 abbrev pub AreDifferent : {A : Type 0} → List A → Type 0

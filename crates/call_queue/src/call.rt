@@ -6,14 +6,14 @@ ghost use Rattle.call_queue.specs.Queue.{answer_of};
 use scenario_file::CallPlan;
 use std::snapshot::Snapshot;
 
-/// What a call was answered.
+/// The answer to a call.
 #[derive(Clone, Copy, Debug, PartialEq, Eq)]
 pub enum CallAnswer {
-    /// Nothing yet.
+    /// No answer has come yet.
     Waits,
     /// The broker refused it.
     Refused,
-    /// It was let through.
+    /// The broker let it through.
     At {
         /// The domain that serves it.
         to: u32,
@@ -23,7 +23,7 @@ pub enum CallAnswer {
 }
 
 impl CallAnswer {
-    /// Whether the call still waits for its answer.
+    /// Returns whether the call still waits for its answer.
     pub(crate) fn waits(self) -> bool
         ensures { result ≡ waits (answer_of self) }
     {
@@ -31,16 +31,16 @@ impl CallAnswer {
     }
 }
 
-/// A call with what was heard and said of it.
+/// A call, with what was heard and sent of it.
 #[derive(Drop)]
 pub struct QueuedCall {
     // The call as it was given.
     pub given: Snapshot<CallPlan>,
-    // The same, whose input goes to its session.
+    // The same call. Its session takes the input from here.
     pub plan: CallPlan,
     pub answer: CallAnswer,
-    // The place of the first call to its target, where the open calls to that are counted.
+    // The place of the first call to its target. The open calls to the target are counted there.
     pub target: usize,
-    // Whether it was asked for, not refused, and not told to have ended since.
+    // Whether it was requested, not refused, and not reported as ended since.
     pub is_open: bool,
 }

@@ -9,7 +9,7 @@ use std::collections::BTreeMap;
 /// The places of names in a list.
 pub(crate) type Index = BTreeMap<Vec<u8>, usize>;
 
-/// The index of some names. Of equal ones it has the first place.
+/// Makes the index of some names. If names are equal, it has the first place.
 pub(crate) fn index_of(alloc: Global, names: &[Text]) -> Result<Index, AllocError>
     ensures { IfOk result (λ index. IsIndex names.now index) }
 {
@@ -21,7 +21,7 @@ pub(crate) fn index_of(alloc: Global, names: &[Text]) -> Result<Index, AllocErro
     Ok(index)
 }
 
-/// The first place of a name.
+/// Returns the first place of a name.
 pub(crate) fn place_in(index: &Index, name: &[u8]) -> Option<usize>
     ensures { result ≡ place_in index.now name.now }
 {

@@ -25,14 +25,14 @@ use vchan_io::Memory;
 /// The most calls of an agent to one target that are open at once. Source: this project's own.
 const MOST_OPEN: u32 = 16;
 
-/// The calls of one agent in their order, with what was heard and said of each.
+/// The calls of one agent in their order, with what was heard and sent of each.
 ///
-/// A call is open from its trigger on until its refusal was read or, after the trigger, the end of its
-/// session was told. A call may be answered before its trigger has gone; the trigger is said all the same.
+/// A call is open from its trigger on, until its refusal was read or the end of its session was reported
+/// after the trigger. A call may be answered before its trigger was sent; the trigger is sent all the same.
 #[derive(Drop)]
 pub struct CallQueue {
     calls: Vec<QueuedCall>,
-    // How many calls were asked for, which are the first ones.
+    // How many calls were requested. These are the first ones.
     next: usize,
     // The places of the calls by their idents.
     by_ident: Index,
@@ -53,10 +53,10 @@ impl Model for CallQueue {
 }
 
 impl CallQueue {
-    /// A queue of these calls, none of which was asked for. Their numbers differ, and their texts fit a
-    /// trigger: a target of at most 31 bytes, and a service of at most 63.
+    /// Makes a queue of these calls, none of which was requested. Their numbers must differ, and their texts
+    /// must fit a trigger: a target of at most 31 bytes, and a service of at most 63.
     ///
-    /// Want of memory drops the calls.
+    /// Returns `Memory` if memory runs out; the calls are dropped then.
     pub fn new(alloc: Global, calls: Vec<CallPlan>) -> Result<CallQueue, Memory>
         requires different { AreDifferent (map (λ c. c.number) calls.items) }
         requires short { Each FitsTrigger calls.items }
@@ -78,15 +78,16 @@ impl CallQueue {
         })
     }
 
-    /// How many calls there are.
+    /// Returns the number of calls.
     pub fn count(&self) -> usize
         ensures { result ≡ length self.now.calls }
     {
         self.calls.len()
     }
 
-    /// The trigger that is to be said next, in the version that was agreed on. There is none where all
-    /// were said, or where 16 calls to the next one's target are open.
+    /// Returns the trigger that must be sent next, in the version that was agreed on. Returns `None` if all
+    /// triggers were sent, or if 16 calls to the next one's target are open. Returns `Memory` if memory runs
+    /// out.
     pub fn front(&self, alloc: Global, version: u32) -> Result<Option<Message>, Memory>
         ensures says { IfOk result (λ message. HasToSay self.now version message) }
         ensures spelt { IfOk result (λ message. IfSome message (λ m. IsSpellable m)) }
@@ -97,8 +98,7 @@ impl CallQueue {
         Ok(Some(trigger_of(alloc, plan, version)?))
     }
 
-    /// How many bytes the message takes on its channel that [`CallQueue::front`] gives. No memory is taken
-    /// for that.
+    /// Returns how many bytes the message of [`CallQueue::front`] takes on its channel. This takes no memory.
     pub fn front_len(&self, version: u32) -> Option<usize>
         ensures { HasToSayOfLen self.now version result }
     {
@@ -108,7 +108,8 @@ impl CallQueue {
         Some(trigger_len(plan, version))
     }
 
-    // The call whose trigger is next: there is none where all were said, or where the limit holds it back.
+    // The call whose trigger is next. There is none if all triggers were sent, or if the limit holds the next
+    // one back.
     fn due(&self) -> Option<&CallPlan>
         ensures held { result ≡ None → IsHeld self.now }
         ensures says { IfSome result (λ plan. (version : ℕ) → HasToSay self.now version (Some (trigger_of version plan.now))) }
@@ -124,7 +125,7 @@ impl CallQueue {
         Some(&call.plan)
     }
 
-    /// Told that the trigger has gone that [`CallQueue::front`] gave.
+    /// Notes that the trigger of [`CallQueue::front`] was sent.
     pub fn triggered(&mut self)
         requires { (c : Queued) × IsDue self.old c }
         ensures is { (c : Queued) → IsDue self.old c → self.new ≡ after_trigger self.old c }
@@ -134,7 +135,7 @@ impl CallQueue {
         self.next += 1;
     }
 
-    /// The place of the call of this ident, where it still waits for its answer.
+    /// Returns the place of the call with this ident, if that call still waits for its answer.
     pub fn waiting(&self, ident: &[u8]) -> Option<usize>
         ensures some { IfSome result (λ place. IsWaitingAt self.now place ident.now) }
         ensures none { result ≡ None → list_any (waits_as ident.now) (asked_by self.now) ≡ false }
@@ -147,7 +148,7 @@ impl CallQueue {
         None
     }
 
-    /// Told that the call of this ident is refused. Where none waits by it, nothing changes.
+    /// Notes that the call with this ident is refused. If no call waits by it, nothing changes.
     pub fn refused(&mut self, ident: &[u8])
         ensures is { self.new ≡ after_answer self.old ident.now IsRefused }
         ensures asks { (said : List Said) → Asks self.old said → Asks self.new said }
@@ -157,7 +158,7 @@ impl CallQueue {
         }
     }
 
-    // The call at a place, which waits, is refused.
+    // Notes that the call at a place is refused. It must wait.
     fn refuse_at(&mut self, place: usize)
         requires { (ident : List ℕ) × IsWaitingAt self.old place ident }
         ensures is { (ident : List ℕ) → IsWaitingAt self.old place ident → self.new ≡ after_answer self.old ident IsRefused }
@@ -168,8 +169,8 @@ impl CallQueue {
         count_out(call, &mut self.counts);
     }
 
-    /// Told that the call at this place, which waits, is let through to a domain and a port;
-    /// [`CallQueue::waiting`] finds the place. Its input is handed out, for its session.
+    /// Notes that the call at this place is let through to a domain and a port, and hands out the call's
+    /// input for its session. The call must wait; [`CallQueue::waiting`] finds the place.
     pub fn connected(&mut self, alloc: Global, place: usize, to: u32, port: u32) -> Bytes
         requires { (ident : List ℕ) × IsWaitingAt self.old place ident }
         ensures is { (ident : List ℕ) → IsWaitingAt self.old place ident → self.new ≡ after_answer self.old ident (At to port) }
@@ -181,7 +182,7 @@ impl CallQueue {
         replace(&mut call.plan.stdin, Bytes::of(Vec::new(alloc)))
     }
 
-    /// Told that the end of the session of the call at this place was said.
+    /// Notes that the broker was told of the end of the session of the call at this place.
     pub fn ended(&mut self, place: usize)
         requires { place < length self.old.calls }
         ensures is { (c : Queued) → slice_get self.old.calls place ≡ Some c → self.new ≡ record self.old { calls = slice_set self.old.calls place (record c { is_open = false }) } }
@@ -190,7 +191,7 @@ impl CallQueue {
         count_out(&mut self.calls[place], &mut self.counts);
     }
 
-    /// The number of the call at a place.
+    /// Returns the number of the call at a place.
     pub fn number(&self, place: usize) -> u32
         requires { place < length self.now.calls }
         ensures { IfSome (slice_get self.now.calls place) (λ c. result ≡ c.call.number) }
@@ -198,7 +199,7 @@ impl CallQueue {
         self.calls[place].plan.number
     }
 
-    /// What the call at a place was answered.
+    /// Returns the answer to the call at a place.
     pub fn answer(&self, place: usize) -> CallAnswer
         requires { place < length self.now.calls }
         ensures { IfSome (slice_get self.now.calls place) (λ c. answer_of result ≡ c.answer) }
@@ -207,7 +208,7 @@ impl CallQueue {
     }
 }
 
-// A call was asked for: it is open, unless it was refused before.
+// Counts a call that was requested: it is open, unless it was refused before.
 fn count_in(call: &mut QueuedCall, counts: &mut Vec<u32>)
     requires closed { call.old.is_open ≡ false }
     requires room { call.old.target < vec_len counts.old }
@@ -222,7 +223,7 @@ fn count_in(call: &mut QueuedCall, counts: &mut Vec<u32>)
     counts[call.target] += 1;
 }
 
-// A call is open no more, and the count of those to its target is lower by it, where it was.
+// Closes a call; if it was open, decrements its target's count.
 fn count_out(call: &mut QueuedCall, counts: &mut Vec<u32>)
     requires room { call.old.target < vec_len counts.old }
     requires counted { call.old.is_open ≡ true → 0 < slice_index counts.old.items call.old.target }

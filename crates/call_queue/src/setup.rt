@@ -1,4 +1,4 @@
-//! A queue before anything was heard or said.
+//! A queue before anything was heard or sent.
 ghost use Rattle.std.specs.Prelude.{◌≡◌, ◌<◌, ◌^◌, map, IfOk, OnOk};
 ghost use Rattle.qrexec_frame.specs.Streams.{Each};
 ghost use Rattle.task_duties.specs.Words.{ident_of};
@@ -14,7 +14,7 @@ use std::alloc::{AllocError, Global};
 use std::snapshot::Snapshot;
 use vchan_io::Memory;
 
-/// The idents of some calls.
+/// Returns the idents of some calls.
 pub(crate) fn idents_of(alloc: Global, calls: &[CallPlan]) -> Result<Vec<Text>, Memory>
     ensures are { IfOk result (λ idents. idents.items ≡ map (λ c. ident_of c.number) calls.now) }
     ensures small { OnOk result (Each (λ c. c.number < 2 ^ 32) calls.now) }
@@ -26,7 +26,7 @@ pub(crate) fn idents_of(alloc: Global, calls: &[CallPlan]) -> Result<Vec<Text>, 
     Ok(idents)
 }
 
-/// The names of their targets.
+/// Returns the names of the targets of some calls.
 pub(crate) fn targets_of(alloc: Global, calls: &[CallPlan]) -> Result<Vec<Text>, AllocError>
     ensures { IfOk result (λ targets. targets.items ≡ map (λ c. c.to) calls.now) }
 {
@@ -37,8 +37,8 @@ pub(crate) fn targets_of(alloc: Global, calls: &[CallPlan]) -> Result<Vec<Text>,
     Ok(targets)
 }
 
-/// The calls as a queue keeps them, before anything was heard or said of them. Each target has a place in
-/// the index.
+/// Makes the calls as a queue keeps them, before anything was heard or sent of them. Each target has a place
+/// in the index.
 pub(crate) fn queued(
     alloc: Global,
     calls: Vec<CallPlan>,

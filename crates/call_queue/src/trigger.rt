@@ -11,17 +11,17 @@ use scenario_file::CallPlan;
 use std::alloc::Global;
 use vchan_io::Memory;
 
-/// How long a trigger below version 3 is: its header, two names of 32 bytes and a service of 64.
+/// The length of a trigger below version 3, in bytes: its header, two names of 32 bytes and a service of 64.
 const TRIGGER_LEN: usize = 136;
 
-/// How long a trigger of version 3 is without the bytes of its service: its header, a target of 64 bytes,
+/// The length of a trigger of version 3 without the bytes of its service: its header, a target of 64 bytes,
 /// an ident of 32, and the NUL at the end.
 const TRIGGER3_LEN: usize = 105;
 
-/// How long the ident of a call is at most: `call-` and the ten digits of a number below 2^32.
+/// The greatest length of a call's ident: `call-` and the ten digits of a number below 2^32.
 const LONGEST_IDENT: usize = 15;
 
-/// The ident by which the call of a number is asked for.
+/// Returns the ident by which the call with this number is requested.
 pub(crate) fn ident_text(alloc: Global, number: u32) -> Result<Text, Memory>
     ensures is { IfOk result (λ ident. ident ≡ ident_of number) }
     ensures short { IfOk result (λ ident. FitsText 31 ident) }
@@ -45,7 +45,7 @@ fn ident_bytes(alloc: Global, number: u32) -> Result<Vec<u8>, Memory>
     Ok(bytes)
 }
 
-/// The trigger of a call: below version 3 it is a `Trigger`, and else a `Trigger3`.
+/// Returns the trigger of a call: a `Trigger` below version 3, and a `Trigger3` from then on.
 pub(crate) fn trigger_of(alloc: Global, plan: &CallPlan, version: u32) -> Result<Message, Memory>
     requires { FitsTrigger plan.now }
     ensures is { IfOk result (λ message. message ≡ trigger_of version plan.now) }
@@ -70,7 +70,7 @@ pub(crate) fn trigger_of(alloc: Global, plan: &CallPlan, version: u32) -> Result
     })
 }
 
-/// How many bytes the trigger of a call takes on a channel.
+/// Returns how many bytes the trigger of a call takes on a channel.
 pub(crate) fn trigger_len(plan: &CallPlan, version: u32) -> usize
     requires { FitsTrigger plan.now }
     ensures { result ≡ length (written (trigger_of version plan.now)) }
@@ -82,7 +82,7 @@ pub(crate) fn trigger_len(plan: &CallPlan, version: u32) -> usize
     TRIGGER_LEN
 }
 
-// A number is below 2 to the 32.
+// A `u32` is below 2^32.
 fn is_u32(number: u32)
     ensures { number < 2 ^ 32 }
 {
