@@ -15,7 +15,7 @@ use Rattle.agent_task.specs.declared.given.Given.{Given}
 use Rattle.agent_task.specs.Standing.{called_by, called_of, AreCallsOf}
 use Rattle.agent_task.proofs.ListLaws.{and-parts}
 
--- one message after others
+-- one message after the others
 pub takes-last : (d : ℕ) (ms : List Message) (m : Message) (a : Answers) → takes_all d a (ms ++ m ∷ []) ≡ takes d (takes_all d a ms) m
 takes-last d [] m a = refl
 takes-last d (n ∷ ms) m a = takes-last d ms m (takes d a n)
@@ -100,7 +100,7 @@ called-answered ident to port (x ∷ asked) (suc i) a apart is w =
     let apart-x : asked_ident x ≡ ident → ⊥ = λ e. each-at (λ j. asked_ident x ≡ j → ⊥) (map asked_ident asked) i (asked_ident a) apart.0 (map-get asked_ident asked i a is) (e ∙ sym (named ident a w)) in
     rw (other-bytes (asked_ident x) ident apart-x) (ap (λ r. called_of x ∷ r) (called-answered ident to port asked i a apart.1 is w))
 
--- a call that waits is one that some waits as
+-- if a call waits as an ident, then some call does
 pub some-waits : (ident : List ℕ) (asked : List Asked) (place : ℕ) (a : Asked) → slice_get asked place ≡ Some a → waits_as ident a ≡ true → list_any (waits_as ident) asked ≡ true
 some-waits ident [] place a is w = cc
 some-waits ident (x ∷ asked) zero a is w =

@@ -144,7 +144,7 @@ served-all plan end ends (x ∷ xs) [] dones are by h = absurd by
 served-all plan end ends (x ∷ xs) (s ∷ ss) [] are by h = absurd h
 served-all plan end ends (x ∷ xs) (s ∷ ss) (d ∷ dones) are by h = (served-one plan end ends x s d are by.0 h.0, served-all plan end ends xs ss dones are by.1 h.1)
 
--- ---- what it said
+-- ---- what it sent
 
 asking-calls : (q : QueueState) → map (λ c. asking_of c.call) q.calls ≡ map asking_of (map (λ a. a.call) (asked_by q))
 asking-calls q = each q.calls
@@ -300,7 +300,7 @@ pair-length R [] (y ∷ ys) each = absurd each
 pair-length R (x ∷ xs) [] each = absurd each
 pair-length R (x ∷ xs) (y ∷ ys) each = ap suc (pair-length R xs ys each.1)
 
--- each call has what came of its session
+-- each call reports what came of its session
 pub calls-long : (how : ControlEnd) (a : Agent) (ends : List EndAt) (calls : List (Option CallOver)) → IsOver how a → EachPair (ReportsCalled a.slots.domain a.slots.version ends) a.slots.called calls → length calls ≡ length (asked_by a.control.queue)
 calls-long how a ends calls over each =
     pair-length (ReportsCalled a.slots.domain a.slots.version ends) a.slots.called calls each ∙ ap (λ (l : List (Option Called)). length l) over.stands.answers.called

@@ -23,7 +23,7 @@ version-of own may given more v heard e (Greeted p placed u is greets version ea
     let same : u ≡ v = cc in
     ap (λ (g : List (Placed Message)). (hears_on own may (g ++ more) e).version) is ∙ greeted-version own u may p (placed ++ more) e greets ∙ ap (λ (n : ℕ). Some n) same
 
--- what was agreed on is what the bytes say
+-- the version that was agreed on is the one in the bytes
 pub version-known : (p : PortState) (heard : List Message) (v : ℕ) → HasHeard p heard → p.version ≡ Some v → (heard_at p).version ≡ Some v
 version-known p heard v h is =
     let rest : Reading Message Fault = read_on (front p.decoder.channel) (p.decoder.left ++ h.stands.after) (length h.stands.before) 0 in

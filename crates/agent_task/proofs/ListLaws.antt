@@ -34,7 +34,7 @@ pub and-right-false : (a b : Bool) → b ≡ false → (a && b) ≡ false
 and-right-false true b is = is
 and-right-false false b is = refl
 
--- what follows where a call succeeds
+-- what follows if a call succeeds
 pub on-ok : {A E : Type 0} (r : Result A E) (P Q : Type 0) → (P → Q) → OnOk r P → OnOk r Q
 on-ok (Ok v) P Q go h = go h
 on-ok (Err e) P Q go h = tt

@@ -32,7 +32,7 @@ same-end-then a b c p q = (q.0 ∙ p.0, q.1 ∙ p.1, q.2 ∙ p.2, q.3 ∙ p.3)
 pub same-end-is : (a b : SeatedEnd) → b ≡ a → IsSameEnd a b
 same-end-is a b is = (ap (λ e. e.page) is, ap (λ e. e.side.role) is, ap (λ e. e.side.orders) is, ap (λ e. e.start) is)
 
--- what stays of a port: its end, version and side, and all that was said
+-- what stays of a port: its end, version and side, and all that was sent
 pub record PortKeeps (old new : PortState) (said : List Message) : Type 0 where
   pub end : IsSameEnd old.end new.end
   pub own : new.own ≡ old.own

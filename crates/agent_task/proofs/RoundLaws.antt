@@ -1,4 +1,4 @@
--- A round of an agent: what it says, and how its control channel comes to its end.
+-- A round of an agent: what it sends, and how its control channel ends.
 use Rattle.std.proofs.Common.{◌≡◌, List, ◌++◌, refl, ap, sym, ◌∙◌, Some, None, Option, subst}
 use Rattle.std.specs.Prelude.{map}
 use Rattle.qrexec_frame.specs.declared.message.Message.{Message}
@@ -37,7 +37,7 @@ running-over a how running is = subst (λ (o : Option ControlEnd). RunsAs o a) i
 pub over-running : (a : Agent) (how : ControlEnd) → IsOver how a → IsRunning a
 over-running a how over = subst (λ (o : Option ControlEnd). RunsAs o a) (sym over.over_is) over
 
--- ---- what is said
+-- ---- what is sent
 
 pub says-up : (a : Agent) (control : AgentControl) → IsUp a → SaysMore a.control control → IsUp (record a { control = control })
 says-up a control up more =
@@ -75,7 +75,7 @@ none-over : (fault : Option SessionFault) (drained : DrainAnswer) → over_by fa
 none-over (Some f) drained is = cc
 none-over None drained is = (refl, is)
 
--- nothing is wrong, and the drain tells no end
+-- nothing is wrong, and the drain finds no end
 pub goes-on : (a : Agent) (drained : DrainAnswer) → HasHeardOut a → IsDrained drained a → over_by a.control.port.fault drained ≡ None → IsUp a
 goes-on a drained out ended over = going (none-over a.control.port.fault drained over)
   where

@@ -84,7 +84,7 @@ asked-to-serve heard [] d p each h = absurd h
 asked-to-serve heard (x ∷ served) d p each (inl h) = subst (λ (n : ℕ). SomeOf (AsksToServe n p) heard) h.0 (subst (λ (n : ℕ). SomeOf (AsksToServe x.from n) heard) h.1 each.0)
 asked-to-serve heard (x ∷ served) d p each (inr h) = asked-to-serve heard served d p each.1 h
 
--- such a session may be told to have ended
+-- the end of such a session may be reported
 over-tellable : (a : Agent) (heard said : List Message) (over : SessionOver) → Stands a heard said → IsToldOver a.slots over → IsTellable (asked_by a.control.queue) heard (end_of over)
 over-tellable a heard said over stands begun = by_call over.number begun
   where
@@ -116,7 +116,7 @@ none-of : (o : Option ControlEnd) → is_some o ≡ false → o ≡ None
 none-of None is = refl
 none-of (Some how) is = cc
 
--- what is over is to be told
+-- what is over is to be reported
 pub noted-running : (a : Agent) (s : SlotsState) (new : Agent) (over : List SessionOver) → IsRunning a → is_some a.over ≡ false → s ≡ record a.slots { open_count = s.open_count } → OnlyTells (with_slots a s) new
     → new.control.unsaid.items ≡ a.control.unsaid.items ++ map end_of over → Each (IsToldOver a.slots) over → IsRunning new
 noted-running a s new over running none is only told each =
@@ -130,11 +130,11 @@ noted-running a s new over running none is only told each =
         by_number (Some n) h = h
         by_number None h = h
 
--- what was told where nothing was before
+-- all that was reported, if nothing was before
 pub told-first : (s : SlotsState) (now : List SessionOver) → TellsMore s [] now → Each (IsToldOver s) now
 told-first s now tells = subst (λ l. Each (IsToldOver s) l) (sym tells.1) tells.2
 
--- ---- what is said
+-- ---- what is sent
 
 has-call : (asked : List Asked) (heard : List Message) (call : Option ℕ) (d p : ℕ) → MayTell asked heard call d p → HasCall asked call
 has-call asked heard (Some place) d p h = within-get asked place h.0 h.1

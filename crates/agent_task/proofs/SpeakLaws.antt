@@ -1,4 +1,4 @@
--- What an agent has said, where more is heard, a call is answered, or more is to be told.
+-- What an agent has sent, when more is heard, a call is answered, or more is to be reported.
 use Rattle.std.proofs.Common.{◌≡◌, ℕ, List, [], ◌∷◌, ◌++◌, refl, sym, Some, None, Option, subst, inl, inr}
 use Rattle.std.specs.Prelude.{Bool, true, false, if◌then◌else◌}
 use Rattle.qrexec_frame.specs.declared.message.Message.{Message}
@@ -47,7 +47,7 @@ hears-more c heard more said s = record {
 
 -- ---- a call is answered
 
--- the call of an ident with this answer, where it waits
+-- the call of an ident with this answer, if it waits
 abbrev pub given_answer : List ℕ → Answer → Asked → Asked
 given_answer ident answer a = if waits_as ident a then record { call = a.call; answer = answer } else a
 
@@ -99,7 +99,7 @@ answers-more c queue ident answer heard said is asks s = record {
       (each-to (IsTellable (asked_by c.queue) heard) (IsTellable (answered ident answer (asked_by c.queue)) heard) c.unsaid.items (λ e h. may-still ident answer (asked_by c.queue) heard e.call e.domain e.port h) s.unsaid);
 }
 
--- ---- more is to be told
+-- ---- more is to be reported
 
 pub tells-more : (c new : AgentControl) (ends : List SessionEnd) (heard said : List Message) → new.unsaid.items ≡ c.unsaid.items ++ ends → Each (IsTellable (asked_by c.queue) heard) ends → Speaks c heard said
     → Speaks (record c { unsaid = new.unsaid }) heard said

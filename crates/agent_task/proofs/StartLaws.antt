@@ -78,7 +78,7 @@ starts a count port new said heard queue asks differ unsaid slots many unused se
     calls : List CallPlan
     calls = a.given.calls.value.items
 
--- the same where what was given is known by its parts
+-- the same, if what was given is known by its parts
 pub starts-with : (a : Agent) (count : ℕ) (calls : List CallPlan) (control : SeatedEnd) (payload : List DataEnd) → a.given.calls.value.items ≡ calls → a.given.control.value ≡ control → a.given.payload.value.items ≡ payload
     → (a.control.port.end ≡ control) × (a.control.port.talker ≡ OfAgent) × (a.control.port.own ≡ a.given.version) → (a.control.port.version ≡ None) × (a.control.port.fault ≡ None)
     → HasSaid a.control.port [] → HasHeard a.control.port [] → a.control.queue ≡ record { calls = map fresh calls; next = 0 } → Asks a.control.queue []

@@ -115,7 +115,7 @@ connect-no_call a to port ident awaits none =
     let no : list_any (waits_as ident) made.asked ≡ false = ap (λ l. list_any (waits_as ident) l) (sym awaits.stands.answers.asked) ∙ none in
     passes a (m.Connect to port ident) awaits (takes-connect-not a.given.domain to port ident made (ap (λ (b : Bool). b && has_place (Payload a.given.domain to port) made.unused) no))
 
--- what the data ends say of a place
+-- what the data ends have at a place
 place-there : (a : Agent) (heard said : List Message) (to port : ℕ) (b : Bool) → Stands a heard said → b ≡ has_place (Payload a.slots.domain to port) a.slots.unused → has_place (Payload a.given.domain to port) (made_of a heard).unused ≡ b
 place-there a heard said to port b stands is =
     ap (λ l. has_place (Payload a.given.domain to port) l) (sym stands.answers.unused) ∙ ap (λ (d : ℕ). has_place (Payload d to port) a.slots.unused) (sym stands.slots.domain) ∙ sym is
@@ -271,7 +271,7 @@ serve-taken a from port line service s awaits named there s_is = by_name (servic
         (asked-last (heard ++ w ∷ []) a.slots.served (record { from = from; port = port; service = service }) (asked-for-more heard (w ∷ []) a.slots.served stands.asked_for) (some-last (AsksToServe from port) heard w (refl, refl))))
         (hears-more a.control heard (w ∷ []) said stands.speaks))
 
--- ---- what is told to have ended
+-- ---- which ends are to be reported
 
 pub tells-stand : (old new : Agent) (ends : List SessionEnd) (heard said : List Message) → OnlyTells old new → new.control.unsaid.items ≡ old.control.unsaid.items ++ ends → Each (IsTellable (asked_by old.control.queue) heard) ends
     → Stands old heard said → Stands new heard said
@@ -285,7 +285,7 @@ tells-stand old new ends heard said only told each stands = subst (λ (x : Agent
   quiet = stands.quiet;
 })
 
--- what isn't served is told to have ended
+-- the end of what isn't served is to be reported
 unserved : (old new : Agent) (d p : ℕ) (w : Message) (awaits : Awaits old w) → AsksToServe d p w → takes old.given.domain (made_of old awaits.heard) w ≡ made_of old awaits.heard → OnlyTells old new
     → new.control.unsaid.items ≡ old.control.unsaid.items ++ record { domain = d; port = p; call = None } ∷ [] → IsHearing new
 unserved old new d p w awaits asks same only told =

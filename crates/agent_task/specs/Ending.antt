@@ -1,4 +1,4 @@
--- How the control channel of an agent comes to its end.
+-- How the control channel of an agent ends.
 -- Source: this project's own.
 use Rattle.std.specs.Prelude.{◌≡◌, true, List, Option, Some, None}
 use Rattle.qrexec_frame.specs.declared.message.Message.{Message}
@@ -17,14 +17,14 @@ use Rattle.control_port.specs.Talking.{may_hear}
 use Rattle.agent_task.specs.declared.agent.Agent.{Agent}
 use Rattle.agent_task.specs.Standing.{Stands, IsUp}
 
--- how a drain tells that the channel is over
+-- how a drain shows that the channel is over
 abbrev pub end_by : DrainAnswer → Option ControlEnd
 end_by (More count) = None
 end_by (NotYet prod cons) = None
 end_by AllRead = Some Drained
 end_by (PeerGone prod cons) = Some Gone
 
--- how it is over, by what is wrong with what was heard or else by the drain
+-- how it is over: by what is wrong with what was heard, or else by the drain
 abbrev pub over_by : Option SessionFault → DrainAnswer → Option ControlEnd
 over_by (Some fault) drained = Some (Fault fault)
 over_by None drained = end_by drained

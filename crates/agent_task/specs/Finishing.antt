@@ -7,7 +7,7 @@ use Rattle.task_duties.specs.declared.done.CallEnd.TheVariants.{Session, Refused
 use Rattle.task_duties.specs.Agent.Answers.{Answer, IsRefused, Asked}
 use Rattle.data_slots.specs.declared.done.CallOver.{CallOver}
 
--- by its answer, and what came of its session
+-- what comes of a call, by its answer and what came of its session
 abbrev pub call_end_of : Answer → Option CallOver → CallEnd
 call_end_of answer (Some over) = Session over.port over.to over.outcome over.stdout over.stderr over.got
 call_end_of IsRefused None = Refused
@@ -16,7 +16,7 @@ call_end_of answer None = Unanswered
 abbrev pub call_done_of : Asked → Option CallOver → CallDone
 call_done_of a over = record { number = a.call.number; end = call_end_of a.answer over }
 
--- of each
+-- what comes of each call
 abbrev pub call_dones : List Asked → List (Option CallOver) → List CallDone
 call_dones (a ∷ asked) (over ∷ all) = call_done_of a over ∷ call_dones asked all
 call_dones _ _ = []

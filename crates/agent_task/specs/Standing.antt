@@ -1,4 +1,4 @@
--- How an agent stands while its control channel is open: its calls and its sessions are what it makes of the messages that it heard.
+-- What holds of an agent while its control channel is open: its calls and its sessions are what it makes of the messages that it heard.
 -- Source: this project's own.
 use Rattle.std.specs.Prelude.{◌≡◌, Bool, true, false, List, [], ◌∷◌, ◌++◌, map, Option, Some, None}
 use Rattle.qrexec_frame.specs.declared.message.Message.{Message}
@@ -28,7 +28,7 @@ use Rattle.agent_task.specs.Given.{data_ends, plan_of}
 
 -- ---- what it makes of what it heard
 
--- the session of a call, where the call was let through
+-- the session of a call, if the call was let through
 abbrev pub called_by : CallPlan → Answer → Option Called
 called_by call (At to port) = Some (record { to = to; port = port; input = call.stdin })
 called_by call answer = None
@@ -47,7 +47,7 @@ pub record AreAnswers (a : Answers) (q : QueueState) (s : SlotsState) : Type 0 w
   pub called : s.called ≡ map called_of a.asked
   pub served : EachPair IsServedBy a.served s.served
 
--- each session that it serves was asked for
+-- each session that it serves was requested
 abbrev pub AreAskedFor : List Message → List Serves → Type 0
 AreAskedFor heard served = Each (λ x. SomeOf (AsksToServe x.from x.port) heard) served
 
@@ -58,7 +58,7 @@ pub record AreCallsOf (g : Given) (q : QueueState) : Type 0 where
   pub calls : map (λ a. a.call) (asked_by q) ≡ g.calls.value.items
   pub apart : AreDifferent (map (λ a. ident_of a.call.number) (asked_by q))
 
--- the data ends are those that were given, and memory sufficed for each turn of them
+-- the data ends are those that were given, and memory didn't run out in any turn of them
 pub record AreSlotsOf (g : Given) (s : SlotsState) : Type 0 where
   pub domain : s.domain ≡ g.domain
   pub version : s.version ≡ g.version
@@ -74,7 +74,7 @@ pub record IsPortOf (g : Given) (p : PortState) : Type 0 where
 
 -- ---- between two messages
 
--- the agent has acted on these messages, and said those
+-- the agent has acted on the messages `heard`, and has sent the messages `said`
 pub record Stands (a : Agent) (heard said : List Message) : Type 0 where
   pub port : IsPortOf a.given a.control.port
   pub calls : AreCallsOf a.given a.control.queue
@@ -82,7 +82,7 @@ pub record Stands (a : Agent) (heard said : List Message) : Type 0 where
   pub answers : AreAnswers (answers (plan_of a.given) heard) a.control.queue a.slots
   pub asked_for : AreAskedFor heard a.slots.served
   pub speaks : Speaks a.control heard said
-  -- before the broker's greeting it says nothing but its own
+  -- before the broker's greeting it sends nothing but its own
   pub quiet : a.control.port.version ≡ None → said ≡ []
 
 -- its control channel is open, and nothing wrong was heard
@@ -99,7 +99,7 @@ pub record IsHearing (a : Agent) : Type 0 where
   pub hears : HasHeard a.control.port heard
   pub sound : IsSound a
 
--- and so it has, but for this one, which was handed out last
+-- it has acted on all messages that were handed out, except for this one, which was handed out last
 pub record Awaits (a : Agent) (m : Message) : Type 0 where
   pub heard : List Message
   pub said : List Message
@@ -107,7 +107,7 @@ pub record Awaits (a : Agent) (m : Message) : Type 0 where
   pub hears : HasHeard a.control.port (heard ++ m ∷ [])
   pub sound : IsSound a
 
--- all messages were handed out that are in the bytes that came, up to what is wrong with them
+-- all messages in the bytes that came were handed out, up to what is wrong with them
 pub record HasHeardOut (a : Agent) : Type 0 where
   pub heard : List Message
   pub said : List Message
@@ -117,12 +117,12 @@ pub record HasHeardOut (a : Agent) : Type 0 where
   pub is_open : IsOpen a.control.port.end
   pub up : a.over ≡ None
 
--- a message more was acted on, or there was none
+-- one message more was acted on, or there was none
 abbrev pub HearsOn : Bool → Agent → Type 0
 HearsOn true a = IsHearing a
 HearsOn false a = HasHeardOut a
 
--- between two turns: no drain has told the end of what the broker says
+-- between two turns: no drain has found the end of what the broker sends
 pub record IsUp (a : Agent) : Type 0 where
   pub hearing : IsHearing a
   pub going : (view a.control.port.end).ended ≡ None
@@ -135,11 +135,11 @@ IsSameAgent old new = (new.given ≡ old.given) × (new.over ≡ old.over)
 abbrev pub KeepsPort : Agent → Agent → Type 0
 KeepsPort old new = (new.control.port ≡ old.control.port) × (new.given ≡ old.given) × (new.over ≡ old.over)
 
--- only the ends that are to be told are others
+-- only the ends to be reported differ
 abbrev pub OnlyTells : Agent → Agent → Type 0
 OnlyTells old new = new ≡ record old { control = record old.control { unsaid = new.control.unsaid } }
 
--- what is told of a session that is over
+-- the report of a session that is over
 abbrev pub end_of : SessionOver → SessionEnd
 end_of over = record { domain = over.domain; port = over.port; call = over.number }
 

@@ -10,13 +10,13 @@ use std::alloc::Global;
 use task_duties::ControlEnd;
 use vchan_io::Memory;
 
-/// With how many sessions open on pages that are laid for them an agent asks for no more calls, since each
-/// holds the memory of a page. It serves on, so that no agent waits for another one's limit; and sessions
-/// with hostile domains don't count, so that these can't hold its calls back.
+/// The number of sessions open on pages laid for them at which an agent requests no more calls, since each
+/// holds the memory of a page. It goes on serving, so no agent waits for another one's limit. Sessions with
+/// hostile domains don't count, so these can't hold its calls back.
 const MOST_PAGES: usize = 8;
 
-/// For how many calls it asks in a turn. One that isn't answered yet isn't counted above, and holds a page as
-/// soon as it is let through.
+/// The number of calls that it requests in a turn. A call that isn't answered yet isn't counted in the limit
+/// above, and holds a page as soon as it is let through.
 const MOST_ASKED: usize = 1;
 
 /// The agent of a domain: its control channel with its calls, and its data ends.
@@ -26,14 +26,15 @@ pub(crate) struct Agent<'p> {
     pub(crate) given: Given<'p>,
     pub(crate) control: AgentControl<'p>,
     pub(crate) slots: DataSlots<'p>,
-    // How the control channel came to its end, whose end is retired then.
+    // How the control channel ended; its end is retired then.
     pub(crate) over: Option<ControlEnd>,
 }
 
 impl<'p> Agent<'p> {
-    /// One round over all channels: what has come on the control channel, then each open session, then
-    /// what there is to say. It answers whether anything moved: something came or went on the control
-    /// channel, or a session moved bytes or is over. `over` is empty before and after, and kept for its room.
+    /// Makes one round over all channels: it takes what has come on the control channel, then turns each open
+    /// session, then sends what there is to send. Returns whether anything moved: something came or went on
+    /// the control channel, or a session moved bytes or is over. `over` is empty before and after, and kept
+    /// for its room.
     pub(crate) fn go_round(
         &mut self,
         scratch: &mut [u8],
@@ -59,8 +60,8 @@ impl<'p> Agent<'p> {
         Ok(moved || self.control.port.moves() != before)
     }
 
-    // One turn of each open session. Those that are over are to be told, while the control channel isn't.
-    // It answers whether any moved bytes or is over.
+    // Makes one turn of each open session. Those that are over are noted to be reported, unless the control
+    // channel is over. Returns whether any moved bytes or is over.
     fn turn_sessions(
         &mut self,
         scratch: &mut [u8],
@@ -82,7 +83,7 @@ impl<'p> Agent<'p> {
         Ok(moved)
     }
 
-    // Puts sessions that are over behind those that are to be told.
+    // Appends sessions that are over to those that are to be reported.
     fn note_over(&mut self, over: &[SessionOver]) -> Result<(), Memory>
         ensures same { OnlyTells self.old self.new }
         ensures told { OnOk result (self.new.control.unsaid.items ≡ self.old.control.unsaid.items ++ map end_of over.now) }
@@ -97,8 +98,8 @@ impl<'p> Agent<'p> {
         Ok(())
     }
 
-    // Says what there is to say, once both greetings have gone. With many pages in use the agent asks for no
-    // more calls: what is open goes on without it.
+    // Sends what there is to send, after both greetings. With many pages in use the agent requests no more
+    // calls: the open sessions go on without that.
     fn say(&mut self) -> Result<(), Memory>
         requires up { IsUp self.old }
         ensures up { OnOk result (IsUp self.new) }

@@ -1,4 +1,4 @@
-//! What an agent makes of each message.
+//! What an agent does on each message.
 ghost use Rattle.std.specs.Prelude.{◌≡◌, ◌++◌, ◌∷◌, [], None, OnOk};
 ghost use Rattle.qrexec_frame.specs.declared.message.Message.TheVariants.{Connect, Refused, Exec};
 ghost use Rattle.agent_task.specs.Standing.{IsHearing, Awaits, KeepsPort, OnlyTells};
@@ -10,7 +10,8 @@ use qrexec_frame::{Message, Text};
 use vchan_io::Memory;
 
 impl<'p> Agent<'p> {
-    /// Acts on a message that was handed out. What an agent doesn't hear from a broker changes nothing.
+    /// Acts on a message that was handed out. A message that an agent doesn't hear from a broker changes
+    /// nothing.
     pub(crate) fn hear(&mut self, message: Message) -> Result<(), Memory>
         requires { Awaits self.old message }
         ensures hearing { OnOk result (IsHearing self.new) }
@@ -33,8 +34,8 @@ impl<'p> Agent<'p> {
         }
     }
 
-    // A call was let through: it has a session, where it waits and has an unused end. Else the message is
-    // passed over.
+    // Opens a session for a call that was let through, if the call waits and there is an unused end.
+    // Otherwise the message is skipped.
     fn connect(&mut self, to: u32, port: u32, ident: &Text) -> Result<(), Memory>
         requires { Awaits self.old (Connect to port ident.now) }
         ensures hearing { OnOk result (IsHearing self.new) }
@@ -50,7 +51,7 @@ impl<'p> Agent<'p> {
         self.slots.call(place, to, port, input.into_list())
     }
 
-    // A call was refused, where it waits.
+    // Notes that a call was refused, if it waits.
     fn refuse(&mut self, ident: &Text) -> Result<(), Memory>
         requires { Awaits self.old (Refused ident.now) }
         ensures hearing { OnOk result (IsHearing self.new) }
@@ -60,8 +61,8 @@ impl<'p> Agent<'p> {
         Ok(())
     }
 
-    // A domain calls: it is served, where the line names a service and there is an unused end. Else it is
-    // told that the session has ended.
+    // Serves a call of another domain, if the line names a service and there is an unused end. Otherwise the
+    // agent will report that the session has ended.
     fn serve(&mut self, from: u32, port: u32, line: &Text) -> Result<(), Memory>
         requires { Awaits self.old (Exec from port line.now) }
         ensures hearing { OnOk result (IsHearing self.new) }
@@ -76,7 +77,7 @@ impl<'p> Agent<'p> {
         self.slots.serve(from, port, service)
     }
 
-    // The end of a session that isn't served is to be told.
+    // Notes that the end of a session that isn't served is to be reported.
     fn end_unserved(&mut self, domain: u32, port: u32) -> Result<(), Memory>
         ensures same { OnlyTells self.old self.new }
         ensures told { OnOk result (self.new.control.unsaid.items ≡ self.old.control.unsaid.items ++ record { domain = domain; port = port; call = None } ∷ []) }

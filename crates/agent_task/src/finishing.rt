@@ -17,10 +17,10 @@ use task_duties::{CallDone, CallEnd, ControlEnd, DoneEnd, PagePlace, RetiredEnd}
 use vchan_io::Memory;
 
 impl<'p> Agent<'p> {
-    /// Retires the data ends that were never used, and says what came of all calls, once the control
-    /// channel is over and no session is open.
+    /// Retires the data ends that were never used, and returns what came of all calls. The control channel is
+    /// over, and no session is open.
     ///
-    /// Want of memory drops all ends, which are retired then.
+    /// Returns `Memory` if memory runs out; all ends are retired and dropped then.
     pub(crate) fn finish(self, over: ControlEnd) -> Result<AgentDone, Memory>
         requires over { IsOver over self }
         requires idle { self.slots.open_count ≡ 0 }
@@ -73,7 +73,7 @@ impl<'p> Agent<'p> {
     }
 }
 
-// What came of each call, in their order.
+// What came of the calls, in their order.
 fn call_dones(
     alloc: Global,
     queue: &CallQueue,
@@ -101,7 +101,7 @@ fn call_done(queue: &CallQueue, place: usize, over: Option<CallOver>) -> CallDon
     }
 }
 
-// What came of a call that was answered so and had this session.
+// What came of a call with this answer and this session.
 fn call_end(answer: CallAnswer, over: Option<CallOver>) -> CallEnd
     ensures { result ≡ call_end_of (answer_of answer) over }
 {

@@ -1,4 +1,4 @@
-//! What an agent makes of its control channel.
+//! What an agent does on its control channel.
 ghost use Rattle.std.specs.Prelude.{◌≡◌, ◌<◌, true, OnOk, IfOk, length};
 ghost use Rattle.vchan_rule.specs.Seated.{IsOpen};
 ghost use Rattle.control_port.specs.Port.{HasFewerLeft};
@@ -12,8 +12,8 @@ use vchan_io::Memory;
 use vchan_lifecycle::DrainAnswer;
 
 impl<'p> Agent<'p> {
-    /// Takes what has come on the control channel, after the own greeting, and acts on it. A channel that
-    /// is at its end, or on which something wrong came, is retired.
+    /// Takes what has come on the control channel, after it sent its own greeting, and acts on it. The end is
+    /// retired if the channel has ended or something wrong came on it.
     pub(crate) fn listen(&mut self, scratch: &mut [u8]) -> Result<(), Memory>
         requires up { IsUp self.old }
         requires some { 0 < length scratch.old }
@@ -29,7 +29,7 @@ impl<'p> Agent<'p> {
         Ok(())
     }
 
-    // Says the own greeting, where it hasn't gone.
+    // Sends the own greeting, unless it was sent.
     fn greet(&mut self) -> Result<(), Memory>
         requires up { IsUp self.old }
         ensures up { OnOk result (IsUp self.new) }
@@ -66,7 +66,7 @@ impl<'p> Agent<'p> {
         Ok(())
     }
 
-    // Acts on the next message, and answers whether there was one.
+    // Acts on the next message. Returns whether there was one.
     fn hear_next(&mut self) -> Result<bool, Memory>
         requires hearing { IsHearing self.old }
         ensures hears { IfOk result (λ more. HearsOn more self.new) }
@@ -83,7 +83,7 @@ impl<'p> Agent<'p> {
         }
     }
 
-    // Retires the end of a channel that is over: something wrong was heard, or the drain said so.
+    // Retires the end of a channel that is over: something wrong was heard, or the drain found the end.
     fn settle(&mut self, drained: DrainAnswer)
         requires out { HasHeardOut self.old }
         requires drained { IsDrained drained self.old }
@@ -101,7 +101,7 @@ impl<'p> Agent<'p> {
     }
 }
 
-// How the channel is over, by what is wrong with what was heard or else by the drain.
+// How the channel is over: by what is wrong with what was heard, or else by the drain.
 fn over_by(fault: Option<SessionFault>, drained: DrainAnswer) -> Option<ControlEnd>
     ensures { result ≡ over_by fault drained }
 {
@@ -111,7 +111,7 @@ fn over_by(fault: Option<SessionFault>, drained: DrainAnswer) -> Option<ControlE
     }
 }
 
-// How a drain tells that the channel is over.
+// How a drain shows that the channel is over.
 fn end_by(drained: DrainAnswer) -> Option<ControlEnd>
     ensures { result ≡ end_by drained }
 {

@@ -1,8 +1,8 @@
-//! The task of an agent: it makes the calls of its domain, serves those of others, and reports what came
-//! of all of them.
+//! The task of an agent. It makes the calls of its domain, serves those of others, and reports what came of
+//! all of them.
 //!
 //! It serves a run, which turns the tasks of all domains. In Qubes OS `qrexec-agent` does this work, with
-//! processes of their own for each call; that one task has all sessions of a domain is this project's own.
+//! processes of their own for each call. One task with all sessions of a domain is this project's own.
 #![tactic(auto)]
 
 mod agent;

@@ -7,19 +7,19 @@ ghost use Rattle.agent_task.specs.Lines.{IsNamed};
 
 use service_gate::Builtin;
 
-/// How each line begins: the user, and the program that runs a service. Source: this is what the broker of
-/// Qubes OS puts before a service's name.
+/// The beginning of each line: the user, and the program that runs a service. Source: the broker of Qubes OS
+/// puts this before a service's name.
 const USER: &[u8] = b"DEFAULT:QUBESRPC ";
 
-/// The service that a line asks for. `None` comes exactly where the line isn't the user's, the name of a
-/// built-in service and one word more.
+/// Returns the service that a line asks for. Returns `None` if and only if the line isn't the user, the name
+/// of a built-in service and one more word.
 pub(crate) fn service_of(line: &[u8]) -> Option<Builtin>
     ensures named { IsNamed (service_of_line line.now) result }
 {
     service_in(behind_user(line)?)
 }
 
-// What stands behind the user.
+// What follows the user.
 fn behind_user(line: &[u8]) -> Option<&[u8]>
     ensures some { IfSome result (λ rest. after_prefix user line.now ≡ Some rest.now) }
     ensures none { result ≡ None → after_prefix user line.now ≡ None }
@@ -27,7 +27,7 @@ fn behind_user(line: &[u8]) -> Option<&[u8]>
     line.strip_prefix(USER)
 }
 
-// The service of a name and one word more.
+// The service in a name and one more word.
 fn service_in(rest: &[u8]) -> Option<Builtin>
     ensures named { IsNamed (service_in rest.now) result }
 {
@@ -38,7 +38,7 @@ fn service_in(rest: &[u8]) -> Option<Builtin>
     Builtin::named(&rest[..end])
 }
 
-// Where the first space stands, or else the length.
+// The place of the first space, or the length if there is none.
 fn name_end(text: &[u8]) -> usize
     ensures is { result ≡ position_or_len is_space text.now }
     ensures within { result ≤ length text.now }
@@ -61,7 +61,7 @@ fn is_word(text: &[u8]) -> bool
     }
 }
 
-// Whether a byte is a space.
+// Whether a text has a space.
 fn has_space(text: &[u8]) -> bool
     ensures { result ≡ list_any is_space text.now }
 {

@@ -14,17 +14,17 @@ use task_duties::{CallDone, ControlEnd, DataEnd, RetiredEnd, ServedDone};
 use vchan_io::Memory;
 use vchan_rule::End;
 
-/// How many bytes a turn takes of one channel at most. Source: this project's own.
+/// The most bytes that a turn takes of one channel. Source: this project's own.
 const SCRATCH: usize = 8_192;
 
-/// The agent of a domain. Contracts see of it what it was given, which no turn changes.
+/// The agent of a domain. Contracts see what the task was given, which no turn changes.
 #[derive(Drop)]
 pub struct AgentTask<'p> {
-    // It is large, and whoever turns tasks moves them.
+    // Boxed because it is large, and the workers that turn tasks move them.
     agent: Box<Agent<'p>>,
-    // What is read goes through this.
+    // The buffer through which all bytes are read.
     scratch: Vec<u8>,
-    // The sessions that were over in a turn, kept for its room.
+    // The sessions that were over in a turn. The list is kept for its room.
     ended: Vec<SessionOver>,
     // Whether the last turn moved anything.
     moved: bool,
@@ -43,13 +43,13 @@ impl<'p> Model for AgentTask<'p> {
     ghost invariant = { λ t. IsRunning t.agent.value × (0 < length t.scratch.items) × (t.ended.items ≡ []) };
 }
 
-/// What a turn of such a task gives.
+/// What a turn of an agent's task returns.
 pub enum AgentTurn<'p> {
     /// The task wants another turn.
     Again(AgentTask<'p>),
     /// The control channel is over, and so are all sessions.
     Done(AgentDone),
-    /// Memory ran out. All ends have retired.
+    /// Memory ran out. All ends are retired.
     NoMemory,
 }
 
@@ -60,11 +60,11 @@ pub struct AgentDone {
     pub domain: u32,
     /// What came of each of its calls, in their order.
     pub calls: Vec<CallDone>,
-    /// The sessions in which it served, in the order in which they were begun.
+    /// The sessions in which it served, in the order in which they began.
     pub served: Vec<ServedDone>,
-    /// How its control channel came to its end.
+    /// How its control channel ended.
     pub control: ControlEnd,
-    /// Its ends, in the order in which they were given, that of the control page first.
+    /// Its ends, in the order in which they were given, with the end of the control page first.
     pub ends: Vec<RetiredEnd>,
 }
 
@@ -82,12 +82,12 @@ impl<'p> AgentTask<'p> {
     ghost use Rattle.agent_task.specs.Ending.{IsOver};
     ghost use Rattle.agent_task.specs.Turns.{Pays};
 
-    /// The task of the agent of a domain, of version 2 or 3, with its calls and its ends. All ends are
-    /// unused. That of the control page is the server's; a data end is the server's where the domain
-    /// calls, else the client's, and no two lie at one place. The numbers of the calls differ, and their
-    /// texts fit a trigger: a target of at most 31 bytes, and a service of at most 63.
+    /// Makes the task of the agent of a domain, of version 2 or 3, with its calls and its ends. All ends are
+    /// unused. The end of the control page is the server's. A data end is the server's if the domain calls on
+    /// its page, and the client's otherwise; no two lie at one place. The numbers of the calls differ, and
+    /// their texts fit a trigger: a target of at most 31 bytes, and a service of at most 63.
     ///
-    /// Want of memory drops all that it took, the ends unretired.
+    /// Returns `Memory` if memory runs out; all that it took is dropped then, and the ends aren't retired.
     pub fn new(
         alloc: Global,
         domain: u32,
@@ -132,14 +132,14 @@ impl<'p> AgentTask<'p> {
         })
     }
 
-    /// Whether the last turn moved anything that another task may wait for, or there was none yet. No contract
-    /// relies on it.
+    /// Returns whether the last turn moved anything that another task may wait for, or whether there was no
+    /// turn yet. No contract relies on it.
     pub fn moved(&self) -> bool {
         self.moved
     }
 
-    /// One turn: a round over all channels, and once the control channel and all sessions are over, the
-    /// report.
+    /// Makes one turn, which is a round over all channels. Once the control channel and all sessions are
+    /// over, it gives the report.
     pub fn turn(self) -> AgentTurn<'p>
         ensures { Pays self.entry result }
     {
@@ -166,7 +166,7 @@ impl<'p> AgentTask<'p> {
         }
     }
 
-    // Gives the report, where all is over.
+    // Gives the report. Everything is over.
     fn finish(agent: Agent<'p>, over: ControlEnd) -> AgentTurn<'p>
         requires over { IsOver over agent }
         requires idle { agent.slots.open_count ≡ 0 }
