@@ -1,4 +1,4 @@
--- The tasks of a run may go from thread to thread: what each task consists of may.
+-- The tasks of a run may go from thread to thread, because all their parts may.
 use denote.Builtin.{u8, bool}
 use denote.Param.Send.{IsSend, sendable, view_send}
 use denote.Param.SendFields.{FieldsHave, VariantsHave, declared_send, variants_send}
@@ -73,7 +73,7 @@ use Rattle.hostile_task.specs.contracts.task.HostileTask.TheInside as hostile_in
 use Rattle.domain_task.specs.contracts.task.Task as task
 use Rattle.domain_task.specs.contracts.done.TaskDone as task_done
 
--- ---- the ends of pages that are laid when they are first used
+-- ---- the ends of pages that are laid at their first use
 
 unused_send : (κ : _) → IsSend (unused.the_row κ)
 unused_send κ = variants_send (unused.enum κ) ((end_send κ, tt), ((server_send κ, tt), ((client_send, tt), tt)))
@@ -238,7 +238,7 @@ hostile_task_send κ =
 pub task_send : (κ : _) → IsSend (task.the_row κ)
 task_send κ = variants_send (task.enum κ) ((agent_task_send κ, tt), ((broker_task_send κ, tt), ((hostile_task_send κ, tt), tt)))
 
--- ---- what a task gives in the end
+-- ---- what a task gives when it is done
 
 agent_done_send : IsSend agent_done.the_row
 agent_done_send =

@@ -1,4 +1,4 @@
--- What a task of a run was given, whichever it is.
+-- What a task of a run was given, whether it is an agent, the broker or a hostile domain.
 -- Source: this project's own.
 use Rattle.std.specs.Prelude.{List, ◌∷◌}
 use Rattle.end_view.specs.EndView.{EndView}

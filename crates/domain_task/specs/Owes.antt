@@ -1,4 +1,4 @@
--- What a task of a run owes, and what a turn of it gives.
+-- What a task of a run owes, and what a turn of it returns.
 -- Source: this project's own.
 use Rattle.std.specs.Prelude.{◌≡◌}
 use Rattle.task_duties.specs.GivenEnds.{all_retired}
@@ -10,18 +10,18 @@ use Rattle.domain_task.specs.declared.done.TaskDone.TheVariants.{Agent, Broker, 
 use Rattle.domain_task.specs.declared.task.Task.{Task}
 use Rattle.domain_task.specs.Given.{given_of}
 
--- what a task gives in the end, as the duties of tasks have it
+-- what a task gives when it is done, in the form that the duties of tasks have
 abbrev pub answer_of : TaskDone → Answer
 answer_of (Agent done) = AgentDone (record { domain = done.domain; calls = done.calls.items; served = done.served.items; control = done.control; ends = all_retired done.ends.items })
 answer_of (Broker done) = BrokerDone done.broker (all_retired done.ends.items)
 answer_of (Hostile done) = HostileDone done.domain (all_retired done.ends.items)
 answer_of NoMemory = NoAnswer
 
--- what a task owes: by what it was given alone
+-- a task owes something for what it was given, and for nothing else
 abbrev pub Owes : Task → TaskDone → Type 0
 Owes task done = TaskOwes (given_of task) (answer_of done)
 
--- a task that goes on was given the same, and one that is done gives what that owes
+-- a task that goes on was given the same, and a task that is done gives what is owed for that
 abbrev pub PaysFor : TaskGiven → Turn Task TaskDone → Type 0
 PaysFor given (turn.Again task) = given_of task ≡ given
 PaysFor given (turn.Done done) = TaskOwes given (answer_of done)

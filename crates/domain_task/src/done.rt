@@ -1,9 +1,9 @@
-//! What a task of a run gives in the end.
+//! What a task of a run gives when it is done.
 use agent_task::AgentDone;
 use broker_task::BrokerDone;
 use hostile_task::HostileDone;
 
-/// What a task gives in the end. All ends that it was given are retired then.
+/// What a task gives when it is done. Unless memory ran out, all ends that it was given are retired then.
 #[derive(Drop)]
 pub enum TaskDone {
     /// What an agent reports.

@@ -1,7 +1,7 @@
-//! The tasks of a run: the agent of a domain, the task of the broker, that of a hostile domain.
+//! The tasks of a run: the agent of a domain, the task of the broker, and the task of a hostile domain.
 //!
-//! It serves whoever runs a scenario: one type for the three, which a pool of workers turns. What each
-//! does in a turn and what it owes, docs/TASKS.md has in plain words.
+//! It serves programs that run a scenario: it has one type for the three, which a pool of workers turns.
+//! docs/TASKS.md says in plain words what each task does in a turn and what it owes.
 #![tactic(auto)]
 
 mod done;

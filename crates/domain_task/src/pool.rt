@@ -31,7 +31,7 @@ impl<'p> PoolTask for Task<'p> {
     }
 }
 
-// A turn of an agent.
+// Makes a turn of an agent.
 fn turn_agent<'p>(task: AgentTask<'p>) -> Turn<Task<'p>>
     ensures { PaysFor (given_of (Task.Agent task.entry)) result }
 {
@@ -42,7 +42,7 @@ fn turn_agent<'p>(task: AgentTask<'p>) -> Turn<Task<'p>>
     }
 }
 
-// A turn of the broker.
+// Makes a turn of the broker.
 fn turn_broker<'p>(task: BrokerTask<'p>) -> Turn<Task<'p>>
     ensures { PaysFor (given_of (Task.Broker task.entry)) result }
 {
@@ -53,7 +53,7 @@ fn turn_broker<'p>(task: BrokerTask<'p>) -> Turn<Task<'p>>
     }
 }
 
-// A turn of a hostile domain.
+// Makes a turn of a hostile domain.
 fn turn_hostile<'p>(task: HostileTask<'p>) -> Turn<Task<'p>>
     ensures { PaysFor (given_of (Task.Hostile task.entry)) result }
 {

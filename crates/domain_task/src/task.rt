@@ -36,11 +36,11 @@ pub enum Task<'p> {
 }
 
 impl<'p> Task<'p> {
-    /// The agent of a domain of this version, 2 or 3, with its calls, its end of its control page, a
-    /// server's, and its ends of data pages. All ends are unused, no two data ends lie at one place, the
-    /// numbers of the calls differ, and their texts fit a trigger.
+    /// Makes the agent of a domain of this version, 2 or 3, with its calls, its end of its control page,
+    /// which is a server's, and its ends of data pages. All ends are unused, no two data ends lie at one
+    /// place, the numbers of the calls differ, and their texts fit a trigger.
     ///
-    /// Want of memory drops all that it took, the ends unretired.
+    /// Returns `Memory` if memory runs out; all that it took is dropped then, and the ends aren't retired.
     pub fn agent(
         alloc: Global,
         domain: u32,
@@ -61,11 +61,11 @@ impl<'p> Task<'p> {
         Ok(Task::Agent(task))
     }
 
-    /// The task of a broker that has heard nothing yet, of fewer than 2^32 domains with names of at most 31
-    /// bytes, with how many calls it awaits of each domain and its unused ends of the control pages,
-    /// clients', both in the order of the domains.
+    /// Makes the task of a broker that has heard nothing yet, for fewer than 2^32 domains with names of at
+    /// most 31 bytes. It gets the number of awaited calls of each domain and its unused ends of the control
+    /// pages, which are clients', both in the order of the domains.
     ///
-    /// Want of memory drops all that it took, the ends unretired.
+    /// Returns `Memory` if memory runs out; all that it took is dropped then, and the ends aren't retired.
     pub fn broker(
         alloc: Global,
         broker: Broker,
@@ -84,10 +84,10 @@ impl<'p> Task<'p> {
         Ok(Task::Broker(task))
     }
 
-    /// The task of a hostile domain, with its end of its control page, a server's, and its ends of data
-    /// pages, of which no two lie at one place. All are turned over at once.
+    /// Makes the task of a hostile domain, with its end of its control page, which is a server's, and its
+    /// ends of data pages, no two of which lie at one place. All ends are turned over at once.
     ///
-    /// Want of memory drops all that it took, the ends unretired.
+    /// Returns `Memory` if memory runs out; all that it took is dropped then, and the ends aren't retired.
     pub fn hostile(
         alloc: Global,
         domain: HostileDomain,

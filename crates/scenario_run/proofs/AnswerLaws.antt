@@ -1,4 +1,4 @@
--- What the tasks answer, with the pages that are settled by it, are the results of a run.
+-- What the tasks answer, with the pages that are settled by it, is the result of a run.
 use Rattle.std.proofs.Common.{◌≡◌, ◌≢◌, ℕ, zero, suc, ◌+◌, ◌<◌, ◌≤◌, List, [], ◌∷◌, map, length, refl, ap, sym, ◌∙◌, subst, arith, Some, None}
 use Rattle.std.specs.Prelude.{slice_get, Contains}
 use Rattle.std.specs.List.{AllZip}

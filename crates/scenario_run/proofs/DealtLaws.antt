@@ -34,7 +34,7 @@ use Rattle.scenario_run.proofs.PlaceLaws.{all-apart, apart-by-index, places-diff
 
 -- ---- an end on which nothing has happened
 
--- an end of a number on a page: a server's where the page's server is of that number, else a client's
+-- an end of a task on a page: a server's if the page's server has that number, and a client's otherwise
 record IsNew (s : Scenario) (number : ℕ) (e : EndAt) : Type 0 where
   lies : IsPlace s e.place
   unused : IsUnused e.view

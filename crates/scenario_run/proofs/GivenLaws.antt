@@ -1,4 +1,4 @@
--- That what a scenario keeps is what its tasks may be given.
+-- What a scenario keeps is what its tasks may be given.
 use Rattle.std.proofs.Common.{◌≡◌, ◌≢◌, ℕ, zero, suc, ◌+◌, ◌-◌, ◌*◌, ◌^◌, ◌<◌, ◌≤◌, List, [], ◌∷◌, ◌++◌, map, length, refl, ap, sym, ◌∙◌, subst, arith, length-append, Some, None}
 use Rattle.std.specs.Prelude.{◌==◌, Bool, true, false, slice_get, slice_index_or, if◌then◌else◌}
 use Rattle.std.specs.List.{All, flat_map}

@@ -89,7 +89,7 @@ other-calls call calls d other = rw other refl
 pair-rest : (run : Run) (call : CallPlan) (calls : List CallPlan) (d : CallDone) (done : List CallDone) → EachPair (IsEndOf run) (call ∷ calls) (d ∷ done) → EachPair (IsEndOf run) calls done
 pair-rest run call calls d done each = each.1
 
--- what holds of the first element still does where one is another of which it holds as well
+-- what holds of the first element still does after one element is replaced by another of which it holds as well
 first-journal : (P : ReportPart → Type 0) (xs : List ReportPart) (k : ℕ) (x y : ReportPart) → slice_get xs k ≡ Some x → (P x → P y) → (p : ReportPart) × (slice_get xs 0 ≡ Some p) × P p
     → (p : ReportPart) × (slice_get (set xs k y) 0 ≡ Some p) × P p
 first-journal P [] k x y at keeps first = absurd (let e : None ≡ Some x = at in cc)
@@ -103,7 +103,7 @@ no-test a b differ = by (a == b) refl
     by true is = absurd (differ (grind (arith, nat_tests, is)))
     by false is = is
 
--- once it is taken the others are still reported
+-- after it is taken, the others are still reported
 pub reports-on : (s : Scenario) (run : Run) (call : CallPlan) (calls : List CallPlan) (reports : List ReportPart) (part part' : ReportPart) (done : CallDone) → HasReports s run (call ∷ calls) reports
     → slice_get reports call.from ≡ Some part → part.calls ≡ done ∷ part'.calls → part'.journal ≡ part.journal → HasReports s run calls (set reports call.from part')
 reports-on s run call calls reports part part' done has at taken journal = record {

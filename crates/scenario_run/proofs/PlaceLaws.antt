@@ -59,7 +59,7 @@ differ-domains from (suc count) = (above from (from + 1) count (omega arith), di
 
 -- ---- the pages of a scenario
 
--- the two domains of a data page; of a control page none
+-- the two domains of a data page; a control page has none
 abbrev from_of : PagePlace → ℕ
 from_of (Control d) = 0
 from_of (Payload from to port) = from
@@ -105,11 +105,11 @@ laid-differ s =
     domains : Differ (all_domains s)
     domains = differ-domains 1 _
 
--- nor do those of one domain
+-- nor do the pages of one domain
 pub places-differ : (s : Scenario) (d : ℕ) → Differ (places_of s d)
 places-differ s d = differ-filter (is_end_of d) (laid s) (laid-differ s)
 
--- ---- as others have it
+-- ---- the same in other crates' forms
 
 none-some : {A : Type 0} (x : A) → None ≡ Some x → ⊥
 none-some x e = cc

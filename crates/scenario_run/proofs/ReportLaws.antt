@@ -1,4 +1,4 @@
--- What the tasks report of the calls and of what was served, as the lines of a report want it.
+-- What the tasks report of the calls and of what was served, in the form that the lines of a report need.
 use Rattle.std.proofs.Common.{◌≡◌, ◌≢◌, inl, inr, ℕ, zero, suc, ◌+◌, ◌<◌, ◌≤◌, List, [], ◌∷◌, map, length, refl, ap, sym, ◌∙◌, subst, arith, Some, None}
 use Rattle.std.specs.Prelude.{◌==◌, Bool, true, false, filter, is_some, slice_get}
 use Rattle.std.proofs.lemmas.Bool.{false≢true}
@@ -47,7 +47,7 @@ all-numbered heard plan end (c ∷ calls) (a ∷ asked) [] are reports = absurd 
 all-numbered heard plan end (c ∷ calls) (a ∷ asked) (d ∷ done) are reports =
     (reports.0.0 ∙ ap (λ x. x.number) are.0.0, all-numbered heard plan end calls asked done are.1 reports.1)
 
--- what is reported of each is found by its number
+-- what is reported of each call is found by its number
 abbrev IsFound : List CallDone → CallPlan → CallDone → Type 0
 IsFound all call done = done.end ≡ end_in all call.number
 
@@ -89,7 +89,7 @@ calls-of-honest s run h d honest =
     (λ call done there is. record { end = is ∙ ap (λ f. end_in (run.calls f) call.number) (sym (own-call s d call there)) })
     (all-found (calls_from s d) (run.calls d) (calls-differ s (facts s run h) d) numbered)
 
--- ---- who isn't an honest domain has no calls
+-- ---- a domain that isn't honest has no calls
 
 no-calls : (s : Scenario) (d : ℕ) (calls : List CallPlan) → Each (IsCall s) calls → (is_some (domain_of s d) ≡ true → hostile_at s d ≡ true) → filter (λ call. call.from == d) calls ≡ []
 no-calls s d [] each other = refl

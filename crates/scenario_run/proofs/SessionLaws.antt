@@ -96,7 +96,7 @@ upto-trans a b c (inr x) (inr y) = inr (x.0 ∙ y.0, by x.1 y.1)
     by (inr p) (inl q) = inl (omega (arith, p.0, q))
     by (inr p) (inr q) = inr (p.0 ∙ q.0, omega (arith, p.1, q.1))
 
--- a session up to which another stands doesn't stand before it
+-- if a session is ordered up to another, the other doesn't stand before it
 not-before : (a b : Session) → Upto a b → stands_before (seen b) (seen a) ≡ false
 not-before a b (inl x) =
     let one : nat_lt b.from a.from ≡ false = grind (arith, nat_tests, x) in
@@ -128,7 +128,7 @@ key_of x = (x.from, x.to, x.port)
 abbrev pub key_cmp : ℕ × ℕ × ℕ → ℕ × ℕ × ℕ → Ordering
 key_cmp x y = ordering_then (ordering_then (nat_cmp x.0 y.0) (nat_cmp x.1 y.1)) (nat_cmp x.2 y.2)
 
--- from the clause of a sort by keys, where each call gives the key
+-- from the clause of a sort by keys, if each call returns the key
 pub sorted-key : {F : Type 0} {g : Mut F (Bor Session × Unit {0}) (ℕ × ℕ × ℕ)} {f : F} (xs : List Session) → ((key : Session → ℕ × ℕ × ℕ) → ComputesKey g key f → IsSortedByKey key key_cmp xs)
     → ((a : Bor Session × Unit {0}) (r : ℕ × ℕ × ℕ) (f' : F) → Called g f a r f' → (r ≡ key_of a.0.now) × (f' ≡ f)) → IsSortedByKey key_of key_cmp xs
 sorted-key {g = g} {f = f} xs up h = up key_of (always_returns_same g (λ a r. r ≡ key_of a.0.now) f h)

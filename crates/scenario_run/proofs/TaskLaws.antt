@@ -13,7 +13,7 @@ use Rattle.run_laws.specs.Laid.{awaited_by, hub_of}
 use Rattle.run_pages.specs.declared.deal.Hand.{Hand}
 use Rattle.scenario_run.specs.Tasks.{AreHandsOf, AreTasksOf, IsHandOf, domain_given}
 
--- the tasks of these hands, from a number on
+-- the tasks of these hands, from this number on
 abbrev pub given_from : Scenario → ℕ → List Hand → List TaskGiven
 given_from s d [] = []
 given_from s d (hand ∷ hands) = domain_given s d hand ∷ given_from s (d + 1) hands
@@ -39,14 +39,14 @@ are-tasks s controls hands given is = record {
 
 -- ---- while hands are left
 
--- these were given so far, and of the hands from a number on a task may be made each
+-- these tasks were given so far, and a task may be made from each of the hands from this number on
 pub record AreLeft (s : Scenario) (controls : List EndView) (hands : List Hand) (given : List TaskGiven) (number : ℕ) (rest : List Hand) : Type 0 where
   pub so_far : given ++ given_from s number rest ≡ broker_given (hub_of s) (awaited_by s) controls ∷ given_from s 1 hands
   pub some : 1 ≤ number
   pub count : number + length rest ≡ length s.domains + 1
   pub each : (k : ℕ) (hand : Hand) → slice_get rest k ≡ Some hand → IsHandOf s (k + number) hand
 
--- the broker's alone
+-- only the broker's task was given
 pub left-first : (s : Scenario) (controls : List EndView) (hands : List Hand) (given : List TaskGiven) → AreHandsOf s hands
     → given ≡ broker_given (hub_of s) (awaited_by s) controls ∷ [] → AreLeft s controls hands given 1 hands
 left-first s controls hands given are is = record {
@@ -56,7 +56,7 @@ left-first s controls hands given are is = record {
   each = are.1;
 }
 
--- a task may be made of the next
+-- a task may be made from the next hand
 pub left-hand : (s : Scenario) (controls : List EndView) (hands : List Hand) (given : List TaskGiven) (number : ℕ) (left rest : List Hand) (hand : Hand)
     → left ≡ hand ∷ rest → AreLeft s controls hands given number left → (number ≤ length s.domains) × IsHandOf s number hand
 left-hand s controls hands given number left rest hand is are = (
@@ -64,7 +64,7 @@ left-hand s controls hands given number left rest hand is are = (
   subst (λ n. IsHandOf s n hand) (let e : 0 + number ≡ number = omega arith in e) (are.each 0 hand (ap (λ l. slice_get l 0) is)),
 )
 
--- and one task more
+-- one task more was given
 pub left-on : (s : Scenario) (controls : List EndView) (hands : List Hand) (given now : List TaskGiven) (number : ℕ) (left rest : List Hand) (hand : Hand)
     → left ≡ hand ∷ rest → now ≡ given ++ domain_given s number hand ∷ [] → AreLeft s controls hands given number left → AreLeft s controls hands now (number + 1) rest
 left-on s controls hands given now number left rest hand is more are = record {
@@ -83,7 +83,7 @@ no-more : (s : Scenario) (controls : List EndView) (hands : List Hand) (given : 
 no-more s controls hands given number [] none are = sym (append-nil given) ∙ are.so_far
 no-more s controls hands given number (hand ∷ left) none are = absurd (omega (arith, none))
 
--- all of them
+-- all tasks were given
 pub left-none : (s : Scenario) (controls : List EndView) (hands : List Hand) (given : List TaskGiven) (number : ℕ) (it : IntoIter Hand Global)
     → into_iter_len it ≡ 0 → AreLeft s controls hands given number (into_iter_items it) → AreTasksOf s controls hands given
 left-none s controls hands given number it none are = are-tasks s controls hands given (no-more s controls hands given number (into_iter_items it) (none_left it none) are)

@@ -62,7 +62,7 @@ pub reported : (s : Scenario) (pages : List PageAt) (dones : List TaskDone) (end
 reported s pages dones ends reports settled are apart is =
     subst (HasReports s (run_of s (map answer_of dones)) s.calls) (sym (apart.reports_are ∙ map-twice report_of answer_of dones)) (has-reports s (map answer_of dones) settled is are.count)
 
--- ---- what was served stays where only calls are taken
+-- ---- what was served stays while only calls are taken
 
 get-served : (reports : List ReportPart) (d : ℕ) (part : ReportPart) → slice_get reports d ≡ Some part → slice_get (map (λ r. r.served) reports) d ≡ Some part.served
 get-served [] d part is = absurd (let e : None ≡ Some part = is in cc)

@@ -7,7 +7,7 @@ use Rattle.data_slots.specs.Index.{PlaceIndex, end_at}
 use Rattle.run_laws.specs.ReadOff.{index_of}
 use Rattle.scenario_run.specs.declared.page_index.PageIndex.{PageIndex}
 
--- they have the number of the first page at each place of a data page where one lies, and nothing else
+-- the numbers have the first page at each place where a data page lies, and nothing else
 pub record AreNumbers (places : List PagePlace) (numbers : PlaceIndex) : Type 0 where
   pub none : (from to port : ℕ) → end_at numbers from to port ≡ None → index_of (Payload from to port) places ≡ length places
   pub some : (from to port number : ℕ) → end_at numbers from to port ≡ Some number → (index_of (Payload from to port) places ≡ number) × (number < length places)

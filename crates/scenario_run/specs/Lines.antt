@@ -24,7 +24,7 @@ use Rattle.scenario_run.specs.Parts.{ReportPart}
 pub record IsEndOf (run : Run) (call : CallPlan) (done : CallDone) : Type 0 where
   pub end : done.end ≡ end_of_call run call
 
--- of these calls each is reported by its caller, in order, and the journal is the run's
+-- each of these calls is reported by its caller, in order, and the journal is the run's
 pub record HasReports (s : Scenario) (run : Run) (calls : List CallPlan) (reports : List ReportPart) : Type 0 where
   pub journal : (part : ReportPart) × (slice_get reports 0 ≡ Some part) × (part.journal ≡ run.journal)
   pub each : (d : ℕ) (part : ReportPart) → slice_get reports d ≡ Some part → EachPair (IsEndOf run) (filter (λ call. call.from == d) calls) part.calls

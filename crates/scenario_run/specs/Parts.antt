@@ -1,4 +1,4 @@
--- What a task answers beside its ends.
+-- What a task answers besides its ends.
 -- Source: this project's own.
 use Rattle.std.specs.Prelude.{List, [], Option, Some, None}
 use Rattle.call_broker.specs.Brokered.{Brokered}
@@ -8,17 +8,17 @@ use Rattle.task_duties.specs.declared.done.ServedDone.{ServedDone}
 use Rattle.task_duties.specs.TaskOwes.{TaskDone}
 use Rattle.run_laws.specs.Results.{calls_of, journal_of, served_of}
 
--- an agent's calls and what it served, and the broker's journal; no others have any
+-- an agent's calls and what it served, and the broker's journal; other tasks have none of these
 pub record ReportPart : Type 0 where
   pub calls : List CallDone
   pub served : List ServedDone
   pub journal : List Entry
 
--- that of an answer
+-- the report of an answer
 abbrev pub report_of : TaskDone → ReportPart
 report_of done = record { calls = calls_of done; served = served_of done; journal = journal_of done }
 
--- the journal of a broker that may be there
+-- the journal of a broker, if there is one
 abbrev pub journal_in : Option Brokered → List Entry
 journal_in None = []
 journal_in (Some broker) = broker.journal

@@ -8,19 +8,19 @@ use Rattle.run_laws.specs.HostileSessions.{HostileSession, session_of}
 use Rattle.scenario_run.specs.declared.sessions.Session.{Session}
 use Rattle.scenario_run.specs.Parts.{ReportPart}
 
--- a session as the laws of a run have it
+-- a session in the form that the laws of a run have
 abbrev pub seen : Session → HostileSession
 seen x = record { from = x.from; to = x.to; port = x.port; outcome = x.outcome; got = x.got }
 
--- those of some sessions of a domain whose caller is hostile
+-- of some sessions of a domain, those whose caller is hostile
 abbrev pub sessions_with : Scenario → ℕ → List ServedDone → List HostileSession
 sessions_with s d served = map (session_of d) (filter (λ done. hostile_at s done.from) served)
 
--- none of a domain that is hostile itself
+-- a domain that is hostile itself has none
 abbrev pub sessions_of : Scenario → ℕ → List ServedDone → List HostileSession
 sessions_of s d served = if hostile_at s d then [] else sessions_with s d served
 
--- those of the domains from this number on, which served these
+-- the sessions of the domains from this number on, which served these
 abbrev pub sessions_from : Scenario → ℕ → List (List ServedDone) → List HostileSession
 sessions_from s d [] = []
 sessions_from s d (served ∷ more) = sessions_of s d served ++ sessions_from s (d + 1) more

@@ -10,7 +10,7 @@ use Rattle.scenario_run.specs.declared.run_task.Stage.{Stage}
 use Rattle.scenario_run.specs.declared.run_task.Stage.TheVariants.{Broker, Domain, Made}
 use Rattle.scenario_run.specs.Tasks.{AreControlsOf, IsHandOf, domain_given}
 
--- the ends are such that the task may be made of them
+-- the task may be made from these ends
 abbrev pub MayMake : Scenario → Stage → Type 0
 MayMake s (Broker controls) = AreControlsOf s controls.items
 MayMake s (Domain number hand) = ((1 ≤ number) × (number ≤ length s.domains)) × IsHandOf s number hand

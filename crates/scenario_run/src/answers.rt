@@ -19,10 +19,10 @@ use std::marker::Model;
 use task_duties::{CallDone, RetiredEnd, ServedDone};
 use vchan_io::Memory;
 
-/// What a task reports beside its ends. Contracts see the calls in their order.
+/// What a task reports besides its ends. Contracts see the calls in their order.
 #[derive(Drop)]
 pub(crate) struct TaskReport {
-    // The last call first, so that they are taken in their order from the end.
+    // The last call first, so that calls are taken in their order from the end of the list.
     pub(crate) calls: Vec<CallDone>,
     pub(crate) served: Vec<ServedDone>,
     pub(crate) broker: Option<Broker>,
@@ -50,7 +50,7 @@ impl TaskReport {
         }
     }
 
-    /// The journal, of the broker's task.
+    /// Returns the journal, which only the broker's task has.
     pub(crate) fn journal(&self) -> &[Entry]
         ensures { result.now ≡ self.now.journal }
     {
@@ -68,7 +68,7 @@ pub(crate) struct Answers {
     pub(crate) reports: Vec<TaskReport>,
 }
 
-/// Takes apart what all tasks answered. Its error is want of memory, which a task may have met too.
+/// Takes apart what all tasks answered. Returns `Memory` if memory runs out, or ran out in a task.
 pub(crate) fn take_apart(alloc: Global, dones: Vec<TaskDone>) -> Result<Answers, Memory>
     ensures ends { IfOk result (λ a. map (λ ends. all_retired ends.items) a.ends.items ≡ map (λ done. ends_of (answer_of done)) dones.items) }
     ensures reports { IfOk result (λ a. a.reports.items ≡ map (λ done. report_of (answer_of done)) dones.items) }
@@ -86,7 +86,7 @@ pub(crate) fn take_apart(alloc: Global, dones: Vec<TaskDone>) -> Result<Answers,
     Ok(answers)
 }
 
-// The ends and the report of what a task answered.
+// The ends and the report in what a task answered.
 fn parts_of(alloc: Global, done: TaskDone) -> Result<(Vec<RetiredEnd>, TaskReport), Memory>
     ensures ends { IfOk result (λ p. all_retired p.0.items ≡ ends_of (answer_of done)) }
     ensures report { IfOk result (λ p. p.1 ≡ report_of (answer_of done)) }

@@ -1,4 +1,4 @@
-//! Copies of what the tasks of a run are given, since the scenario is kept.
+//! Copies of what the tasks of a run are given, since the run keeps the scenario.
 ghost use Rattle.std.specs.Prelude.{◌≡◌, map, IfOk};
 ghost use Rattle.run_laws.specs.Laid.{calls_from};
 
@@ -7,7 +7,7 @@ use qrexec_frame::{Bytes, Text};
 use scenario_file::{Act, ActPage, Acts, CallPlan, Scenario};
 use std::alloc::{AllocError, Global};
 
-/// The names of all domains, in order.
+/// Copies the names of all domains, in order.
 pub(crate) fn names_of(alloc: Global, scenario: &Scenario) -> Result<Vec<Text>, AllocError>
     ensures { IfOk result (λ names. names.items ≡ map (λ domain. domain.name) scenario.now.domains) }
 {
@@ -18,7 +18,7 @@ pub(crate) fn names_of(alloc: Global, scenario: &Scenario) -> Result<Vec<Text>, 
     Ok(names)
 }
 
-/// All domains as the broker knows them, in order.
+/// Copies all domains as the broker knows them, in order.
 pub(crate) fn entries_of(alloc: Global, scenario: &Scenario) -> Result<Vec<DomainEntry>, AllocError>
     ensures { IfOk result (λ entries. map (λ entry. entry.name) entries.items ≡ map (λ domain. domain.name) scenario.now.domains) }
 {
@@ -30,7 +30,7 @@ pub(crate) fn entries_of(alloc: Global, scenario: &Scenario) -> Result<Vec<Domai
     Ok(entries)
 }
 
-/// The calls of a domain, in order.
+/// Copies the calls of a domain, in order.
 pub(crate) fn calls_from(
     alloc: Global,
     scenario: &Scenario,
@@ -65,7 +65,7 @@ fn copy_of_bytes(alloc: Global, bytes: &Bytes) -> Result<Bytes, AllocError>
     Ok(Bytes::of(Vec::from_slice(alloc, bytes.slice())?))
 }
 
-/// The acts of a hostile domain.
+/// Copies the acts of a hostile domain.
 pub(crate) fn copy_of_acts(alloc: Global, acts: &Acts) -> Result<Acts, AllocError>
     ensures { IfOk result (λ copy. copy ≡ acts.now) }
 {

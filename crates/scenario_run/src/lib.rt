@@ -1,8 +1,8 @@
-//! A run of a scenario: its pages are laid, its tasks take turns until all are done, each page is
-//! settled, and the report is read off what the tasks answered.
+//! A run of a scenario: its pages are laid, its tasks take turns until all are done, each page is settled,
+//! and the report is read off what the tasks answered.
 //!
-//! It serves the program, and whoever else runs scenarios. That the report is lawful whatever the order
-//! of all steps, docs/RUN-LAWS.md has in plain words.
+//! It serves the program, and other programs that run scenarios. docs/RUN-LAWS.md says in plain words that
+//! the report is lawful whatever the order of all steps.
 #![tactic(auto)]
 
 mod answers;

@@ -23,7 +23,7 @@ use std::alloc::{AllocError, Global};
 use task_duties::CallEnd;
 use vchan_io::Memory;
 
-/// The lines of all calls of a scenario, in order, by what the tasks report and by the index of the
+/// Makes the lines of all calls of a scenario, in order, from what the tasks report and the index of the
 /// pages.
 pub(crate) fn call_lines(
     alloc: Global,
@@ -47,7 +47,7 @@ pub(crate) fn call_lines(
     Ok(lines)
 }
 
-// The line of a call that came to this end.
+// The line of a call that ended like this.
 fn call_line(
     alloc: Global,
     scenario: &Scenario,
@@ -83,7 +83,7 @@ fn is_mixed(scenario: &Scenario, call: &CallPlan) -> bool
     }
 }
 
-/// The name of the domain of a number, empty where there is none.
+/// Returns the name of the domain with this number, or an empty text if there is none.
 pub(crate) fn name_of(alloc: Global, scenario: &Scenario, number: u32) -> Result<Text, Memory>
     ensures { IfOk result (λ name. name ≡ name_at scenario.now number) }
 {
@@ -106,7 +106,7 @@ fn no_name(alloc: Global) -> Result<Text, Memory>
     }
 }
 
-// What comes of a call to a domain that is hostile.
+// What comes of a call to a hostile domain.
 fn mixed_result(alloc: Global, end: CallEnd) -> CallResult
     ensures { result ≡ mixed_end end }
 {
@@ -170,7 +170,7 @@ fn without_bytes(alloc: Global, outcome: MixedOutcome) -> CallResult
     }
 }
 
-/// An outcome, without what is wrong.
+/// Returns an outcome without its cause.
 pub(crate) fn mixed_outcome(outcome: Outcome) -> MixedOutcome
     ensures { result ≡ mixed_outcome outcome }
 {
@@ -200,7 +200,7 @@ fn refusal(alloc: Global, cause: Option<Cause>) -> CallResult
     }
 }
 
-// The first cause in a journal for which the call of a domain by this ident was refused.
+// The first cause in a journal for which the call of a domain with this ident was refused.
 fn cause_in(journal: &[Entry], from: u32, ident: &[u8]) -> Option<Cause>
     ensures { result ≡ cause_in journal.now from ident.now }
 {
@@ -212,7 +212,7 @@ fn cause_in(journal: &[Entry], from: u32, ident: &[u8]) -> Option<Cause>
     None
 }
 
-// The cause for which an entry refuses it.
+// The cause for which an entry refuses that call.
 fn cause_by(entry: &Entry, from: u32, ident: &[u8]) -> Option<Cause>
     ensures { result ≡ cause_by from ident.now entry.now.event entry.now.decision }
 {
@@ -229,7 +229,7 @@ fn cause_by(entry: &Entry, from: u32, ident: &[u8]) -> Option<Cause>
     }
 }
 
-// The ident of the call of a number.
+// The ident of the call with this number.
 fn ident_of(alloc: Global, number: u32) -> Result<Vec<u8>, AllocError>
     ensures { IfOk result (λ ident. ident.items ≡ ident_of number) }
 {

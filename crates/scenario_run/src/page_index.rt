@@ -11,7 +11,7 @@ use std::alloc::{AllocError, Global};
 use std::collections::HashMap;
 use task_duties::PagePlace;
 
-/// Which data page lies first at a place: by the domain that calls, the one that is called, and the
+/// The number of the first data page at a place: by the domain that calls, the domain that is called, and the
 /// port.
 type Numbers = HashMap<(u32, u32, u32), u32>;
 
@@ -24,7 +24,7 @@ pub(crate) struct PageIndex {
 }
 
 impl PageIndex {
-    /// The index of these pages.
+    /// Makes the index of these pages.
     pub(crate) fn of(alloc: Global, pages: &[SettledPage]) -> Result<PageIndex, AllocError>
         requires few { length pages.now < 2 ^ 32 }
         ensures { IfOk result (λ index. IsIndexOf (map (λ p. p.place) pages.now) index) }
@@ -38,8 +38,8 @@ impl PageIndex {
         Ok(PageIndex { numbers, count })
     }
 
-    /// The number of the first page at this place, counted from 0, which is how many pages there are
-    /// where none lies there.
+    /// Returns the number of the first page at this place, counted from 0. It is the count of all pages if
+    /// none lies there.
     pub(crate) fn number_at(&self, from: u32, to: u32, port: u32) -> u32
         ensures { (places : List Place) → IsIndexOf places self.now → result ≡ index_of (Payload from to port) places }
     {
@@ -50,7 +50,7 @@ impl PageIndex {
     }
 }
 
-// Notes the number of the next page, where no page before it lies at its place.
+// Notes the number of the next page, if no page before it lies at its place.
 fn note(numbers: &mut Numbers, place: PagePlace, number: u32) -> Result<(), AllocError>
     ensures { (places : List Place) → length places ≡ number → AreNumbers places numbers.old → OnOk result (AreNumbers (places ++ place ∷ []) numbers.new) }
 {

@@ -23,12 +23,12 @@ use std::thread::Threads;
 use task_pool::run_pool;
 use vchan_io::Memory;
 
-/// Runs a scenario with this many workers, from 1 to 16: its pages are made; its tasks, one for each domain
-/// and one of the broker, are made at their first turns and take turns until all are done; and each page
-/// is settled. A worker enters the gate with the place of the task before each
-/// turn: 0 is the broker's, k that of domain k.
+/// Runs a scenario with this many workers, from 1 to 16, and returns its report. The pages are made. The
+/// tasks, one for each domain and one for the broker, are made at their first turns and take turns until all
+/// are done. Then each page is settled. A worker enters the gate with the place of the task before each turn:
+/// 0 is the broker's task, k that of domain k.
 ///
-/// The report is lawful whatever the order of all steps. The error is want of memory.
+/// The report is lawful whatever the order of all steps. Returns `Memory` if memory runs out.
 pub fn run_scenario<G: Gate, R: Threads + Wait + Sync>(
     rt: &R,
     alloc: Global,
@@ -69,7 +69,7 @@ fn run_tasks<'p, G: Gate, R: Threads + Wait + Sync>(
     run_pool(rt, alloc, tasks, workers, gate)
 }
 
-// The report of what the tasks of a scenario answered.
+// Makes the report from what the tasks of a scenario answered.
 fn report(
     alloc: Global,
     scenario: &Scenario,

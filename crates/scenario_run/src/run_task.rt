@@ -15,19 +15,20 @@ use vchan_rule::End;
 /// How far a task of a run is.
 #[derive(Drop)]
 pub(crate) enum Stage<'p> {
-    /// The broker's, with its ends of the control pages, in the order of the domains.
+    /// The broker's task, with its ends of the control pages, in the order of the domains.
     Broker(Vec<End<'p>>),
-    /// That of the domain of this number, with its ends.
+    /// The task of the domain with this number, with its ends.
     Domain(u32, Hand<'p>),
     /// A task that was made.
     Made(Task<'p>),
 }
 
-/// A task of a run, which is made of its ends at its first turn, by the worker that makes it. Contracts
+/// A task of a run. It is made from its ends at its first turn, by the worker that makes that turn. Contracts
 /// see it as what it is given.
 ///
-/// The ends of a task that finds no memory go without a word to the others, which would wait for them.
-/// So it tells them all, and each is done at its next turn, without memory too.
+/// If memory runs out for a task, its ends are dropped without a signal to the others, which would wait for
+/// them. So the task sets a flag that all tasks share, and each of the others is done at its next turn, as
+/// out of memory too.
 #[derive(Drop)]
 pub(crate) struct RunTask<'p, 's> {
     alloc: Global,
@@ -52,7 +53,8 @@ impl<'p> Stage<'p> {
     ghost use Rattle.domain_task.specs.Given.{given_of};
     ghost use Rattle.scenario_run.specs.Stages.{MayMake, given_at};
 
-    // The task, which is made where it wasn't. Its error is want of memory, and drops the ends.
+    // Returns the task, and makes it first unless it was made. Returns `Memory` if memory runs out; the ends
+    // are dropped then.
     fn task(self, alloc: Global, scenario: &Scenario) -> Result<Task<'p>, Memory>
         requires { MayMake scenario.now self }
         ensures { IfOk result (λ task. given_of task ≡ given_at scenario.now self.entry) }
@@ -69,7 +71,7 @@ impl<'p, 's> RunTask<'p, 's> {
     ghost use Rattle.std.specs.Prelude.{◌≡◌};
     ghost use Rattle.scenario_run.specs.Stages.{MayMake, given_at};
 
-    /// A task of this scenario. All tasks of a run share `no_memory`, which is false at first.
+    /// Makes a task of this scenario. All tasks of a run share `no_memory`, which is false at first.
     pub(crate) fn new(
         alloc: Global,
         scenario: &'s Scenario,

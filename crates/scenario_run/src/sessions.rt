@@ -26,7 +26,7 @@ pub(crate) struct Session {
     pub(crate) got: Bytes,
 }
 
-/// The lines of all sessions that the tasks report with hostile callers, in order of the caller's
+/// Makes the lines of all sessions with hostile callers that the tasks report, in order of the caller's
 /// number, the server's number and the port.
 pub(crate) fn served_lines(
     alloc: Global,
@@ -42,7 +42,7 @@ pub(crate) fn served_lines(
     lines_of(alloc, scenario, sessions)
 }
 
-// The sessions that the tasks report with hostile callers, those of the first domain first.
+// The sessions with hostile callers that the tasks report, those of the first domain first.
 fn sessions(
     alloc: Global,
     scenario: &Scenario,
@@ -61,7 +61,7 @@ fn sessions(
     Ok(sessions)
 }
 
-// Puts those that a domain reports behind the others.
+// Appends the sessions with hostile callers that a domain reports.
 fn push_sessions(
     sessions: &mut Vec<Session>,
     scenario: &Scenario,
@@ -79,7 +79,7 @@ fn push_sessions(
     Ok(())
 }
 
-// Puts a session behind the others, where its caller is hostile.
+// Appends a session, if its caller is hostile.
 fn push_session(
     sessions: &mut Vec<Session>,
     scenario: &Scenario,
@@ -107,7 +107,7 @@ fn push_session(
     Ok(())
 }
 
-// Sorts them by the caller's number, the server's number and the port.
+// Sorts sessions by the caller's number, the server's number and the port.
 fn sort(sessions: &mut Vec<Session>) -> Result<(), AllocError>
     ensures same { OnOk result (IsPermutation sessions.old.items sessions.new.items) }
     ensures sorted { OnOk result (AllPairs (λ a b. stands_before (seen b) (seen a) ≡ false) sessions.new.items) }
@@ -115,7 +115,7 @@ fn sort(sessions: &mut Vec<Session>) -> Result<(), AllocError>
     sessions.sort_by_key(|session| (session.from, session.to, session.port))
 }
 
-// Their lines, in order.
+// The lines of sessions, in order.
 fn lines_of(
     alloc: Global,
     scenario: &Scenario,

@@ -20,9 +20,9 @@ use std::sync::atomic::AtomicBool;
 use vchan_io::Memory;
 use vchan_rule::End;
 
-/// The tasks of a scenario with the ends that were dealt: the broker's first, then those of the domains
-/// in order. Each is made at its first turn; `no_memory` is what they tell one another. Its error is
-/// want of memory, and drops the ends.
+/// Makes the tasks of a scenario from the ends that were dealt: the broker's first, then those of the domains
+/// in order. Each is made ready at its first turn; all share `no_memory`, by which they report that memory
+/// ran out. Returns `Memory` if memory runs out; the ends are dropped then.
 pub(crate) fn tasks<'p, 's>(
     alloc: Global,
     scenario: &'s Scenario,
@@ -47,7 +47,7 @@ pub(crate) fn tasks<'p, 's>(
     Ok(tasks)
 }
 
-/// The task of the broker. Its error is want of memory, and drops the ends.
+/// Makes the task of the broker. Returns `Memory` if memory runs out; the ends are dropped then.
 pub(crate) fn broker<'p>(
     alloc: Global,
     scenario: &Scenario,
@@ -64,14 +64,14 @@ pub(crate) fn broker<'p>(
     Task::broker(alloc, broker, awaited, controls)
 }
 
-// What holds of every scenario, which a look at one of its fields tells.
+// What holds of every scenario. Reading one of its fields gives it to the proof.
 pub(crate) fn is_scenario(scenario: &Scenario)
     ensures { IsScenario scenario.now }
 {
     let _start = scenario.start;
 }
 
-// How many calls each domain has.
+// The number of calls of each domain.
 fn awaited(alloc: Global, scenario: &Scenario) -> Result<Vec<u32>, AllocError>
     ensures { IfOk result (λ counts. counts.items ≡ awaited_by scenario.now) }
 {
@@ -82,7 +82,7 @@ fn awaited(alloc: Global, scenario: &Scenario) -> Result<Vec<u32>, AllocError>
     Ok(counts)
 }
 
-// How many calls a domain has.
+// The number of calls of a domain.
 fn count_from(scenario: &Scenario, from: u32) -> u32
     ensures { result ≡ awaited_from scenario.now from }
 {
@@ -95,7 +95,7 @@ fn count_from(scenario: &Scenario, from: u32) -> u32
     count
 }
 
-/// The task of a domain. Its error is want of memory, and drops the ends.
+/// Makes the task of a domain. Returns `Memory` if memory runs out; the ends are dropped then.
 pub(crate) fn domain<'p>(
     alloc: Global,
     scenario: &Scenario,
@@ -113,7 +113,7 @@ pub(crate) fn domain<'p>(
     }
 }
 
-// The agent of a domain.
+// Makes the agent of a domain.
 fn agent<'p>(
     alloc: Global,
     scenario: &Scenario,
@@ -138,7 +138,7 @@ fn agent<'p>(
     )
 }
 
-// The task of a hostile domain.
+// Makes the task of a hostile domain.
 fn hostile<'p>(
     alloc: Global,
     scenario: &Scenario,
