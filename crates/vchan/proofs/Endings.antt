@@ -6,7 +6,7 @@ use Rattle.vchan.specs.declared.status.Status.TheVariants.{BadWords, TooLong}
 use Rattle.vchan.specs.Command.{command_of}
 use Rattle.vchan.specs.Top.{IsRun, greatest_input}
 
--- what is no value is none
+-- an answer that is no value is `None`
 pub no_command : (answer : Option Command) → ((command : Command) → answer ≡ Some command → ⊥) → answer ≡ None
 no_command None never = refl
 no_command (Some command) never = absurd (never command refl)
@@ -17,7 +17,7 @@ not_too_long is = cc
 none_long : greatest_input < 0 → ⊥
 none_long long = omega arith
 
--- words of no command are bad words, whatever source and sink there are
+-- words that are no command are bad words, for any source and sink
 pub bad_words_end : (words : List (List ℕ)) (left : Option (List ℕ)) (reads : ℕ) (held : Option (List ℕ)) (writes : ℕ) → command_of words ≡ None →
     IsRun words left left reads reads held held writes writes (record { status = BadWords; report = None; settled = [] })
 bad_words_end words left reads held writes is = record {

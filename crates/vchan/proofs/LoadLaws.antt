@@ -1,4 +1,4 @@
--- The sums that `load` prints are those that the services and the names alone give, whatever the order of all steps.
+-- The services and the names alone give the sums that `load` prints, whatever the order of all steps.
 use Rattle.std.proofs.Common.{◌≡◌, ℕ, zero, suc, ◌≤◌, false, List, [], ◌∷◌, length, map, Option, Some, None, refl, ap, sym, subst, ◌∙◌}
 use Rattle.std.specs.Prelude.{filter_map}
 use Rattle.std.specs.List.{cons_option, zip}

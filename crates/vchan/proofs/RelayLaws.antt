@@ -18,7 +18,7 @@ carried_line : (number : ℕ) (words : PageStart) (bytes : List ℕ) (page : Set
 carried_line number orders bytes page carried =
     ap (λ sent. counts_line number (length sent) (length page.server.got)) carried.sent ∙ ap (λ got. counts_line number (length bytes) (length got)) carried.got
 
--- the lines of more pages, behind those of so many
+-- the lines of more pages, after those of `before` others
 more_lines : (before : ℕ) (words : PageStart) (bytes : List ℕ) (pages : List Settled) → Each (HasCarried words bytes) pages →
     even_lines (length bytes) before ++ page_lines before pages ≡ even_lines (length bytes) (before + length pages)
 more_lines before words bytes [] each =

@@ -21,6 +21,6 @@ client_line number answer = codes "client" ++ (spaced (decimal number ∷ client
 abbrev pub client_lines : List EpochDone → List ℕ
 client_lines dones = flat_map (λ e. client_line e.number e.result) dones
 
--- and that of their number
+-- the lines of all clients, and the line of their number
 abbrev pub clients_text : List EpochDone → List ℕ
 clients_text dones = client_lines dones ++ (codes "clients" ++ (spaced (decimal (length dones) ∷ []) ++ 10 ∷ []))

@@ -16,7 +16,7 @@ channel_of word =
     else if bytes_eq word (codes "data") then Some Data
     else None
 
--- the number that a word is, from the least to the most that is allowed
+-- the number in a word, from the least to the most that is allowed
 abbrev pub number_within : ℕ → ℕ → List ℕ → Option ℕ
 number_within least most word = option_and_then (λ number. if nat_le least number then Some number else None) (number_of most word)
 
@@ -29,7 +29,7 @@ abbrev pub load_of : List ℕ → List ℕ → Option Command
 load_of number calls =
     option_and_then (λ seed. option_map (Load seed) (number_within 1 2000 calls)) (number_within 0 65535 number)
 
--- a pipe through a page with these orders, where a page may have them
+-- a pipe through a page with these orders, if a page may have them
 abbrev pub pipe_of : List ℕ → List ℕ → Option Command
 pipe_of left right =
     option_and_then (λ l. option_and_then (λ r. option_map Pipe (orders_of l r)) (number_within 0 65535 right)) (number_within 0 65535 left)
@@ -74,7 +74,7 @@ abbrev pub reads_input : Command → Bool
 reads_input (Load number calls) = false
 reads_input command = true
 
--- whether these words make the program read
+-- whether with these words the program reads its input
 abbrev pub words_read : Option Command → Bool
 words_read None = false
 words_read (Some command) = reads_input command

@@ -1,4 +1,4 @@
--- What each command prints, and what is wrong with an input that it doesn't print.
+-- What each command prints, and what is wrong with an input for which it prints nothing.
 use Rattle.std.specs.Prelude.{◌≡◌, ℕ, List, [], ◌∷◌, Option, Some, None, Ok, Err, map}
 use Rattle.ring_words.specs.Rings.{number_of}
 use Rattle.ring_words.specs.declared.order.Orders.{Orders}
@@ -32,14 +32,14 @@ use Rattle.vchan.specs.declared.status.Bad.TheVariants as bad
 use Rattle.vchan.specs.Relays.{relays_text}
 use Rattle.vchan.specs.Sums.{sums_of}
 
--- `run` prints a report that is lawful for the scenario that the input is
+-- `run` prints a report that is lawful for the scenario in the input
 pub record PrintsReport (input text : List ℕ) (report : Report) : Type 0 where
   pub scenario : Scenario
   pub reads : scenario_of input ≡ Ok (written scenario)
   pub lawful : IsLawful scenario report
   pub prints : text ≡ text_of report
 
--- `load` prints the sums of a report that is lawful for the generated scenario; they are those that the services and the names alone give
+-- `load` prints the sums of a report that is lawful for the generated scenario; the services and the names alone give these sums
 pub record PrintsSums (number calls : ℕ) (text : List ℕ) (report : Report) : Type 0 where
   pub scenario : Scenario
   pub made : written scenario ≡ generated number calls
@@ -52,7 +52,8 @@ pub record PrintsPiped (orders : Orders) (input text : List ℕ) (page : Settled
   pub piped : HasPiped (record { orders = orders; start = 0 }) input page
   pub prints : text ≡ input
 
--- `relay` prints how many bytes went through the left ring of each page, of the orders 10 and 11, whose indices began at 0, and the input, which is what came out behind the last
+-- `relay` prints how many bytes went through the left ring of each page, of the orders 10 and 11, whose indices began at 0, and the input,
+-- which is what came out of the last
 pub record PrintsRelayed (hops : ℕ) (input text : List ℕ) (pages : List Settled) : Type 0 where
   pub orders : Orders
   pub orders_are : (number_of orders.left ≡ 10) × (number_of orders.right ≡ 11)
@@ -70,9 +71,9 @@ pub record PrintsServed (name input text : List ℕ) (pages : List Settled) : Ty
   pub pages_are : pages ≡ map (λ e. e.settled) dones
   pub prints : text ≡ clients_text dones
 
--- what a command prints for an input, and the report and the pages that go with it. `step` prints the text of the script that the input
--- is; where the script's lines are whole calls, the lists of what was sent and got tell their part of it. `decode` prints the text
--- of the stream that the input spells. Neither has a report, nor have `pipe`, `persist` and `relay`, which alone have pages apart from one
+-- what a command prints for an input, and the report and the pages that go with it. `step` prints the text of the script in the input; if
+-- the script's lines are whole calls, the lists of what was sent and got are a part of it. `decode` prints the text of the stream that the
+-- input spells. Neither has a report, nor have `pipe`, `persist` and `relay`, which alone have pages apart from a report
 abbrev pub Prints : Command → List ℕ → List ℕ → Option Report → List Settled → Type 0
 Prints Step input text None [] = IsTextOf input text
 Prints (Decode channel) input text None [] = decoded channel input ≡ Ok text
@@ -83,7 +84,7 @@ Prints (Persist name) input text None pages = PrintsServed name input text pages
 Prints (Relay hops workers) input text None pages = PrintsRelayed hops input text pages
 Prints command input text report pages = ⊥
 
--- the input has not the command's form, and this is the first thing that is wrong with it
+-- the input doesn't have the command's form, and this is the first thing that is wrong with it
 abbrev pub IsBadFor : Command → List ℕ → Bad → Type 0
 IsBadFor Step input (bad.Script line kind) = script_of input ≡ Err (line, kind)
 IsBadFor (Decode channel) input (bad.Decode line kind) = decoded channel input ≡ Err (line, kind)
@@ -91,14 +92,14 @@ IsBadFor (Persist name) input (bad.Clients line kind) = clients_of input ≡ Err
 IsBadFor (Run workers) input (bad.Scenario kind path) = scenario_of input ≡ Err (kind, path)
 IsBadFor command input wrong = ⊥
 
--- memory is taken before a bad input is found to be one: of a script, of byte strings or of clients the first line is good
+-- memory is taken before a bad input is found to be bad: the first line of a script, of byte strings or of clients is good
 abbrev pub TakesMemory : Command → List ℕ → Type 0
 TakesMemory Step input = CanBeOpened input
 TakesMemory (Decode channel) input = BeginsWell input
 TakesMemory (Persist name) input = ClientsBeginWell (lines_of input)
 TakesMemory command input = Unit {0}
 
--- a status with which the program may end in place of a text for this input
+-- a status with which the program may end instead of a text for this input
 abbrev pub IsDue : Command → List ℕ → Status → Type 0
 IsDue command input (BadInput wrong) = IsBadFor command input wrong
 IsDue command input OutOfMemory = TakesMemory command input

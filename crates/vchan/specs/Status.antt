@@ -23,7 +23,7 @@ code_of (BadInput wrong) = 5
 code_of WriteFault = 6
 code_of OutOfMemory = 7
 
--- the number that the program ends with: that of its status, or 8 where its words weren't handed over
+-- the number with which the program ends: that of its status, or 8 if it didn't get its words
 abbrev pub number_of_exit : Option Status → ℕ
 number_of_exit (Some status) = code_of status
 number_of_exit None = 8
@@ -51,22 +51,22 @@ clients_word clients.BadNumber = codes "bad-number"
 clients_word clients.BadHex = codes "bad-hex"
 clients_word clients.TooMany = codes "too-many"
 
--- the line that the program prints of a bad line
+-- the line that the program prints for a bad line
 abbrev pub bad_line : ℕ → List ℕ → List ℕ
 bad_line line word = codes "vchan: line " ++ decimal line ++ codes ": " ++ word ++ codes "\n"
 
--- the line that the program prints of a bad place of a scenario file
+-- the line that the program prints for a bad place of a scenario file
 abbrev pub bad_place : ScenarioKind → List ℕ → List ℕ
 bad_place kind path = codes "vchan: " ++ fault_line kind path ++ codes "\n"
 
--- the line that the program prints of a bad input
+-- the line that the program prints for a bad input
 abbrev pub bad_input : Bad → List ℕ
 bad_input (Script line kind) = bad_line line (script_word kind)
 bad_input (Decode line kind) = bad_line line (decode_word kind)
 bad_input (Clients line kind) = bad_line line (clients_word kind)
 bad_input (Scenario kind path) = bad_place kind path
 
--- the line that the program prints with a status, with its line feed; none where all went well
+-- the line that the program prints with a status, with its line feed; none if all went well
 abbrev pub status_line : Status → List ℕ
 status_line Done = []
 status_line BadWords = codes "vchan: bad words\n"

@@ -1,4 +1,4 @@
--- What the sums of a scenario without hostile domains are, by the services and the names alone.
+-- The sums of a scenario without hostile domains, by the services and the names alone.
 use Rattle.std.specs.Prelude.{ℕ, List, length, filter_map, Option, Some, None}
 use Rattle.std.specs.List.{zip}
 use Rattle.scenario_file.specs.declared.scenario.CallPlan.{CallPlan}
@@ -9,7 +9,7 @@ use Rattle.scenario_file.specs.Lines.{lines_among}
 use Rattle.scenario_file.specs.Scenario.{Written}
 use Rattle.run_report.specs.Summary.{DoneCall, sums_text, totals}
 
--- a call with an input of so many bytes, where its result is that it is done
+-- a call with an input of `stdin` bytes, if its result is that it is done
 abbrev pub done_by : ℕ → LineResult → Option DoneCall
 done_by stdin (Done code stdout stderr) = Some (record { stdin = stdin; stdout = length stdout; stderr = length stderr; code = code })
 done_by stdin (Refused cause) = None

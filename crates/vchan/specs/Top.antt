@@ -17,12 +17,12 @@ use Rattle.vchan.specs.Prints.{Prints, IsBadFor}
 abbrev pub greatest_input : ℕ
 greatest_input = 4194304
 
--- these words are a command's, and this is the text that it prints for these bytes, with this report and these pages
+-- these words are a command, and this is the text that it prints for these bytes, with this report and these pages
 abbrev pub PrintedBy : List (List ℕ) → List ℕ → List ℕ → Option Report → List Settled → Type 0
 PrintedBy words input text report pages =
     (command : Command) × (command_of words ≡ Some command) × Prints command input text report pages
 
--- these words are a command's, and these bytes have not its form
+-- these words are a command, and these bytes don't have its form
 abbrev pub BadFor : List (List ℕ) → List ℕ → Bad → Type 0
 BadFor words input wrong = (command : Command) × (command_of words ≡ Some command) × IsBadFor command input wrong
 
@@ -34,7 +34,8 @@ IsReadBy words left' = words_read (command_of words) ≡ true → IsAtEnd left'
 abbrev pub ShowsNothing : Option (List ℕ) → Option (List ℕ) → EndOfRun → Type 0
 ShowsNothing held held' end = (held' ≡ held) × (end.report ≡ None) × (end.settled ≡ [])
 
--- what a status says of the bytes taken, of the source afterwards, of the sink for the output before and after, and of the report and the pages that are handed out
+-- what a status means for the bytes taken, the source afterwards, the sink for the output before and after, and the report and the pages
+-- that are returned
 abbrev pub Ends : Status → List (List ℕ) → List ℕ → Option (List ℕ) → ℕ → ℕ → Option (List ℕ) → Option (List ℕ) → ℕ → ℕ → EndOfRun → Type 0
 Ends Done words taken left' reads reads' held held' writes writes' end =
     IsReadBy words left' × ((text : List ℕ) × PrintedBy words taken text end.report end.settled × Appends held held' text)
@@ -49,8 +50,8 @@ Ends WriteFault words taken left' reads reads' held held' writes writes' end =
     × ((text : List ℕ) × ((pages : List Settled) × PrintedBy words taken text end.report pages) × AppendsProperPrefix held held' text)
 Ends OutOfMemory words taken left' reads reads' held held' writes writes' end = ShowsNothing held held' end
 
--- A run with these words: from a source that had so many bytes left, and has so many, with these counts of faults;
--- to a sink that held so many, and holds so many, with these counts of faults. Each count stays but with its own status.
+-- A run with these words, from a source to a sink. Each has the bytes that it had left or held before, those after, and its counts of
+-- faults before and after. Each count stays the same, except with its own status.
 pub record IsRun (words : List (List ℕ)) (left left' : Option (List ℕ)) (reads reads' : ℕ) (held held' : Option (List ℕ)) (writes writes' : ℕ) (end : EndOfRun) : Type 0 where
   pub taken : List ℕ
   pub takes : Takes left left' taken

@@ -1,7 +1,7 @@
-//! What the program says of itself, where its one word asks for it.
+//! What the program says about itself, if its one word asks for it.
 //!
-//! The texts are the program's own and no contract has them: `main` writes them in place of a run of
-//! `top`, to which these words are bad ones.
+//! The texts are the program's own, and no contract has them. `main` writes them instead of a run of `top`,
+//! for which these words are bad ones.
 ghost use Rattle.std.specs.Prelude.{◌≡◌, map, string_bytes};
 ghost use Rattle.vchan_io.specs.Counts.{Rose};
 ghost use Rattle.vchan_io.specs.Streams.{Appends};
@@ -12,17 +12,17 @@ use crate::status::Status;
 use crate::top::report;
 use vchan_io::{Sink, WriteFault, write_all};
 
-/// What the program can say of itself.
+/// What the program can say about itself.
 #[derive(Clone, Copy, Debug, PartialEq, Eq)]
 pub enum About {
-    /// Which words it takes, what it then reads and prints, and its statuses.
+    /// The words that it takes, what it then reads and prints, and its statuses.
     Help,
-    /// Its name and number, and the kit whose proofs stand behind it.
+    /// Its name and number, and the kit with which it is proved.
     Version,
 }
 
-/// What these words ask the program to say of itself. It is `None` exactly where they aren't one of the
-/// two words, alone.
+/// Returns what these words ask the program to say about itself. Returns `None` if and only if they aren't
+/// one of the two words, alone.
 pub fn about_in(words: &[String]) -> Option<About>
     ensures { result ≡ about_of (map string_bytes words.now) }
 {
@@ -34,7 +34,7 @@ pub fn about_in(words: &[String]) -> Option<About>
 }
 
 impl About {
-    /// The text, with a line feed behind each line.
+    /// Returns the text, with a line feed after each line.
     pub fn text(self) -> &'static [u8] {
         match self {
             About::Help => HELP,
@@ -43,8 +43,9 @@ impl About {
     }
 }
 
-/// Writes a text of the program's own to `out`. The status is `Done`, or `WriteFault` only where the
-/// count of `out` rose, and then a part of the text was written and `err` told so.
+/// Writes a text of the program's own to `out`. The status is `Done`, or `WriteFault` only if the count of
+/// `out` rose; a part of the text was written then. `err` gets the line of the status, unless its own count
+/// rose.
 pub fn tell<K: Sink, E: Sink>(text: &[u8], out: &mut K, err: &mut E) -> Status
     ensures tells { Tells result text.now (K.held out.old) (K.held out.new) (K.faults out.old) (K.faults out.new) }
     ensures line { (¬ Rose (E.faults err.old) (E.faults err.new)) → Appends (E.held err.old) (E.held err.new) (status_line result) }

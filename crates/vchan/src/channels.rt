@@ -19,8 +19,8 @@ use vchan_io::Memory;
 use vchan_relay::{Relayed, relay_run};
 use vchan_rule::Settled;
 
-/// Passes the input through the left ring of one page, whose indices begin at 0. The answer is what
-/// came out, which is the input, and that page. The error is want of memory.
+/// Passes the input through the left ring of one page, whose indices begin at 0. Returns what came out, which
+/// is the input, and that page. Returns `Memory` if memory runs out.
 pub(crate) fn pipe_input<R: Threads + Wait + Clock + Sync>(
     rt: &R,
     alloc: Global,
@@ -36,9 +36,9 @@ pub(crate) fn pipe_input<R: Threads + Wait + Clock + Sync>(
     Ok((bytes, settled))
 }
 
-/// Passes the input through so many relays by so many workers, on pages whose indices begin at 0. The
-/// answer is a line for each page and one for what came out, which is the input, and these pages. The
-/// error is want of memory.
+/// Passes the input through `hops` relays by `workers` workers, on pages whose indices begin at 0. Returns
+/// the text, with a line for each page and one for what came out, which is the input; and these pages.
+/// Returns `Memory` if memory runs out.
 pub(crate) fn relay_input<R: Threads + Wait + Sync>(
     rt: &R,
     alloc: Global,
@@ -66,7 +66,7 @@ pub(crate) fn small_orders() -> Orders
     }
 }
 
-/// The lines of so many pages, through each of which these bytes went, and the line of the bytes.
+/// The lines of `pages` pages through each of which these bytes went, and the line of the bytes.
 fn relays_text(alloc: Global, pages: usize, bytes: &[u8]) -> Result<Vec<u8>, AllocError>
     requires pages { pages ≤ 17 }
     requires few { length bytes.now ≤ greatest_input }
@@ -83,10 +83,10 @@ fn relays_text(alloc: Global, pages: usize, bytes: &[u8]) -> Result<Vec<u8>, All
     Ok(text)
 }
 
-/// More bytes than the line of a page has, so that a text is made in one piece of memory.
+/// More bytes than the line of a page has. With this room a text is made in one piece of memory.
 const ROOM_OF_LINE: usize = 32;
 
-/// The lines of so many pages, through each of which so many bytes went.
+/// Appends the lines of `pages` pages through each of which `count` bytes went.
 fn push_pages(out: &mut Vec<u8>, pages: usize, count: usize) -> Result<(), AllocError>
     requires { pages ≤ 17 }
     ensures { OnOk result (out.new.items ≡ out.old.items ++ even_lines count pages) }
@@ -97,7 +97,7 @@ fn push_pages(out: &mut Vec<u8>, pages: usize, count: usize) -> Result<(), Alloc
     Ok(())
 }
 
-/// The line of a page, through which so many bytes went.
+/// Appends the line of a page through which `count` bytes went.
 fn push_page(out: &mut Vec<u8>, number: usize, count: usize) -> Result<(), AllocError>
     ensures { OnOk result (out.new.items ≡ out.old.items ++ counts_line number count count) }
 {

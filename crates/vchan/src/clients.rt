@@ -19,13 +19,14 @@ use vchan_io::Memory;
 use vchan_persist::{ClientsError, EpochDone, EpochResult, parse_clients, serve_clients};
 use vchan_rule::Settled;
 
-/// Serves the clients of the input by the service of this name, on pages of the orders 10 and 11 whose
-/// indices begin at 0. The answer is a line for each client and one for their number, and the pages in
-/// order.
+/// Serves the clients of the input by the service with this name, on pages of the orders 10 and 11 whose
+/// indices begin at 0. Returns the text, with a line for each client and one for their number; and the pages
+/// in order.
 ///
 /// # Errors
 ///
-/// `BadInput` exactly where the input is no list of clients, and `OutOfMemory`.
+/// `BadInput` if the input is no list of clients. `OutOfMemory` if memory runs out; for a bad list it comes
+/// only if the first line is good.
 pub(crate) fn persist_input<R: Threads + Wait + Sync>(
     rt: &R,
     alloc: Global,
@@ -53,7 +54,7 @@ pub(crate) fn persist_input<R: Threads + Wait + Sync>(
     }
 }
 
-/// The lines of epochs and that of their number, and their pages.
+/// Returns the lines of epochs and the line of their number, and the pages of the epochs.
 fn tell(alloc: Global, dones: Vec<EpochDone>) -> Result<(Vec<u8>, Vec<Settled>), Memory>
     ensures text { IfOk result (λ told. told.0.items ≡ clients_text dones.items) }
     ensures pages { IfOk result (λ told. told.1.items ≡ map (λ e. e.settled) dones.items) }
@@ -76,7 +77,7 @@ fn tell(alloc: Global, dones: Vec<EpochDone>) -> Result<(Vec<u8>, Vec<Settled>),
     Ok((text, pages))
 }
 
-/// The line of a client.
+/// Appends the line of a client.
 fn push_client(out: &mut Vec<u8>, number: u32, answer: &EpochResult) -> Result<(), AllocError>
     ensures { OnOk result (out.new.items ≡ out.old.items ++ client_line number answer.now) }
 {
@@ -87,7 +88,7 @@ fn push_client(out: &mut Vec<u8>, number: u32, answer: &EpochResult) -> Result<(
     Ok(())
 }
 
-/// What came of a client, as the words of its line.
+/// Appends what came of a client, as the words of its line.
 fn push_answer(out: &mut Vec<u8>, answer: &EpochResult) -> Result<(), AllocError>
     ensures { OnOk result (out.new.items ≡ out.old.items ++ spaced (client_words answer.now)) }
 {
@@ -101,7 +102,7 @@ fn push_answer(out: &mut Vec<u8>, answer: &EpochResult) -> Result<(), AllocError
     }
 }
 
-/// The words of a client that was answered.
+/// Appends the words of a client that was answered.
 fn push_answered(
     out: &mut Vec<u8>,
     code: i32,

@@ -8,7 +8,7 @@ use ring_words::{Orders, check_orders};
 use script_words::parse_number;
 use stream_text::Channel;
 
-/// The greatest number that is looked at as an order: what an order word can hold.
+/// The greatest number that is read as an order. It is the greatest that an order word can hold.
 const MOST_ORDER: u32 = 65_535;
 
 /// What the words tell the program to do.
@@ -18,16 +18,16 @@ pub enum Command {
     Step,
     /// Reads the pieces of a stream of this kind of channel, and prints its messages.
     Decode(Channel),
-    /// Reads a scenario, runs it, and prints the report.
+    /// Reads a scenario, runs it, and prints its report.
     Run {
-        /// How many workers run it, from 1 to 16.
+        /// The number of workers that run it, from 1 to 16.
         workers: u32,
     },
-    /// Generates a scenario, runs it, and prints the sums of the report. It reads nothing.
+    /// Generates a scenario, runs it, and prints the sums of its report. It reads nothing.
     Load {
         /// The number from which the scenario is generated, at most 65,535.
         number: u32,
-        /// How many calls the scenario has, from 1 to 2,000.
+        /// The number of calls of the scenario, from 1 to 2,000.
         calls: u32,
     },
     /// Reads any bytes, passes them through one channel from one thread to another, and prints them.
@@ -35,23 +35,23 @@ pub enum Command {
         /// The orders of the channel's page.
         orders: Orders,
     },
-    /// Reads a list of clients, serves them one after another, and prints what each is answered.
+    /// Reads a list of clients, serves them one after another, and prints the answer to each.
     Persist {
         /// The service that serves them.
         name: ServiceName,
     },
-    /// Reads any bytes, passes them through a row of relays, and prints how many went through each
-    /// channel, and what came out behind the last.
+    /// Reads any bytes, passes them through a row of relays, and prints how many went through each channel,
+    /// and what came out of the last.
     Relay {
-        /// How many relays there are, from 1 to 16.
+        /// The number of relays, from 1 to 16.
         hops: u32,
-        /// How many workers turn them, from 1 to 16.
+        /// The number of workers that turn them, from 1 to 16.
         workers: u32,
     },
 }
 
 impl Command {
-    /// Whether it reads its input: all but `load` do.
+    /// Returns whether it reads its input: all commands but `load` do.
     pub(crate) fn reads_input(&self) -> bool
         ensures { result ≡ reads_input self.now }
     {
@@ -63,8 +63,8 @@ impl Command {
     }
 }
 
-/// The command of these words, whose numbers keep their limits. It is `None` exactly where they are no
-/// command's.
+/// Returns the command of these words. Its numbers keep their limits. Returns `None` if and only if the words
+/// are no command.
 pub fn command_in(words: &[String]) -> Option<Command>
     ensures command { result ≡ command_of (map string_bytes words.now) }
     ensures limits { IfSome result KeepsLimits }
@@ -101,7 +101,7 @@ fn channel_in(word: &String) -> Option<Channel>
     }
 }
 
-/// The command that runs a scenario with the number of workers that a word is.
+/// The command that runs a scenario with the number of workers in a word.
 fn run_in(workers: &String) -> Option<Command>
     ensures command { result ≡ run_of (string_bytes workers.now) }
     ensures limits { IfSome result KeepsLimits }
@@ -120,7 +120,7 @@ fn load_in(number: &String, calls: &String) -> Option<Command>
     Some(Command::Load { number, calls })
 }
 
-/// The command that passes bytes through a page whose orders two words are.
+/// The command that passes bytes through a page with the orders in two words.
 fn pipe_in(left: &String, right: &String) -> Option<Command>
     ensures command { result ≡ pipe_of (string_bytes left.now) (string_bytes right.now) }
     ensures limits { IfSome result KeepsLimits }
@@ -131,7 +131,7 @@ fn pipe_in(left: &String, right: &String) -> Option<Command>
     Some(Command::Pipe { orders })
 }
 
-/// The orders of a page that two numbers are.
+/// The orders of a page with these two numbers.
 #[tactic(auto, using(step_script::proofs::Language::OrdersLaws::orders_of_bad))]
 fn orders_in(left: u16, right: u16) -> Option<Orders>
     ensures { result ≡ orders_of left right }
@@ -151,7 +151,7 @@ fn persist_in(name: &String) -> Option<Command>
     Some(Command::Persist { name })
 }
 
-/// The command that passes bytes through so many relays with so many workers.
+/// The command that passes bytes through a number of relays with a number of workers.
 fn relay_in(hops: &String, workers: &String) -> Option<Command>
     ensures command { result ≡ relay_of (string_bytes hops.now) (string_bytes workers.now) }
     ensures limits { IfSome result KeepsLimits }
@@ -160,8 +160,8 @@ fn relay_in(hops: &String, workers: &String) -> Option<Command>
     Some(Command::Relay { hops, workers })
 }
 
-/// The number that a word is, where it is from `least` to `most`: decimal digits without a leading
-/// zero, or `0`.
+/// The number in a word, if it is from `least` to `most`. It is written in decimal digits without a leading
+/// zero, or as `0`.
 fn number_within(word: &String, least: u32, most: u32) -> Option<u32>
     ensures number { result ≡ number_within least most (string_bytes word.now) }
     ensures limits { IfSome result (λ number. (least ≤ number) × (number ≤ most)) }
@@ -173,7 +173,8 @@ fn number_within(word: &String, least: u32, most: u32) -> Option<u32>
     Some(number as u32)
 }
 
-/// The words of a command among all arguments: those behind the first, which is the program's own name.
+/// Returns the words of a command among all arguments: those after the first, which is the program's own
+/// name.
 pub fn command_words(arguments: &[String]) -> &[String]
     ensures { result.now ≡ drop 1 arguments.now }
 {

@@ -1,9 +1,9 @@
 //! The program `vchan`: its words, its input and its output, and the call that does all its work.
 //!
 //! `top` is the whole program over any source and any two sinks, and its contract is what the program
-//! promises. `main` only makes the real source and sinks: standard input, standard output and standard
-//! error. What the program says of itself, as for `--help`, the line of progress, and leaving what `top`
-//! hands out to the end of the process are all that it does above `top`.
+//! promises. `main` only makes the real source and sinks: standard input, standard output and standard error.
+//! Above `top` it only does three things: it prints texts about the program, as for `--help`; it prints the
+//! line of progress; and it leaves what `top` returns to the end of the process.
 #![tactic(auto)]
 
 mod about;
@@ -63,13 +63,12 @@ fn main(rt: HostRuntime) -> ExitCode {
     ExitCode::from(exit_number(status))
 }
 
-/// All that the program was handed, its own name first. It is `None` where one is no UTF-8, and where
-/// memory is short.
+/// All arguments, with the program's own name first. It is `None` if one is no UTF-8, or if memory runs out.
 fn arguments(rt: &(impl Env + AllocGlobal), alloc: Global) -> Option<Vec<String>> {
     env::args(rt).ok()?.collect(alloc).ok()
 }
 
-/// Does what these words say. The workers of a run pass this gate.
+/// Does what these words ask for. The workers of a run pass this gate.
 fn carry_out<S: Source, K: Sink, E: Sink, G: Gate, R: Threads + Wait + Clock + Sync>(
     rt: &R,
     alloc: Global,

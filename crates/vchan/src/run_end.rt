@@ -1,4 +1,4 @@
-//! What a run of the program hands out.
+//! What a run of the program returns.
 ghost use Rattle.std.specs.Prelude.{◌≡◌, []};
 
 use crate::status::Status;
@@ -7,16 +7,16 @@ use std::alloc::Global;
 use std::marker::Model;
 use vchan_rule::Settled;
 
-/// What a run of the program hands out. Contracts see it as a record in which the list is a plain list.
+/// What a run of the program returns. Contracts see it as a record in which the list is a plain list.
 #[derive(Drop)]
 pub struct RunEnd {
-    /// How it ended.
+    /// How the run ended.
     pub status: Status,
-    /// The report of the scenario that was run, with `Done` and `WriteFault` of `run` and `load`; else
+    /// The report of the scenario that was run, after `Done` and `WriteFault` of `run` and `load`; otherwise
     /// `None`.
     pub report: Option<Report>,
-    /// The pages that stand apart from a report: with `Done` the one page of `pipe`, those of the
-    /// clients of `persist` in order, and those of `relay` from near to far; else none.
+    /// The pages apart from those of a report. After `Done` these are the one page of `pipe`, the pages of
+    /// the clients of `persist` in order, and those of `relay` from near to far. Otherwise there are none.
     pub settled: Vec<Settled>,
 }
 
@@ -29,7 +29,7 @@ impl Model for RunEnd {
 }
 
 impl RunEnd {
-    /// The end of a run whose whole text was written.
+    /// Makes the end of a run whose whole text was written.
     pub(crate) fn done(report: Option<Report>, settled: Vec<Settled>) -> RunEnd
         ensures { result ≡ record { status = Status.Done; report = report; settled = settled.items } }
     {
@@ -40,7 +40,7 @@ impl RunEnd {
         }
     }
 
-    /// The end of a run with no page that stands apart from its report.
+    /// Makes the end of a run with no pages apart from its report.
     pub(crate) fn of(alloc: Global, status: Status, report: Option<Report>) -> RunEnd
         ensures { result ≡ record { status = status; report = report; settled = [] } }
     {

@@ -14,11 +14,11 @@ use std::sync::Wait;
 use std::thread::Threads;
 use vchan_io::Memory;
 
-/// How many workers run a generated scenario.
+/// The number of workers that run a generated scenario.
 const WORKERS_OF_LOAD: u32 = 4;
 
-/// Runs a scenario with so many workers and this gate. The answer is the text of the report, and the
-/// report, which is lawful whatever the order of all steps. The error is want of memory.
+/// Runs a scenario with `workers` workers and this gate. Returns the text of the report, and the report,
+/// which is lawful whatever the order of all steps. Returns `Memory` if memory runs out.
 pub(crate) fn run_text<G: Gate, R: Threads + Wait + Sync>(
     rt: &R,
     alloc: Global,
@@ -36,10 +36,9 @@ pub(crate) fn run_text<G: Gate, R: Threads + Wait + Sync>(
     Ok((text, report))
 }
 
-/// Generates the scenario of a number and runs it with 4 workers. The answer is the text of the sums
-/// of its report, and the report, which is lawful whatever the order of all steps. The text is the same
-/// at each run: its numbers are those that the services and the names alone give. The error is want of
-/// memory.
+/// Generates the scenario of a number and runs it with 4 workers. Returns the text of the sums of its report,
+/// and the report, which is lawful whatever the order of all steps. The text is the same at each run, because
+/// the services and the names alone give its numbers. Returns `Memory` if memory runs out.
 pub fn load_text<R: Threads + Wait + Sync>(
     rt: &R,
     alloc: Global,
@@ -58,8 +57,8 @@ pub fn load_text<R: Threads + Wait + Sync>(
     Ok((text, report))
 }
 
-/// Leaves what a run is done with to the end of the process, which is near and gives all memory back at
-/// once: to give back tens of thousands of small pieces, one after the other, takes a few milliseconds.
+/// Leaves what a run is done with to the end of the process, which is near and frees all memory at once. To
+/// free tens of thousands of small pieces one after another would take a few milliseconds.
 pub(crate) fn leave_to_exit<T: Drop>(done_with: T) {
     mem::forget(done_with);
 }

@@ -6,7 +6,7 @@ ghost use Rattle.vchan.specs.Command.{service_name_of};
 use service_gate::Builtin;
 use std::marker::Model;
 
-/// The most bytes of a name; no built-in service has a longer one.
+/// The most bytes of a name. No built-in service has a longer one.
 const MOST: usize = 63;
 
 /// The name of a built-in service. Contracts see its bytes.
@@ -28,7 +28,7 @@ impl Model for ServiceName {
 }
 
 impl ServiceName {
-    /// The name that a word is, where it names a built-in service.
+    /// Returns the name in a word, if it names a built-in service.
     pub(crate) fn of(word: &[u8]) -> Option<ServiceName>
         ensures { result ≡ service_name_of word.now }
     {
@@ -41,7 +41,7 @@ impl ServiceName {
         }
     }
 
-    // The name that a word is.
+    // The name in a word.
     fn copied(word: &[u8]) -> ServiceName
         requires few { length word.now ≤ 63 }
         requires named { (input : List ℕ) → IsSome (service word.now input) }
@@ -55,7 +55,7 @@ impl ServiceName {
         }
     }
 
-    /// The bytes of the name.
+    /// Returns the bytes of the name.
     pub(crate) fn bytes(&self) -> &[u8]
         ensures bytes { result.now ≡ self.now }
         ensures named { (input : List ℕ) → IsSome (service self.now input) }

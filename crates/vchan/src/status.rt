@@ -11,20 +11,20 @@ use vchan_persist::ClientsKind;
 pub enum Status {
     /// The whole text was written.
     Done,
-    /// The words are no command's.
+    /// The words are no command.
     BadWords,
-    /// The source met a fault.
+    /// The source had a fault.
     ReadFault,
     /// The input is longer than the program reads.
     TooLong,
-    /// The input has not the form that the command reads.
+    /// The input doesn't have the form that the command reads.
     BadInput {
-        /// What is wrong with it.
+        /// What is wrong with the input.
         bad: Bad,
     },
-    /// The sink for the output met a fault.
+    /// The sink for the output had a fault.
     WriteFault,
-    /// There was too little memory.
+    /// Memory ran out.
     OutOfMemory,
 }
 
@@ -33,36 +33,36 @@ pub enum Status {
 pub enum Bad {
     /// It is no script.
     Script {
-        /// The first bad line, from 1.
+        /// The number of the first bad line, from 1.
         line: u32,
         /// What is wrong with that line.
         kind: ScriptKind,
     },
     /// It is no list of byte strings.
     Decode {
-        /// The first bad line, from 1.
+        /// The number of the first bad line, from 1.
         line: u32,
         /// What is wrong with that line.
         kind: DecodeKind,
     },
     /// It is no list of clients.
     Clients {
-        /// The first bad line, from 1.
+        /// The number of the first bad line, from 1.
         line: u32,
         /// What is wrong with that line.
         kind: ClientsKind,
     },
     /// It is no scenario.
     Scenario {
-        /// What the first check that fails found.
+        /// What the first check that failed found.
         kind: ScenarioKind,
-        /// The path of what that check looked at, as `call[2].service`.
+        /// The path of what that check read, as `call[2].service`.
         at: Path,
     },
 }
 
 impl Status {
-    /// The number that the program ends with.
+    /// Returns the number with which the program ends.
     pub fn code(&self) -> u8
         ensures { result ≡ code_of self.now }
     {
@@ -78,11 +78,11 @@ impl Status {
     }
 }
 
-/// The number that the program ends with where its words weren't handed over, as where one isn't UTF-8.
+/// The number with which the program ends if it didn't get its words, as when one isn't UTF-8.
 const NO_WORDS: u8 = 8;
 
-/// The number that the program ends with: that of its status, or 8 where it has none since its words
-/// weren't handed over.
+/// Returns the number with which the program ends: that of its status, or 8 if it has none because it didn't
+/// get its words.
 pub fn exit_number(status: Option<Status>) -> u8
     ensures { result ≡ number_of_exit status }
 {

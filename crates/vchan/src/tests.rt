@@ -9,7 +9,7 @@ mod scenarios;
 mod steps;
 mod whole_runs;
 
-/// At most so many bytes a call, and the numbers of the calls that fail.
+/// A stream of at most `most` bytes a call, and the numbers of the calls that fail.
 #[derive(Drop)]
 struct Stream {
     most: usize,
@@ -24,7 +24,7 @@ const WHOLE: Stream = Stream {
 
 const OPENING: &[u8] = b"open 10 11\n";
 
-/// What a run over memory ended with, and what it wrote to its two sinks.
+/// How a run over memory ended, and what it wrote to its two sinks.
 #[derive(Drop)]
 struct Outcome {
     status: Status,
@@ -58,7 +58,7 @@ fn run_over_memory<R: Threads + Wait + Clock + Sync>(
     run_through(rt, alloc, words, input, reads, writes, says, &OpenGate)
 }
 
-/// The same, where the workers pass this gate.
+/// Does the same with workers that pass this gate.
 fn run_through<G: Gate, R: Threads + Wait + Clock + Sync>(
     rt: &R,
     alloc: Global,
@@ -232,7 +232,7 @@ fn a_read_that_fails_is_a_read_fault(rt: HostRuntime) -> Result<(), Fail> {
     Ok(())
 }
 
-/// Each of the first six writes fails, at most 4 bytes a write: what went before is there.
+/// Each of the first six writes fails, at most 4 bytes a write. What was written before is there.
 #[test]
 fn a_write_that_fails_is_a_write_fault(rt: HostRuntime) -> Result<(), Fail> {
     for long in LONG_RUNS {

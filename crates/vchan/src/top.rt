@@ -25,25 +25,26 @@ use vchan_persist::ClientsKind;
 /// The longest input that the program reads, in bytes.
 pub const GREATEST_INPUT: usize = 4_194_304;
 
-/// All that the program does: it reads its words, then its whole input, then it does its work, and
-/// writes the text, which is made whole before its first byte is written. Where it ends otherwise it
-/// says so on `err` in one line; a fault of `err` changes nothing else. For `run` the workers pass
-/// `gate`, and for all other words it isn't used.
+/// Does all that the program does. It reads its words, then its whole input, then it does its work, and
+/// writes the text, which is made whole before its first byte is written. If it ends otherwise, it writes one
+/// line about that to `err`; a fault of `err` changes nothing else. For `run` the workers pass `gate`, and
+/// other words don't use it.
 ///
-/// With `run` and `load` the report whose text or sums are written is handed out. It is lawful for the
-/// scenario, whatever the order of all steps of its workers. With `pipe` and `relay`, which take any
-/// bytes, the pages are handed out through which all of these bytes went, where all was written.
+/// With `run` and `load` it returns the report whose text or sums are written. The report is lawful for the
+/// scenario, whatever the order of all steps of its workers. With `pipe` and `relay`, which take any bytes,
+/// it returns the pages through which all of these bytes went, if the whole text was written.
 ///
 /// # Statuses
 ///
-/// `BadWords` comes exactly where the words are no command's, `ReadFault` only where the source's
-/// count of faults rose, `TooLong` exactly where more than [`GREATEST_INPUT`] bytes were taken,
-/// `BadInput` exactly where the input was read to its end and has not the command's form, which never
-/// comes with `pipe` and `relay`,
-/// `WriteFault` only where the count of `out` rose, and `OutOfMemory` wherever memory is short.
-/// Nothing is written to `out` but with `Done`, and with `WriteFault` a part of the text. The source's
-/// count stays as it was but with `ReadFault`, and that of `out` but with `WriteFault`. With `load`
-/// nothing is taken from the source.
+/// `BadWords` comes if and only if the words are no command. `ReadFault` comes only if the source's count of
+/// faults rose. `TooLong` comes if and only if more than [`GREATEST_INPUT`] bytes were taken. `BadInput`
+/// comes only if the input was read to its end and doesn't have the command's form; it never comes with
+/// `pipe` and `relay`. `WriteFault` comes only if the count of `out` rose. `OutOfMemory` may come wherever
+/// memory runs out.
+///
+/// Text is written to `out` only with `Done`, and a part of it with `WriteFault`. The source's count changes
+/// only with `ReadFault`, and that of `out` only with `WriteFault`. With `load` nothing is taken from the
+/// source.
 pub fn top<S: Source, K: Sink, E: Sink, G: Gate, R: Threads + Wait + Clock + Sync>(
     rt: &R,
     alloc: Global,
@@ -62,7 +63,7 @@ pub fn top<S: Source, K: Sink, E: Sink, G: Gate, R: Threads + Wait + Clock + Syn
     end
 }
 
-/// Does the work, and says nothing of how it ended.
+/// Does the work, and writes nothing about how it ended.
 fn run<S: Source, K: Sink, G: Gate, R: Threads + Wait + Clock + Sync>(
     rt: &R,
     alloc: Global,
@@ -98,7 +99,7 @@ fn run<S: Source, K: Sink, G: Gate, R: Threads + Wait + Clock + Sync>(
     }
 }
 
-/// The input of a command: the source to its end, or nothing where the command reads none.
+/// The input of a command: the source to its end, or nothing if the command reads none.
 fn read_input<S: Source>(
     alloc: Global,
     command: &Command,
@@ -119,7 +120,7 @@ fn read_input<S: Source>(
     read_all(alloc, source, GREATEST_INPUT)
 }
 
-/// Says on `err` how the run ended, where it didn't end well.
+/// Writes to `err` how the run ended, if it didn't end well.
 pub(crate) fn report<E: Sink>(status: &Status, err: &mut E) -> Result<(), WriteFault>
     ensures line { OnOk result (Appends (E.held err.old) (E.held err.new) (status_line status.now)) }
     ensures fault { OnErr result (Rose (E.faults err.old) (E.faults err.new)) }
@@ -135,7 +136,7 @@ pub(crate) fn report<E: Sink>(status: &Status, err: &mut E) -> Result<(), WriteF
     }
 }
 
-/// Says on `err` what is wrong with the input.
+/// Writes to `err` what is wrong with the input.
 fn report_bad<E: Sink>(err: &mut E, bad: &Bad) -> Result<(), WriteFault>
     ensures line { OnOk result (Appends (E.held err.old) (E.held err.new) (bad_input bad.now)) }
     ensures fault { OnErr result (Rose (E.faults err.old) (E.faults err.new)) }
@@ -148,7 +149,7 @@ fn report_bad<E: Sink>(err: &mut E, bad: &Bad) -> Result<(), WriteFault>
     }
 }
 
-/// Says on `err` which line is bad. It takes no memory, so that want of memory can't hide the line.
+/// Writes to `err` which line is bad. It takes no memory, so the line is written even if memory ran out.
 fn report_line<E: Sink>(err: &mut E, line: u32, kind: &[u8]) -> Result<(), WriteFault>
     ensures line { OnOk result (Appends (E.held err.old) (E.held err.new) (bad_line line kind.now)) }
     ensures fault { OnErr result (Rose (E.faults err.old) (E.faults err.new)) }
@@ -161,8 +162,8 @@ fn report_line<E: Sink>(err: &mut E, line: u32, kind: &[u8]) -> Result<(), Write
     write_all(err, b"\n")
 }
 
-/// Says on `err` which place of a scenario file is bad. It takes no memory, so that want of memory
-/// can't hide the place.
+/// Writes to `err` which place of a scenario file is bad. It takes no memory, so the place is written even if
+/// memory ran out.
 fn report_place<E: Sink>(err: &mut E, kind: ScenarioKind, at: &Path) -> Result<(), WriteFault>
     ensures line { OnOk result (Appends (E.held err.old) (E.held err.new) (bad_place kind at.now)) }
     ensures fault { OnErr result (Rose (E.faults err.old) (E.faults err.new)) }

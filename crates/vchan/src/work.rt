@@ -1,4 +1,4 @@
-//! The work of a command: the text that it makes of its whole input.
+//! The work of a command: the text that it makes from its whole input.
 ghost use Rattle.std.specs.Prelude.{◌≡◌, ◌≤◌, IfErr, IfOk, MatchResult, [], None, Some, Ok, Err, length};
 ghost use Rattle.vchan.specs.Command.{KeepsLimits};
 ghost use Rattle.vchan.specs.Prints.{IsDue, Prints};
@@ -26,14 +26,14 @@ use vchan_rule::Settled;
 pub(crate) struct Work {
     /// The whole text.
     pub text: Vec<u8>,
-    /// The report of the scenario that was run, where one was.
+    /// The report of the scenario that was run, if one was.
     pub report: Option<Report>,
-    /// The pages that stand apart from a report.
+    /// The pages apart from those of a report.
     pub settled: Vec<Settled>,
 }
 
 impl Work {
-    /// A text, with a report where a scenario was run.
+    /// Makes the work of a text, with a report if a scenario was run.
     fn of(alloc: Global, text: Vec<u8>, report: Option<Report>) -> Work
         ensures { (result.text ≡ text) × (result.report ≡ report) × (result.settled.items ≡ []) }
     {
@@ -45,14 +45,13 @@ impl Work {
     }
 }
 
-/// What a command makes of the whole input. A scenario that is read is run with this gate.
+/// Does the work of a command on the whole input. A scenario that is read is run with this gate.
 ///
 /// # Errors
 ///
-/// The status with which the program ends. `BadInput` comes exactly where the input has not the
-/// command's form, and `OutOfMemory` in its place only where memory is taken before that is found:
-/// of a script and of byte strings only where the input is good up to some line for which memory was
-/// short. There is no other.
+/// The status with which the program ends. `BadInput` comes only if the input doesn't have the command's
+/// form. `OutOfMemory` comes only if memory is taken before a bad input is found to be bad: for a script,
+/// byte strings or a list of clients only if the first line is good. No other status comes.
 pub(crate) fn do_work<G: Gate, R: Threads + Wait + Clock + Sync>(
     rt: &R,
     alloc: Global,
@@ -86,7 +85,7 @@ pub(crate) fn do_work<G: Gate, R: Threads + Wait + Clock + Sync>(
     }
 }
 
-/// The text that a step script prints.
+/// The work of a step script.
 fn step(alloc: Global, input: &[u8]) -> Result<Work, Status>
     ensures prints { IfOk result (λ work. Prints Command.Step input.now work.text.items work.report work.settled.items) }
     ensures due { IfErr result (λ status. IsDue Command.Step input.now status) }
@@ -100,7 +99,7 @@ fn step(alloc: Global, input: &[u8]) -> Result<Work, Status>
     }
 }
 
-/// The text of a captured stream.
+/// The work of a captured stream.
 fn decode(alloc: Global, channel: Channel, input: &[u8]) -> Result<Work, Status>
     ensures prints { IfOk result (λ work. Prints (Command.Decode channel) input.now work.text.items work.report work.settled.items) }
     ensures due { IfErr result (λ status. IsDue (Command.Decode channel) input.now status) }
@@ -114,7 +113,7 @@ fn decode(alloc: Global, channel: Channel, input: &[u8]) -> Result<Work, Status>
     }
 }
 
-/// The text of the report of the scenario that is read, and that report.
+/// The work of a scenario that is read: the text of its report, and that report.
 fn run<G: Gate, R: Threads + Wait + Sync>(
     rt: &R,
     alloc: Global,
@@ -145,7 +144,7 @@ fn run<G: Gate, R: Threads + Wait + Sync>(
     }
 }
 
-/// The work of a command whose pages stand apart from a report: its text, and these pages.
+/// The work of a command with pages apart from a report: its text, and these pages.
 fn through(done: Result<(Vec<u8>, Vec<Settled>), Memory>) -> Result<Work, Status>
     ensures prints { MatchResult done (λ d. result ≡ Ok (record { text = d.0; report = None; settled = d.1 })) (λ e. result ≡ Err Status.OutOfMemory) }
 {

@@ -6,7 +6,7 @@ use std::test::Fail;
 use std::thread::Threads;
 use std::time::Clock;
 
-/// A channel, pieces of its stream, and the text that they give.
+/// A channel, pieces of its stream, and the text that they must give.
 const STREAMS: [(&str, &[u8], &[u8]); 10] = [
     (
         "data",
@@ -85,7 +85,7 @@ fn streams_print_their_messages(rt: HostRuntime) -> Result<(), Fail> {
     Ok(())
 }
 
-/// The first stream again, a line for each byte.
+/// The first stream again, with a line for each byte.
 #[test]
 fn a_stream_is_read_however_it_is_cut(rt: HostRuntime) -> Result<(), Fail> {
     let (channel, digits, text) = STREAMS[0];
@@ -99,7 +99,7 @@ fn a_stream_is_read_however_it_is_cut(rt: HostRuntime) -> Result<(), Fail> {
     Ok(())
 }
 
-/// A line that comes so many times, and what is said of the first bad line.
+/// A line, how many times it comes, and what is printed about the first bad line.
 type Refusal = (&'static [u8], usize, &'static [u8]);
 
 const REFUSALS: [Refusal; 4] = [
@@ -124,7 +124,7 @@ fn the_first_bad_line_is_refused(rt: HostRuntime) -> Result<(), Fail> {
     Ok(())
 }
 
-/// As many lines and bytes as an input may have.
+/// The most lines and the most bytes that an input may have.
 #[test]
 fn the_limits_are_reached(rt: HostRuntime) -> Result<(), Fail> {
     let mut lines = Vec::new(rt.alloc());

@@ -1,4 +1,4 @@
-//! What `run` says of files that are no scenario.
+//! What `run` prints about files that are no scenario.
 use super::{Outcome, Stream, WHOLE, run_over_memory};
 use std::alloc::Global;
 use std::sync::Wait;
@@ -6,7 +6,7 @@ use std::test::Fail;
 use std::thread::Threads;
 use std::time::Clock;
 
-/// A file that is no scenario, and what is said of it.
+/// A file that is no scenario, and what is printed about it.
 const REFUSALS: [(&[u8], &[u8]); 5] = [
     (b"domain = \n", b"vchan: file: toml\n"),
     (b"", b"vchan: domain: missing-key\n"),
@@ -62,7 +62,7 @@ fn a_file_that_cannot_be_read_is_a_read_fault(rt: HostRuntime) -> Result<(), Fai
     Ok(())
 }
 
-/// A bad file is read in parts, and nothing is written of it: no write can fail.
+/// A bad file is read in parts. Nothing is written for it, so no write can fail.
 #[test]
 fn of_a_bad_file_nothing_is_written(rt: HostRuntime) -> Result<(), Fail> {
     let parts = Stream {

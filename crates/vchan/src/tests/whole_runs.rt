@@ -91,7 +91,7 @@ fn six_calls_have_their_lines(rt: HostRuntime) -> Result<(), Fail> {
     Ok(())
 }
 
-/// Each of the first six writes fails, at most 4 bytes a write: what went before is there.
+/// Each of the first six writes fails, at most 4 bytes a write. What was written before is there.
 #[test]
 fn a_write_of_a_report_may_fail(rt: HostRuntime) -> Result<(), Fail> {
     let mut written = 0;
@@ -108,7 +108,7 @@ fn a_write_of_a_report_may_fail(rt: HostRuntime) -> Result<(), Fail> {
     Ok(())
 }
 
-/// Of a source that fails at its first read, too.
+/// It reads nothing from a source that fails at its first read, either.
 #[test]
 fn a_load_reads_nothing(rt: HostRuntime) -> Result<(), Fail> {
     let broken = Stream {
@@ -126,11 +126,11 @@ fn a_load_reads_nothing(rt: HostRuntime) -> Result<(), Fail> {
     Ok(())
 }
 
-/// How many tries a gate holds a task whose companions do not come.
+/// The most tries for which a gate holds a task whose companions don't come.
 const PATIENCE: u32 = 100_000_000;
 
-/// Holds the first turn of each task of a set, by the bits of their places, until all of the set
-/// have entered.
+/// Holds the first turn of each task of a set, given by the bits of their places, until all of the set have
+/// entered.
 #[derive(Drop)]
 struct Together {
     set: u64,
@@ -165,10 +165,10 @@ impl Gate for Together {
     }
 }
 
-/// How many tries a gate holds the one task that should be alone.
+/// The tries for which a gate holds the one task that should be alone.
 const SOLITUDE: u32 = 1_000_000;
 
-/// Holds the first task that enters, and tells whether another one enters meanwhile.
+/// Holds the first task that enters, and notes whether another one enters meanwhile.
 #[derive(Drop)]
 struct Alone {
     came: AtomicBool,
@@ -192,7 +192,7 @@ impl Gate for Alone {
     }
 }
 
-/// Four tasks, and two workers or four: the places 1 and 2, or all, are in a turn at once.
+/// Four tasks with two workers or four: the places 1 and 2, or all, are in a turn at once.
 #[test]
 fn two_domains_at_once(rt: HostRuntime) -> Result<(), Fail> {
     for (workers, set) in [("2", 0b0110), ("4", 0b1111)] {

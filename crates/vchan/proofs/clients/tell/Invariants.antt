@@ -2,7 +2,7 @@ use Rattle.std.proofs.Common.{◌≡◌, ◌++◌, map}
 use Rattle.vchan.specs.Clients.{client_lines}
 use Rattle.vchan.proofs.clients.tell.Given as goal
 
--- what was told so far and what is left is told of all epochs
+-- the text so far and the text of what is left make the text of all epochs
 abbrev pub invariant-loop-done : goal.invariant-loop-done
 invariant-loop-done l = record {
   can_next : (goal.iterator-loop-done).can_next l.done-iterator;
