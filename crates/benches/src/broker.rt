@@ -1,4 +1,4 @@
-//! The bench of the broker: calls between 32 domains, each asked for, named by a stranger and ended.
+//! The bench of the broker: calls between 32 domains, each requested, named by a stranger and ended.
 mod events;
 mod telling;
 
@@ -9,10 +9,10 @@ use std::alloc::Global;
 use std::time::CpuClock;
 use telling::{Tally, tell_all};
 
-/// How many events are told where no number is asked for.
+/// The number of events of a small piece of work.
 const FEW: u32 = 10_000;
 
-/// The first so many events.
+/// Makes the first `count` events.
 fn events_of(alloc: Global, count: u32) -> Result<Vec<Event>> {
     let mut events = Vec::new(alloc);
     for number in 0..count {
@@ -21,7 +21,7 @@ fn events_of(alloc: Global, count: u32) -> Result<Vec<Event>> {
     Ok(events)
 }
 
-/// What comes of a few events.
+/// Prints what came of a few events.
 pub fn small<R: Print + AllocGlobal>(rt: &R) -> Result<()> {
     let events = events_of(rt.alloc(), FEW)?;
     let mut broker = broker_of(rt.alloc())?;
@@ -34,7 +34,7 @@ pub fn small<R: Print + AllocGlobal>(rt: &R) -> Result<()> {
     Ok(())
 }
 
-/// The nanoseconds of so many events, made beforehand, on a processor.
+/// Prints the nanoseconds on a processor of `count` events, which are made beforehand.
 pub fn measured<R: CpuClock + Print + AllocGlobal>(rt: &R, count: u32) -> Result<()> {
     let events = events_of(rt.alloc(), count)?;
     let mut broker = broker_of(rt.alloc())?;

@@ -1,8 +1,8 @@
 //! The benches of this repository, as words of one program.
 //!
-//! Without a word each bench does a small piece of its work, and the program prints what came of it
-//! and no time. With the word of one bench and that bench's own words it prints times in
-//! nanoseconds; the scripts of `bench/` set these beside others.
+//! Without a word each bench does a small piece of its work, and the program prints what came of it and no
+//! time. With the word of one bench and that bench's own words it prints times in nanoseconds. The scripts of
+//! `bench/` set these beside others.
 #![tactic(auto)]
 
 mod broker;
@@ -24,7 +24,7 @@ use std::time::CpuClock;
 const USAGE: &str =
     "usage: benches [broker EVENTS | pool TASKS TURNS WORKERS STEPS | ring SIZE CALLS ROUNDS | threads SIZE PIECES | scenario FILE | session SIZE PIECE | turns RUNS | waiting MILLIS]";
 
-/// The numbers that these words write.
+/// Reads the numbers in these words.
 fn numbers(alloc: Global, words: &[String]) -> Result<Vec<u32>> {
     let mut numbers = Vec::new(alloc);
     for word in words {
@@ -34,7 +34,7 @@ fn numbers(alloc: Global, words: &[String]) -> Result<Vec<u32>> {
     Ok(numbers)
 }
 
-/// A small piece of the work of each bench.
+/// Does a small piece of the work of each bench.
 fn small<R: Clock + CpuClock + Print + AllocGlobal + Threads + Wait + Sync>(rt: &R) -> Result<()> {
     broker::small(rt)?;
     pool::small(rt)?;
@@ -46,7 +46,7 @@ fn small<R: Clock + CpuClock + Print + AllocGlobal + Threads + Wait + Sync>(rt: 
     Ok(())
 }
 
-/// The times of the bench of this word.
+/// Prints the times of the bench with this word.
 fn measured<R: Clock + CpuClock + Files + Print + AllocGlobal + Threads + Wait + Sync>(
     rt: &R,
     bench: &str,

@@ -9,7 +9,7 @@ use std::sync::Wait;
 use std::thread::Threads;
 use std::time::Instant;
 
-/// How many tasks of how many turns, for how many workers, and how much each turn does.
+/// The number of tasks, of turns of each task, of steps in each turn, and of workers.
 #[derive(Clone, Copy)]
 pub struct Load {
     pub tasks: u32,
@@ -25,7 +25,7 @@ const SMALL: Load = Load {
     steps: 100,
 };
 
-/// The sums of a small load, both ways.
+/// Prints the sums of a small load, computed both ways.
 pub fn small<R: Print + AllocGlobal + Threads + Wait + Sync>(rt: &R) -> Result<()> {
     let Load {
         tasks,
@@ -43,7 +43,7 @@ pub fn small<R: Print + AllocGlobal + Threads + Wait + Sync>(rt: &R) -> Result<(
     Ok(())
 }
 
-/// The nanoseconds of one plain loop over the load's turns, and of the pool.
+/// Prints the nanoseconds of one plain loop over the load's turns, and of the pool.
 pub fn measured<R: Clock + Print + AllocGlobal + Threads + Wait + Sync>(
     rt: &R,
     load: Load,

@@ -18,7 +18,7 @@ use vchan_rule::{End, IdleSeat, Page};
 /// The order of both rings.
 const ORDER: u16 = 16;
 
-/// A page with its two seats.
+/// Makes a page with its two seats.
 pub fn open(alloc: Global) -> Result<(Page, IdleSeat, IdleSeat)>
     ensures { IfOk result (λ p. (p.1 ≡ record { page = p.0; role = Server }) × (p.2 ≡ record { page = p.0; role = Client })) }
 {
@@ -31,7 +31,7 @@ pub fn open(alloc: Global) -> Result<(Page, IdleSeat, IdleSeat)>
     Ok(opened)
 }
 
-/// The client of a page, once it is connected.
+/// Connects the client of a page.
 pub fn connected(page: &Page, seat: IdleSeat) -> Result<End<'_>>
     requires { seat ≡ record { page = page.now; role = Client } }
     ensures { IfOk result (λ end. IsOpen end) }
@@ -43,7 +43,7 @@ pub fn connected(page: &Page, seat: IdleSeat) -> Result<End<'_>>
     }
 }
 
-/// How many bytes go over in a few writes of one, of 64 and of 1,024 bytes, and a few reads.
+/// Prints how many bytes go over in a few writes of one, of 64 and of 1,024 bytes, and a few reads.
 pub fn small<R: Print + AllocGlobal>(rt: &R) -> Result<()> {
     let (page, server, client) = open(rt.alloc())?;
     let mut server = page.attach(server);
@@ -57,8 +57,8 @@ pub fn small<R: Print + AllocGlobal>(rt: &R) -> Result<()> {
     Ok(())
 }
 
-/// The nanoseconds on a processor of all writes, and of all reads, and how many bytes were got. In each
-/// round come so many writes of `size` bytes, and then as many reads.
+/// Prints the nanoseconds on a processor of all writes and of all reads, and how many bytes were got. In each
+/// round `calls` writes of `size` bytes come first, and then as many reads.
 pub fn measured<R: CpuClock + Print + AllocGlobal>(
     rt: &R,
     size: u32,
@@ -100,8 +100,7 @@ fn server_receives(page: &Page, seat: IdleSeat, buf: &mut [u8], total: u64) -> u
     receive(&mut page.attach(seat), buf, total)
 }
 
-/// The nanoseconds that go by until a server has got all pieces that a client in another thread
-/// writes.
+/// Prints the nanoseconds until a server has got all pieces that a client in another thread writes.
 pub fn measured_in_threads<R: Clock + Print + AllocGlobal + Threads + Sync>(
     rt: &R,
     size: u32,

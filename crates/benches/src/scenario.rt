@@ -8,7 +8,7 @@ use std::time::Instant;
 const SMALL: &[u8] =
     b"[[domain]]\nname = \"a\"\n[[call]]\nfrom = \"a\"\nto = \"b\"\nservice = \"echo\"\n";
 
-/// How many calls the scenario of a file has.
+/// Returns how many calls the scenario of a file has.
 fn calls_in(alloc: Global, file: &[u8]) -> Result<usize> {
     match scenario_file::read(alloc, file) {
         Ok(scenario) => Ok(scenario.calls.len()),
@@ -16,14 +16,14 @@ fn calls_in(alloc: Global, file: &[u8]) -> Result<usize> {
     }
 }
 
-/// How many calls a small file has.
+/// Prints how many calls a small file has.
 pub fn small<R: Print + AllocGlobal>(rt: &R) -> Result<()> {
     let calls = calls_in(rt.alloc(), SMALL)?;
     println!(rt; "scenario: calls {calls}")?;
     Ok(())
 }
 
-/// The nanoseconds of the kit's `toml` alone on the file's bytes, and of the whole reading.
+/// Prints the nanoseconds of the kit's `toml` alone on the file's bytes, and of the whole reading.
 pub fn measured<R: Clock + Files + Print + AllocGlobal>(rt: &R, path: &str) -> Result<()> {
     let file = fs::read(rt, path)?;
     let start = Instant::now(rt)?;

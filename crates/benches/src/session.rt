@@ -7,7 +7,7 @@ use service_gate::Builtin;
 use std::rt::Clock;
 use std::time::Instant;
 
-/// How many bytes of a small input come back.
+/// Prints how many bytes of a small input come back.
 pub fn small<R: Print + AllocGlobal>(rt: &R) -> Result<()> {
     let input = vec![in rt.alloc(); 0x61; 100_000]?;
     let Ok(passed) = exchange(rt.alloc(), echo()?, input, 1_024) else {
@@ -17,7 +17,7 @@ pub fn small<R: Print + AllocGlobal>(rt: &R) -> Result<()> {
     Ok(())
 }
 
-/// The nanoseconds of `size` bytes in pieces of at most `piece`, and how many came back.
+/// Prints the nanoseconds of `size` bytes in pieces of at most `piece`, and how many came back.
 pub fn measured<R: Clock + Print + AllocGlobal>(rt: &R, size: u32, piece: u32) -> Result<()> {
     let input = vec![in rt.alloc(); 0x61; size as usize]?;
     let service = echo()?;

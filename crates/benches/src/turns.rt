@@ -1,4 +1,4 @@
-//! The bench of turns: how long a turn of an agent takes by how many of its sessions are open, and by how many
+//! The bench of turns: how long a turn of an agent takes, by how many of its sessions are open and how many
 //! of its calls are over or wait.
 mod stopwatch;
 
@@ -10,11 +10,11 @@ use std::thread::Threads;
 use std::time::CpuClock;
 use stopwatch::{Stopwatch, Times};
 
-/// How many calls may be open to one target.
+/// The number of calls that may be open to one target.
 const MOST_OPEN: u32 = 16;
 
-/// The calls of an agent: how many stay open, since the domains asked don't answer; how many are refused
-/// before; and how many wait behind them.
+/// The calls of an agent: how many stay open, since the domains called don't answer; how many are refused
+/// before; and how many wait after them.
 #[derive(Clone, Copy)]
 struct Row {
     open: u32,
@@ -22,7 +22,7 @@ struct Row {
     waiting: u32,
 }
 
-/// How many turns the silent domains rest, how many of the agent come before the first that is timed, and how
+/// How many turns the silent domains rest, how many turns the agent makes before the first timed one, and how
 /// many are timed.
 #[derive(Clone, Copy)]
 struct Span {
@@ -37,7 +37,7 @@ const SHORT: Span = Span {
     timed: 20,
 };
 
-/// Rests more turns than the sessions need to open, and those that are timed.
+/// Rests for more turns than the sessions need to open and those that are timed.
 const LONG: Span = Span {
     rests: 6_000,
     warm_up: 3_000,
@@ -53,7 +53,7 @@ fn push_silent(text: &mut String, name: &str, rests: u32) -> Result<()> {
     Ok(())
 }
 
-/// Appends so many calls to a domain.
+/// Appends `count` calls to a domain.
 fn push_calls(text: &mut String, to: &str, count: u32) -> Result<()> {
     for _ in 0..count {
         text.push_str("[[call]]\nfrom = 'agent'\nto = '")?;
@@ -63,7 +63,7 @@ fn push_calls(text: &mut String, to: &str, count: u32) -> Result<()> {
     Ok(())
 }
 
-/// The scenario of a row, whose agent is domain 1.
+/// Makes the scenario of a row, whose agent is domain 1.
 fn file_of(alloc: Global, row: Row, rests: u32) -> Result<String> {
     let mut text = String::new(alloc);
     text.push_str("[[domain]]\nname = 'agent'\n")?;
@@ -77,7 +77,7 @@ fn file_of(alloc: Global, row: Row, rests: u32) -> Result<String> {
     Ok(text)
 }
 
-/// Runs a scenario with one worker behind the stopwatch. So many calls does its report have.
+/// Runs a scenario with one worker that passes the stopwatch. Returns how many calls its report has.
 fn calls_run<R: CpuClock + Threads + Wait + Sync>(
     rt: &R,
     alloc: Global,
@@ -93,7 +93,7 @@ fn calls_run<R: CpuClock + Threads + Wait + Sync>(
     Ok(report.calls.len())
 }
 
-/// The average time of a turn of the agent in a run of a row, in nanoseconds.
+/// Returns the average time of a turn of the agent in a run of a row, in nanoseconds.
 fn average_of<R: CpuClock + Threads + Wait + Sync>(rt: &R, alloc: Global, row: Row) -> Result<u64> {
     let file = file_of(alloc, row, LONG.rests)?;
     let stopwatch = Stopwatch {
@@ -104,7 +104,7 @@ fn average_of<R: CpuClock + Threads + Wait + Sync>(rt: &R, alloc: Global, row: R
     stopwatch.times.average()
 }
 
-/// How many calls a short run has.
+/// Prints how many calls a short run has.
 pub fn small<R: CpuClock + Print + AllocGlobal + Threads + Wait + Sync>(rt: &R) -> Result<()> {
     let row = Row {
         open: 2,
@@ -132,7 +132,7 @@ const ROWS: [(u32, u32, u32); 7] = [
     (32, 3_000, 1_000),
 ];
 
-/// The average times of so many runs of a row, in a line behind its numbers of calls.
+/// Prints a row's numbers of calls, and the average times of its runs.
 fn row_measured<R: CpuClock + Print + AllocGlobal + Threads + Wait + Sync>(
     rt: &R,
     row: Row,
@@ -152,7 +152,7 @@ fn row_measured<R: CpuClock + Print + AllocGlobal + Threads + Wait + Sync>(
     Ok(())
 }
 
-/// A line for each row.
+/// Prints a line for each row.
 pub fn measured<R: CpuClock + Print + AllocGlobal + Threads + Wait + Sync>(
     rt: &R,
     runs: u32,

@@ -13,7 +13,7 @@ use vchan_block::{BlockRead, read};
 use vchan_rule::{IdleSeat, Page};
 use vchan_stream::write;
 
-/// Connects, sleeps so long, and writes one byte.
+/// Connects, sleeps for `millis` milliseconds, and writes one byte.
 fn client_is_late<R: Clock>(rt: &R, page: &Page, seat: IdleSeat, millis: u32)
     requires { seat ≡ record { page = page.now; role = Client } }
 {
@@ -23,7 +23,7 @@ fn client_is_late<R: Clock>(rt: &R, page: &Page, seat: IdleSeat, millis: u32)
     }
 }
 
-/// Waits for the byte. So many nanoseconds was the thread on a processor meanwhile.
+/// Waits for the byte. Returns how many nanoseconds the thread was on a processor meanwhile.
 fn server_waits<R: Clock + CpuClock + Wait>(rt: &R, page: &Page, seat: IdleSeat) -> Result<u128>
     requires { seat ≡ record { page = page.now; role = Server } }
 {
@@ -38,7 +38,7 @@ fn server_waits<R: Clock + CpuClock + Wait>(rt: &R, page: &Page, seat: IdleSeat)
     Ok(nanos)
 }
 
-/// How many nanoseconds a reader is on a processor whose writer comes so late.
+/// Returns how many nanoseconds a reader is on a processor if its writer comes `millis` milliseconds late.
 fn waited<R: Clock + CpuClock + AllocGlobal + Threads + Wait + Sync>(
     rt: &R,
     millis: u32,
@@ -56,7 +56,7 @@ fn waited<R: Clock + CpuClock + AllocGlobal + Threads + Wait + Sync>(
     nanos
 }
 
-/// A reader whose writer comes soon.
+/// Lets a reader wait for a writer that comes soon, and prints that this is over.
 pub fn small<R: Clock + CpuClock + Print + AllocGlobal + Threads + Wait + Sync>(
     rt: &R,
 ) -> Result<()> {
@@ -65,7 +65,7 @@ pub fn small<R: Clock + CpuClock + Print + AllocGlobal + Threads + Wait + Sync>(
     Ok(())
 }
 
-/// The nanoseconds on a processor of a reader whose writer comes so many milliseconds late.
+/// Prints the nanoseconds on a processor of a reader whose writer comes `millis` milliseconds late.
 pub fn measured<R: Clock + CpuClock + Print + AllocGlobal + Threads + Wait + Sync>(
     rt: &R,
     millis: u32,

@@ -1,4 +1,4 @@
-//! What an agent answers to what a broker of this repository never says.
+//! What an agent answers to messages that a broker of this repository never sends.
 ghost use Rattle.std.specs.Prelude.{◌≡◌, IfOk};
 ghost use Rattle.qrexec_frame.specs.Messages.{HasNumbers};
 ghost use Rattle.ring_words.specs.declared.page.Role.TheVariants.{Server, Client};
@@ -14,7 +14,7 @@ use std::test::Fail;
 use vchan_io::Memory;
 use vchan_rule::{IdleSeat, Page};
 
-/// Commands that no agent without data ends serves: whether each is a MSG_JUST_EXEC, the domain and the
+/// Commands that an agent without data ends can't serve: whether each is a MSG_JUST_EXEC, the domain and the
 /// port that it names, and its line.
 const COMMANDS: [(bool, u32, u32, &[u8]); 4] = [
     (true, 2, 513, b"DEFAULT:QUBESRPC echo vault"),
@@ -35,7 +35,7 @@ fn message_of(alloc: Global, command: (bool, u32, u32, &[u8])) -> Result<Message
     Ok(Message::Exec { domain, port, line })
 }
 
-/// Says a message, where the broker may. It tells whether it did.
+/// Sends a message, if the broker may send it. Returns whether it was sent.
 fn say(broker: &mut ControlPort, message: &Message) -> Result<bool, Fail>
     requires open { IsOpen broker.old.end }
     requires talker { broker.old.talker ≡ Broker }
@@ -50,7 +50,7 @@ fn say(broker: &mut ControlPort, message: &Message) -> Result<bool, Fail>
     Ok(true)
 }
 
-/// Says all commands.
+/// Sends all commands. Returns whether all were sent.
 fn say_all(alloc: Global, broker: &mut ControlPort) -> Result<bool, Fail>
     requires open { IsOpen broker.old.end }
     requires talker { broker.old.talker ≡ Broker }
@@ -65,7 +65,7 @@ fn say_all(alloc: Global, broker: &mut ControlPort) -> Result<bool, Fail>
     Ok(true)
 }
 
-/// Whether the ends of all commands are heard, in their order.
+/// Returns whether the ends of all commands are heard, in their order.
 fn hears_ends(broker: &mut ControlPort) -> Result<bool, Fail>
     requires { IsOpen broker.old.end }
 {
@@ -78,7 +78,7 @@ fn hears_ends(broker: &mut ControlPort) -> Result<bool, Fail>
     Ok(true)
 }
 
-/// Whether a message says that this session has ended.
+/// Returns whether a message reports that this session has ended.
 fn is_end(message: Option<Message>, domain: u32, port: u32) -> bool {
     match message {
         Some(
@@ -91,7 +91,7 @@ fn is_end(message: Option<Message>, domain: u32, port: u32) -> bool {
     }
 }
 
-/// The end of the broker of a page, which has greeted.
+/// Makes the broker's end of a page, which has greeted.
 fn broker_of(alloc: Global, page: &Page, client: IdleSeat) -> Result<ControlPort<'_>, Fail>
     requires { client ≡ record { page = page.now; role = Client } }
     ensures open { IfOk result (λ broker. IsOpen broker.end) }
@@ -103,7 +103,7 @@ fn broker_of(alloc: Global, page: &Page, client: IdleSeat) -> Result<ControlPort
     Ok(broker)
 }
 
-/// The agent of domain 1 at a page, with no calls and no data ends.
+/// Makes the agent of domain 1 at a page, with no calls and no data ends.
 fn agent_of(alloc: Global, page: &Page, server: IdleSeat) -> Result<AgentTask<'_>, Memory>
     requires { server ≡ record { page = page.now; role = Server } }
 {
@@ -111,7 +111,7 @@ fn agent_of(alloc: Global, page: &Page, server: IdleSeat) -> Result<AgentTask<'_
     AgentTask::new(alloc, 1, 3, Vec::new(alloc), control, Vec::new(alloc))
 }
 
-/// Whether an agent goes on after two turns.
+/// Returns whether an agent goes on after two turns.
 fn turns_twice(agent: AgentTask<'_>) -> bool {
     match agent.turn() {
         AgentTurn::Again(agent) => goes_on(agent),
@@ -120,7 +120,7 @@ fn turns_twice(agent: AgentTask<'_>) -> bool {
     }
 }
 
-/// Whether an agent goes on after a turn.
+/// Returns whether an agent goes on after a turn.
 fn goes_on(agent: AgentTask<'_>) -> bool {
     match agent.turn() {
         AgentTurn::Again(_agent) => true,

@@ -16,19 +16,19 @@ use std::test::Fail;
 use vchan_packet::SendAnswer;
 use vchan_rule::{End, IdleSeat, Page};
 
-/// The name of the domain that calls, as long as one may be, and of the one that is called.
+/// The name of the domain that calls, of the greatest length, and of the domain that is called.
 const CALLER: &[u8] = b"a-domain-of-thirty-one-letters-";
 
 const TARGET: &[u8] = b"vault";
 
-/// How many calls it asks for: as many as may be live from one domain to another.
+/// The number of calls that it requests: as many as may be live from one domain to another.
 const CALLS: u32 = 16;
 
-/// How many Execs have room until the target reads: a ring of 1,024 bytes has room for the greeting, which
-/// takes 12, and for 14 commands of 70 bytes each.
+/// The number of Execs for which there is room until the target reads. A ring of 1,024 bytes has room for the
+/// greeting, which takes 12, and for 14 commands of 70 bytes each.
 const WITH_ROOM: u32 = 14;
 
-/// A name of a domain.
+/// The name of a domain.
 fn name_of(alloc: Global, name: &[u8]) -> Result<Text, Fail>
     ensures { IfOk result (λ name. length name ≤ 31) }
 {
@@ -38,7 +38,7 @@ fn name_of(alloc: Global, name: &[u8]) -> Result<Text, Fail>
     Ok(Text::of(alloc, name)?)
 }
 
-/// The task of the broker of two domains, with its ends of their control pages.
+/// Makes the task of the broker of two domains, with its ends of their control pages.
 fn task_of<'p>(alloc: Global, first: End<'p>, second: End<'p>) -> Result<BrokerTask<'p>, Fail>
     requires first { IsNewClient first }
     requires second { IsNewClient second }
@@ -57,7 +57,7 @@ fn task_of<'p>(alloc: Global, first: End<'p>, second: End<'p>) -> Result<BrokerT
     Ok(BrokerTask::new(alloc, broker, awaited, controls)?)
 }
 
-/// The end of an agent of a page, which has greeted.
+/// Makes the agent's end of a page, which has greeted.
 fn agent_of(alloc: Global, page: &Page, server: IdleSeat) -> Result<ControlPort<'_>, Fail>
     requires { server ≡ record { page = page.now; role = Server } }
     ensures open { IfOk result (λ agent. IsOpen agent.end) }
@@ -79,7 +79,7 @@ fn trigger(alloc: Global) -> Result<Message, Fail>
     })
 }
 
-/// Asks for all calls. It tells whether all triggers were said.
+/// Requests all calls. Returns whether all triggers were sent.
 fn ask_all(alloc: Global, caller: &mut ControlPort) -> Result<bool, Fail>
     requires open { IsOpen caller.old.end }
     requires talker { caller.old.talker ≡ Agent }
@@ -94,7 +94,7 @@ fn ask_all(alloc: Global, caller: &mut ControlPort) -> Result<bool, Fail>
     Ok(true)
 }
 
-/// Says a message, where an agent may and it has room. It tells whether it did.
+/// Sends a message, if an agent may send it and there is room. Returns whether it was sent.
 fn say(agent: &mut ControlPort, message: &Message) -> Result<bool, Fail>
     requires open { IsOpen agent.old.end }
     requires talker { agent.old.talker ≡ Agent }
@@ -108,7 +108,7 @@ fn say(agent: &mut ControlPort, message: &Message) -> Result<bool, Fail>
     Ok(agent.say(message)? == SendAnswer::Sent)
 }
 
-/// Whether just so many Connects are heard now.
+/// Returns whether `count` Connects are heard now, and no more.
 fn hears_connects(caller: &mut ControlPort, count: u32) -> Result<bool, Fail>
     requires open { IsOpen caller.old.end }
     ensures open { IsOpen caller.new.end }
@@ -122,7 +122,7 @@ fn hears_connects(caller: &mut ControlPort, count: u32) -> Result<bool, Fail>
     Ok(!hears_connect(caller)?)
 }
 
-/// Whether the next message is a Connect.
+/// Returns whether the next message is a Connect.
 fn hears_connect(caller: &mut ControlPort) -> Result<bool, Fail>
     ensures { caller.new.end ≡ caller.old.end }
 {
@@ -132,12 +132,12 @@ fn hears_connect(caller: &mut ControlPort) -> Result<bool, Fail>
     Ok(matches!(caller.next()?, Some(Message::Connect { .. })))
 }
 
-/// The task after two turns, so that in the second one each domain hears what came of the first.
+/// Returns the task after two turns, so that in the second one each domain hears what came of the first.
 fn turned_twice(task: BrokerTask<'_>) -> Option<BrokerTask<'_>> {
     turned(turned(task)?)
 }
 
-/// The task after a turn, where it wants another.
+/// Returns the task after a turn, if it wants another.
 fn turned(task: BrokerTask<'_>) -> Option<BrokerTask<'_>> {
     match task.turn() {
         BrokerTurn::Again(task) => Some(task),
@@ -146,8 +146,8 @@ fn turned(task: BrokerTask<'_>) -> Option<BrokerTask<'_>> {
     }
 }
 
-/// Whether the caller hears the Connects of the calls whose Exec has gone, and no others until the target
-/// has read.
+/// Returns whether the caller hears the Connects of the calls whose Exec was sent, and no others until the
+/// target has read.
 fn holds_back(
     task: BrokerTask<'_>,
     caller: &mut ControlPort,

@@ -3,32 +3,32 @@ use service_gate::Gate;
 use std::sync::atomic::{AtomicU64, Ordering};
 use std::thread;
 
-/// How often the gate is looked at while nothing changes, before the task that it waits for counts as done.
+/// How often a waiting task looks at an unchanged gate before the task that has the next turn counts as done.
 const PATIENCE: u32 = 20_000;
 
-/// How often a task looks at the gate at most.
+/// The most looks at the gate for one turn.
 const MOST_LOOKS: u32 = 100_000_000;
 
-/// Lets tasks in by the order of their places, over and over, each only once the turn before is
-/// over. A turn is over when its task comes again, so each task needs a worker of its own, and there are
-/// at most 64. Behind the first round the turn of a task that doesn't come for long is left out, and so
-/// are its later ones until it comes.
+/// Lets tasks in by the order of their places, over and over, each only when the turn before is over. A turn
+/// is over when its task comes again, so each task needs a worker of its own, and there are at most 64. After
+/// the first round, the turn of a task that doesn't come for long is left out, and so are its later turns
+/// until it comes.
 #[derive(Drop)]
 pub struct InOrder {
     order: &'static [u32],
-    // Twice the number of the turns that were let in before, and one more while the next one goes on.
+    // Twice the number of the turns that are over, and one more while the next one goes on.
     turns: AtomicU64,
-    // A bit for each task that wasn't waited for any longer and hasn't come since.
+    // A bit for each task that is no longer waited for and hasn't come since.
     away: AtomicU64,
 }
 
-/// The bit of a task.
+/// Returns the bit of a task.
 fn bit(task: u32) -> u64 {
     1u64.rotate_left(task)
 }
 
 impl InOrder {
-    /// The gate of an order of places.
+    /// Makes the gate of an order of places.
     pub fn of(order: &'static [u32]) -> InOrder {
         InOrder {
             order,
@@ -37,26 +37,26 @@ impl InOrder {
         }
     }
 
-    /// The task that is let in next, or is in.
+    /// Returns the task that is let in next, or is in.
     fn task_at(&self, turns: u64) -> Option<u32> {
         let length = self.order.len().max(1) as u64;
         self.order.get((turns / 2 % length) as usize).copied()
     }
 
-    /// Whether the task isn't waited for whose turn it is.
+    /// Returns whether the task that has this turn is no longer waited for.
     fn is_away(&self, turns: u64) -> bool {
         let away = self.away.load(Ordering::SeqCst);
         self.task_at(turns)
             .is_some_and(|task| away & bit(task) != 0)
     }
 
-    /// Whether a turn may be left out. None of the first round may: no task is done then, and a worker may
-    /// start late.
+    /// Returns whether a turn may be left out. No turn of the first round may: no task is done then, and a
+    /// worker may start late.
     fn may_leave_out(&self, turns: u64) -> bool {
         turns / 2 >= self.order.len() as u64
     }
 
-    /// Goes on to the turn behind, where nothing has changed since.
+    /// Goes on to the next turn, if nothing has changed since.
     fn pass(&self, turns: u64) {
         let next = (turns | 1).wrapping_add(1);
         let _ = self
@@ -72,7 +72,7 @@ impl InOrder {
         self.pass(turns);
     }
 
-    /// Lets the task in if it is its turn. It tells whether it is in.
+    /// Lets the task in if it is its turn. Returns whether it is in.
     fn lets_in(&self, task: u32, turns: u64) -> bool {
         turns % 2 == 0
             && self.task_at(turns) == Some(task)

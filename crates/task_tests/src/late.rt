@@ -3,10 +3,11 @@ use service_gate::Gate;
 use std::sync::atomic::{AtomicU64, Ordering};
 use std::thread;
 
-/// How often the task that comes late looks at the gate at most.
+/// The most looks at the gate by the task that comes late.
 const MOST_LOOKS: u32 = 100_000_000;
 
-/// Lets each turn of a task in only once the others have made so many. The task needs a worker of its own.
+/// Lets each turn of a task in only after the others have made `wanted` turns. The task needs a worker of its
+/// own.
 #[derive(Drop)]
 pub struct Late {
     task: u32,
@@ -15,7 +16,7 @@ pub struct Late {
 }
 
 impl Late {
-    /// The gate of a task, by its place, that waits for so many turns of the others.
+    /// Makes the gate of a task, by its place, that waits for `wanted` turns of the others.
     pub fn of(task: u32, wanted: u64) -> Late {
         Late {
             task,

@@ -1,7 +1,7 @@
 //! What the tasks of a run do together in stated orders of turns, as tests.
 //!
-//! Contracts say what each task owes whatever the order, and not that a run comes to its end: here some do.
-//! Runs against hostile domains with one worker are played through the whole program.
+//! Contracts state what each task owes whatever the order, and not that a run ends: some runs of these tests
+//! do end. Runs against hostile domains with one worker are played through the whole program.
 #![tactic(auto)]
 
 #[cfg(test)]

@@ -31,17 +31,18 @@ domain = [{name = "work"}, {name = "evil", hostile = ["poke control left_order 9
 call = [{from = "work", to = "evil", service = "echo"}]
 "#;
 
-/// As many workers as each of these runs has tasks.
+/// The number of workers, one for each task of these runs.
 const WORKERS: u32 = 3;
 
-/// A scenario, the places of its tasks as they take turns, the broker's being 0, and its report.
+/// A scenario, the places of its tasks as they take turns, with 0 for the broker, and its report.
 type Row = (&'static str, &'static [u32], &'static str);
 
 const ROWS: [Row; 5] = [
     (EACH_WAY, &[0, 1, 2], EACH_WAY_LINES),
     (EACH_WAY, &[2, 1, 0], EACH_WAY_LINES),
     (EACH_WAY, &[1, 1, 1, 0, 2, 0, 2], EACH_WAY_LINES),
-    // The broker has connected before the orders are spoilt, and finds it before.
+    // In the first row the broker has connected before the orders are spoilt; in the second it finds them
+    // spoilt.
     (
         BAD_ORDERS,
         &[0, 1, 2],
@@ -54,7 +55,7 @@ const ROWS: [Row; 5] = [
     ),
 ];
 
-/// The text of the report of a scenario whose tasks this gate lets in.
+/// Returns the text of the report of a scenario whose tasks this gate lets in.
 fn told<G: Gate, R: Threads + Wait + Sync + AllocGlobal>(
     rt: &R,
     file: &[u8],
@@ -81,10 +82,10 @@ fn runs_end_as_they_should_in_stated_orders(rt: HostRuntime) -> Result<(), Fail>
     check_rows(&rt, &ROWS)
 }
 
-/// How many calls wait for the domain that comes late: more than fill its outbox at the broker.
+/// The number of calls that wait for the domain that comes late: more than fill its outbox at the broker.
 const CALLS: u32 = 100;
 
-/// A scenario of two domains, the first of which calls the second so often, and its report.
+/// Makes a scenario of two domains, the first of which calls the second `CALLS` times, and its report.
 fn calls_to_one(alloc: Global) -> Result<(Vec<u8>, Vec<u8>), Fail> {
     let mut file = Vec::from_slice(alloc, b"domain = [{name = \"work\"}, {name = \"vault\"}]\n")?;
     let mut lines = Vec::new(alloc);

@@ -1,4 +1,4 @@
-//! The events that a broker is told, and the broker of 32 domains.
+//! The events of the bench, and the broker of 32 domains.
 ghost use Rattle.std.specs.Prelude.{◌≡◌, IfOk, All, vec_len};
 ghost use Rattle.call_broker.specs.Domains.{count_of};
 
@@ -7,23 +7,23 @@ use call_broker::{Broker, DomainEntry, Event};
 use qrexec_frame::Text;
 use std::alloc::Global;
 
-/// How many domains there are.
+/// The number of domains.
 pub const DOMAINS: u32 = 32;
 
-/// How many pages are laid for each ordered pair: as many as may be.
+/// The number of pages for each ordered pair: as many as are allowed.
 const PAGES: u32 = 65_536;
 
 fn text_of(alloc: Global, text: &str) -> Result<Text> {
     Ok(Text::of(alloc, text.as_bytes())?)
 }
 
-/// The name of a domain.
+/// Returns the name of a domain.
 fn name_of(alloc: Global, domain: u32) -> Result<Text> {
     let name = format!(in alloc; "domain-{domain}")?;
     text_of(alloc, name.as_str())
 }
 
-/// The broker of all domains, before any event.
+/// Makes the broker of all domains, before any event.
 pub fn broker_of(alloc: Global) -> Result<Broker>
     ensures { IfOk result (λ broker. count_of broker.hub ≡ 32) }
 {
@@ -43,8 +43,8 @@ pub fn broker_of(alloc: Global) -> Result<Broker>
     Ok(broker)
 }
 
-/// The event of this number: of each three the first asks for a call of the next ordered pair, the
-/// second is a stranger's Terminated for it, and the third ends it.
+/// Returns the event with this number. Of each three events, the first requests a call of the next ordered
+/// pair, the second is a stranger's Terminated for it, and the third ends it.
 pub fn event_at(alloc: Global, number: u32) -> Result<Event> {
     let call = number / 3;
     let pair = call % (DOMAINS * (DOMAINS - 1));

@@ -1,4 +1,4 @@
-//! Telling a broker its events.
+//! Giving a broker its events.
 ghost use Rattle.std.specs.Prelude.{◌≡◌, true};
 ghost use Rattle.call_broker.specs.Domains.{Domains, count_of, is_domain};
 ghost use Rattle.call_broker.specs.Journal.{IsNumbered};
@@ -10,15 +10,15 @@ use call_broker::{Broker, Decision, Event};
 /// What came of some events.
 #[derive(Clone, Copy)]
 pub struct Tally {
-    /// How many calls were accepted.
+    /// The number of calls that were accepted.
     pub accepted: u32,
-    /// How many calls ended.
+    /// The number of calls that ended.
     pub ended: u32,
-    /// How many events came to anything else.
+    /// The number of events with any other result.
     pub other: u32,
 }
 
-/// The domain that an event is of.
+/// Returns the domain from which an event comes.
 fn sender(event: &Event) -> u32
     ensures { (hub : Domains) → is_domain hub result ≡ true → IsNumbered hub event.now }
 {
@@ -43,7 +43,7 @@ fn tell(broker: &mut Broker, event: Event) -> Result<Decision>
     Ok(decision)
 }
 
-/// Tells the broker all events, in order.
+/// Gives the broker all events, in order, and counts what came of them.
 pub fn tell_all(broker: &mut Broker, events: Vec<Event>) -> Result<Tally>
     requires { count_of broker.old.hub ≡ 32 }
 {

@@ -38,7 +38,7 @@ impl PoolTask for Mixer {
     }
 }
 
-/// The number mixed with three shifts of itself.
+/// Mixes a number with three shifts of itself.
 fn stir(number: u64) -> u64
     ensures { result ≡ stirred number }
 {

@@ -11,7 +11,7 @@ use std::thread::Threads;
 use task_pool::{PoolTask, Turn, run_pool};
 use vchan_io::Memory;
 
-/// So many tasks of so many turns, each of so many steps.
+/// Makes `tasks` tasks of `turns` turns, each turn of `steps` steps.
 pub fn mixers(alloc: Global, tasks: u32, turns: u32, steps: u32) -> Result<Vec<Mixer>, AllocError>
     requires { 0 < turns }
     ensures { IfOk result (λ v. vec_len v ≡ tasks) }
@@ -27,7 +27,7 @@ pub fn mixers(alloc: Global, tasks: u32, turns: u32, steps: u32) -> Result<Vec<M
     Ok(load)
 }
 
-/// The numbers that the tasks owe, made by one plain loop over all turns and added up in 64 bits.
+/// Returns the sum of the numbers that the tasks owe, in 64 bits. One plain loop makes all turns.
 pub fn by_loop(tasks: Vec<Mixer>) -> u64
     ensures { result ≡ sum_by owed tasks.items % 2 ^ 64 }
 {
@@ -38,7 +38,7 @@ pub fn by_loop(tasks: Vec<Mixer>) -> u64
     sum
 }
 
-/// The number that a task owes, by all its turns.
+/// Makes all turns of a task and returns the number that it owes.
 fn last_turn(task: Mixer) -> u64
     ensures { result ≡ owed task }
 {
@@ -51,7 +51,8 @@ fn last_turn(task: Mixer) -> u64
     }
 }
 
-/// What each task gives, by a pool with so many workers: the number that it owes.
+/// Returns the numbers that the tasks give, each the number that its task owes. A pool of `workers` workers
+/// makes all turns.
 pub fn by_pool<R: Threads + Wait + Sync>(
     rt: &R,
     alloc: Global,
@@ -66,7 +67,7 @@ pub fn by_pool<R: Threads + Wait + Sync>(
     run_pool(rt, alloc, tasks, workers, &OpenGate)
 }
 
-/// The sum in 64 bits. Of what [`by_pool`] gives it is that of [`by_loop`].
+/// Returns the sum of numbers in 64 bits. For the numbers of [`by_pool`] it is the sum of [`by_loop`].
 pub fn added(numbers: &[u64]) -> u64
     ensures { result ≡ sum numbers.now % 2 ^ 64 }
 {

@@ -7,7 +7,7 @@ use std::thread;
 use vchan_rule::End;
 use vchan_stream::{ReadAnswer, WriteAnswer, read, write};
 
-/// Makes so many writes, and answers how many bytes they sent.
+/// Makes `calls` writes, and returns how many bytes they sent.
 pub fn fill(end: &mut End<'_>, data: &[u8], calls: u32) -> u64
     requires { IsOpen end.old }
     ensures { IsOpen end.new × IsSameEnd end.old end.new }
@@ -21,7 +21,7 @@ pub fn fill(end: &mut End<'_>, data: &[u8], calls: u32) -> u64
     sent
 }
 
-/// Makes so many reads, and answers how many bytes they got.
+/// Makes `calls` reads, and returns how many bytes they got.
 pub fn empty(end: &mut End<'_>, buf: &mut [u8], calls: u32) -> u64
     requires { IsOpen end.old }
     ensures { IsOpen end.new × IsSameEnd end.old end.new }
@@ -35,7 +35,7 @@ pub fn empty(end: &mut End<'_>, buf: &mut [u8], calls: u32) -> u64
     got
 }
 
-/// Writes until so many pieces are sent whole, or the peer is shut.
+/// Writes until `pieces` pieces are sent whole, or the peer is shut.
 pub fn pour(end: &mut End<'_>, piece: &[u8], pieces: u32)
     requires { IsOpen end.old }
     ensures { IsOpen end.new × IsSameEnd end.old end.new }
@@ -58,7 +58,7 @@ pub fn pour(end: &mut End<'_>, piece: &[u8], pieces: u32)
     }
 }
 
-/// Reads until so many bytes are got, or the peer is shut, and answers how many came.
+/// Reads until `total` bytes are got, or the peer is shut, and returns how many came.
 pub fn receive(end: &mut End<'_>, buf: &mut [u8], total: u64) -> u64
     requires { IsOpen end.old }
     ensures { IsOpen end.new × IsSameEnd end.old end.new }

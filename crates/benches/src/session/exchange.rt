@@ -6,8 +6,8 @@ use service_gate::Builtin;
 use std::alloc::Global;
 use vchan_io::Memory;
 
-/// Passes a call of a service with this input to its end, in pieces of at most `most` bytes, and answers
-/// how many bytes of output the caller got.
+/// Passes a call of a service with this input to its end, in pieces of at most `most` bytes. Returns how many
+/// bytes of output the caller got.
 pub(crate) fn exchange(
     alloc: Global,
     service: Builtin,
@@ -26,7 +26,7 @@ pub(crate) fn exchange(
     Ok(caller.stdout().len())
 }
 
-// What the caller sends goes over, at most so many bytes.
+// Passes what the caller sends to the service, at most `most` bytes.
 fn pass_on(
     caller: &mut Caller,
     serving: &mut Serving<Builtin>,
@@ -39,7 +39,7 @@ fn pass_on(
     Ok(count)
 }
 
-// What the service sends goes back, at most so many bytes.
+// Passes what the service sends back, at most `most` bytes.
 fn pass_back(
     caller: &mut Caller,
     serving: &mut Serving<Builtin>,

@@ -7,23 +7,23 @@ use std::time::CpuClock;
 /// The place of the task whose turns are timed.
 const TIMED_TASK: u32 = 1;
 
-/// The times of turns, each by the processor time of the one worker.
+/// The times of turns, each in processor time of the one worker.
 #[derive(Drop)]
 pub struct Times {
-    // The numbers of the first turn that is timed, and of the first one behind those.
+    // The numbers of the first turn that is timed, and of the first turn after the timed ones.
     first: u64,
     behind: u64,
     // How many turns have begun.
     turns: AtomicU64,
-    // When the turn under way began, in nanoseconds; 0 where it isn't timed.
+    // When the turn under way began, in nanoseconds, or 0 if it isn't timed.
     began: AtomicU64,
-    // The nanoseconds of the turns that were timed, and how many these are.
+    // The nanoseconds of the timed turns, and how many these are.
     nanos: AtomicU64,
     timed: AtomicU64,
 }
 
 impl Times {
-    /// Of so many turns behind the first ones.
+    /// Makes the times of `timed` turns after the first `warm_up` ones.
     pub fn new(warm_up: u32, timed: u32) -> Times {
         Times {
             first: u64::from(warm_up),
@@ -35,7 +35,7 @@ impl Times {
         }
     }
 
-    /// The average of the times, in nanoseconds.
+    /// Returns the average of the times, in nanoseconds.
     pub fn average(&self) -> Result<u64> {
         let timed = self.timed.load(Ordering::SeqCst);
         if timed != self.behind.saturating_sub(self.first) {
@@ -47,7 +47,7 @@ impl Times {
         }
     }
 
-    /// A turn begins now.
+    /// Notes that a turn begins now.
     fn begin_turn(&self, now: u64) {
         let before = self.turns.fetch_add(1, Ordering::SeqCst);
         if self.first <= before && before < self.behind {
@@ -67,16 +67,16 @@ impl Times {
     }
 }
 
-/// Times the turns of the task at place 1 of a pool with one worker, each up to the turn behind it.
+/// Times the turns of the task at place 1 of a pool with one worker, each until the next turn begins.
 #[derive(Drop)]
 pub struct Stopwatch<'r, R: CpuClock + Sync> {
-    /// Whose clock it is.
+    /// The clock of the worker's thread.
     pub clock: &'r R,
     /// The times so far.
     pub times: Times,
 }
 
-/// How long this thread has been on a processor, in nanoseconds.
+/// Returns how long this thread has been on a processor, in nanoseconds.
 fn now<R: CpuClock>(clock: &R) -> Option<u64> {
     let time = clock.thread_cpu_time().ok()?;
     u64::try_from(time.as_nanos()).ok()
