@@ -84,7 +84,7 @@ separated p bytes word rest x (inr (separator, rest', at, is)) behind =
     let same : separator ≡ x = first_byte separator x rest' rest (sym (drop-append_seam word (separator ∷ rest')) ∙ ap (drop (length word)) (sym is) ∙ behind) in
     subst (λ (b : ℕ). p b ≡ true) same at
 
--- nor do bytes with that front and no separator behind it
+-- nor do bytes with that front and no separator after it
 pub goes_on : (p : ℕ → Bool) (bytes word rest : List ℕ) (x : ℕ) → drop (length word) bytes ≡ x ∷ rest → p x ≡ false → IsNotFirst word (slice_split p bytes)
 goes_on p bytes word rest x behind other =
     not_first p bytes word (λ there. false≢true (sym other ∙ separated p bytes word rest x there behind)) (slice_split p bytes) refl
@@ -93,12 +93,12 @@ rebuilt : (bytes word behind : List ℕ) → bytes_eq (take (length word) bytes)
 rebuilt bytes word behind same is =
     ap (λ (l : List ℕ). l ++ behind) (sym ((bytes_eq-Decides (take (length word) bytes) word).0 same)) ∙ ap (λ (l : List ℕ). take (length word) bytes ++ l) is ∙ take-append-drop (length word) bytes
 
--- a front with nothing behind it is the only word
+-- a front with nothing after it is the only word
 pub only_word : (p : ℕ → Bool) (bytes word behind : List ℕ) → list_any p word ≡ false → bytes_eq (take (length word) bytes) word ≡ true → behind ≡ drop (length word) bytes → behind ≡ [] → slice_split p bytes ≡ word ∷ []
 only_word p bytes word behind none same is end =
     ap (slice_split p) (sym (rebuilt bytes word behind same is) ∙ ap (λ (l : List ℕ). word ++ l) end ∙ append-nil word) ∙ word_alone p word none
 
--- a front with a separator behind it is the first word
+-- a front with a separator after it is the first word
 pub first_word : (p : ℕ → Bool) (bytes word behind rest : List ℕ) (separator : ℕ) → list_any p word ≡ false → bytes_eq (take (length word) bytes) word ≡ true → behind ≡ drop (length word) bytes → behind ≡ separator ∷ rest → p separator ≡ true →
     slice_split p bytes ≡ word ∷ slice_split p rest
 first_word p bytes word behind rest separator none same is cut at =

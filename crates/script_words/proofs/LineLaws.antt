@@ -18,7 +18,7 @@ unfolding kept_lines
 kept_refused number texts text more cut past =
     let over : ltb 65536 number ≡ true = grind (arith, nat_tests) in ap (kept_lines number) cut ∙ rw over refl
 
--- a line that is passed over
+-- a line that is skipped
 pub kept_passed : (number : ℕ) (texts : List (List ℕ)) (text : List ℕ) (more : List (List ℕ)) → texts ≡ text ∷ more → number ≤ 65536 → is_passed_over text ≡ true → kept_lines number texts ≡ kept_lines (number + 1) more
 unfolding kept_lines
 kept_passed number texts text more cut few passed =

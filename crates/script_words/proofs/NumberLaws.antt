@@ -36,14 +36,14 @@ all_ascii_digits-more (b ∷ bs) (suc i) within all digit =
     both (is_ascii_digit b) (all_ascii_digits (take (suc i) bs)) (first_of_both (is_ascii_digit b) (all_ascii_digits (take i bs)) all)
     (all_ascii_digits-more bs i (omega arith) (second_of_both (is_ascii_digit b) (all_ascii_digits (take i bs)) all) digit)
 
--- one byte that is no digit
+-- one byte that isn't a digit
 pub all_ascii_digits-not : (bs : List ℕ) (i : ℕ) → i < length bs → is_ascii_digit (get_or bs i 0) ≡ false → all_ascii_digits bs ≡ false
 all_ascii_digits-not [] i within digit = absurd (omega arith)
 all_ascii_digits-not (b ∷ bs) zero within digit = not_first (is_ascii_digit b) (all_ascii_digits bs) digit
 all_ascii_digits-not (b ∷ bs) (suc i) within digit =
     not_second (is_ascii_digit b) (all_ascii_digits bs) (all_ascii_digits-not bs i (omega arith) digit)
 
--- a word with a byte that is no digit is no number
+-- a word with a byte that isn't a digit isn't a number
 pub number_of-not_digit : (most : ℕ) (word : List ℕ) (i : ℕ) → i < length word → is_ascii_digit (get_or word i 0) ≡ false → None ≡ number_of most word
 number_of-not_digit most word i within digit = rw (all_ascii_digits-not word i within digit) refl
 

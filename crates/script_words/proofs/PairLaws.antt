@@ -16,7 +16,7 @@ abbrev pub behind : List ℕ → Option (List ℕ) → Option (List ℕ)
 behind front None = None
 behind front (Some rest) = Some (front ++ rest)
 
--- what the pairs are known to be after some of them: as long as no byte was found that is no digit, the bytes so far stand before those of the pairs that are left
+-- what the pairs are known to be after some of them: as long as no byte was found that isn't a digit, the bytes so far stand before those of the pairs that are left
 pub record Reads (digits out : List ℕ) (i greatest : ℕ) : Type 0 where
   pub good : greatest < 16 → bytes_of_pairs digits ≡ behind (take i out) (bytes_of_pairs (drop (2 * i) digits))
   pub bad : 16 ≤ greatest → bytes_of_pairs digits ≡ None
@@ -76,7 +76,7 @@ none_behind (Some h) = refl
 no_byte_low : (high low : ℕ) → 16 ≤ unwrap_or (hex_digit_value low) 16 → byte_of high low ≡ None
 no_byte_low high low above = rw (no_value low above) (none_behind (hex_digit_value high))
 
--- at a pair that is no byte there is none of all pairs
+-- at a pair that isn't a byte there is none of all pairs
 reads_none : (digits out : List ℕ) (i : ℕ) → 2 * i + 1 < length digits → byte_of (get_or digits (2 * i) 0) (get_or digits (2 * i + 1) 0) ≡ None → bytes_of_pairs digits ≡ behind (take i out) (bytes_of_pairs (drop (2 * i) digits)) → bytes_of_pairs digits ≡ None
 reads_none digits out i within none so_far =
     so_far ∙ ap (behind (take i out)) (ap bytes_of_pairs (drop-pair digits i within) ∙ pairs-none (get_or digits (2 * i) 0) (get_or digits (2 * i + 1) 0) (drop (2 * (i + 1)) digits) none)
@@ -146,7 +146,7 @@ one_more : (byte : ℕ) (o : Option (List ℕ)) → is_some (o >>= (λ bytes. So
 one_more byte None = refl
 one_more byte (Some bytes) = refl
 
--- behind a pair that is a byte, all are pairs where the rest are
+-- after a pair that is a byte, all are pairs if the rest are
 pub pairs_further : (digits : List ℕ) (i high low : ℕ) → 2 * i + 1 < length digits → high ≡ unwrap_or (hex_digit_value (get_or digits (2 * i) 0)) 16 → low ≡ unwrap_or (hex_digit_value (get_or digits (2 * i + 1) 0)) 16 → ¬ (high ≡ 16) → ¬ (low ≡ 16) →
     is_some (bytes_of_pairs (drop (2 * i) digits)) ≡ is_some (bytes_of_pairs (drop (2 * (i + 1)) digits))
 pairs_further digits i high low within high_is low_is good also =
@@ -158,7 +158,7 @@ pairs_further digits i high low within high_is low_is good also =
     ∙ ap (is_some {T = List ℕ}) (pairs-byte (get_or digits (2 * i) 0) (get_or digits (2 * i + 1) 0) (high * 16 + low) rest byte)
     ∙ one_more (high * 16 + low) (bytes_of_pairs rest)
 
--- a pair with a byte that is no digit is no byte
+-- a pair with a byte that isn't a digit isn't a byte
 pub pairs_fail : (digits : List ℕ) (i high low : ℕ) → 2 * i + 1 < length digits → high ≡ unwrap_or (hex_digit_value (get_or digits (2 * i) 0)) 16 → low ≡ unwrap_or (hex_digit_value (get_or digits (2 * i + 1) 0)) 16 → (high ≡ 16) ⊎ (low ≡ 16) →
     is_some (bytes_of_pairs (drop (2 * i) digits)) ≡ false
 pairs_fail digits i high low within high_is low_is bad =

@@ -41,7 +41,7 @@ missing at count is = grind (arith)
 pub tail_whole : (k : ℕ) (xs : List ℕ) → take (length xs - k) (drop k xs) ≡ drop k xs
 tail_whole k xs = ap (λ n. take n (drop k xs)) (sym (length-drop k xs)) ∙ take-length (drop k xs)
 
--- where the first separator lies at i, the first piece ends there
+-- if the first separator lies at i, the first piece ends there
 pub cut_found : (p : ℕ → Bool) (xs : List ℕ) (i : ℕ) → Some i ≡ position p xs → slice_split p xs ≡ take i xs ∷ slice_split p (take (length xs - (i + 1)) (drop (i + 1) xs))
 cut_found p xs i is =
     let found = found_at (position_or_len p xs) (length xs) i (sym is) in
@@ -53,7 +53,7 @@ cut_found p xs i is =
 pub cut_missing : (p : ℕ → Bool) (xs : List ℕ) → None ≡ position p xs → slice_split p xs ≡ xs ∷ []
 cut_missing p xs is = uncut p xs (missing (position_or_len p xs) (length xs) (sym is))
 
--- a piece with a separator behind it is not the only one
+-- a piece with a separator after it is not the only one
 not_only : (piece : List ℕ) (more : List (List ℕ)) → 0 < length more → only (piece ∷ more) ≡ None
 not_only piece [] some = absurd (omega arith)
 not_only piece (next ∷ more) some = refl
@@ -66,12 +66,12 @@ only_cut p xs i is =
 pub only_uncut : (p : ℕ → Bool) (xs : List ℕ) → None ≡ position p xs → only (slice_split p xs) ≡ Some xs
 only_uncut p xs is = rw (cut_missing p xs is) refl
 
--- what is left behind a line feed is not the end of that line
+-- what is left after a line feed is not the end of that line
 pub line_before : (line : List ℕ) (pieces : List (List ℕ)) → 0 < length pieces → without_empty_end (line ∷ pieces) ≡ line ∷ without_empty_end pieces
 line_before line [] some = absurd (omega arith)
 line_before line (next ∷ more) some = refl
 
--- bytes cut at their first line feed are that line and the lines behind it
+-- bytes cut at their first line feed are that line and the lines after it
 pub lines_of_cut : (bytes line rest : List ℕ) → slice_split (λ b. eqb b 10) bytes ≡ line ∷ slice_split (λ b. eqb b 10) rest → lines_of bytes ≡ line ∷ lines_of rest
 lines_of_cut bytes line rest cut =
     ap without_empty_end cut ∙ line_before line (slice_split (λ b. eqb b 10) rest) (omega (arith, length-slice_split (λ b. eqb b 10) rest))

@@ -1,4 +1,4 @@
--- The lines of a text that aren't passed over, and how many lines a text may have.
+-- The lines of a text that aren't skipped, and how many lines a text may have.
 -- Source: this project's own.
 use Rattle.std.specs.Prelude.{ℕ, ◌+◌, ◌==◌, nat_lt, Bool, true, List, [], ◌∷◌, if◌then◌else◌}
 
@@ -8,15 +8,15 @@ pub data Lines : Type 0 where
   stops : ℕ → Lines
   -- the line of this number is one too many
   refused : ℕ → Lines
-  -- a line, and those behind it
+  -- a line, and those after it
   line : ℕ → List ℕ → Lines → Lines
 
--- a line that is passed over: it has no byte, or begins with `#` (35)
+-- a line that is skipped: it has no byte, or begins with `#` (35)
 abbrev pub is_passed_over : List ℕ → Bool
 is_passed_over [] = true
 is_passed_over (byte ∷ rest) = byte == 35
 
--- the lines from this number on that aren't passed over, up to the 65,536th
+-- the lines from this number on that aren't skipped, up to the 65,536th
 unfoldable pub kept_lines : ℕ → List (List ℕ) → Lines
 kept_lines number [] = stops number
 kept_lines number (text ∷ more) =

@@ -7,7 +7,7 @@ use Rattle.script_words.specs.declared.lines.NextLine.{NextLine}
 use Rattle.script_words.specs.declared.lines.NextLine.TheVariants.{Line, End}
 use Rattle.script_words.specs.declared.lines.TooManyLines.{TooManyLines}
 
--- the lines behind those that were read
+-- the lines after those that were read
 abbrev pub lines_left : LineReader → Lines
 lines_left r = kept_lines (r.passed + 1) (lines_of r.rest.now)
 

@@ -7,7 +7,7 @@ use Rattle.std.specs.List.{slice_split}
 abbrev pub pieces : ℕ → List ℕ → List (List ℕ)
 pieces separator bytes = slice_split (λ b. b == separator) bytes
 
--- nothing stands behind the last line feed
+-- nothing stands after the last line feed
 abbrev pub without_empty_end : List (List ℕ) → List (List ℕ)
 without_empty_end [] = []
 without_empty_end (line ∷ []) = if length line == 0 then [] else line ∷ []
@@ -21,7 +21,7 @@ lines_of bytes = without_empty_end (pieces 10 bytes)
 abbrev pub words_of : List ℕ → List (List ℕ)
 words_of line = pieces 32 line
 
--- the one word, where there is just one
+-- the one word, if there is just one
 abbrev pub only : List (List ℕ) → Option (List ℕ)
 only [] = None
 only (word ∷ []) = Some word

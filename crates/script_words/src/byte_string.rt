@@ -7,34 +7,35 @@ use crate::number::parse_number;
 use std::alloc::{AllocError, Global};
 use thiserror::Error;
 
-/// The most times that a byte is repeated.
+/// The greatest number of times that a byte is repeated.
 const MOST_TIMES: u64 = 2_097_152;
 
-/// What stands for the value of a byte that is no digit.
+/// Stands for the value of a byte that isn't a digit.
 const NO_DIGIT: u8 = 16;
 
 /// Why a word gave no bytes.
 #[derive(Clone, Copy, Debug, PartialEq, Eq, Error)]
 pub enum ByteError {
-    /// The word is no byte string.
+    /// The word isn't a byte string.
     #[error("bad hex")]
     BadHex,
-    /// There was no memory for its bytes.
+    /// Memory ran out for its bytes.
     #[error("out of memory")]
     Memory,
 }
 
 /// Why the bytes of a word weren't appended.
-// It has no parts, so that a result with it is handed back without memory, a line of a stream at a time.
+// It has no parts, so that a result with it is returned without memory, as happens for each line of
+// a stream.
 #[derive(Clone, Copy, Debug, PartialEq, Eq, Error)]
 pub enum PushError {
-    /// The word is no byte string.
+    /// The word isn't a byte string.
     #[error("bad hex")]
     BadHex,
-    /// The word is a byte string of more bytes than may be.
+    /// The word is a byte string, but of more bytes than are allowed.
     #[error("too many bytes")]
     TooManyBytes,
-    /// There was no memory for its bytes.
+    /// Memory ran out for its bytes.
     #[error("out of memory")]
     Memory,
 }
@@ -49,13 +50,16 @@ impl From<AllocError> for PushError {
     }
 }
 
-/// The bytes of a byte string. That is `-` for none; or an even number of hexadecimal digits of
-/// either case, two at least; or `HH*N`, the byte HH repeated N times, N from 1 to 2,097,152 in
-/// decimal digits without a leading zero.
+/// Returns the bytes that a byte string spells.
+///
+/// A byte string is `-` for no bytes; or an even number of hexadecimal digits of either case, at
+/// least two; or `HH*N`, the byte HH repeated N times, with N from 1 to 2,097,152 in decimal digits
+/// without a leading zero.
 ///
 /// # Errors
 ///
-/// `BadHex` exactly where the word is no byte string, whatever memory there is; `Memory`.
+/// `BadHex` if and only if the word isn't a byte string, however much memory there is; `Memory` if
+/// memory runs out.
 pub fn bytes_of(alloc: Global, word: &[u8]) -> Result<Vec<u8>, ByteError>
     ensures ok { IfOk result (λ bytes. byte_string word.now ≡ Some bytes.items) }
     ensures bad { (result ≡ Err ByteError.BadHex) ↔ (byte_string word.now ≡ None) }
@@ -64,18 +68,19 @@ pub fn bytes_of(alloc: Global, word: &[u8]) -> Result<Vec<u8>, ByteError>
     match push_bytes(&mut bytes, word, usize::MAX) {
         Ok(()) => Ok(bytes),
         Err(PushError::BadHex) => Err(ByteError::BadHex),
-        // There is no memory for more bytes than a vector may have.
+        // More than `usize::MAX` bytes never fit in memory.
         Err(PushError::TooManyBytes | PushError::Memory) => Err(ByteError::Memory),
     }
 }
 
-/// Appends the bytes of a byte string, as `bytes_of` has them, to `out`, where there are at most
+/// Appends the bytes of a byte string, as `bytes_of` reads it, to `out`, if there are at most
 /// `most`.
 ///
 /// # Errors
 ///
-/// `BadHex` exactly where the word is no byte string, and `TooManyBytes` exactly where it is one of
-/// more than `most` bytes, whatever memory there is; `Memory`. `out` then has the bytes that it had.
+/// `BadHex` if and only if the word isn't a byte string, and `TooManyBytes` if and only if it is
+/// one of more than `most` bytes, however much memory there is; `Memory` if memory runs out. After
+/// an error `out` has the bytes that it had.
 pub fn push_bytes(out: &mut Vec<u8>, word: &[u8], most: usize) -> Result<(), PushError>
     ensures ok { OnOk result (Gains (at_most most (byte_string word.now)) out.old.items out.new.items) }
     ensures within { OnOk result (length out.new.items ≤ length out.old.items + most) }
@@ -150,8 +155,8 @@ fn push_pairs(out: &mut Vec<u8>, digits: &[u8], most: usize) -> Result<(), PushE
     }
 }
 
-/// Appends the byte of a single pair of digits, which needs no place made for it before. Streams that
-/// are captured byte by byte have no other words.
+/// Appends the byte of a single pair of digits, without making room for it first. Streams that are
+/// captured byte by byte have no other words.
 #[tactic(auto, unfolding(crate::specs::ByteStrings::bytes_of_pairs))]
 #[inline(always)]
 fn push_pair(out: &mut Vec<u8>, high: u8, low: u8, most: usize) -> Result<(), PushError>
@@ -171,7 +176,8 @@ fn push_pair(out: &mut Vec<u8>, high: u8, low: u8, most: usize) -> Result<(), Pu
     Ok(())
 }
 
-/// Why the bytes of these digits weren't appended: one of them is no digit, or else `why`.
+/// Returns why the bytes of these digits weren't appended: `BadHex` if one of them isn't a digit,
+/// else `why`.
 #[inline(never)]
 fn refusal_of(digits: &[u8], why: PushError) -> PushError
     requires { length digits.now % 2 ≡ 0 }
@@ -184,7 +190,7 @@ fn refusal_of(digits: &[u8], why: PushError) -> PushError
     }
 }
 
-/// Whether all of these are digits.
+/// Returns whether all of these are digits.
 fn are_pairs(digits: &[u8]) -> bool
     requires { length digits.now % 2 ≡ 0 }
     ensures { result ≡ is_some (bytes_of_pairs digits.now) }
@@ -199,11 +205,11 @@ fn are_pairs(digits: &[u8]) -> bool
     true
 }
 
-/// Writes the bytes of pairs of digits. It is false exactly where one of them is no digit, and then
-/// what was written has no meaning.
+/// Writes the bytes of pairs of digits. Returns false if and only if one of them isn't a digit;
+/// what was written has no meaning then.
 ///
-/// It looks at all digits before it answers, and takes no branch at one, so that several pairs can
-/// be done at once.
+/// It looks at all digits before it answers and doesn't branch on any of them, so that the
+/// processor can take several pairs at once.
 fn put_pairs(digits: &[u8], out: &mut [u8]) -> bool
     requires { length digits.now ≡ 2 * length out.old }
     ensures ok { result ≡ true → bytes_of_pairs digits.now ≡ Some out.new }
@@ -219,7 +225,7 @@ fn put_pairs(digits: &[u8], out: &mut [u8]) -> bool
     greatest < NO_DIGIT
 }
 
-/// The value of a hexadecimal digit of either case, or `NO_DIGIT`.
+/// Returns the value of a hexadecimal digit of either case, or `NO_DIGIT`.
 fn digit_value(digit: u8) -> u8
     ensures { result ≡ unwrap_or (hex_digit_value digit) NO_DIGIT }
 {

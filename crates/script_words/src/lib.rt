@@ -1,5 +1,5 @@
-//! The lines and words of the scripts of this project: cutting bytes into lines and lines into
-//! words, decimal numbers, and byte strings.
+//! The lines and words of this project's scripts: cutting bytes into lines and lines into words,
+//! decimal numbers, and byte strings.
 //!
 //! It serves every reader of a text of lines: step scripts, the pieces of a stream that is decoded,
 //! and lists of clients. All forms are this project's own.

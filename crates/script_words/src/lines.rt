@@ -1,25 +1,25 @@
-//! The lines of a text one after another, but for those that are passed over.
+//! The lines of a text one after another, without those that are skipped.
 ghost use Rattle.std.specs.Prelude.{◌≡◌, ◌≤◌};
 ghost use Rattle.script_words.specs.KeptLines.{is_passed_over};
 
 use crate::words::first_line;
 use thiserror::Error;
 
-/// The most lines that a text may have.
+/// The greatest number of lines that a text may have.
 pub const MOST_LINES: u32 = 65_536;
 
-/// A text has more than [`MOST_LINES`] lines.
+/// The error of a text with more than [`MOST_LINES`] lines.
 #[derive(Clone, Copy, Debug, PartialEq, Eq, Error)]
 #[error("line {line}: too many lines")]
 pub struct TooManyLines {
-    /// The number of the first line that is one too many.
+    /// The number of the first line that is too many.
     pub line: u32,
 }
 
-/// What comes next of the lines of a text.
+/// What comes next in a text: a line, or its end.
 #[derive(Clone, Copy, Debug, PartialEq, Eq)]
 pub enum NextLine<'a> {
-    /// A line, under its number.
+    /// A line, with its number.
     Line {
         /// Its number, from 1 on.
         number: u32,
@@ -33,8 +33,8 @@ pub enum NextLine<'a> {
     },
 }
 
-/// The lines of a text that aren't read yet. An empty line and one that begins with `#` are passed
-/// over, but counted.
+/// The lines of a text that haven't been read yet. An empty line and one that begins with `#` are
+/// skipped, but counted.
 #[derive(Clone, Copy)]
 pub struct LineReader<'a> {
     rest: &'a [u8],
@@ -48,7 +48,7 @@ impl<'a> LineReader<'a> {
     ghost use Rattle.script_words.specs.LinesLeft.{lines_left, IsNext};
     ghost use Rattle.script_words.specs.Words.{lines_of};
 
-    /// All lines of these bytes.
+    /// Begins at the first line of these bytes.
     pub fn of(bytes: &'a [u8]) -> LineReader<'a>
         ensures { lines_left result ≡ kept_lines 1 (lines_of bytes.now) }
     {
@@ -58,11 +58,11 @@ impl<'a> LineReader<'a> {
         }
     }
 
-    /// The next line that isn't passed over.
+    /// Returns the next line that isn't skipped.
     ///
     /// # Errors
     ///
-    /// [`TooManyLines`] exactly where that line, or one before it, is the 65,537th.
+    /// [`TooManyLines`] if and only if that line, or one before it, is the 65,537th.
     pub fn next(&mut self) -> Result<NextLine<'a>, TooManyLines>
         ensures { IsNext result (lines_left self.old) (lines_left self.new) }
     {
@@ -87,7 +87,7 @@ impl<'a> LineReader<'a> {
     }
 }
 
-/// Whether a line is passed over: it is empty, or begins with `#`.
+/// Returns whether a line is skipped: it is empty, or begins with `#`.
 fn is_passed_over(line: &[u8]) -> bool
     ensures { result ≡ is_passed_over line.now }
 {

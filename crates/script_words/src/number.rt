@@ -3,8 +3,8 @@ ghost use Rattle.std.specs.Prelude.{◌≡◌, ◌+◌, ◌*◌, ◌≤◌, ◌^
 ghost use Rattle.std.specs.Str.{all_ascii_digits};
 ghost use Rattle.script_words.specs.Numbers.{is_number, number_of};
 
-/// The number of a word of decimal digits without a leading zero, or of `0`, where it is at most
-/// `most`. It is `None` exactly where the word is no such number.
+/// Returns the number that a word spells, if it is at most `most`. The word is `0`, or decimal
+/// digits without a leading zero. Returns `None` if and only if it is no such word or number.
 pub fn parse_number(word: &[u8], most: u64) -> Option<u64>
     ensures { result ≡ number_of most word.now }
 {
@@ -27,21 +27,21 @@ pub fn parse_number(word: &[u8], most: u64) -> Option<u64>
     Some(value)
 }
 
-/// The number with one digit more behind it, where it has 64 bits.
+/// Returns the number with one more digit at its end, if it fits in 64 bits.
 fn longer_by(value: u64, digit: u8) -> Option<u64>
     ensures { MatchOption result (2 ^ 64 ≤ value * 10 + digit) (λ longer. longer ≡ value * 10 + digit) }
 {
     value.checked_mul(10)?.checked_add(u64::from(digit))
 }
 
-/// Whether a word is decimal digits without a leading zero, or `0`.
+/// Returns whether a word is decimal digits without a leading zero, or `0`.
 pub fn is_number(word: &[u8]) -> bool
     ensures { result ≡ is_number word.now }
 {
     are_digits(word) && !word.is_empty() && (word.len() == 1 || word[0] != b'0')
 }
 
-/// Whether all bytes are decimal digits.
+/// Returns whether all bytes are decimal digits.
 fn are_digits(word: &[u8]) -> bool
     ensures { result ≡ all_ascii_digits word.now }
 {

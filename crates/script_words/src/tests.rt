@@ -11,7 +11,7 @@ const SPELLED: [(&[u8], &[u8]); 6] = [
     (b"FF*3", b"\xff\xff\xff"),
 ];
 
-/// Words that are no byte strings.
+/// Words that aren't byte strings.
 const REFUSED: [&[u8]; 12] = [
     b"",
     b"--",

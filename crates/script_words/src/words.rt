@@ -5,10 +5,10 @@ ghost use Rattle.script_words.specs.Words.{lines_of, pieces};
 
 use memchr::memchr;
 
-/// From so many bytes on, a byte is searched for among many at once.
+/// From this many bytes on, the search looks at many bytes at once.
 const MANY: usize = 32;
 
-/// The bytes before the first separator, and those behind it where there is one.
+/// Returns the bytes before the first separator, and those after it if there is one.
 #[tactic(auto, using(crate::proofs::WordLaws::cut_found, crate::proofs::WordLaws::cut_missing))]
 pub fn cut_at(bytes: &[u8], separator: u8) -> (&[u8], Option<&[u8]>)
     ensures pieces { MatchOption result.1 (pieces separator bytes.now ≡ result.0.now ∷ [])
@@ -22,7 +22,7 @@ pub fn cut_at(bytes: &[u8], separator: u8) -> (&[u8], Option<&[u8]>)
     }
 }
 
-/// The first line and the bytes behind it. It is `None` exactly where there are no bytes.
+/// Returns the first line and the bytes after it, or `None` if and only if there are no bytes.
 #[tactic(auto, using(crate::proofs::WordLaws::lines_of_cut, crate::proofs::WordLaws::lines_of_uncut))]
 pub fn first_line(bytes: &[u8]) -> Option<(&[u8], &[u8])>
     ensures lines { MatchOption result (lines_of bytes.now ≡ [])
@@ -39,10 +39,10 @@ pub fn first_line(bytes: &[u8]) -> Option<(&[u8], &[u8])>
     }
 }
 
-/// The place of the first byte that is `wanted`.
+/// Returns the place of the first byte that is `wanted`.
 ///
-/// A few bytes are looked at one by one, where this is called; to search for many bytes at once
-/// pays only where there are more.
+/// A search of many bytes at once pays only if there are many; a few are looked at one by one,
+/// inlined into the caller.
 #[inline(always)]
 fn find_byte(bytes: &[u8], wanted: u8) -> Option<usize>
     ensures { result ≡ position (λ byte. byte == wanted) bytes.now }
@@ -54,7 +54,7 @@ fn find_byte(bytes: &[u8], wanted: u8) -> Option<usize>
     }
 }
 
-/// The place of the first byte that is `wanted`, by a search of many bytes at once.
+/// Returns the place of the first byte that is `wanted`, by a search of many bytes at once.
 #[inline(never)]
 #[tactic(auto, using(crate::proofs::WordLaws::first_place))]
 fn find_among_many(bytes: &[u8], wanted: u8) -> Option<usize>
@@ -63,7 +63,7 @@ fn find_among_many(bytes: &[u8], wanted: u8) -> Option<usize>
     memchr(wanted, bytes)
 }
 
-/// The words of a line that aren't read yet, with one space between each two.
+/// The words of a line that haven't been read yet, with one space between each two.
 #[derive(Drop)]
 pub struct WordsOfLine<'a> {
     rest: Option<&'a [u8]>,
@@ -73,14 +73,14 @@ impl<'a> WordsOfLine<'a> {
     ghost use Rattle.script_words.specs.Words.{words_of, only};
     ghost use Rattle.script_words.specs.WordsLeft.{IsNotFirst, words_left};
 
-    /// All words of a line.
+    /// Begins at the first word of a line.
     pub fn of(line: &'a [u8]) -> WordsOfLine<'a>
         ensures { words_left result ≡ words_of line.now }
     {
         WordsOfLine { rest: Some(line) }
     }
 
-    /// The next word. It is `None` exactly where there is none, and then from then on.
+    /// Returns the next word, or `None` if and only if none is left; it stays `None` then.
     pub fn next(&mut self) -> Option<&'a [u8]>
         ensures { MatchOption result ((words_left self.old ≡ []) × (words_left self.new ≡ []))
             (λ word. words_left self.old ≡ word.now ∷ words_left self.new) }
@@ -90,11 +90,10 @@ impl<'a> WordsOfLine<'a> {
         Some(word)
     }
 
-    /// The words behind the first, where the first is `word`, which has no space. It is `None`
-    /// exactly where another word is the first, or there is none.
+    /// Returns the words after the first, if the first is `word`, which has no space. Returns
+    /// `None` if and only if the first is another word, or there is none.
     ///
-    /// A word that is expected is found by one comparison, where `next` looks at each byte for the
-    /// space.
+    /// An expected word is found by one comparison, while `next` looks at each byte for the space.
     #[inline(always)]
     #[tactic(auto, using(crate::proofs::FirstWord::other_front, crate::proofs::FirstWord::goes_on, crate::proofs::FirstWord::only_word, crate::proofs::FirstWord::first_word))]
     pub fn behind(&self, word: &[u8]) -> Option<WordsOfLine<'a>>
@@ -112,7 +111,7 @@ impl<'a> WordsOfLine<'a> {
         }
     }
 
-    /// The word that is left, where it is the only one.
+    /// Returns the word that is left, if it is the only one.
     #[inline(always)]
     #[tactic(auto, using(crate::proofs::WordLaws::only_cut, crate::proofs::WordLaws::only_uncut))]
     pub fn only(self) -> Option<&'a [u8]>

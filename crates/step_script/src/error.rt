@@ -8,25 +8,25 @@ use thiserror::Error;
 /// What is wrong with a line of a script.
 #[derive(Clone, Copy, Debug, PartialEq, Eq, Error)]
 pub enum ScriptKind {
-    /// The first line that isn't passed over is no `open` or `fresh` line, or there is none.
+    /// The first line that isn't skipped is not an `open` or `fresh` line, or there is none.
     #[error("bad header")]
     BadHeader,
-    /// The line is none that may stand there.
+    /// The line has no form that is allowed at its place.
     #[error("bad line")]
     BadLine,
-    /// A word isn't a number, or is one out of range.
+    /// A word isn't a number, or is a number out of range.
     #[error("bad number")]
     BadNumber,
-    /// A word is no byte string.
+    /// A word isn't a byte string.
     #[error("bad hex")]
     BadHex,
-    /// A page can't have these two orders.
+    /// No page can have these two orders.
     #[error("bad orders")]
     BadOrders,
     /// The line is the 65,537th.
     #[error("too many lines")]
     TooManyLines,
-    /// With this line the byte strings have more than 8,388,608 bytes.
+    /// With this line, the byte strings have more than 8,388,608 bytes.
     #[error("too many bytes")]
     TooManyBytes,
 }
@@ -42,7 +42,7 @@ pub enum ScriptError {
         /// What is wrong with it.
         kind: ScriptKind,
     },
-    /// There was no memory for the script.
+    /// Memory ran out for the script.
     #[error("out of memory")]
     Memory,
 }
@@ -82,14 +82,14 @@ impl<T: Drop> From<AllocFailed<T>> for ScriptError {
 pub(crate) enum LineError {
     /// It doesn't fit.
     Bad(ScriptKind),
-    /// There was no memory for it.
+    /// Memory ran out for it.
     Memory,
 }
 
 impl LineError {
     ghost use Rattle.step_script.specs.Parts.Readings.{error_at};
 
-    /// The error of the script whose line of this number it is.
+    /// Returns the error of a script whose line of this number has this error.
     pub(crate) fn at(self, line: u32) -> ScriptError
         ensures { result ≡ error_at self line }
     {
@@ -124,7 +124,7 @@ impl From<PushError> for LineError {
     }
 }
 
-/// A bad line, found where nothing takes memory.
+/// A bad line, found by a reader that takes no memory.
 #[derive(Clone, Copy, Debug, PartialEq, Eq)]
 pub(crate) struct BadLine {
     /// The number of the line, from 1 on.

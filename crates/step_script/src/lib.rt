@@ -1,8 +1,8 @@
-//! The step script: a small language in which calls on the two ends of one vchan page are written
-//! down line by line. A script is read, played on a page in memory on one thread, one call after
-//! another, and the answers are printed as text.
+//! The step script: a small language that writes calls on the two ends of one vchan page down, line
+//! by line. A script is read and played on a page in memory, on one thread, one call after another,
+//! and the answers are printed as text.
 //!
-//! It serves the program's word `step`, and whoever wants to see what a row of calls does. The
+//! It serves the program's word `step`, and anyone who wants to see what a row of calls does. The
 //! calls, their events and their answers are those of libxenvchan's `io.c`, as `vchan_core` has
 //! them; the lines and the text are this project's own.
 #![tactic(auto)]

@@ -26,7 +26,7 @@ impl Played {
         Played { text }
     }
 
-    /// The text, one line of it for each output line, each ended by a line feed. It takes no memory.
+    /// Returns the text: each output line, ended by a line feed. It takes no memory.
     pub fn into_text(self) -> Vec<u8>
         ensures { result.items ≡ self }
     {
@@ -34,12 +34,11 @@ impl Played {
     }
 }
 
-/// The text of what a script printed, one line of it for each output line, each ended by a line
-/// feed.
+/// Returns the text of what a script printed: each output line, ended by a line feed.
 ///
 /// # Errors
 ///
-/// [`Memory`], and no other.
+/// [`Memory`] if memory runs out; no other.
 pub fn text(alloc: Global, played: &Played) -> Result<Vec<u8>, Memory>
     ensures { IfOk result (λ bytes. bytes.items ≡ played.now) }
 {

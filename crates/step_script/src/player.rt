@@ -19,17 +19,17 @@ mod refusal;
 /// The bytes of a page that `head` prints: its fields, up to the grant list.
 const HEAD: usize = 24;
 
-/// Plays the lines of a script in order on one page, which is opened as its first line says. Each
+/// Plays the lines of a script in order on one page, which is opened as the first line says. Each
 /// answer is printed when it comes. A line that an end can't carry out prints why, and makes no
 /// event.
 ///
-/// Where each line behind the opening is a whole call, `head` or `image`, what is printed of calls
-/// that an end can make, but for `event`, follows from the lists of what each end sent and got
-/// alone.
+/// If each line after the opening is a whole call, `head` or `image`, then the lists of what each
+/// end sent and got determine what is printed, except for `event` and for calls that an end can't
+/// make.
 ///
 /// # Errors
 ///
-/// [`Memory`], and no other.
+/// [`Memory`] if memory runs out; no other.
 pub fn play(alloc: Global, script: &Script) -> Result<Played, Memory>
     ensures text { IfOk result (λ played. played ≡ step_text script.now) }
     ensures lists { IfOk result (λ played. ToldByLists script.now played) }
@@ -42,7 +42,7 @@ pub fn play(alloc: Global, script: &Script) -> Result<Played, Memory>
     Ok(Played::of(text))
 }
 
-/// A page with its two ends, and the text that was printed so far.
+/// A page with its two ends, and the text that has been printed so far.
 #[derive(Drop)]
 pub(crate) struct Player {
     page: Plain,
@@ -63,7 +63,7 @@ impl Player {
     ghost use Rattle.step_script.specs.Language.Script.{CallFits, LineFits, begins, calls, finishes, head, image as image_line, steps};
     ghost use Rattle.step_script.specs.Parts.ScriptLines.{call_with, line_with};
 
-    /// A page on which nothing has happened yet.
+    /// Returns a page on which nothing has happened yet.
     pub(crate) fn open(alloc: Global, opening: Opening) -> Result<Player, Memory>
         requires { opening.state ≢ Shut }
         ensures opens { CanOpen opening }
@@ -84,7 +84,7 @@ impl Player {
         })
     }
 
-    /// Carries one line out, with the bytes of its byte string, and prints what it prints.
+    /// Carries out one line, with the bytes of its byte string, and prints its output.
     pub(crate) fn play_line(&mut self, line: Line, payload: &[u8]) -> Result<(), AllocError>
         requires known { (core : Core) × IsPlayedTo core self.old }
         requires fits { LineFits (orders_of self.old.page) (line_with line payload.now) }
@@ -108,7 +108,7 @@ impl Player {
         }
     }
 
-    /// A whole call of an end.
+    /// Makes a whole call of an end.
     fn call(&mut self, who: Role, call: Call, payload: &[u8]) -> Result<(), AllocError>
         requires known { (core : Core) × IsPlayedTo core self.old }
         requires fits { CallFits who (call_with call payload.now) }
@@ -124,7 +124,7 @@ impl Player {
         }
     }
 
-    /// The begin of a call of an end.
+    /// Begins a call of an end.
     fn begin(&mut self, who: Role, call: Call, payload: &[u8]) -> Result<(), AllocError>
         requires known { (core : Core) × IsPlayedTo core self.old }
         requires fits { CallFits who (call_with call payload.now) }
@@ -140,7 +140,7 @@ impl Player {
         }
     }
 
-    /// At most so many events of the call that an end is inside.
+    /// Makes at most this many events of the call that an end is inside.
     fn step(&mut self, who: Role, most: u32) -> Result<(), AllocError>
         requires known { (core : Core) × IsPlayedTo core self.old }
         ensures { OnOk result (Plays (line_done (steps who most)) self.old self.new) }
@@ -151,7 +151,7 @@ impl Player {
         }
     }
 
-    /// The events of the call that an end is inside, up to its answer.
+    /// Makes the events of the call that an end is inside, up to its answer.
     fn finish(&mut self, who: Role) -> Result<(), AllocError>
         requires known { (core : Core) × IsPlayedTo core self.old }
         ensures { OnOk result (Plays (line_done (finishes who)) self.old self.new) }
@@ -178,7 +178,7 @@ impl Player {
         push_image(&mut self.text, &image)
     }
 
-    /// All that was printed, and last how many bytes went through each ring.
+    /// Returns all that was printed, and last how many bytes went through each ring.
     pub(crate) fn end(mut self) -> Result<Vec<u8>, AllocError>
         ensures { IfOk result (λ text. (core : Core) → IsPlayedTo core self
             → text.items ≡ self.text.items ++ text_of (plays [] core)) }

@@ -25,17 +25,17 @@ mod opening;
 mod operand;
 mod poke;
 
-/// The most bytes that the byte strings of a script may have in all.
+/// The greatest number of bytes that the byte strings of a script may have in all.
 pub(crate) const MOST_BYTES: usize = 8_388_608;
 
 /// Reads a script: its opening, then one line after another, each ended by a line feed, which the
-/// last line may lack. An empty line and one that begins with `#` are passed over, but counted.
+/// last line may lack. An empty line and one that begins with `#` are skipped, but counted.
 ///
 /// # Errors
 ///
-/// [`ScriptError::Bad`] exactly where the bytes are no script, with the first line that doesn't
-/// fit and what is wrong with it; `ScriptError::Memory` only where the page's opening fits, and in
-/// place of a bad line only where memory was short for a line before it.
+/// [`ScriptError::Bad`] if and only if the bytes aren't a script, with the first line that doesn't
+/// fit and what is wrong with it. `ScriptError::Memory` only if the page's opening fits; it
+/// replaces a bad line only if memory ran out for a line before it.
 pub fn parse(alloc: Global, bytes: &[u8]) -> Result<Script, ScriptError>
     ensures script { IfOk result (λ script. script_of bytes.now ≡ Ok script) }
     ensures bad { IfErr result (λ e. IsScriptRefusal e (script_of bytes.now)) }
@@ -47,7 +47,7 @@ pub fn parse(alloc: Global, bytes: &[u8]) -> Result<Script, ScriptError>
     Ok(Script { opening, lines })
 }
 
-/// Reads how the page is opened: the first line, and a `start` line where one comes next.
+/// Reads how the page is opened: the first line, and a `start` line if one comes next.
 pub(crate) fn read_front(reader: &mut LineReader) -> Result<Opening, BadLine>
     ensures opening { let due = front_from (lines_left reader.old) in
         FindsAt (λ opening. (opening, lines_left reader.new)) result due }
@@ -75,7 +75,8 @@ fn read_first(reader: &mut LineReader) -> Result<Opening, BadLine>
     }
 }
 
-/// Where all indices begin, by a `start` line where one comes next. Any other line stays.
+/// Returns where all indices begin, by a `start` line if one comes next. Any other line isn't
+/// taken.
 fn start_at(reader: &mut LineReader) -> Result<u32, BadLine>
     ensures { let due = start_from (lines_left reader.old) in
         FindsAt (λ start. (start, lines_left reader.new)) result due }
@@ -91,7 +92,7 @@ fn start_at(reader: &mut LineReader) -> Result<u32, BadLine>
     read_start(word).map_err(|kind| BadLine { line: number, kind })
 }
 
-/// Reads the lines behind the opening of a page with these orders.
+/// Reads the lines after the opening of a page with these orders.
 fn read_lines(
     alloc: Global,
     orders: Orders,

@@ -10,14 +10,14 @@ use crate::read::{MOST_BYTES, read_front, read_line_at};
 use script_words::{LineReader, NextLine};
 use std::alloc::Global;
 
-/// The text that a script prints: what [`text`](crate::text) gives of [`play`](crate::play) of
-/// [`parse`](crate::parse). Each line is played where it is read, so no list of lines is kept.
+/// Returns the text that a script prints: what [`text`](crate::text) gives of [`play`](crate::play)
+/// of [`parse`](crate::parse). Each line is played when it is read, so no list of lines is kept.
 ///
 /// # Errors
 ///
-/// [`ScriptError::Bad`] exactly where the bytes are no script, with the first line that doesn't
-/// fit and what is wrong with it; `ScriptError::Memory` only where the page's opening fits, and in
-/// place of a bad line only where memory was short for a line before it.
+/// [`ScriptError::Bad`] if and only if the bytes aren't a script, with the first line that doesn't
+/// fit and what is wrong with it. `ScriptError::Memory` only if the page's opening fits; it
+/// replaces a bad line only if memory ran out for a line before it.
 pub fn script_text(alloc: Global, bytes: &[u8]) -> Result<Vec<u8>, ScriptError>
     ensures text { IfOk result (λ text. IsTextOf bytes.now text.items) }
     ensures bad { IfErr result (λ e. IsScriptRefusal e (script_of bytes.now)) }

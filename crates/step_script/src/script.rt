@@ -25,7 +25,7 @@ impl Model for Script {
     ghost invariant = { λ s. IsScript s.opening s.lines.items };
 }
 
-/// How a page begins: the first line of a script, and its `start` line where it has one.
+/// How a page begins: the first line of a script, and its `start` line if it has one.
 #[derive(Clone, Copy, Debug, PartialEq, Eq)]
 pub struct Opening {
     /// The orders of the page's rings.
@@ -38,7 +38,7 @@ pub struct Opening {
     pub start: u32,
 }
 
-/// A line after the opening that isn't passed over, with its byte string.
+/// A line after the opening that isn't skipped, with its byte string.
 #[derive(Drop)]
 pub(crate) struct ScriptLine {
     /// The line.
@@ -47,8 +47,8 @@ pub(crate) struct ScriptLine {
     pub(crate) payload: Payload,
 }
 
-/// What a line says, but for the bytes that its call writes or sends. These stand with a write and
-/// a send alone, and have the length that the call names.
+/// What a line says, without the bytes that its call writes or sends. Only a write and a send have
+/// such bytes, as many as the call names.
 #[derive(Clone, Copy)]
 pub(crate) enum Line {
     /// A whole call of one end.
@@ -58,37 +58,37 @@ pub(crate) enum Line {
         /// What it calls.
         call: Call,
     },
-    /// A call of one end is begun, and makes no event.
+    /// Begins a call of one end, which makes no event.
     Begin {
         /// The end that begins it.
         who: Role,
         /// What it calls.
         call: Call,
     },
-    /// Events of the call under way.
+    /// Makes some events of the call under way.
     Step {
         /// The end that makes them.
         who: Role,
         /// The most events, at least 1.
         most: u32,
     },
-    /// All events of the call under way that are left.
+    /// Makes all events of the call under way that are left.
     Finish {
         /// The end that makes them.
         who: Role,
     },
-    /// A hostile store.
+    /// A store of a turned end.
     Poke {
-        /// The end that is turned.
+        /// The end that was turned.
         who: Role,
         /// The word that is stored to.
         word: WordName,
-        /// What it holds then.
+        /// The value that it holds then.
         value: u64,
     },
-    /// A hostile signal.
+    /// A signal of a turned end.
     Signal {
-        /// The end that is turned.
+        /// The end that was turned.
         who: Role,
     },
     /// Prints the first 24 bytes of the page's image.

@@ -50,7 +50,7 @@ orders_failed : (left right : Order) (passed : Bool) (differ : passed ≡ true �
 orders_failed left right true differ is = absurd (cc)
 orders_failed left right false differ is = refl
 
--- the orders of two numbers, where the tests of each went so
+-- the orders of two numbers, if the tests of each went so
 abbrev tested : (left right : ℕ) (a b : Bool) → (a ≡ true → (10 ≤ left) × (left ≤ 20)) → (b ≡ true → (10 ≤ right) × (right ≤ 20)) → Option Orders
 tested left right a b fits_left fits_right =
     option_and_then (λ (l : Order). option_and_then (λ (r : Order). orders_where l r (not (eqb l.number r.number) || leb 12 l.number) (orders_differ l.number r.number)) (order_where right b fits_right)) (order_where left a fits_left)
@@ -69,7 +69,7 @@ same_failed left right true true f g same small = orders_failed _ _ _ _ (grind (
 same_failed left right true false f g same small = refl
 same_failed left right false b f g same small = refl
 
--- the check of two order fields refuses just what are no orders of a page
+-- the check of two order fields refuses just what aren't orders of a page
 pub orders_of_bad : (left right : ℕ) → AreBadOrders left right → orders_of left right ≡ None
 orders_of_bad left right bad = elim bad [
   | inl below ↦ left_failed left right _ _ _ _ (grind (arith, nat_tests))

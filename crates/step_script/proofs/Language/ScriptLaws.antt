@@ -94,7 +94,7 @@ refused_next many e front orders left after room due summary is same =
     let family : ScriptError → Type 0 = λ e. IsScriptRefusal e due in
     subst family (sym same) (sym summary ∙ ap (λ (l : Lines). behind front (lines_from orders room l)) is ∙ ap (behind front) (lines_from-refused orders room many.line))
 
--- where no line is left, all is read
+-- if no line is left, all is read
 pub all_read : (front : List StepLine) (orders : Orders) (left : Lines) (room number : ℕ) (due : Result (List StepLine) (ℕ × ScriptKind))
     → behind front (lines_from orders room left) ≡ due → left ≡ stops number → due ≡ Ok front
 all_read front orders left room number due summary none =

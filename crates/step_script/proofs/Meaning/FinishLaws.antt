@@ -102,7 +102,7 @@ next_answer : (core : Core) (who : Role) (b : Begun) (plan : Plan) → IsInside 
 next_answer core who b plan i answer is =
     ap (λ (p : Plan). answer_in (after p (value_taken core.orders core.words (next_op p)))) (plan_inside (side_of core who) b plan i) ∙ is
 
--- one event more, behind which this plan is left
+-- one event more, after which this plan is left
 stepped_next : (most : ℕ) (core : Core) (who : Role) (b : Begun) (plan : Plan) → IsInside (side_of core who) b plan → GoesOn plan → (behind : Plan) →
     after plan (value_taken core.orders core.words (next_op plan)) ≡ behind →
     (GoesOn behind → stepped most (carried_out core who (next_op plan)) who ≡ with_answer (alone (carried_out core who (next_op plan)) who behind)) →

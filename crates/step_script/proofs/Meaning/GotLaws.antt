@@ -27,7 +27,7 @@ abbrev pub loaded_then : Op → ℕ → ℕ
 loaded_then (LoadByte word at) l = l + 1
 loaded_then _ l = l
 
--- with so many bytes loaded so far, the plan answers Got only with the number that it has loaded then
+-- with that many bytes loaded so far, the plan answers Got only with the number that it has loaded then
 unfoldable Delivers : ℕ → Plan → Type 0
 Delivers l (answers answer) = (k : ℕ) → answer ≡ Got k → l ≡ k
 Delivers l (does op next) = (value : ℕ) → Delivers (loaded_then op l) (next value)

@@ -70,7 +70,7 @@ no_answer : (result : Option Answer) (m : Machine) → (IsSome result ↔ IsIdle
 no_answer None m idle busy = refl
 no_answer (Some answer) m idle busy = absurd (busy (idle.0 refl))
 
--- what is known of so many events of a page, with the bytes that are kept for its end
+-- what is known of that many events of a page, with the bytes that are kept for its end
 pub record DoesAdvance (who : Role) (most : ℕ) (page page' : Plain) (end_player end_player' : EndPlayer) (result : Option Answer) : Type 0 where
   pub busy : ¬ IsIdle (machine_of page who)
   pub advances : (core : Core) → StandsFor core page → HasPayload (side_of core who) end_player.payload.items → Advances core who most page' end_player.buffer.items end_player'.buffer.items result

@@ -279,7 +279,7 @@ playing_fits script player line rest rest' summary next =
     let fit : All (LineFits summary.core.orders) (line ∷ rest') = subst (λ (l : List StepLine). All (LineFits summary.core.orders) l) next summary.fit in
     subst (λ (o : Orders). LineFits o line) (sym summary.to.stands.orders) (fit 0 line (omega arith))
 
--- what a line printed stands in front of what the lines behind it print
+-- what a line printed stands in front of what the lines after it print
 pub played_on : (player player' : Player) (line : StepLine) (rest : List StepLine) (core : Core) → IsPlayedTo core player → Plays (line_done line) player player' →
     player'.text.items ++ text_of (plays rest (line_done line core).core) ≡ player.text.items ++ text_of (plays (line ∷ rest) core)
 played_on player player' line rest core at p =

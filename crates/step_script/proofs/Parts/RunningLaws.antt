@@ -31,7 +31,7 @@ use Rattle.step_script.proofs.Parts.PlayerLaws.{orders_kept, played_on}
 use Rattle.script_words.proofs.LineLaws.{next_line}
 use Rattle.step_script.proofs.Language.ScriptLaws.{all_read, alone_fits, behind, read_further}
 
--- the whole script, where these lines stand behind its opening
+-- the whole script, if these lines stand after its opening
 abbrev opened_by : Opening → Result (List StepLine) (ℕ × ScriptKind) → Result (List StepLine) (ℕ × ScriptKind)
 opened_by o lines = lines >>= (λ rest. Ok (opens o ∷ rest))
 

@@ -25,7 +25,7 @@ use Rattle.step_script.specs.Language.Script.{StepCall, StepLine, opens, calls, 
 use Rattle.step_script.specs.Parts.ScriptLines.{payload_len}
 use Rattle.step_script.specs.Language.Tables.{verb_first, meaning_first, ends, calls_of, page_lines}
 
--- a call of a form with the words behind it; there is room for so many bytes
+-- a call of a form with the words after it, with room for this many bytes
 abbrev pub call_of_form : ℕ → CallForm → List (List ℕ) → Result StepCall ScriptKind
 call_of_form room Write words = do
   bytes ← payload_of room words
@@ -44,13 +44,13 @@ call_of_form room Drain words = do
   Ok (without_payload (call.Drain most))
 call_of_form room (Bare c) words = alone (without_payload c) words
 
--- a call of an end: its word, and the words behind it
+-- a call of an end: its word, and the words after it
 abbrev pub call_of : ℕ → Role → List (List ℕ) → Result StepCall ScriptKind
 call_of room who words = do
   found ← ok_or (meaning_first (calls_of who) words) BadLine
   call_of_form room found.0 found.1
 
--- a hostile store: a word of the page, and a number of 64 bits
+-- a store of a turned end: a word of the page, and a number of 64 bits
 abbrev pub poke_of : Orders → Role → List (List ℕ) → Result StepLine ScriptKind
 poke_of orders who [] = Err BadLine
 poke_of orders who (name ∷ words) = do
@@ -59,7 +59,7 @@ poke_of orders who (name ∷ words) = do
   number ← number_between 0 18446744073709551615 value
   Ok (pokes who word number)
 
--- what an end does that is no whole call, with the words behind its word
+-- what an end does that isn't a whole call, with the words after its word
 abbrev pub line_of_act : Orders → ℕ → Role → Act → List (List ℕ) → Result StepLine ScriptKind
 line_of_act orders room who Begin words = do
   c ← call_of room who words
@@ -71,14 +71,14 @@ line_of_act orders room who Finish words = alone (finishes who) words
 line_of_act orders room who Poke words = poke_of orders who words
 line_of_act orders room who Signal words = alone (signals who) words
 
--- the words behind what an end does
+-- the words after what an end does
 abbrev pub line_of_verb : Orders → ℕ → Role → Verb → List (List ℕ) → Result StepLine ScriptKind
 line_of_verb orders room who (Makes form) words = do
   c ← call_of_form room form words
   Ok (calls who c)
 line_of_verb orders room who (Does act) words = line_of_act orders room who act words
 
--- a line of an end, as the words behind the end's: a whole call, where its word is one's, or an act
+-- a line of an end, as the words after the end's word: a whole call if the first names one, else an act
 abbrev pub line_of_end : Orders → ℕ → Role → List (List ℕ) → Result StepLine ScriptKind
 line_of_end orders room who words = do
   found ← ok_or (verb_first who words) BadLine
@@ -90,12 +90,12 @@ line_of_page words = do
   found ← ok_or (meaning_first page_lines words) BadLine
   alone found.0 found.1
 
--- a line of an end, where there is one of that name, or one of the page
+-- a line of an end, if there is one of that name, or one of the page
 abbrev pub line_of_first : Orders → ℕ → Option (Role × List (List ℕ)) → List (List ℕ) → Result StepLine ScriptKind
 line_of_first orders room (Some (who, more)) words = line_of_end orders room who more
 line_of_first orders room None words = line_of_page words
 
--- a line behind the opening, as its words
+-- a line after the opening, as its words
 abbrev pub line_of : Orders → ℕ → List (List ℕ) → Result StepLine ScriptKind
 line_of orders room words = line_of_first orders room (meaning_first ends words) words
 
@@ -106,7 +106,7 @@ orders_of_words left right = do
   r ← number_between 0 65535 right
   Ok (l, r)
 
--- a page with these orders, whose order words and client are so; all indices are 0
+-- a page with these orders, with what its order words hold and its client's state; all indices are 0
 abbrev pub laid : ℕ × ℕ → ℕ × ℕ → EndState → Result Opening ScriptKind
 laid numbers said state = do
   orders ← ok_or (orders_of numbers.0 numbers.1) BadOrders
@@ -131,12 +131,12 @@ fresh_of left right said_left said_right = do
   said ← orders_of_words a b
   laid numbers said Fresh
 
--- the words behind `open`
+-- the words after `open`
 abbrev pub open_operands : List (List ℕ) → Result Opening ScriptKind
 open_operands (left ∷ right ∷ []) = open_of left right
 open_operands _ = Err BadHeader
 
--- the words behind `fresh`
+-- the words after `fresh`
 abbrev pub fresh_operands : List (List ℕ) → Result Opening ScriptKind
 fresh_operands (left ∷ right ∷ said_left ∷ said_right ∷ []) = fresh_of left right said_left said_right
 fresh_operands _ = Err BadHeader
@@ -149,12 +149,12 @@ opening_of (verb ∷ operands) =
     else if bytes_eq verb (codes "fresh") then fresh_operands operands
     else Err BadHeader
 
--- what is wrong with a line, under its number
+-- what is wrong with a line, with its number
 abbrev pub at_number : {A : Type 0} → ℕ → Result A ScriptKind → Result A (ℕ × ScriptKind)
 at_number number (Ok x) = Ok x
 at_number number (Err kind) = Err (number, kind)
 
--- the opening, and the lines behind it
+-- the opening, and the lines after it
 abbrev pub opening_from : Lines → Result (Opening × Lines) (ℕ × ScriptKind)
 opening_from (stops number) = Err (number, BadHeader)
 opening_from (refused number) = Err (number, TooManyLines)
@@ -173,27 +173,27 @@ start_of word = do
   given_word ← given word
   number_between 0 4294967295 given_word
 
--- N of a `start` line and the lines behind it; for another line 0, and all lines from it on
+-- N of a `start` line and the lines after it; for another line 0, and all lines from it on
 abbrev pub started : ℕ → Option (List ℕ) → Lines → Lines → Result (ℕ × Lines) (ℕ × ScriptKind)
 started number (Some word) lines more = do
   start ← at_number number (start_of word)
   Ok (start, more)
 started number None lines more = Ok (0, lines)
 
--- where all indices begin, by a `start` line where one stands in front; and the lines behind it
+-- where all indices begin, by a `start` line if one stands in front; and the lines after it
 abbrev pub start_from : Lines → Result (ℕ × Lines) (ℕ × ScriptKind)
 start_from (stops number) = Ok (0, stops number)
 start_from (refused number) = Err (number, TooManyLines)
 start_from (line number text more) = started number (start_word (words_of text)) (line number text more) more
 
--- how the page is opened, by the first line and a `start` line behind it; and the lines behind these
+-- how the page is opened, by the first line and a `start` line after it; and the lines after these
 abbrev pub front_from : Lines → Result (Opening × Lines) (ℕ × ScriptKind)
 front_from lines = do
   first ← opening_from lines
   second ← start_from first.1
   Ok (record first.0 { start = second.0 }, second.1)
 
--- the lines of a page with these orders, with room for so many bytes; or the first bad one
+-- the lines of a page with these orders, with room for this many bytes; or the first bad one
 unfoldable pub lines_from : Orders → ℕ → Lines → Result (List StepLine) (ℕ × ScriptKind)
 lines_from orders room (stops number) = Ok []
 lines_from orders room (refused number) = Err (number, TooManyLines)

@@ -1,4 +1,4 @@
--- The words behind a verb.
+-- The words after a verb.
 -- Source: this project's own.
 use Rattle.std.specs.Prelude.{ℕ, ◌==◌, nat_lt, List, [], ◌∷◌, length, if◌then◌else◌, ok_or, Result, Ok, Err}
 use Rattle.step_script.specs.declared.error.ScriptKind.{ScriptKind}
@@ -8,7 +8,7 @@ use Rattle.script_words.specs.Numbers.{number_of}
 use Rattle.script_words.specs.ByteStrings.{at_most, byte_string, ByteFault}
 use Rattle.script_words.specs.ByteStrings as fault
 
--- the second step, where the first gave a value
+-- the second step, if the first gave a value
 infixl 10 ◌>>=◌
 abbrev pub ◌>>=◌ : {A B E : Type 0} → Result A E → (A → Result B E) → Result B E
 Ok x >>= f = f x
@@ -24,7 +24,7 @@ operand_of words = do
   word ← ok_or (only words) BadLine
   given word
 
--- this, where no word is left
+-- this, if no word is left
 abbrev pub alone : {A : Type 0} → A → List (List ℕ) → Result A ScriptKind
 alone x [] = Ok x
 alone x (word ∷ more) = Err BadLine
@@ -50,7 +50,7 @@ abbrev pub in_a_line : {A : Type 0} → Result A ByteFault → Result A ScriptKi
 in_a_line (Ok x) = Ok x
 in_a_line (Err fault) = Err (fault_kind fault)
 
--- a byte string as the only word that is left, with room for so many bytes
+-- a byte string as the only word that is left, with room for this many bytes
 abbrev pub payload_of : ℕ → List (List ℕ) → Result (List ℕ) ScriptKind
 payload_of room words = do
   word ← operand_of words

@@ -14,7 +14,7 @@ use Rattle.step_script.specs.declared.error.ScriptKind.TheVariants.{BadLine, Bad
 use Rattle.script_words.specs.Numbers.{is_number, number_of}
 use Rattle.step_script.specs.Language.Tables.{meaning_in, fields}
 
--- what stands behind these bytes
+-- what stands after these bytes
 abbrev pub without_front : List ℕ → List ℕ → Option (List ℕ)
 without_front front word =
     if bytes_eq (take (length front) word) front then Some (drop (length front) word) else None
@@ -41,7 +41,7 @@ byte_named orders (Some left) right = ring_byte orders Left left
 byte_named orders None (Some right) = ring_byte orders Right right
 byte_named orders None None = Err BadLine
 
--- a header field, where there is one of that name, or a byte of a ring
+-- a header field, if there is one of that name, or a byte of a ring
 abbrev pub field_or_byte : Orders → Option WordName → List ℕ → Result WordName ScriptKind
 field_or_byte orders (Some field) word = Ok field
 field_or_byte orders None word = byte_named orders (place_in (codes "left[") word) (place_in (codes "right[") word)

@@ -17,7 +17,7 @@ pub record StepCall : Type 0 where
   pub call : Call
   pub payload : List ℕ
 
--- a line that isn't passed over; a `start` line belongs to the opening
+-- a line that isn't skipped; a `start` line belongs to the opening
 pub data StepLine : Type 0 where
   -- the page is laid
   opens : Opening → StepLine
@@ -25,24 +25,24 @@ pub data StepLine : Type 0 where
   calls : Role → StepCall → StepLine
   -- a call is begun, and makes no event
   begins : Role → StepCall → StepLine
-  -- at most so many events of the call under way
+  -- at most this many events of the call under way
   steps : Role → ℕ → StepLine
   -- the events of the call under way, up to its answer
   finishes : Role → StepLine
-  -- a hostile store, and a hostile signal
+  -- a store of a turned end, and a signal of one
   pokes : Role → WordName → ℕ → StepLine
   signals : Role → StepLine
   -- the first bytes of the page's image, and all of it
   head : StepLine
   image : StepLine
 
--- a drain asks for one byte at least, and only a client connects
+-- a drain asks for at least one byte, and only a client connects
 abbrev pub CanSay : Role → Call → Type 0
 CanSay who (Drain most) = 1 ≤ most
 CanSay who Connect = who ≡ Client
 CanSay who call = Unit {0}
 
--- a call that a script can say of an end
+-- a call that a script can name for an end
 pub record CallFits (who : Role) (c : StepCall) : Type 0 where
   pub payload : length c.payload ≡ payload_of c.call
   pub bytes : AreBytes c.payload

@@ -21,7 +21,7 @@ use Rattle.step_script.specs.declared.read.forms.Act.TheVariants.{Begin, Step, F
 abbrev pub meaning_in : {A : Type 0} → List (List ℕ × A) → List ℕ → Option A
 meaning_in table word = lookup (bytes_eq word) table
 
--- what the first of these words stands for in a table, and the words behind it
+-- what the first of these words stands for in a table, and the words after it
 abbrev pub meaning_first : {A : Type 0} → List (List ℕ × A) → List (List ℕ) → Option (A × List (List ℕ))
 meaning_first table [] = None
 meaning_first table (word ∷ more) = option_map (λ x. (x, more)) (meaning_in table word)
@@ -51,7 +51,7 @@ abbrev pub calls_of : Role → List (List ℕ × CallForm)
 calls_of Server = common_calls
 calls_of Client = (codes "connect", Bare Connect) ∷ common_calls
 
--- what an end does that is no whole call
+-- what an end does that isn't a whole call
 abbrev pub acts : List (List ℕ × Act)
 acts =
     (codes "begin", Begin) ∷
@@ -61,7 +61,7 @@ acts =
     (codes "signal", Signal) ∷
     []
 
--- what the first of these words says that an end does, and the words behind it: a whole call where it names one, else an act
+-- what the first of these words tells an end to do, and the words after it: a whole call if it names one, else an act
 abbrev pub verb_of : Option (CallForm × List (List ℕ)) → Option (Act × List (List ℕ)) → Option (Verb × List (List ℕ))
 verb_of (Some call) act = Some (Makes call.0, call.1)
 verb_of None (Some act) = Some (Does act.0, act.1)

@@ -28,7 +28,7 @@ IsWhole head = Unit {0}
 IsWhole image = Unit {0}
 IsWhole line = ⊥
 
--- each line behind the opening is so
+-- each line after the opening is such a line
 abbrev pub AreWhole : List StepLine → Type 0
 AreWhole (opens o ∷ more) = All IsWhole more
 AreWhole lines = ⊥
@@ -50,7 +50,7 @@ is_told line = false
 abbrev pub new_end : EndState → ListEnd
 new_end state = record { state = state; retired = false; sent = []; got = [] }
 
--- the lists of a page that is opened so
+-- the lists of a page with this opening
 abbrev pub opened_lists : Opening → ChannelLists
 opened_lists o = record { start = o.start; said = o.said; orders = o.orders; server = new_end Open; client = new_end o.state }
 
@@ -63,12 +63,12 @@ abbrev pub bytes_told : Answer → List ℕ → List ℕ
 bytes_told (Got count) waits = take count waits
 bytes_told _ waits = []
 
--- the output line of a call, where the lists tell its answer
+-- the output line of a call, if the lists tell its answer
 abbrev pub told_lines : Role → Call → List ℕ → Option Answer → List TextLine
 told_lines who call waits None = []
 told_lines who call waits (Some answer) = answered who call answer (bytes_told answer waits) ∷ []
 
--- the lists behind a line, and the output lines that they tell of it
+-- the lists after a line, and the output lines that they tell of it
 abbrev pub Told : Type 0
 Told = ChannelLists × List TextLine
 
@@ -113,10 +113,10 @@ abbrev pub CanBe : List StepLine → Type 0
 CanBe (opens o ∷ more) = CanOpen o × All (LineFits o.orders) more
 CanBe lines = ⊥
 
--- of the lines that a script of whole calls prints, those that the lists can tell are those that they tell
+-- the output lines of a script of whole calls that the lists can tell are those that they do tell
 abbrev pub WholeScriptsFollowLists : Type 0
 WholeScriptsFollowLists = (script : List StepLine) → CanBe script → AreWhole script → filter is_told (step_lines script) ≡ list_lines script
 
--- the text is that of the very lines that the script prints, and of these the lists tell theirs, where the script's lines are whole
+-- the text is that of the lines that the script prints; if the script's lines are whole, the lists tell their part of these
 abbrev pub ToldByLists : List StepLine → List ℕ → Type 0
 ToldByLists script text = AreWhole script → (text ≡ text_of (step_lines script)) × (filter is_told (step_lines script) ≡ list_lines script)

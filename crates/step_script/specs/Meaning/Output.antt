@@ -36,7 +36,7 @@ abbrev pub ring_word : Ring → List ℕ
 ring_word Left = codes "left"
 ring_word Right = codes "right"
 
--- the word for why an end couldn't
+-- the word for why an end couldn't do what a line says
 abbrev pub refusal_word : Refusal → List ℕ
 refusal_word Turned = codes "turned"
 refusal_word Idle = codes "idle"
@@ -59,7 +59,7 @@ abbrev pub flag_word : Bool → List ℕ
 flag_word true = codes "1"
 flag_word false = codes "0"
 
--- the words of an answer, behind the end's
+-- the words of an answer, after the end's
 abbrev pub answer_words : Call → Answer → List ℕ → List (List ℕ)
 answer_words call (Wrote count) payload = codes "wrote" ∷ decimal count ∷ []
 answer_words call (Full prod cons) payload = codes "full" ∷ decimal prod ∷ decimal cons ∷ []
@@ -90,7 +90,7 @@ line_words (images bytes) = codes "image" ∷ bytes_word bytes ∷ []
 line_words (lengths ring sent got) =
     ring_word ring ∷ codes "sent" ∷ decimal sent ∷ codes "got" ∷ decimal got ∷ []
 
--- one space (32) between each two words, and a line feed (10) behind them
+-- one space (32) between each two words, and a line feed (10) after them
 unfoldable pub line_text : TextLine → List ℕ
 line_text line = join_with_byte 32 (line_words line) ++ 10 ∷ []
 

@@ -26,7 +26,7 @@ use Rattle.step_script.specs.declared.player.refusal.Refusal.TheVariants.{Turned
 use Rattle.step_script.specs.Meaning.Output.{TextLine, answered, refused, heads, images, lengths, text_of}
 use Rattle.step_script.specs.Language.Script.{StepCall, StepLine, opens, calls, begins, steps, finishes, pokes, signals, head, image}
 
--- what a line of a script does: the core state behind it, and the output lines that it prints
+-- what a line of a script does: the core state after it, and the output lines that it prints
 pub record Outcome : Type 0 where
   pub core : Core
   pub lines : List TextLine
@@ -44,7 +44,7 @@ abbrev pub followed_by : Outcome → (Core → Outcome) → Outcome
 followed_by first next =
     record { core = (next first.core).core; lines = first.lines ++ (next first.core).lines }
 
--- the bytes that a call with this trail took, where it got some
+-- the bytes that a call with this trail took, if it got some
 abbrev pub bytes_got : Answer → List PastEvent → List ℕ
 bytes_got (Got count) trail = bytes_loaded trail
 bytes_got _ trail = []
@@ -81,7 +81,7 @@ idle_refusal (Some b) = None
 abbrev pub step_refusal : Side → Option Refusal
 step_refusal s = if s.turned then Some Turned else idle_refusal s.call
 
--- what is done where nothing refuses it
+-- what is done, if nothing refuses it
 abbrev pub unless_refused : Option Refusal → Role → Core → (Core → Outcome) → Outcome
 unless_refused None who core act = act core
 unless_refused (Some why) who core act = prints core (refused who why)
@@ -109,12 +109,12 @@ finishes_call who (Some b) core = ends_with who b.call (alone core who (plan_lef
 abbrev pub finished : Role → Core → Outcome
 finished who core = finishes_call who (side_of core who).call core
 
--- the answer is printed where it came
+-- the answer is printed, if it came
 abbrev pub stops_with : Role → Call → Core → Option Answer → Outcome
 stops_with who call core None = quiet core
 stops_with who call core (Some answer) = ends_with who call (core, answer)
 
--- at most so many events of the call under way; nothing between two calls
+-- at most this many events of the call under way; nothing between two calls
 abbrev pub steps_call : Role → ℕ → Option Begun → Core → Outcome
 steps_call who most None core = quiet core
 steps_call who most (Some b) core = stops_with who b.call (stepped most core who).0 (stepped most core who).1

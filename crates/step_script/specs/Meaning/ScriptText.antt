@@ -5,7 +5,7 @@ use Rattle.step_script.specs.Meaning.ListScript.{ToldByLists}
 use Rattle.step_script.specs.Meaning.Played.{step_text}
 use Rattle.step_script.specs.Language.Script.{StepLine}
 
--- the bytes are a script that prints this text, and where its lines are whole calls, the lists of what was sent and got tell their part of it
+-- the bytes are a script that prints this text; if its lines are whole calls, the lists of what was sent and got tell their part of it
 pub record IsTextOf (bytes text : List ℕ) : Type 0 where
   pub script : List StepLine
   pub reads : script_of bytes ≡ Ok script

@@ -31,7 +31,7 @@ abbrev pub got_front : Answer → List ℕ → List ℕ
 got_front (Got count) buffer = take count buffer
 got_front _ buffer = []
 
--- the bytes of which the answer tells are those that the trail has loaded, and stand at the front of the buffer
+-- the bytes that the answer tells of are those that the trail has loaded, and stand at the front of the buffer
 pub record IsTaken (answer : Answer) (trail : List PastEvent) (buffer : List ℕ) : Type 0 where
   pub within : got_len answer ≤ length buffer
   pub front : got_front answer buffer ≡ bytes_got answer trail
@@ -63,7 +63,7 @@ pub record IsAt (core : Core) (who : Role) (page : Plain) (end_player : EndPlaye
 abbrev pub IsKnown : Role → Plain → EndPlayer → Type 0
 IsKnown who page end_player = (core : Core) × IsAt core who page end_player
 
--- from each core state at which the end was, this was done, and its lines were printed
+-- from each core state at which the end may have been, this was done, and its lines were printed
 pub record Does (who : Role) (act : Core → Outcome) (page page' : Plain) (end_player end_player' : EndPlayer) (text text' : List ℕ) : Type 0 where
   pub at : (core : Core) → IsAt core who page end_player → IsAt (act core).core who page' end_player'
   pub prints : (core : Core) → IsAt core who page end_player → text' ≡ text ++ text_of (act core).lines
@@ -77,7 +77,7 @@ pub record IsPlayedTo (core : Core) (player : Player) : Type 0 where
   pub server : IsHeld core.server (machine_of player.page Server) player.server
   pub client : IsHeld core.client (machine_of player.page Client) player.client
 
--- from each core state at which the player was, this was done, and its lines were printed
+-- from each core state at which the player may have been, this was done, and its lines were printed
 pub record Plays (act : Core → Outcome) (player player' : Player) : Type 0 where
   pub to : (core : Core) → IsPlayedTo core player → IsPlayedTo (act core).core player'
   pub prints : (core : Core) → IsPlayedTo core player → player'.text.items ≡ player.text.items ++ text_of (act core).lines

@@ -21,12 +21,12 @@ abbrev pub Finds : {X Y : Type 0} → (X → Y) → Result X ScriptKind → Resu
 Finds seen (Ok x) due = due ≡ Ok (seen x)
 Finds seen (Err kind) due = due ≡ Err kind
 
--- of a line, under its number
+-- of a line, with its number
 abbrev pub FindsAt : {X Y : Type 0} → (X → Y) → Result X BadLine → Result Y (ℕ × ScriptKind) → Type 0
 FindsAt seen (Ok x) due = due ≡ Ok (seen x)
 FindsAt seen (Err bad) due = due ≡ Err (bad.line, bad.kind)
 
--- ---- readers of a line that take memory: want of memory comes only where the line is good
+-- ---- readers of a line that take memory: memory runs out only if the line is good
 
 -- a refusal of a part of a line
 abbrev pub IsLineRefusal : {Y : Type 0} → LineError → Result Y ScriptKind → Type 0
@@ -38,7 +38,7 @@ abbrev pub Gives : {X Y : Type 0} → (X → Y) → Result X LineError → Resul
 Gives seen (Ok x) due = due ≡ Ok (seen x)
 Gives seen (Err e) due = IsLineRefusal e due
 
--- likewise of a line, under its number
+-- likewise of a line, with its number
 abbrev pub IsNumberedRefusal : {Y : Type 0} → ScriptError → Result Y (ℕ × ScriptKind) → Type 0
 IsNumberedRefusal (script.Bad line kind) due = due ≡ Err (line, kind)
 IsNumberedRefusal script.Memory due = IsOk due
@@ -47,7 +47,7 @@ abbrev pub GivesAt : {X Y : Type 0} → (X → Y) → Result X ScriptError → R
 GivesAt seen (Ok x) due = due ≡ Ok (seen x)
 GivesAt seen (Err e) due = IsNumberedRefusal e due
 
--- ---- readers of many lines: want of memory may come at a line before the first bad one
+-- ---- readers of many lines: memory may run out at a line before the first bad one
 
 -- a refusal of a script is the one that is due
 abbrev pub IsScriptRefusal : {Y : Type 0} → ScriptError → Result Y (ℕ × ScriptKind) → Type 0
@@ -66,7 +66,7 @@ CanBeOpened bytes = IsOk (front_from (kept_lines 1 (lines_of bytes)))
 
 -- ---- errors of one kind as those of another
 
--- the error of the script whose line of this number it is
+-- the error of a script whose line of this number has this error
 abbrev pub error_at : LineError → ℕ → ScriptError
 error_at (line.Bad kind) number = script.Bad number kind
 error_at line.Memory number = script.Memory
@@ -77,7 +77,7 @@ line_error_of push.BadHex = line.Bad kind.BadHex
 line_error_of push.TooManyBytes = line.Bad kind.TooManyBytes
 line_error_of push.Memory = line.Memory
 
--- the bad line where there are too many
+-- the bad line of a text with too many lines
 abbrev pub bad_line_of : TooManyLines → BadLine
 bad_line_of many = record { line = many.line; kind = kind.TooManyLines }
 

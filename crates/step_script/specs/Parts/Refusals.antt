@@ -1,4 +1,4 @@
--- Why an end can't begin a call, as a machine says it and as a script prints it.
+-- Why an end can't begin a call, as a machine tells it and as a script prints it.
 use Rattle.std.specs.Prelude.{Bool, false}
 use Rattle.vchan_protocol.specs.declared.call.Call.{Call}
 use Rattle.vchan_protocol.specs.declared.call.Call.TheVariants.{Retire}
@@ -15,7 +15,7 @@ line_refusal CallShut = Shut
 line_refusal CallUnconnected = Unconnected
 line_refusal _ = Idle
 
--- an end that has retired is to retire
+-- an end that has retired would retire again
 abbrev pub is_second_retire : EndState → Bool → Call → Bool
 is_second_retire IsShut retired Retire = retired
 is_second_retire state retired call = false

@@ -28,7 +28,7 @@ line_with line.Image payload = image
 abbrev pub line_seen : ScriptLine → StepLine
 line_seen l = line_with l.line l.payload.items
 
--- the lines behind the first
+-- the lines after the first
 abbrev pub lines_seen : List ScriptLine → List StepLine
 lines_seen lines = map line_seen lines
 
@@ -38,7 +38,7 @@ payload_len (calls who c) = length c.payload
 payload_len (begins who c) = length c.payload
 payload_len line = 0
 
--- what holds of each script: the client is fresh or open at first, each line fits the page, and all lines together write and send at most so many bytes
+-- what holds of each script: the client is fresh or open at first, each line fits the page, and all lines together write and send at most this many bytes
 pub record IsScript (opening : Opening) (lines : List ScriptLine) : Type 0 where
   pub state : opening.state ≢ Shut
   pub fit : All (LineFits opening.orders) (lines_seen lines)

@@ -24,9 +24,9 @@ use vchan_core::{Answer, Call, EndState, Plain, Steps};
 const ALL_EVENTS: u32 = u32::MAX;
 
 /// What is kept for one end: the call that it is inside, the bytes that this call writes or sends,
-/// and the buffer for those that it takes. The buffer serves all calls of the end, and grows where
-/// it is too short for one. A call that is begun outlives its line, so its bytes are kept here; a
-/// whole call needs them in its line alone.
+/// and the buffer for the bytes that it takes. The buffer serves all calls of the end, and grows if
+/// it is too short for one. A call that is begun outlives its line, so its bytes are kept in this
+/// type; a whole call needs them only in its line.
 #[derive(Drop)]
 pub(crate) struct EndPlayer {
     call: Call,
@@ -37,7 +37,7 @@ pub(crate) struct EndPlayer {
 impl EndPlayer {
     ghost use Rattle.step_script.specs.Parts.Players.{Does, IsAt, IsKnown, IsTaken};
 
-    /// What is kept for an end that has made no call yet.
+    /// Returns what is kept for an end that has made no call yet.
     pub(crate) fn new(alloc: Global) -> EndPlayer
         ensures { result.buffer.items ≡ [] }
     {
@@ -48,7 +48,7 @@ impl EndPlayer {
         }
     }
 
-    /// A whole call. The call that the end is inside is finished first.
+    /// Makes a whole call. The call that the end is inside is finished first.
     pub(crate) fn call(
         &mut self,
         page: &mut Plain,
@@ -65,8 +65,7 @@ impl EndPlayer {
         self.make(page, who, call, payload, text)
     }
 
-    /// The begin of a call, which makes no event. The call that the end is inside is finished
-    /// first.
+    /// Begins a call, which makes no event. The call that the end is inside is finished first.
     pub(crate) fn begin(
         &mut self,
         page: &mut Plain,
@@ -83,7 +82,7 @@ impl EndPlayer {
         self.enter(page, who, call, payload, text)
     }
 
-    /// At most so many events of the call that the end is inside, up to its answer.
+    /// Makes at most this many events of the call that the end is inside, up to its answer.
     pub(crate) fn step(
         &mut self,
         page: &mut Plain,
@@ -103,7 +102,7 @@ impl EndPlayer {
         push_answer(text, who, self.call, answer, self.buffer.as_slice())
     }
 
-    /// The events of the call that the end is inside, up to its answer.
+    /// Makes the events of the call that the end is inside, up to its answer.
     pub(crate) fn finish(
         &mut self,
         page: &mut Plain,
@@ -137,7 +136,7 @@ impl EndPlayer {
         push_answer(text, who, self.call, answer, self.buffer.as_slice())
     }
 
-    /// A whole call of an end between two calls, or the line that says why it can't make it.
+    /// Makes a whole call of an end between two calls, or prints why it can't make it.
     fn make(
         &mut self,
         page: &mut Plain,
@@ -161,7 +160,7 @@ impl EndPlayer {
         push_answer(text, who, call, answer, self.buffer.as_slice())
     }
 
-    /// Begins a call of an end between two calls, or says why it can't make it.
+    /// Begins a call of an end between two calls, or prints why it can't make it.
     fn enter(
         &mut self,
         page: &mut Plain,
@@ -187,7 +186,8 @@ impl EndPlayer {
         Ok(())
     }
 
-    /// Keeps the bytes that a call writes or sends. Other calls have none, and need no copy.
+    /// Keeps the bytes that a call writes or sends. Other calls have none, so nothing is copied for
+    /// them.
     #[inline(always)]
     fn keep(&mut self, payload: &[u8]) -> Result<(), AllocError>
         ensures payload { OnOk result (self.new.payload.items ≡ payload.now) }
@@ -214,7 +214,7 @@ impl EndPlayer {
         Ok(())
     }
 
-    /// The events of the call that the end is inside, up to its answer.
+    /// Makes the events of the call that the end is inside, up to its answer.
     fn advance_to_answer(&mut self, page: &mut Plain, who: Role) -> Answer
         requires known { IsKnown who page.old self.old }
         requires busy { ¬ IsIdle (machine_of page.old who) }
@@ -234,7 +234,7 @@ impl EndPlayer {
         unreachable!()
     }
 
-    /// At most so many events of the call that the end is inside, up to its answer.
+    /// Makes at most this many events of the call that the end is inside, up to its answer.
     fn advance(&mut self, page: &mut Plain, who: Role, most: u32) -> Option<Answer>
         requires known { IsKnown who page.old self.old }
         requires busy { ¬ IsIdle (machine_of page.old who) }
@@ -255,7 +255,7 @@ impl EndPlayer {
     }
 }
 
-/// Makes a whole call, whose events nobody counts.
+/// Makes a whole call, whose events aren't counted.
 fn run_call(page: &mut Plain, who: Role, call: Call, payload: &[u8], buffer: &mut [u8]) -> Answer
     requires honest { turned_of page.old who ≡ false }
     requires allowed { Allows (machine_of page.old who) call }
@@ -301,8 +301,8 @@ fn run_counted<L: Ledger>(
     page.run_call(who, call, payload, buffer, &mut Steps::<L>::new(blank))
 }
 
-/// Why an end between two calls can't make a call now: the first reason that applies. An end retires
-/// once.
+/// Returns why an end between two calls can't make a call now: the first reason that applies. An
+/// end retires only once.
 fn call_refusal(page: &Plain, who: Role, call: Call) -> Option<Refusal>
     requires idle { IsIdle (machine_of page.now who) }
     requires said { CanSay who call }
@@ -323,7 +323,7 @@ fn call_refusal(page: &Plain, who: Role, call: Call) -> Option<Refusal>
     None
 }
 
-/// Whether an end that has retired is to retire.
+/// Returns whether an end that has retired would retire again.
 fn retires_again(page: &Plain, who: Role, call: Call) -> bool
     ensures { (core : Core) → StandsFor core page.now → result ≡ is_second_retire (side_of core who).state (has_retired_of core who) call }
 {
@@ -333,7 +333,7 @@ fn retires_again(page: &Plain, who: Role, call: Call) -> bool
     }
 }
 
-/// Why an end can't go on with a call now: the first reason that applies.
+/// Returns why an end can't go on with a call now: the first reason that applies.
 fn step_refusal(page: &Plain, who: Role) -> Option<Refusal>
     ensures refusal { (core : Core) → StandsFor core page.now → result ≡ step_refusal_of (side_of core who) }
     ensures busy { result ≡ None → ¬ IsIdle (machine_of page.now who) }

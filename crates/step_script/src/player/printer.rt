@@ -1,4 +1,4 @@
-//! The output lines of a script, each put behind the text that was printed before.
+//! The output lines of a script, each appended to the text that was printed before.
 ghost use Rattle.std.specs.Prelude.{◌≡◌, ◌≤◌, ◌++◌, ◌∷◌, [], decimal, codes, length, take, OnOk};
 ghost use Rattle.hex.specs.Hex.{encode_lower};
 ghost use Rattle.step_script.specs.Meaning.Output.{answer_words, answered, bytes_word, flag_word, heads, images, lengths, line_text, refusal_word, refused, ring_word, role_word, taken_word};
@@ -11,13 +11,13 @@ use ring_words::{Ring, Role};
 use std::alloc::AllocError;
 use vchan_core::{Answer, Call};
 
-/// Up to so many bytes are printed one after another.
+/// Up to this many bytes are printed one by one.
 const FEW: usize = 8;
 
 /// The hexadecimal digits.
 const DIGITS: &[u8; 16] = b"0123456789abcdef";
 
-/// The line of an answer. The bytes that it tells of stand at the front of `buffer`.
+/// Appends the line of an answer. The bytes that it tells of stand at the front of `buffer`.
 #[tactic(auto, using(crate::proofs::Parts::SpacedLaws::join_spaced), unfolding(crate::specs::Meaning::Output::line_text))]
 pub(crate) fn push_answer(
     out: &mut Vec<u8>,
@@ -35,7 +35,7 @@ pub(crate) fn push_answer(
     Ok(())
 }
 
-/// The line of an end that couldn't do what a line says.
+/// Appends the line of an end that couldn't do what its line says.
 #[tactic(auto, using(crate::proofs::Parts::SpacedLaws::join_spaced), unfolding(crate::specs::Meaning::Output::line_text))]
 pub(crate) fn push_refusal(out: &mut Vec<u8>, who: Role, why: Refusal) -> Result<(), AllocError>
     ensures { OnOk result (out.new.items ≡ out.old.items ++ line_text (refused who why)) }
@@ -46,7 +46,7 @@ pub(crate) fn push_refusal(out: &mut Vec<u8>, who: Role, why: Refusal) -> Result
     Ok(())
 }
 
-/// The line of the first bytes of a page.
+/// Appends the line of the first bytes of a page.
 #[tactic(auto, using(crate::proofs::Parts::SpacedLaws::join_spaced), unfolding(crate::specs::Meaning::Output::line_text))]
 pub(crate) fn push_head(out: &mut Vec<u8>, bytes: &[u8]) -> Result<(), AllocError>
     ensures { OnOk result (out.new.items ≡ out.old.items ++ line_text (heads bytes.now)) }
@@ -57,7 +57,7 @@ pub(crate) fn push_head(out: &mut Vec<u8>, bytes: &[u8]) -> Result<(), AllocErro
     Ok(())
 }
 
-/// The line of all bytes of a page.
+/// Appends the line of all bytes of a page.
 #[tactic(auto, using(crate::proofs::Parts::SpacedLaws::join_spaced), unfolding(crate::specs::Meaning::Output::line_text))]
 pub(crate) fn push_image(out: &mut Vec<u8>, bytes: &[u8]) -> Result<(), AllocError>
     ensures { OnOk result (out.new.items ≡ out.old.items ++ line_text (images bytes.now)) }
@@ -68,7 +68,7 @@ pub(crate) fn push_image(out: &mut Vec<u8>, bytes: &[u8]) -> Result<(), AllocErr
     Ok(())
 }
 
-/// The line of how many bytes a ring's writer sent, and its reader got.
+/// Appends the line of how many bytes a ring's writer sent, and its reader got.
 #[tactic(auto, using(crate::proofs::Parts::SpacedLaws::join_spaced), unfolding(crate::specs::Meaning::Output::line_text))]
 pub(crate) fn push_lengths(
     out: &mut Vec<u8>,
@@ -85,7 +85,7 @@ pub(crate) fn push_lengths(
     Ok(())
 }
 
-/// The words of an answer, each behind a space.
+/// Appends the words of an answer, each after a space.
 fn push_answer_words(
     out: &mut Vec<u8>,
     call: Call,
@@ -123,7 +123,7 @@ fn push_answer_words(
     }
 }
 
-/// A word and a number.
+/// Appends a word and a number.
 #[inline(always)]
 fn push_count(out: &mut Vec<u8>, word: &[u8], count: u64) -> Result<(), AllocError>
     ensures { OnOk result (out.new.items ≡ with_words out.old.items (word.now ∷ decimal count ∷ [])) }
@@ -132,7 +132,7 @@ fn push_count(out: &mut Vec<u8>, word: &[u8], count: u64) -> Result<(), AllocErr
     push_number(out, count)
 }
 
-/// A word and two indices.
+/// Appends a word and two indices.
 fn push_pair(out: &mut Vec<u8>, word: &[u8], first: u32, second: u32) -> Result<(), AllocError>
     ensures { let words = word.now ∷ decimal first ∷ decimal second ∷ [] in
         OnOk result (out.new.items ≡ with_words out.old.items words) }
@@ -141,7 +141,7 @@ fn push_pair(out: &mut Vec<u8>, word: &[u8], first: u32, second: u32) -> Result<
     push_number(out, u64::from(second))
 }
 
-/// A word, and 1 or 0.
+/// Appends a word, and 1 or 0.
 fn push_flag(out: &mut Vec<u8>, word: &[u8], flag: bool) -> Result<(), AllocError>
     ensures { OnOk result (out.new.items ≡ with_words out.old.items (word.now ∷ flag_word flag ∷ [])) }
 {
@@ -149,7 +149,7 @@ fn push_flag(out: &mut Vec<u8>, word: &[u8], flag: bool) -> Result<(), AllocErro
     push_word(out, if flag { b"1" } else { b"0" })
 }
 
-/// The bytes that a call took, behind the call's word for them.
+/// Appends the bytes that a call took, after the call's word for them.
 fn push_taken(out: &mut Vec<u8>, call: Call, bytes: &[u8]) -> Result<(), AllocError>
     ensures { let words = taken_word call ∷ bytes_word bytes.now ∷ [] in
         OnOk result (out.new.items ≡ with_words out.old.items words) }
@@ -162,7 +162,7 @@ fn push_taken(out: &mut Vec<u8>, call: Call, bytes: &[u8]) -> Result<(), AllocEr
     push_bytes(out, bytes)
 }
 
-/// Bytes in hexadecimal behind a space, or `-` for none.
+/// Appends bytes in hexadecimal after a space, or `-` for none.
 #[inline(always)]
 fn push_bytes(out: &mut Vec<u8>, bytes: &[u8]) -> Result<(), AllocError>
     ensures { OnOk result (out.new.items ≡ with_words out.old.items (bytes_word bytes.now ∷ [])) }
@@ -174,7 +174,7 @@ fn push_bytes(out: &mut Vec<u8>, bytes: &[u8]) -> Result<(), AllocError>
     push_hex(out, bytes)
 }
 
-/// Two digits for each byte, in lower case.
+/// Appends two digits for each byte, in lower case.
 #[inline(always)]
 fn push_hex(out: &mut Vec<u8>, bytes: &[u8]) -> Result<(), AllocError>
     ensures { OnOk result (out.new.items ≡ out.old.items ++ encode_lower bytes.now) }
@@ -186,7 +186,7 @@ fn push_hex(out: &mut Vec<u8>, bytes: &[u8]) -> Result<(), AllocError>
     }
 }
 
-/// The digits of a few bytes, which are put one pair after another.
+/// Appends the digits of a few bytes, one pair after another.
 fn push_few_hex(out: &mut Vec<u8>, bytes: &[u8]) -> Result<(), AllocError>
     ensures { OnOk result (out.new.items ≡ out.old.items ++ encode_lower bytes.now) }
 {
@@ -198,7 +198,7 @@ fn push_few_hex(out: &mut Vec<u8>, bytes: &[u8]) -> Result<(), AllocError>
     Ok(())
 }
 
-/// The digits of more bytes: their places are made first, and then all are written.
+/// Appends the digits of more bytes: makes room for all of them first, and then writes them.
 fn push_much_hex(out: &mut Vec<u8>, bytes: &[u8]) -> Result<(), AllocError>
     ensures { OnOk result (out.new.items ≡ out.old.items ++ encode_lower bytes.now) }
 {
@@ -209,7 +209,7 @@ fn push_much_hex(out: &mut Vec<u8>, bytes: &[u8]) -> Result<(), AllocError>
     digits.map_err(|_| AllocError)
 }
 
-/// A word behind a space.
+/// Appends a word after a space.
 #[inline(always)]
 fn push_word(out: &mut Vec<u8>, word: &[u8]) -> Result<(), AllocError>
     ensures { OnOk result (out.new.items ≡ with_words out.old.items (word.now ∷ [])) }
@@ -218,7 +218,7 @@ fn push_word(out: &mut Vec<u8>, word: &[u8]) -> Result<(), AllocError>
     out.extend_from_slice(word)
 }
 
-/// A number in decimal behind a space.
+/// Appends a number in decimal after a space.
 #[tactic(auto, using(std::proofs::lemmas::Fmt::decimal_digit))]
 fn push_number(out: &mut Vec<u8>, number: u64) -> Result<(), AllocError>
     ensures { OnOk result (out.new.items ≡ with_words out.old.items (decimal number ∷ [])) }
@@ -229,8 +229,8 @@ fn push_number(out: &mut Vec<u8>, number: u64) -> Result<(), AllocError>
     push_word(out, Buffer::new().format(number).as_bytes())
 }
 
-/// The name of an end, which begins a line. Each name is a piece of its own length, so that it is
-/// put by a few moves.
+/// Appends the name of an end, which begins a line. Each name is a piece of its own length, so that
+/// a few moves copy it.
 #[inline(always)]
 fn push_role(out: &mut Vec<u8>, who: Role) -> Result<(), AllocError>
     ensures { OnOk result (out.new.items ≡ out.old.items ++ role_word who) }

@@ -9,7 +9,7 @@ use vchan_core::Refusal as CallRefusal;
 pub(crate) enum Refusal {
     /// The end was turned over to a hostile user.
     Turned,
-    /// The end is inside no call, or the client has connected already.
+    /// The end is inside no call, or the client has already connected.
     Idle,
     /// The end is shut.
     Shut,
@@ -17,7 +17,7 @@ pub(crate) enum Refusal {
     Unconnected,
 }
 
-/// Why an end that is inside no call can't begin one that a script names.
+/// Returns why an end that is inside no call can't begin one that a script names.
 pub(crate) fn refusal_of_call(why: CallRefusal) -> Refusal
     requires between { why ≢ CallRefusal.Busy }
     requires some { why ≢ CallRefusal.NoBytes }

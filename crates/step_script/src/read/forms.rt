@@ -9,7 +9,7 @@ use ring_words::{Role, WordName};
 use script_words::WordsOfLine;
 use vchan_core::Call;
 
-/// A call as its word names it, and with that the form of the words behind it.
+/// A call as its word names it, which determines the form of the words after it.
 #[derive(Clone, Copy, Debug, PartialEq, Eq)]
 pub(crate) enum CallForm {
     /// `write BYTES`.
@@ -22,11 +22,11 @@ pub(crate) enum CallForm {
     Recv,
     /// `drain N`.
     Drain,
-    /// A call with no word behind it.
+    /// A call with no word after it.
     Bare(Call),
 }
 
-/// What an end does that is no whole call.
+/// What an end does that isn't a whole call.
 #[derive(Clone, Copy, Debug, PartialEq, Eq)]
 pub(crate) enum Act {
     /// `begin CALL`.
@@ -41,7 +41,7 @@ pub(crate) enum Act {
     Signal,
 }
 
-/// What an end does, as a word of a script says it.
+/// What an end does, as a word of a script names it.
 #[derive(Clone, Copy, Debug, PartialEq, Eq)]
 pub(crate) enum Verb {
     /// It makes a whole call.
@@ -50,7 +50,7 @@ pub(crate) enum Verb {
     Does(Act),
 }
 
-/// The end that the first of these words names, and the words behind it.
+/// Returns the end that the first of these words names, and the words after it.
 #[inline(always)]
 #[tactic(auto, using(crate::proofs::Language::NameLaws::unnamed))]
 pub(crate) fn end_in<'a>(words: &WordsOfLine<'a>) -> Option<(Role, WordsOfLine<'a>)>
@@ -65,8 +65,8 @@ pub(crate) fn end_in<'a>(words: &WordsOfLine<'a>) -> Option<(Role, WordsOfLine<'
     }
 }
 
-/// What the first of these words says that this end does, and the words behind it. The words that
-/// scripts have most are looked for where this is called.
+/// Returns what the first of these words tells this end to do, and the words after it. The
+/// commonest words of scripts are looked for first, inlined into the caller.
 #[inline(always)]
 #[tactic(auto, using(crate::proofs::Language::NameLaws::frequent))]
 pub(crate) fn verb_in<'a>(who: Role, words: &WordsOfLine<'a>) -> Option<(Verb, WordsOfLine<'a>)>
@@ -88,7 +88,7 @@ pub(crate) fn verb_in<'a>(who: Role, words: &WordsOfLine<'a>) -> Option<(Verb, W
     }
 }
 
-/// [`verb_in`], by the tables.
+/// Does what [`verb_in`] does, by the tables.
 #[inline(never)]
 fn further_verb_in<'a>(who: Role, words: &WordsOfLine<'a>) -> Option<(Verb, WordsOfLine<'a>)>
     ensures verb { found_in result ≡ verb_first who (words_left words.now) }
@@ -103,7 +103,7 @@ fn further_verb_in<'a>(who: Role, words: &WordsOfLine<'a>) -> Option<(Verb, Word
     }
 }
 
-/// The call of this end that the first of these words names, and the words behind it.
+/// Returns the call of this end that the first of these words names, and the words after it.
 #[inline(always)]
 pub(crate) fn call_in<'a>(who: Role, words: &WordsOfLine<'a>) -> Option<(CallForm, WordsOfLine<'a>)>
     ensures form { found_in result ≡ meaning_first (calls_of who) (words_left words.now) }
@@ -115,7 +115,7 @@ pub(crate) fn call_in<'a>(who: Role, words: &WordsOfLine<'a>) -> Option<(CallFor
     }
 }
 
-/// The call of a client that the first of these words names, and the words behind it.
+/// Returns the call of a client that the first of these words names, and the words after it.
 #[inline(always)]
 #[tactic(auto, using(crate::proofs::Language::NameLaws::past_name))]
 fn client_call_in<'a>(words: &WordsOfLine<'a>) -> Option<(CallForm, WordsOfLine<'a>)>
@@ -129,8 +129,8 @@ fn client_call_in<'a>(words: &WordsOfLine<'a>) -> Option<(CallForm, WordsOfLine<
     }
 }
 
-/// The call of either end that the first of these words names, and the words behind it. The two
-/// calls that scripts have most are looked for where this is called.
+/// Returns the call of either end that the first of these words names, and the words after it. The
+/// two commonest calls of scripts are looked for first, inlined into the caller.
 #[inline(always)]
 #[tactic(auto, using(crate::proofs::Language::NameLaws::past_name))]
 fn common_call_in<'a>(words: &WordsOfLine<'a>) -> Option<(CallForm, WordsOfLine<'a>)>
@@ -146,8 +146,8 @@ fn common_call_in<'a>(words: &WordsOfLine<'a>) -> Option<(CallForm, WordsOfLine<
     }
 }
 
-/// The call of either end, but for `write` and `read`, that the first of these words names, and the
-/// words behind it.
+/// Returns the call of either end, except `write` and `read`, that the first of these words names,
+/// and the words after it.
 #[inline(never)]
 #[tactic(auto, using(crate::proofs::Language::NameLaws::unnamed))]
 fn further_call_in<'a>(words: &WordsOfLine<'a>) -> Option<(CallForm, WordsOfLine<'a>)>
@@ -177,7 +177,7 @@ fn further_call_in<'a>(words: &WordsOfLine<'a>) -> Option<(CallForm, WordsOfLine
     }
 }
 
-/// The act that the first of these words names, and the words behind it.
+/// Returns the act that the first of these words names, and the words after it.
 #[tactic(auto, using(crate::proofs::Language::NameLaws::unnamed))]
 pub(crate) fn act_in<'a>(words: &WordsOfLine<'a>) -> Option<(Act, WordsOfLine<'a>)>
     ensures { found_in result ≡ meaning_first acts (words_left words.now) }
@@ -197,7 +197,7 @@ pub(crate) fn act_in<'a>(words: &WordsOfLine<'a>) -> Option<(Act, WordsOfLine<'a
     }
 }
 
-/// The header field that a word names.
+/// Returns the header field that a word names.
 pub(crate) fn field_named(word: &[u8]) -> Option<WordName>
     ensures { result ≡ meaning_in fields word.now }
 {

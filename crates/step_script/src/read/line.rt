@@ -1,4 +1,4 @@
-//! Reading one line of a script behind its opening.
+//! Reading one line of a script after its opening.
 ghost use Rattle.std.specs.Prelude.{◌≡◌, ◌≤◌, ℕ, List, [], length, IfOk};
 ghost use Rattle.script_words.specs.Words.{words_of};
 ghost use Rattle.script_words.specs.WordsLeft.{words_left};
@@ -19,12 +19,12 @@ use script_words::WordsOfLine;
 use vchan_core::Call;
 
 /// Reads a line of a script whose page has these orders, with `room` bytes left for its byte
-/// strings. Its own byte string goes to `payload`, which is left empty where it has none.
+/// strings. Its own byte string goes to `payload`, which stays empty if the line has none.
 ///
 /// # Errors
 ///
-/// A bad line where the line is none of the language; then, from the left, a bad number or bad hex
-/// where a word is none; too many bytes; `Memory` only where the line is none of these.
+/// A bad line if the language has no such line; then, from the left, a bad number or bad hex if a
+/// word is neither; too many bytes. `Memory` only if the line is none of these.
 pub(crate) fn read_line(
     payload: &mut Vec<u8>,
     orders: Orders,
@@ -90,7 +90,7 @@ fn read_end_line(
     }
 }
 
-/// Reads the words behind an act's word.
+/// Reads the words after an act's word.
 #[inline(always)]
 fn read_line_of_act(
     payload: &mut Vec<u8>,
@@ -141,7 +141,7 @@ fn read_poke(orders: Orders, who: Role, mut words: WordsOfLine) -> Result<Line, 
     Ok(Line::Poke { who, word, value })
 }
 
-/// Reads a call of an end: its word, and the words behind it.
+/// Reads a call of an end: its word, and the words after it.
 fn read_call(
     payload: &mut Vec<u8>,
     room: usize,
@@ -159,7 +159,7 @@ fn read_call(
     }
 }
 
-/// Reads the words behind a call's word.
+/// Reads the words after a call's word.
 #[inline(always)]
 fn read_call_of_form(
     payload: &mut Vec<u8>,

@@ -15,19 +15,19 @@ use ring_words::{Orders, check_orders};
 use script_words::WordsOfLine;
 use vchan_core::EndState;
 
-/// The most that an order's word may say.
+/// The greatest value that the word of an order may have.
 const MOST_ORDER: u64 = 65_535;
 
-/// The most that an index may say.
+/// The greatest value that an index may have.
 const MOST_INDEX: u64 = 4_294_967_295;
 
 /// Reads the first line: `open L R`, or `fresh L R A B`.
 ///
 /// # Errors
 ///
-/// A bad header where the line hasn't one of these words with as many words behind it; a bad line
-/// where one of those is empty; a bad number where one of them isn't a number up to 65,535; bad
-/// orders where `check_orders` refuses L and R.
+/// A bad header if the line doesn't have one of these words with the right number of words after
+/// it; a bad line if one of those is empty; a bad number if one of them isn't a number up to
+/// 65,535; bad orders if `check_orders` refuses L and R.
 pub(crate) fn read_opening(line: &[u8]) -> Result<Opening, ScriptKind>
     ensures { Finds (λ opening. opening) result (opening_of (words_of line.now)) }
 {
@@ -84,7 +84,7 @@ fn read_fresh_words(
     lay(numbers, said, EndState::Fresh)
 }
 
-/// The number of a word that may be an order.
+/// Returns the number of a word that may be an order.
 fn read_order(word: &[u8]) -> Result<u16, ScriptKind>
     ensures { Finds (λ number. number) result (number_between 0 65535 word.now) }
 {
@@ -92,7 +92,8 @@ fn read_order(word: &[u8]) -> Result<u16, ScriptKind>
     Ok(number as u16)
 }
 
-/// A page with two numbers as its orders, whose order words and client are so.
+/// Returns the opening of a page with two numbers as its orders, with what the order words hold and
+/// the client's state.
 fn lay(numbers: (u16, u16), said: (u16, u16), state: EndState) -> Result<Opening, ScriptKind>
     ensures { Finds (λ opening. opening) result (laid numbers said state) }
 {
@@ -105,7 +106,7 @@ fn lay(numbers: (u16, u16), said: (u16, u16), state: EndState) -> Result<Opening
     })
 }
 
-/// The orders of a page that two numbers are.
+/// Returns two numbers as the orders of a page.
 #[tactic(auto, using(crate::proofs::Language::OrdersLaws::orders_of_bad))]
 fn page_orders(left: u16, right: u16) -> Result<Orders, ScriptKind>
     ensures { Finds (λ orders. orders) result (ok_or (orders_of left right) BadOrders) }
@@ -116,7 +117,8 @@ fn page_orders(left: u16, right: u16) -> Result<Orders, ScriptKind>
     }
 }
 
-/// N of a line `start N`. It is `None` exactly where the line hasn't that word and just one more.
+/// Returns N of a line `start N`, or `None` if and only if the line doesn't have that word and just
+/// one more.
 pub(crate) fn start_word(line: &[u8]) -> Option<&[u8]>
     ensures { option_copied result ≡ start_word (words_of line.now) }
 {
@@ -128,11 +130,11 @@ pub(crate) fn start_word(line: &[u8]) -> Option<&[u8]>
     }
 }
 
-/// The number at which all indices begin, of its word.
+/// Reads the number at which all indices begin.
 ///
 /// # Errors
 ///
-/// A bad line where the word is empty; a bad number where it isn't a number up to 4,294,967,295.
+/// A bad line if the word is empty; a bad number if it isn't a number up to 4,294,967,295.
 pub(crate) fn read_start(word: &[u8]) -> Result<u32, ScriptKind>
     ensures { Finds (λ start. start) result (start_of word.now) }
 {

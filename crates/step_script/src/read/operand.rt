@@ -1,4 +1,4 @@
-//! The words behind a verb.
+//! The words after a verb.
 ghost use Rattle.std.specs.Prelude.{◌≡◌, ◌≤◌, [], length, IfOk};
 ghost use Rattle.script_words.specs.WordsLeft.{words_left};
 ghost use Rattle.vchan_protocol.specs.Honest.RingLaw.{AreBytes};
@@ -8,14 +8,14 @@ ghost use Rattle.step_script.specs.Parts.Readings.{Finds, Gives};
 use crate::error::{LineError, ScriptKind};
 use script_words::{WordsOfLine, parse_number, push_bytes};
 
-/// The most that a count of bytes or of events may say.
+/// The greatest value that a count of bytes or of events may have.
 const MOST_COUNT: u32 = 2_147_483_647;
 
-/// A word that has a byte.
+/// Returns a word that isn't empty.
 ///
 /// # Errors
 ///
-/// A bad line where it is empty.
+/// A bad line if it is empty.
 pub(crate) fn read_given(word: &[u8]) -> Result<&[u8], ScriptKind>
     ensures { Finds (λ word. word.now) result (given word.now) }
 {
@@ -26,11 +26,11 @@ pub(crate) fn read_given(word: &[u8]) -> Result<&[u8], ScriptKind>
     }
 }
 
-/// The only word that is left.
+/// Returns the only word that is left.
 ///
 /// # Errors
 ///
-/// A bad line where it isn't the only one, or is empty.
+/// A bad line if it isn't the only one, or is empty.
 #[inline(always)]
 pub(crate) fn read_operand<'a>(words: WordsOfLine<'a>) -> Result<&'a [u8], ScriptKind>
     ensures { Finds (λ word. word.now) result (operand_of (words_left words.entry)) }
@@ -38,11 +38,11 @@ pub(crate) fn read_operand<'a>(words: WordsOfLine<'a>) -> Result<&'a [u8], Scrip
     read_given(words.only().ok_or(ScriptKind::BadLine)?)
 }
 
-/// Whether no word is left.
+/// Checks that no word is left.
 ///
 /// # Errors
 ///
-/// A bad line where one is.
+/// A bad line if one is.
 pub(crate) fn read_nothing(mut words: WordsOfLine) -> Result<(), ScriptKind>
     ensures { Finds (λ x. x) result (alone tt (words_left words.entry)) }
 {
@@ -52,11 +52,11 @@ pub(crate) fn read_nothing(mut words: WordsOfLine) -> Result<(), ScriptKind>
     }
 }
 
-/// The number of a word, from `least` to `most`.
+/// Reads a number from `least` to `most`.
 ///
 /// # Errors
 ///
-/// A bad number where the word is no such number.
+/// A bad number if the word is no such number.
 pub(crate) fn read_number(word: &[u8], least: u64, most: u64) -> Result<u64, ScriptKind>
     ensures number { Finds (λ number. number) result (number_between least most word.now) }
     ensures within { IfOk result (λ number. (least ≤ number) × (number ≤ most)) }
@@ -69,11 +69,11 @@ pub(crate) fn read_number(word: &[u8], least: u64, most: u64) -> Result<u64, Scr
     }
 }
 
-/// A count of bytes or of events, from `least` on, as the only word that is left.
+/// Reads a count of bytes or of events, from `least` on, from the only word that is left.
 ///
 /// # Errors
 ///
-/// A bad line where it isn't the only word or is empty; a bad number where it is no such number.
+/// A bad line if it isn't the only word or is empty; a bad number if it is no such number.
 #[inline(always)]
 pub(crate) fn read_count(words: WordsOfLine, least: u32) -> Result<u32, ScriptKind>
     ensures count { Finds (λ count. count) result (count_of least 2147483647 (words_left words.entry)) }
@@ -84,13 +84,13 @@ pub(crate) fn read_count(words: WordsOfLine, least: u32) -> Result<u32, ScriptKi
     Ok(count as u32)
 }
 
-/// Takes the bytes of a byte string that is the only word that is left, at most `room` of them, to
-/// `payload`, which has none yet. It answers how many.
+/// Appends the bytes of a byte string, the only word that is left, to the empty `payload`, at most
+/// `room` of them. Returns how many there are.
 ///
 /// # Errors
 ///
-/// A bad line where it isn't the only word or is empty; bad hex where it is no byte string; too
-/// many bytes; `Memory` only where it is none of these.
+/// A bad line if it isn't the only word or is empty; bad hex if it isn't a byte string; too many
+/// bytes. `Memory` only if it is none of these.
 #[inline(always)]
 pub(crate) fn read_payload(
     payload: &mut Vec<u8>,
@@ -109,7 +109,7 @@ pub(crate) fn read_payload(
     Ok(count_bytes(payload.as_slice()))
 }
 
-/// How many bytes there are, of at most 8,388,608.
+/// Returns how many bytes there are, of at most 8,388,608.
 fn count_bytes(bytes: &[u8]) -> u32
     requires { length bytes.now ≤ 8388608 }
     ensures count { result ≡ length bytes.now }

@@ -1,4 +1,4 @@
-//! Reading the word of a page that a poke names.
+//! Reading the name of the word of a page that a poke stores to.
 ghost use Rattle.std.specs.Prelude.{◌≡◌, option_copied, IfOk};
 ghost use Rattle.step_script.specs.Language.Pokes.{place_in, ring_byte, poked_word};
 ghost use Rattle.step_script.specs.Parts.Readings.{Finds};
@@ -10,12 +10,12 @@ use crate::read::operand::read_number;
 use ring_words::{Orders, Ring, WordName};
 use script_words::is_number;
 
-/// The word of a page with these orders that a word names: a header field, or `left[K]` and
+/// Reads the name of a word of a page with these orders: a header field, or `left[K]` and
 /// `right[K]` for a byte of a ring.
 ///
 /// # Errors
 ///
-/// A bad line where there is no such name; a bad number where K isn't below the ring's size.
+/// A bad line if there is no such name; a bad number if K isn't below the ring's size.
 pub(crate) fn read_word_name(orders: Orders, word: &[u8]) -> Result<WordName, ScriptKind>
     ensures name { Finds (λ name. name) result (poked_word orders word.now) }
     ensures within { IfOk result (λ name. MayPoke orders name) }
@@ -31,14 +31,14 @@ pub(crate) fn read_word_name(orders: Orders, word: &[u8]) -> Result<WordName, Sc
     }
 }
 
-/// What stands between this front of a word and a `]` at its end.
+/// Returns what stands between this front of a word and a `]` at its end.
 fn place_in<'a>(front: &[u8], word: &'a [u8]) -> Option<&'a [u8]>
     ensures { option_copied result ≡ place_in front.now word.now }
 {
     word.strip_prefix(front)?.strip_suffix(b"]")
 }
 
-/// The byte of a ring at the place that a word says.
+/// Reads the place of a ring's byte.
 fn read_ring_byte(orders: Orders, ring: Ring, place: &[u8]) -> Result<WordName, ScriptKind>
     ensures byte { Finds (λ name. name) result (ring_byte orders ring place.now) }
     ensures within { IfOk result (λ name. MayPoke orders name) }
