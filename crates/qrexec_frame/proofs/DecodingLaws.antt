@@ -115,7 +115,7 @@ stands-reading d fed given s =
     let all = reads-then (front d.channel) (is_prefix_code d.channel) s.before (d.left ++ s.after) 0 0 (omega arith) done in
     ap (reading d.channel) s.fed_is ∙ all ∙ rw (placed, zero_first) refl
 
--- more bytes for a decoder; those for a faulted one are passed over
+-- more bytes for a decoder; those for a faulted one are skipped
 pub feed-stands : (d : DecoderState) (fed piece : List ℕ) (given : List (Placed Message)) → StandsFor d fed given → StandsFor (after_feed d piece) (fed ++ piece) given
 feed-stands d fed piece given s = by_fault d.fault refl
   where
@@ -162,7 +162,7 @@ fault_at-mod at g = by_fault g
     by_fault (BadLength number len) = rw twice refl
     by_fault (NoNul number) = rw twice refl
 
--- where the bytes that are left show a fault, the reading of all bytes ends with it
+-- if the bytes that are left show a fault, the reading of all bytes ends with it
 bad-reading : (d : DecoderState) (fed : List ℕ) (given : List (Placed Message)) (s : StandsFor d fed given) (g : Fault) → front d.channel d.left ≡ Bad g
     → reading d.channel fed ≡ record { placed = given; ending = FaultAt (length s.before) g }
 bad-reading d fed given s g bad =
@@ -303,7 +303,7 @@ short-less channel bytes is = by_standing (standing channel bytes)
     by_standing (Unended kind header range there line last) = let here = front-no_nul channel bytes _ _ kind header range there line last in cc
     by_standing (Said kind header range there ended) = let here = front-whole channel bytes _ _ kind header range there ended in cc
 
--- so few bytes are left where a decoder gives nothing
+-- so few bytes are left if a decoder gives nothing
 pub next-short : (old new : DecoderState) (r : Result (Option Message) NextError) → (old.fault ≡ None → Answers old new r)
     → ((f : FrameFault) → old.fault ≡ Some f → (r ≡ Err (error.Fault f)) × (new ≡ old)) → r ≡ Ok None → length old.left < 65544
 next-short old new r answer faulted is = by_fault old.fault refl

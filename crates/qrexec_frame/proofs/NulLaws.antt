@@ -23,7 +23,7 @@ first_place bytes (Some i) first =
     position_or_len_is is_nul bytes i 0 (omega (arith, first.0.high)) (λ k below. not_true (eqb (get_or bytes k 0) 0) (first.0.before k (omega arith) below)) (λ below. first.1) in
     rw at (grind (arith, nat_tests, first.0.high))
 
--- it finds one exactly where there is one
+-- it finds one if and only if there is one
 pub some_nul : (bytes : List ℕ) (found : Option ℕ) → IsFirstByte (is_byte 0) bytes found → IsSome found ↔ Contains bytes 0
 some_nul bytes None nowhere = (λ some. cc, λ nul. absurd (nowhere nul.0 (omega arith) nul.1 (eq-eqb (get_or bytes nul.0 0) 0 nul.2)))
 some_nul bytes (Some i) first = (λ some. (i, first.0.high, eqb-true (get_or bytes i 0) 0 first.1), λ nul. refl)

@@ -40,7 +40,7 @@ given-shorter old new m answer =
     let left : new.left ≡ drop answer.0 old.left = ap (λ d. d.left) answer.2 in
     rw left (omega (arith, length-drop answer.0 old.left, found.0, found.1))
 
--- where a line was printed, less is left
+-- if a line was printed, less is left
 pub printed-shorter : (old new : DecoderState) (before after : List ℕ) (r : Result Bool NextError) → (old.fault ≡ None → Printed (Answers old new) before after r)
     → ((f : FrameFault) → old.fault ≡ Some f → (r ≡ Err (error.Fault f)) × (new ≡ old) × (after ≡ before)) → r ≡ Ok true → length new.left < length old.left
 printed-shorter old new before after r answer faulted is = by_fault old.fault refl
@@ -67,7 +67,7 @@ printed-channel old new before after r answer faulted = by_fault old.fault refl
     by_fault None none = answered-channel old new before after r (answer none)
     by_fault (Some f) some = ap (λ d. d.channel) (faulted f some).1
 
--- where no message is whole, the decoder stays
+-- if no message is whole, the decoder stays
 pub printed-stays : (old new : DecoderState) (before after : List ℕ) (r : Result Bool NextError) → (old.fault ≡ None → Printed (Answers old new) before after r)
     → ((f : FrameFault) → old.fault ≡ Some f → (r ≡ Err (error.Fault f)) × (new ≡ old) × (after ≡ before)) → r ≡ Ok false → new ≡ old
 printed-stays old new before after r answer faulted is = by_fault old.fault refl

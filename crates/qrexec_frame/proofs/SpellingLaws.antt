@@ -96,7 +96,7 @@ says-made body (message.Terminated domain port) says = let d = says.0 in let p =
 says-made body (message.Trigger3 target ident service) says = let t = says.0 in let i = says.1 in let s = says.2.1 in cc
 says-made body (message.Trigger target ident service) says = let s = says.0 in let t = says.1 in let i = says.2 in cc
 
--- where a type has a line, what is said of the body gives its NUL
+-- if a type has a line, what is said of the body gives its NUL
 pub says-ended : (body : List ℕ) (m : Message) → Says body m → IsEnded (kind_of m) body
 says-ended body (message.Hello version) says = inl refl
 says-ended body (message.Stdin bytes) says = inl refl

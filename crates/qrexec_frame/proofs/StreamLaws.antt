@@ -4,7 +4,7 @@ use Rattle.std.proofs.Common.{◌⊎◌, inl, inr, ◌≡◌, ℕ, ◌+◌, ◌-
 use Rattle.std.specs.List.{flat_map}
 use Rattle.qrexec_frame.specs.Streams.{Front, Whole, Bad, Short, Ending, Rest, FaultAt, Placed, Reading, read_on, reading_by, messages, then_reading, IsPrefixCode, IsReadAgain, Each, Begins, ExtendsFrom, Extends}
 
--- the bytes of the message before are passed over
+-- the bytes of the message before are skipped
 pub read_on-skip : {M F : Type 0} (first : List ℕ → Front M F) → (s bs : List ℕ) (at skip : ℕ) → skip ≡ length s → read_on first (s ++ bs) at skip ≡ read_on first bs (at + length s) 0
 read_on-skip first [] bs at skip is = let e : at + 0 ≡ at = omega arith in rw (is, e) refl
 read_on-skip first (x ∷ s) bs at skip is = rw is (let e : at + suc (length s) ≡ (at + 1) + length s = omega arith in rw e (read_on-skip first s bs (at + 1) (length s) refl))

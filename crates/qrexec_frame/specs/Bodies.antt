@@ -1,4 +1,4 @@
--- What the search for the body at the front of some bytes answers.
+-- The answers of the search for the body at the front of some bytes.
 use Rattle.std.specs.Prelude.{◌≡◌, ℕ, ◌+◌, ◌≤◌, List, length, Option, Some, None, Result, Ok, Err}
 use Rattle.qrexec_frame.specs.declared.channel.Channel.{Channel}
 use Rattle.qrexec_frame.specs.declared.fault.FrameFault.{FrameFault}

@@ -22,11 +22,11 @@ pub record DecoderState : Type 0 where
 abbrev pub held : DecoderState → ℕ
 held d = d.passed + length d.left
 
--- a decoder that gave out so many bytes
+-- a decoder that gave out this many bytes more
 abbrev pub after_message : DecoderState → ℕ → DecoderState
 after_message d n = record d { passed = d.passed + n; left = drop n d.left; at = (d.at + n) % 2 ^ 64 }
 
--- a decoder that was fed a piece: where it held no fewer bytes given out than others, it holds none of them
+-- a decoder that was fed a piece: if it held at least as many given-out bytes as others, it holds none of them
 -- any more; a faulted one stays as it is
 abbrev pub after_feed : DecoderState → List ℕ → DecoderState
 after_feed d piece = by_fault d.fault
@@ -35,7 +35,7 @@ after_feed d piece = by_fault d.fault
     by_fault None = record d { passed = if nat_le (length d.left) d.passed then 0 else d.passed; left = d.left ++ piece }
     by_fault (Some f) = d
 
--- what `next` answers and leaves, by what stands at the front; want of memory comes only at a message
+-- what `next` answers and leaves, by what stands at the front; memory runs out only at a message
 abbrev pub Answers : DecoderState → DecoderState → Result (Option Message) NextError → Type 0
 Answers old new (Ok (Some m)) = (n : ℕ) × (front old.channel old.left ≡ Whole m n) × (new ≡ after_message old n)
 Answers old new (Ok None) = (front old.channel old.left ≡ Short) × (new ≡ old)
@@ -53,7 +53,7 @@ pub record IsOnlySpelled (channel : Channel) (bytes : List ℕ) (n : ℕ) (m : M
   pub only : (k : ℕ) (other : Message) → k ≤ length bytes → Spelled channel (take k bytes) other → (k ≡ n) × (other ≡ m)
 
 -- what `next` answers, by the grammar: the message that the bytes begin with, the fault that shows, or
--- neither where the bytes are the beginning of a message and show no fault
+-- neither if the bytes are the beginning of a message and show no fault
 abbrev pub FollowsGrammar : DecoderState → DecoderState → Result (Option Message) NextError → Type 0
 FollowsGrammar old new (Ok (Some m)) = (n : ℕ) × IsOnlySpelled old.channel old.left n m × (new ≡ after_message old n)
 FollowsGrammar old new (Ok None) = NoneSpelled old.channel old.left × ((g : Fault) → Shows old.channel old.left g → ⊥) × IsBegun old.channel old.left
@@ -61,7 +61,7 @@ FollowsGrammar old new (Err (error.Fault f)) = (g : Fault) × Shows old.channel 
 FollowsGrammar old new (Err error.Memory) = new ≡ old
 
 -- the decoder was fed these bytes and gave out these messages: the bytes given out are these messages, and
--- the others are not given out, but for those fed after the fault that it answered
+-- the others are not given out, except those fed after the fault that it answered
 pub record StandsFor (d : DecoderState) (fed : List ℕ) (given : List (Placed Message)) : Type 0 where
   pub before : List ℕ
   pub after : List ℕ

@@ -28,7 +28,7 @@ made Terminated body = message.Terminated (number_at 0 body) (number_at 4 body)
 made Trigger3 body = message.Trigger3 (field_text 0 64 body) (field_text 64 32 body) (line_text 96 body)
 made Trigger body = message.Trigger (field_text 64 32 body) (field_text 96 32 body) (field_text 0 64 body)
 
--- a whole body, which ends with NUL where it has a line
+-- a whole body, which ends with NUL if it has a line
 abbrev pub with_body : Kind → ℕ → List ℕ → Front Message Fault
 with_body kind number body =
     if has_line kind && not (last_byte body == 0) then Bad (NoNul number)

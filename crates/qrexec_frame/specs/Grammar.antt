@@ -9,7 +9,7 @@ use Rattle.qrexec_frame.specs.Kinds.{kind_on, least_len, most_len, has_line}
 use Rattle.qrexec_frame.specs.Messages.{kind_of}
 use Rattle.qrexec_frame.specs.Texts.{field_text, line_text}
 
--- the number of the four bytes from a place on, the lowest first
+-- the number that four bytes are from a place on, the lowest first
 abbrev pub number_at : ℕ → List ℕ → ℕ
 number_at start bytes = from_le_bytes w32 (drop start bytes)
 
@@ -21,7 +21,7 @@ last_byte body = slice_index body (length body - 1)
 abbrev pub IsLine : ℕ → List ℕ → List ℕ → Type 0
 IsLine start body text = (last_byte body ≡ 0) × (text ≡ line_text start body)
 
--- what a body says, one case per type of message
+-- what a body means, one case per type of message
 abbrev pub Says : List ℕ → Message → Type 0
 Says body (Hello version) = version ≡ number_at 0 body
 Says body (Stdin bytes) = bytes ≡ body
@@ -37,7 +37,7 @@ Says body (Trigger3 target ident service) = (target ≡ field_text 0 64 body) ×
 Says body (Trigger target ident service) = (service ≡ field_text 0 64 body) × (target ≡ field_text 64 32 body) × (ident ≡ field_text 96 32 body)
 
 -- the bytes are a message on this channel: a header of type and length, and a body of that length, in
--- the type's range, that says the message
+-- the type's range, that means the message
 pub record Spelled (channel : Channel) (bytes : List ℕ) (message : Message) : Type 0 where
   pub kind : kind_on channel (number_at 0 bytes) ≡ Some (kind_of message)
   pub len : length bytes ≡ 8 + number_at 4 bytes

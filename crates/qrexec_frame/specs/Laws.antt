@@ -25,7 +25,7 @@ abbrev pub WrittenBeginnings : Type 0
 WrittenBeginnings = (channel : Channel) (stream : List Message) (got : List ℕ) → Each (IsGood channel) stream → IsPrefixOf got (flat_map written stream)
     → Begins (front channel) written stream got 0
 
--- where as many messages were read as were written, all the bytes came
+-- if as many messages were read as were written, all the bytes came
 abbrev pub WholeStreams : Type 0
 WholeStreams = (channel : Channel) (stream : List Message) (got : List ℕ) → Each (IsGood channel) stream → IsPrefixOf got (flat_map written stream)
     → length stream ≤ length (messages (reading channel got)) → got ≡ flat_map written stream

@@ -5,16 +5,16 @@ use Rattle.hex.specs.Hex.{encode_lower}
 use Rattle.qrexec_frame.specs.declared.message.Message.{Message}
 use Rattle.qrexec_frame.specs.declared.message.Message.TheVariants.{Hello, Stdin, Stdout, Stderr, ExitCode, Exec, JustExec, Connect, Refused, Terminated, Trigger3, Trigger}
 
--- a byte of a text, or `_` where it doesn't print
+-- a byte of a text, or `_` if it isn't printable
 abbrev pub shown_byte : ℕ → ℕ
 shown_byte b = if nat_le 32 b && nat_le b 126 then b else 95
 
--- a text, or `-` where it is empty
+-- a text, or `-` if it is empty
 abbrev pub shown_text : List ℕ → List ℕ
 shown_text [] = codes "-"
 shown_text (b ∷ text) = map shown_byte (b ∷ text)
 
--- bytes in lower case hexadecimal, or `-` where there are none
+-- bytes in lower case hexadecimal, or `-` if there are none
 abbrev pub shown_bytes : List ℕ → List ℕ
 shown_bytes [] = codes "-"
 shown_bytes (b ∷ bytes) = encode_lower (b ∷ bytes)

@@ -1,10 +1,10 @@
--- A decoder that prints its messages in place of giving them.
+-- A decoder that prints its messages.
 use Rattle.std.specs.Prelude.{◌≡◌, ℕ, Bool, true, false, List, ◌++◌, Option, Some, None, Result, Ok, Err}
 use Rattle.qrexec_frame.specs.declared.fault.NextError.{NextError}
 use Rattle.qrexec_frame.specs.declared.message.Message.{Message}
 use Rattle.qrexec_frame.specs.Lines.{line_of}
 
--- what is so of the answer of `next`, where the line of its message was appended to some bytes, and nothing
+-- what holds of the answer of `next`, if the line of its message was appended to some bytes, and nothing
 -- else changes them
 abbrev pub Printed : (Result (Option Message) NextError → Type 0) → List ℕ → List ℕ → Result Bool NextError → Type 0
 Printed P before after (Ok true) = (m : Message) × P (Ok (Some m)) × (after ≡ before ++ line_of m)

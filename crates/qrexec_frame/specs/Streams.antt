@@ -2,13 +2,13 @@
 use Rattle.std.specs.Prelude.{◌≡◌, ℕ, ◌+◌, ◌-◌, ◌<◌, ◌≤◌, suc, zero, List, [], ◌∷◌, ◌++◌, length, take, map}
 use Rattle.std.specs.List.{flat_map}
 
--- what stands at the front of some bytes: a whole message of so many bytes, a fault, or less than a message
+-- what stands at the front of some bytes: a whole message of that many bytes, a fault, or less than a message
 pub data Front (M F : Type 0) : Type 0 where
   Whole : M → ℕ → Front M F
   Bad : F → Front M F
   Short : Front M F
 
--- how a stream ends: with so many bytes that are no whole message, or with a fault at an offset
+-- how a stream ends: with that many bytes that aren't a whole message, or with a fault at an offset
 pub data Ending (F : Type 0) : Type 0 where
   Rest : ℕ → Ending F
   FaultAt : ℕ → F → Ending F
@@ -23,7 +23,7 @@ pub record Reading (M F : Type 0) : Type 0 where
   pub placed : List (Placed M)
   pub ending : Ending F
 
--- a reading that begins with what stands at the front, at an offset, of so many bytes
+-- a reading that begins with what stands at the front, at an offset, of that many bytes
 abbrev pub with_front : {M F : Type 0} → Front M F → ℕ → ℕ → (ℕ → Reading M F) → Reading M F
 with_front (Whole m n) at left rest = record { placed = record { at = at; message = m } ∷ (rest (n - 1)).placed; ending = (rest (n - 1)).ending }
 with_front (Bad f) at left rest = record { placed = []; ending = FaultAt at f }
@@ -47,7 +47,7 @@ messages r = map (λ p. p.message) r.placed
 abbrev pub then_reading : {M F : Type 0} → List (Placed M) → Reading M F → Reading M F
 then_reading placed rest = record { placed = placed ++ rest.placed; ending = rest.ending }
 
--- no message or fault at the front is another once more bytes come
+-- what stands at the front, a message or a fault, stays the same if more bytes come
 pub record IsPrefixCode {M F : Type 0} (first : List ℕ → Front M F) : Type 0 where
   pub sized : (bytes : List ℕ) (m : M) (n : ℕ) → first bytes ≡ Whole m n → (0 < n) × (n ≤ length bytes)
   pub whole_stays : (a b : List ℕ) (m : M) (n : ℕ) → first a ≡ Whole m n → first (a ++ b) ≡ Whole m n

@@ -18,15 +18,15 @@ padded len text = text ++ replicate (len - length text) 0
 abbrev pub ended : List ℕ → List ℕ
 ended text = text ++ 0 ∷ []
 
--- what a fixed field says: its bytes before the first NUL, its last byte counting as NUL
+-- the text of a fixed field: its bytes before the first NUL, its last byte counting as NUL
 abbrev pub field_text : ℕ → ℕ → List ℕ → List ℕ
 field_text start len body = before_first is_nul (take (len - 1) (drop start body))
 
--- what a line or a service says that begins here: its bytes before the first NUL
+-- the text of a line or a service that begins at a place: its bytes before the first NUL
 abbrev pub line_text : ℕ → List ℕ → List ℕ
 line_text start body = before_first is_nul (drop start body)
 
--- a text of at most so many bytes
+-- a text of at most this many bytes
 pub record FitsText (most : ℕ) (text : List ℕ) : Type 0 where
   pub within : length text ≤ most
   pub no_nul : HasNoNul text

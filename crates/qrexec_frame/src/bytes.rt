@@ -2,7 +2,7 @@ ghost use Rattle.std.specs.Prelude.{◌≡◌};
 
 use std::marker::Model;
 
-/// The bytes that a message carries, any bytes.
+/// The bytes that a message carries: any bytes.
 #[derive(Debug, Drop)]
 pub struct Bytes {
     list: Vec<u8>,
@@ -17,14 +17,14 @@ impl Model for Bytes {
 }
 
 impl Bytes {
-    /// Keeps a list of bytes as it is.
+    /// Takes a list of bytes as it is, without a copy.
     pub fn of(list: Vec<u8>) -> Bytes
         ensures { result ≡ list.items }
     {
         Bytes { list }
     }
 
-    /// Gives the list back, without a copy.
+    /// Returns the list, without a copy.
     pub fn into_list(self) -> Vec<u8>
         ensures { result.items ≡ self }
     {
@@ -32,7 +32,7 @@ impl Bytes {
         list
     }
 
-    /// Lends the bytes.
+    /// Borrows the bytes.
     pub fn slice(&self) -> &[u8]
         ensures { result.now ≡ self.now }
     {

@@ -5,7 +5,7 @@ use crate::text::Text;
 use std::alloc::Global;
 use vchan_io::Memory;
 
-/// The bytes that a name of one kind holds.
+/// The bytes that a name of one kind may hold.
 #[derive(Clone, Copy, Debug, PartialEq, Eq)]
 pub(crate) enum Letters {
     Name,
@@ -24,7 +24,7 @@ impl Letters {
         }
     }
 
-    /// The byte itself where it is allowed, else `_`.
+    /// Returns the byte itself if it is allowed, else `_`.
     pub(crate) fn kept(self, byte: u8) -> u8
         ensures { result ≡ if is_allowed self byte then byte else 95 }
     {
@@ -38,24 +38,36 @@ fn is_name_byte(byte: u8) -> bool
     matches!(byte, b'0'..=b'9' | b'A'..=b'Z' | b'a'..=b'z' | b'_' | b'-' | b'.')
 }
 
-/// A name of a domain with `_` in place of every byte that names don't hold: they hold letters and
-/// digits of ASCII, `_`, `-` and `.`.
+/// Returns a name of a domain with `_` in place of every byte that such names can't hold: they hold
+/// letters and digits of ASCII, `_`, `-` and `.`.
+///
+/// # Errors
+///
+/// `Memory` if memory runs out; no other.
 pub fn clean_name(alloc: Global, text: &Text) -> Result<Text, Memory>
     ensures { IfOk result (λ clean. clean ≡ cleaned_name text.now) }
 {
     Ok(Text::cleaned(alloc, text, Letters::Name)?)
 }
 
-/// A name of a service with `_` in place of every byte that services don't hold: they hold those of a
-/// domain's name, and `+`.
+/// Returns a name of a service with `_` in place of every byte that such names can't hold: they
+/// hold the bytes of a domain's name, and `+`.
+///
+/// # Errors
+///
+/// `Memory` if memory runs out; no other.
 pub fn clean_service(alloc: Global, text: &Text) -> Result<Text, Memory>
     ensures { IfOk result (λ clean. clean ≡ cleaned_service text.now) }
 {
     Ok(Text::cleaned(alloc, text, Letters::Service)?)
 }
 
-/// The target of a call with `_` in place of every byte that targets don't hold: they hold those of a
-/// domain's name, `@` and `:`.
+/// Returns the target of a call with `_` in place of every byte that targets can't hold: they hold
+/// the bytes of a domain's name, `@` and `:`.
+///
+/// # Errors
+///
+/// `Memory` if memory runs out; no other.
 pub fn clean_target(alloc: Global, text: &Text) -> Result<Text, Memory>
     ensures { IfOk result (λ clean. clean ≡ cleaned_target text.now) }
 {

@@ -16,11 +16,11 @@ use std::alloc::Global;
 use std::marker::Model;
 use vchan_io::Memory;
 
-/// Reads the messages of a channel from bytes that come in any pieces.
+/// Reads the messages of a channel from bytes that come in pieces of any size.
 ///
-/// It keeps the place up to which its bytes were given out, and `next` moves that place and no byte.
-// The offset stands apart from the place: side by side they are moved on in one wide load, which waits for
-// the place that `feed` has just stored.
+/// It keeps a place up to which its bytes were given out; `next` moves that place, but no byte.
+// The offset stands apart from the place: side by side, one wide load would read both, and it would
+// wait for the place that `feed` has just stored.
 #[derive(Debug, Drop)]
 pub struct Decoder {
     channel: Channel,
@@ -46,7 +46,7 @@ impl Decoder {
     ghost use Rattle.qrexec_frame.specs.Bodies.{StandsAtFront};
     ghost use Rattle.qrexec_frame.specs.Lent.{RestsBehind};
 
-    /// A decoder of a channel's messages, which was fed nothing.
+    /// Returns a decoder of a channel's messages that hasn't been fed anything.
     pub fn new(alloc: Global, channel: Channel) -> Decoder
         ensures state { result ≡ record { channel = channel; passed = 0; left = []; at = 0; fault = None } }
         ensures stream { StandsFor result [] [] }
@@ -60,24 +60,26 @@ impl Decoder {
         }
     }
 
-    /// Takes the next bytes of the stream, and holds then at most twice the bytes not given out. A faulted
-    /// decoder stays as it is.
+    /// Takes the next bytes of the stream, and then holds at most twice as many bytes as haven't been
+    /// given out. A faulted decoder stays as it is.
     ///
-    /// Want of memory leaves the decoder as it was.
+    /// # Errors
+    ///
+    /// `Memory` if memory runs out; the decoder is as it was then.
     pub fn feed(&mut self, piece: &[u8]) -> Result<(), Memory>
         ensures ok { OnOk result (self.new ≡ after_feed self.old piece.now) }
         ensures held { self.old.fault ≡ None → OnOk result (held self.new ≤ 2 * length self.new.left) }
         ensures err { OnErr result (self.new ≡ self.old) }
         ensures faulted { IsSome self.old.fault → IsOk result }
 
-        // What it stood for, and this piece.
+        // It stands for what it stood for, and this piece.
         ensures stream { (fed : List ℕ) (given : List (Placed Message)) → StandsFor self.old fed given →
             OnOk result (StandsFor self.new (fed ++ piece.now) given) }
     {
         self.take(piece)
     }
 
-    // `feed` by the bytes that it holds.
+    // `feed`, told by the bytes that it holds.
     fn take(&mut self, piece: &[u8]) -> Result<(), Memory>
         ensures ok { OnOk result (self.new ≡ after_feed self.old piece.now) }
         ensures err { OnErr result (self.new ≡ self.old) }
@@ -96,11 +98,13 @@ impl Decoder {
         Ok(())
     }
 
-    /// Gives the next message of the stream, or `None` where the bytes not yet given out are no whole
-    /// message and no fault shows in them. They are fewer than 65,544 then.
+    /// Returns the next message of the stream, or `None` if the bytes not yet given out are less
+    /// than a whole message and show no fault. They are fewer than 65,544 then.
     ///
-    /// `Fault` comes where the bytes show a fault in a message's place, the first that applies, and at
-    /// every later call. Want of memory leaves the decoder as it was.
+    /// # Errors
+    ///
+    /// `Fault` if the bytes show a fault at a message's place, with the first that applies; every
+    /// later call answers the same. `Memory` if memory runs out; the decoder is as it was then.
     pub fn next(&mut self) -> Result<Option<Message>, NextError>
         ensures answer { self.old.fault ≡ None → Answers self.old self.new result }
         ensures grammar { self.old.fault ≡ None → FollowsGrammar self.old self.new result }
@@ -116,7 +120,7 @@ impl Decoder {
         self.give()
     }
 
-    // `next` by what stands at the front.
+    // `next`, told by what stands at the front.
     fn give(&mut self) -> Result<Option<Message>, NextError>
         ensures answer { self.old.fault ≡ None → Answers self.old self.new result }
         ensures faulted { (f : FrameFault) → self.old.fault ≡ Some f →
@@ -143,8 +147,12 @@ impl Decoder {
         }
     }
 
-    /// Takes the next message of the stream as `next` does, and lends its type and its body in place of
-    /// giving it. It takes no memory.
+    /// Takes the next message of the stream as `next` does, but returns its type and its borrowed
+    /// body. It takes no memory.
+    ///
+    /// # Errors
+    ///
+    /// A fault, as `next` has it.
     pub fn next_body(&mut self) -> Result<Option<Body<'_>>, FrameFault>
         ensures* after { sem 𝓛 (RestsBehind self.entry result) }
         ensures answer { self.old.fault ≡ None → StandsAtFront self.old.channel self.old.at self.old.left result }
@@ -168,10 +176,12 @@ impl Decoder {
         }
     }
 
-    /// Takes the next message of the stream as `next` does, and appends its line, as `message_line` has it,
-    /// to `out` in place of giving it. The message isn't copied. It is false where `next` gives `None`.
+    /// Takes the next message of the stream as `next` does, and appends its line, as `message_line`
+    /// has it, to `out`. The message isn't copied. Returns false if `next` would return `None`.
     ///
-    /// Want of memory leaves the decoder and `out` as they were.
+    /// # Errors
+    ///
+    /// Those of `next`. If memory runs out, the decoder and `out` are as they were.
     pub fn next_line(&mut self, out: &mut Vec<u8>) -> Result<bool, NextError>
         ensures answer { self.old.fault ≡ None → Printed (Answers self.old self.new) out.old.items out.new.items result }
         ensures faulted { (f : FrameFault) → self.old.fault ≡ Some f →
@@ -188,7 +198,7 @@ impl Decoder {
         self.print(out)
     }
 
-    // `next_line` by what stands at the front.
+    // `next_line`, told by what stands at the front.
     fn print(&mut self, out: &mut Vec<u8>) -> Result<bool, NextError>
         ensures answer { self.old.fault ≡ None → Printed (Answers self.old self.new) out.old.items out.new.items result }
         ensures faulted { (f : FrameFault) → self.old.fault ≡ Some f →
@@ -213,21 +223,21 @@ impl Decoder {
         }
     }
 
-    /// How many bytes it holds, those among them that were given out.
+    /// Returns how many bytes it holds, including those that were given out.
     pub fn held(&self) -> usize
         ensures { result ≡ held self.now }
     {
         self.bytes.len()
     }
 
-    /// How many bytes were not given out yet.
+    /// Returns how many bytes haven't been given out yet.
     pub fn rest(&self) -> usize
         ensures { result ≡ length self.now.left }
     {
         self.bytes.len() - self.given
     }
 
-    /// The offset of the first byte that was not given out yet, counted modulo 2^64.
+    /// Returns the offset of the first byte that hasn't been given out yet, counted modulo 2^64.
     pub fn at(&self) -> u64
         ensures { result ≡ self.now.at }
     {
@@ -235,7 +245,7 @@ impl Decoder {
     }
 }
 
-// Appends a piece in place of the first bytes, so many.
+// Puts a piece after the bytes, without the first `passed` of them.
 fn put_behind(bytes: &mut Vec<u8>, passed: usize, piece: &[u8]) -> Result<(), Memory>
     requires { passed ≤ vec_len bytes.old }
     ensures ok { OnOk result (bytes.new.items ≡ drop passed bytes.old.items ++ piece.now) }
@@ -247,7 +257,7 @@ fn put_behind(bytes: &mut Vec<u8>, passed: usize, piece: &[u8]) -> Result<(), Me
     Ok(())
 }
 
-// Drops the first bytes, so many, and moves the others to the beginning.
+// Drops the first `count` bytes, and moves the others to the beginning.
 fn drop_first(bytes: &mut Vec<u8>, count: usize)
     requires { count ≤ vec_len bytes.old }
     ensures items { bytes.new.items ≡ drop count bytes.old.items }

@@ -18,20 +18,22 @@ pub(crate) const HEADER: usize = 8;
 /// The length of the longest fixed field of a message, in bytes.
 const LONGEST_FIELD: usize = 64;
 
-/// What fills the fixed fields.
+/// Fills the fixed fields.
 static NULS: [u8; LONGEST_FIELD] = [0; LONGEST_FIELD];
 
 /// Appends a message in its written spelling: a fixed field is filled with NULs, and a line or a
 /// service ends with one NUL.
 ///
-/// Want of memory leaves `out` as it was.
+/// # Errors
+///
+/// `Memory` if memory runs out; `out` is as it was then.
 pub fn encode(message: &Message, out: &mut Vec<u8>) -> Result<(), Memory>
     requires { Fits message.now }
     ensures ok { OnOk result (out.new.items ≡ out.old.items ++ written message.now) }
     ensures err { OnErr result (out.new.items ≡ out.old.items) }
 
-    // What was written spells the message on each channel that has its type, and is read again, whatever
-    // follows it.
+    // What was written spells the message on each channel that has its type, and is read again,
+    // whatever follows it.
     ensures spelled { OnOk result ((channel : Channel) → GoesOn channel message.now → Spelled channel (written message.now) message.now) }
     ensures read_again { OnOk result ((channel : Channel) (more : List ℕ) → GoesOn channel message.now →
         front channel (written message.now ++ more) ≡ Whole message.now (length (written message.now))) }
@@ -44,10 +46,12 @@ pub fn encode(message: &Message, out: &mut Vec<u8>) -> Result<(), Memory>
     Ok(())
 }
 
-/// Appends a message of a stream of the call, which carries these bytes, as `encode` writes it; none end
+/// Appends a message of a stream of the call with these bytes, as `encode` writes it; no bytes end
 /// the stream. The type is `Stdin`, `Stdout` or `Stderr`.
 ///
-/// Want of memory leaves `out` as it was.
+/// # Errors
+///
+/// `Memory` if memory runs out; `out` is as it was then.
 #[tactic(auto, using(crate::proofs::WrittenLaws::written_data))]
 pub fn encode_data(kind: Kind, bytes: &[u8], out: &mut Vec<u8>) -> Result<(), Memory>
     requires stream { IsData kind }

@@ -1,27 +1,27 @@
 use std::alloc::AllocError;
 
-/// What is wrong with a message of a stream. `at` is the offset of its first byte, counted modulo 2^64,
-/// `kind` the number of its type, and `len` the length that its header tells.
+/// What is wrong with a message of a stream: the first of these that applies.
 ///
-/// The first of them that applies is the one answered.
+/// `at` is the offset of its first byte, counted modulo 2^64, `kind` the number of its type, and
+/// `len` the length in its header.
 #[derive(Clone, Copy, Debug, PartialEq, Eq)]
 pub enum FrameFault {
     /// The channel has no such type.
     UnknownType { at: u64, kind: u32 },
     /// The length is above 65,536.
     TooLong { at: u64, kind: u32, len: u32 },
-    /// The length isn't one of the type.
+    /// The type has no body of this length.
     BadLength { at: u64, kind: u32, len: u32 },
     /// A line or a service doesn't end with NUL.
     NoNul { at: u64, kind: u32 },
 }
 
-/// Why a decoder gives no message.
+/// Why a decoder returns no message.
 #[derive(Clone, Copy, Debug, PartialEq, Eq)]
 pub enum NextError {
-    /// The stream is faulty here, and every later call answers the same.
+    /// The stream is faulty at this place, and every later call answers the same.
     Fault(FrameFault),
-    /// An allocation was refused, and the message can be asked for again.
+    /// Memory ran out; the message can be asked for again.
     Memory,
 }
 

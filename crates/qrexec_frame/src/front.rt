@@ -15,23 +15,27 @@ use crate::message::Message;
 use crate::text::{Text, before_nul};
 use std::alloc::{AllocError, Global};
 
-/// The type and the body of a whole message, lent from where they lie.
+/// The type and the body of a whole message, borrowed from where it lies.
 #[derive(Clone, Copy, Debug)]
 pub struct Body<'a> {
     /// The type.
     pub kind: Kind,
-    /// The bytes behind the header, as many as the header tells.
+    /// The bytes after the header, as many as the header says.
     pub bytes: &'a [u8],
 }
 
 impl<'a> Body<'a> {
     ghost use Rattle.qrexec_frame.specs.Bodies.{StandsAtFront};
 
-    /// The body of the message at the front of some bytes of a channel, the first of which has the offset
-    /// `at`; `None` where that message isn't whole and no fault shows.
+    /// Returns the message at the front of some bytes of a channel, or `None` if that message isn't
+    /// whole and no fault shows. The first of the bytes has the offset `at`.
     ///
-    /// A fault comes exactly where it shows, the first that applies. It reads a stream as a `Decoder` does,
-    /// for who keeps the bytes: it takes no memory, and moves no byte.
+    /// It reads a stream as a `Decoder` does, for a caller that keeps the bytes: it takes no
+    /// memory, and moves no byte.
+    ///
+    /// # Errors
+    ///
+    /// The first fault that applies, if and only if one shows.
     pub fn at_front(
         channel: Channel,
         at: u64,
@@ -67,15 +71,15 @@ impl<'a> Body<'a> {
         }))
     }
 
-    /// How many bytes the whole message has, its header and its body.
+    /// Returns the length of the whole message, header and body, in bytes.
     pub fn message_len(&self) -> usize
         ensures { result ≡ 8 + length self.now.bytes.now }
     {
         HEADER + self.bytes.len()
     }
 
-    /// The number that the body begins with, four bytes, the lowest first: a greeting's version, or the bits
-    /// of an exit code.
+    /// Returns the number that the body begins with, four bytes, the lowest first: a greeting's
+    /// version, or the bits of an exit code.
     pub fn number(&self) -> u32
         requires { 4 ≤ length self.now.bytes.now }
         ensures { result ≡ number_at 0 self.now.bytes.now }
@@ -84,7 +88,7 @@ impl<'a> Body<'a> {
     }
 }
 
-/// The message of a type with this body, whose length is in the type's range.
+/// Returns the message of a type with this body, whose length is in the type's range.
 pub(crate) fn message_of(alloc: Global, kind: Kind, body: &[u8]) -> Result<Message, AllocError>
     requires least { least_len kind ≤ length body.now }
     requires most { length body.now ≤ most_len kind }

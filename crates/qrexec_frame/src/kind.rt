@@ -1,4 +1,4 @@
-//! The table of message types: number, channel, lengths of the body, and how it ends.
+//! The table of message types: the number, the channel, the lengths of the body, and how it ends.
 ghost use Rattle.std.specs.Prelude.{◌≡◌, true, false};
 ghost use Rattle.qrexec_frame.specs.Kinds.{kind_on, number_of, least_len, most_len, has_line};
 
@@ -7,7 +7,7 @@ use crate::channel::Channel;
 /// The greatest length of a body.
 pub(crate) const MOST_BODY: u32 = 65_536;
 
-/// The types of qrexec messages.
+/// The types of qrexec messages; [`Message`](crate::Message) says what each is for.
 #[derive(Clone, Copy, Debug, PartialEq, Eq)]
 pub enum Kind {
     Hello,
@@ -45,7 +45,7 @@ const ON_CONTROL: [Kind; 8] = [
     Kind::Hello,
 ];
 
-/// What the table has of one type.
+/// What the table says of one type.
 #[derive(Clone, Copy, Debug)]
 struct Row {
     /// The number in a header.
@@ -53,12 +53,12 @@ struct Row {
     /// The least and the greatest length of the body.
     least: u32,
     most: u32,
-    /// Whether the body ends with a line or a service, whose last byte has to be NUL.
+    /// Whether the body ends with a line or a service, whose last byte must be NUL.
     line: bool,
 }
 
 impl Row {
-    /// A type whose bodies have this one length.
+    /// Returns the row of a type whose bodies all have this length.
     fn fixed(number: u32, len: u32) -> Row
         ensures { result ≡ record { number = number; least = len; most = len; line = false } }
     {
@@ -70,7 +70,7 @@ impl Row {
         }
     }
 
-    /// A type whose bodies are any bytes, none too.
+    /// Returns the row of a type whose bodies are any bytes, or none.
     fn bytes(number: u32) -> Row
         ensures { result ≡ record { number = number; least = 0; most = MOST_BODY; line = false } }
     {
@@ -82,7 +82,8 @@ impl Row {
         }
     }
 
-    /// A type whose bodies have this length at least, and end with a line or a service.
+    /// Returns the row of a type whose bodies have at least this length, and end with a line or a
+    /// service.
     fn line(number: u32, least: u32) -> Row
         ensures { result ≡ record { number = number; least = least; most = MOST_BODY; line = true } }
     {
@@ -118,7 +119,7 @@ impl Kind {
         }
     }
 
-    /// The type of this number on a channel, or `None` where the channel has no such type.
+    /// Returns the type of this number on a channel, or `None` if the channel has no such type.
     pub(crate) fn of(channel: Channel, number: u32) -> Option<Kind>
         ensures { result ≡ kind_on channel number }
     {
@@ -131,28 +132,28 @@ impl Kind {
         }
     }
 
-    /// The number of the type in a header.
+    /// Returns the number of the type, as a header has it.
     pub fn number(self) -> u32
         ensures { result ≡ number_of self }
     {
         self.row().number
     }
 
-    /// The least length of the body.
+    /// Returns the least length of the body.
     pub(crate) fn least_len(self) -> u32
         ensures { result ≡ least_len self }
     {
         self.row().least
     }
 
-    /// The greatest length of the body.
+    /// Returns the greatest length of the body.
     pub(crate) fn most_len(self) -> u32
         ensures { result ≡ most_len self }
     {
         self.row().most
     }
 
-    /// Whether the body ends with a line or a service, whose last byte has to be NUL.
+    /// Returns whether the body ends with a line or a service, whose last byte must be NUL.
     pub(crate) fn has_line(self) -> bool
         ensures { result ≡ has_line self }
     {

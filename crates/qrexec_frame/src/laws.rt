@@ -11,12 +11,12 @@ pub fn longer_streams()
     ensures { LongerStreams }
 {}
 
-/// A beginning of written messages reads without fault, as the first of them.
+/// A beginning of written messages reads without fault, as the first of these messages.
 pub fn written_beginnings()
     ensures { WrittenBeginnings }
 {}
 
-/// Where as many messages were read as were written, all the bytes came.
+/// If as many messages were read as were written, all the bytes came.
 pub fn whole_streams()
     ensures { WholeStreams }
 {}

@@ -1,10 +1,10 @@
-//! The messages of qrexec, the service calls of Qubes OS: how each is written, and how a stream of them
-//! is read.
+//! The messages of qrexec, the service calls of Qubes OS: how each is written, and how a stream of
+//! them is read.
 //!
-//! It serves every crate that speaks qrexec: the two sides of a call, the broker and the scenarios. The
-//! types, bodies and limits are those of the qrexec protocol's descriptions, versions 2 and 3, by their
-//! names `MSG_HELLO`, `MSG_DATA_STDIN` and so on. A message is a header of two 32-bit numbers, type and
-//! length, and a body of that length, all little-endian.
+//! It serves every crate that speaks qrexec: the two sides of a call, the broker and the scenarios.
+//! The types, bodies and limits are those of the descriptions of the qrexec protocol, versions 2
+//! and 3, and so are the names: `MSG_HELLO`, `MSG_DATA_STDIN` and so on. A message is a header of
+//! two 32-bit numbers, type and length, and a body of that length, all little-endian.
 #![tactic(auto)]
 
 mod bytes;

@@ -1,4 +1,4 @@
-//! The lines that messages are printed as.
+//! The line that each message is printed as.
 ghost use Rattle.std.specs.Prelude.{◌≡◌, ◌+◌, ◌*◌, ◌≤◌, ◌++◌, length, codes, map, IfOk, IfSome, OnOk, OnErr, vec_len, vec_capacity};
 ghost use Rattle.std.specs.Fmt.{decimal, signed_decimal};
 ghost use Rattle.hex.specs.Hex.{encode_lower};
@@ -14,14 +14,18 @@ use itoa::Buffer;
 use std::alloc::{AllocError, Global};
 use vchan_io::Memory;
 
-/// The most bytes that the name, the numbers and the spaces of a line take, and `-`.
+/// The greatest number of bytes that the name, the numbers, the spaces and a `-` of a line take.
 const FRAME: usize = 40;
 
-/// The line that a message is printed as, without a line feed: its name, and its numbers, bytes and texts
-/// with spaces between.
+/// Returns the line that a message is printed as, without a line feed: its name, then its numbers,
+/// bytes and texts, with a space before each.
 ///
-/// Numbers are decimal, bytes are in lower case hexadecimal behind their number, and `-` stands for no
-/// bytes and for an empty text. In a text `_` stands for each byte outside 0x20 to 0x7e.
+/// Numbers are decimal. Bytes are in lower case hexadecimal after their number. `-` stands for no
+/// bytes and for an empty text. In a text, `_` stands for each byte outside 0x20 to 0x7e.
+///
+/// # Errors
+///
+/// `Memory` if memory runs out; no other.
 pub fn message_line(alloc: Global, message: &Message) -> Result<Vec<u8>, Memory>
     ensures { IfOk result (λ line. line.items ≡ line_of message.now) }
 {
@@ -30,7 +34,11 @@ pub fn message_line(alloc: Global, message: &Message) -> Result<Vec<u8>, Memory>
     Ok(line)
 }
 
-/// Appends the line of a message, as `message_line` has it. Want of memory leaves `out` as it was.
+/// Appends the line of a message, as `message_line` has it.
+///
+/// # Errors
+///
+/// `Memory` if memory runs out; `out` is as it was then.
 pub fn push_message_line(out: &mut Vec<u8>, message: &Message) -> Result<(), Memory>
     ensures ok { OnOk result (out.new.items ≡ out.old.items ++ line_of message.now) }
     ensures no_memory { OnErr result (out.new.items ≡ out.old.items) }
@@ -87,8 +95,8 @@ fn put_message(out: &mut Vec<u8>, message: &Message) -> Result<(), AllocError>
     }
 }
 
-/// Appends the line of the message of this type and body, whose length is in the type's range. Want of
-/// memory leaves `out` as it was.
+/// Appends the line of the message of this type and body, whose length is in the type's range. If
+/// memory runs out, `out` is as it was.
 pub(crate) fn put_body(out: &mut Vec<u8>, kind: Kind, bytes: &[u8]) -> Result<(), AllocError>
     requires least { least_len kind ≤ length bytes.now }
     requires most { length bytes.now ≤ most_len kind }
@@ -151,8 +159,8 @@ fn put_hello(out: &mut Vec<u8>, version: u32) -> Result<(), AllocError>
     Ok(())
 }
 
-/// A name, the number of some bytes and the bytes. The length of a name is a parameter, so that it is copied
-/// by a store or two.
+/// Appends a name, the number of some bytes, and the bytes. The length of a name is a parameter, so
+/// that a store or two copy it.
 fn put_data<const N: usize>(
     out: &mut Vec<u8>,
     name: &[u8; N],
@@ -183,7 +191,7 @@ fn put_exit(out: &mut Vec<u8>, code: i32) -> Result<(), AllocError>
     Ok(())
 }
 
-/// A name, a domain, a port and a text.
+/// Appends a name, a domain, a port and a text.
 fn put_command(
     out: &mut Vec<u8>,
     name: &[u8],
@@ -221,7 +229,7 @@ fn put_terminated(out: &mut Vec<u8>, domain: u32, port: u32) -> Result<(), Alloc
     Ok(())
 }
 
-/// A name and three texts.
+/// Appends a name and three texts.
 fn put_call(
     out: &mut Vec<u8>,
     name: &[u8],
@@ -246,7 +254,7 @@ fn put_call(
     Ok(())
 }
 
-/// The room that a line takes at most whose parts have these lengths, where it is a length.
+/// Returns the greatest length of a line whose parts have these lengths, if it is a length.
 fn room_of(first: usize, second: usize, third: usize) -> Option<usize>
     ensures { IfSome result (λ room. room ≡ first + second + third + FRAME) }
 {
@@ -256,9 +264,9 @@ fn room_of(first: usize, second: usize, third: usize) -> Option<usize>
         .checked_add(FRAME)
 }
 
-// What follows appends where there is room.
+// The functions below append where there is room.
 
-/// A name, a domain and a port.
+/// Appends a name, a domain and a port.
 fn put_place(out: &mut Vec<u8>, name: &[u8], domain: u32, port: u32)
     requires { vec_len out.old + (length name.now + 21) ≤ vec_capacity out.old }
     ensures items { out.new.items ≡ out.old.items ++ (name.now ++ (decimal domain ++ (codes " " ++ decimal port))) }
@@ -280,7 +288,8 @@ fn put_number(out: &mut Vec<u8>, number: u32)
     put(out, Buffer::new().format(number).as_bytes());
 }
 
-/// The number of bytes of a stream's message. Short messages have one digit, which needs no buffer.
+/// Appends the number of bytes of a stream's message. The number of a short one is one digit, which
+/// needs no buffer.
 #[inline(always)]
 #[tactic(auto, using(std::proofs::lemmas::Fmt::decimal_digit))]
 fn put_count(out: &mut Vec<u8>, count: usize)
@@ -320,7 +329,7 @@ fn put_shown(out: &mut Vec<u8>, text: &[u8])
     }
 }
 
-// A byte of a text, or `_` where it doesn't print.
+// A byte of a text, or `_` if it isn't printable.
 fn shown(byte: u8) -> u8
     ensures { result ≡ shown_byte byte }
 {

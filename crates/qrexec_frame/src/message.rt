@@ -8,7 +8,7 @@ use crate::text::Text;
 
 /// The greatest number of bytes that a message carries.
 const MOST_BYTES: usize = 65_536;
-/// The greatest lengths of the texts, so that each fits its field with one NUL at least.
+/// The greatest lengths of the texts, so that each fits its field with at least one NUL.
 const MOST_LINE: usize = 65_527;
 
 const MOST_SERVICE: usize = 65_439;
@@ -20,19 +20,19 @@ const MOST_IN_32: usize = 31;
 /// A qrexec message.
 #[derive(Debug, Drop)]
 pub enum Message {
-    /// `MSG_HELLO`: the sender's version of the protocol. It goes on both channels.
+    /// `MSG_HELLO`: the sender's version of the protocol, on either kind of channel.
     Hello {
         version: u32,
     },
-    /// `MSG_DATA_STDIN`: bytes of the call's input; none end it.
+    /// `MSG_DATA_STDIN`: bytes of the call's input; no bytes end it.
     Stdin {
         bytes: Bytes,
     },
-    /// `MSG_DATA_STDOUT`: bytes of the call's output; none end it.
+    /// `MSG_DATA_STDOUT`: bytes of the call's output; no bytes end it.
     Stdout {
         bytes: Bytes,
     },
-    /// `MSG_DATA_STDERR`: bytes of the call's messages; none end them.
+    /// `MSG_DATA_STDERR`: bytes of the call's error output; no bytes end it.
     Stderr {
         bytes: Bytes,
     },
@@ -67,13 +67,13 @@ pub enum Message {
         domain: u32,
         port: u32,
     },
-    /// `MSG_TRIGGER_SERVICE3`: a call of a service of a target, as version 3 has it.
+    /// `MSG_TRIGGER_SERVICE3`: asks for a call of a service of a target, in version 3.
     Trigger3 {
         target: Text,
         ident: Text,
         service: Text,
     },
-    /// `MSG_TRIGGER_SERVICE`: the same as version 2 has it.
+    /// `MSG_TRIGGER_SERVICE`: asks for the same in version 2.
     Trigger {
         target: Text,
         ident: Text,
@@ -101,7 +101,7 @@ impl Message {
         }
     }
 
-    /// The number of the message's type, as its header has it.
+    /// Returns the number of the message's type, as its header has it.
     pub fn kind(&self) -> u32
         ensures { result ≡ number_of (kind_of self.now) }
     {
@@ -109,10 +109,11 @@ impl Message {
     }
 }
 
-/// Whether a message has a spelling: whether its bytes or texts are within the greatest lengths.
+/// Returns whether a message has a spelling: whether its bytes and texts are within the greatest
+/// lengths.
 ///
-/// At most 65,536 bytes; 65,527 in a line; 65,439 in the service of a `Trigger3`, and 63 in its target;
-/// 63 in the service of a `Trigger`, and 31 in its target; 31 in an ident.
+/// These are 65,536 bytes; 65,527 in a line; 65,439 in the service of a `Trigger3`, and 63 in its
+/// target; 63 in the service of a `Trigger`, and 31 in its target; 31 in an ident.
 pub fn fits(message: &Message) -> bool
     ensures { IsTrue result ↔ Fits message.now }
 {

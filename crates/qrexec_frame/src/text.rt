@@ -12,7 +12,7 @@ use std::alloc::{AllocError, Global};
 use std::marker::Model;
 use thiserror::Error;
 
-/// A text of a message: bytes without NUL. What is said with it is a name, an identifier or a line.
+/// A text of a message: bytes without NUL, as names, identifiers and lines are.
 #[derive(Debug, Drop)]
 pub struct Text {
     bytes: Vec<u8>,
@@ -29,13 +29,13 @@ impl Model for Text {
     ghost invariant = { λ t. HasNoNul t.bytes.items };
 }
 
-/// Why bytes are no text.
+/// Why bytes aren't a text.
 #[derive(Clone, Copy, Debug, PartialEq, Eq, Error)]
 pub enum TextError {
     /// A byte is NUL.
     #[error("a byte of the text is NUL")]
     Nul,
-    /// An allocation was refused.
+    /// Memory ran out.
     #[error("out of memory")]
     Memory,
 }
@@ -73,7 +73,11 @@ impl Eq for Text {
 }
 
 impl Text {
-    /// The text of these bytes. `Nul` comes exactly where one of them is NUL.
+    /// Returns the text of these bytes.
+    ///
+    /// # Errors
+    ///
+    /// `Nul` if and only if one of the bytes is NUL; `Memory` if memory runs out.
     pub fn of(alloc: Global, bytes: &[u8]) -> Result<Text, TextError>
         ensures text { IfOk result (λ text. text ≡ bytes.now) }
         ensures nul { (result ≡ Err TextError.Nul) ↔ Contains bytes.now 0 }
@@ -85,7 +89,7 @@ impl Text {
         Ok(Text { bytes })
     }
 
-    /// Lends the bytes, none of which is NUL.
+    /// Borrows the bytes, none of which is NUL.
     pub fn bytes(&self) -> &[u8]
         ensures bytes { result.now ≡ self.now }
         ensures no_nul { HasNoNul result.now }
@@ -93,7 +97,7 @@ impl Text {
         self.bytes.as_slice()
     }
 
-    /// The text of a field of a message: its bytes before the first NUL.
+    /// Returns the text of a field of a message: its bytes before the first NUL.
     pub(crate) fn to_nul(alloc: Global, bytes: &[u8]) -> Result<Text, AllocError>
         ensures { IfOk result (λ text. text ≡ before_first is_nul bytes.now) }
     {
@@ -101,7 +105,7 @@ impl Text {
         Ok(Text { bytes })
     }
 
-    /// A text with `_` in place of every byte that isn't one of the letters.
+    /// Returns a text with `_` in place of every byte that isn't one of the letters.
     pub(crate) fn cleaned(alloc: Global, text: &Text, letters: Letters) -> Result<Text, AllocError>
         ensures { IfOk result (λ clean. clean ≡ cleaned letters text.now) }
     {

@@ -8,7 +8,7 @@ use Rattle.qrexec_frame.specs.declared.message.Message.TheVariants.{Hello}
 use Rattle.qrexec_hello.specs.declared.hello.HelloFault.{HelloFault}
 use Rattle.qrexec_hello.specs.declared.hello.HelloFault.TheVariants.{NotHello, Version}
 
--- both go on with the lower of the two versions, where the other's is at least 2
+-- both go on with the lower of the two versions, if the other's is at least 2
 abbrev pub greet : ℕ → ℕ → Result ℕ HelloFault
 greet own version = if nat_lt version 2 then Err (Version version) else Ok (min own version)
 

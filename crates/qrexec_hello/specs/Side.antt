@@ -4,5 +4,5 @@ use Rattle.std.specs.Prelude.{ℕ, Bool}
 pub record GreetingSide : Type 0 where
   -- the version that it speaks, 2 or 3
   pub own : ℕ
-  -- whether the other side's greeting wasn't taken yet
+  -- whether the other side's greeting hasn't been taken yet
   pub waiting : Bool

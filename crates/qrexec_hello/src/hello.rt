@@ -6,7 +6,7 @@ ghost use Rattle.qrexec_hello.specs.Greeting.{greet, greeting};
 use qrexec_frame::{Body, Kind, Message};
 use std::marker::Model;
 
-/// The lowest version that is spoken.
+/// The lowest version that is supported.
 const LOWEST: u32 = 2;
 
 /// One side's greeting: its own version, 2 or 3, and whether it still waits for the other side's.
@@ -30,14 +30,14 @@ impl Model for Hello {
 /// Why the other side's greeting was refused.
 #[derive(Clone, Copy, Debug, PartialEq, Eq)]
 pub enum HelloFault {
-    /// Its first message is no `MSG_HELLO`, but one of this type.
+    /// Its first message isn't a `MSG_HELLO`, but one of this type.
     NotHello { kind: u32 },
-    /// It speaks a version below 2.
+    /// Its version is below 2.
     Version { got: u32 },
 }
 
 impl Hello {
-    /// A side that speaks this version, 2 or 3, and has taken nothing yet.
+    /// Returns a side with this version, 2 or 3, that hasn't taken a greeting yet.
     pub fn start(own: u32) -> Hello
         requires { (2 ≤ own) × (own ≤ 3) }
         ensures { result ≡ record { own = own; waiting = true } }
@@ -45,7 +45,7 @@ impl Hello {
         Hello { own, waiting: true }
     }
 
-    /// The message that says this version, 2 or 3.
+    /// Returns the greeting with this version, 2 or 3.
     pub fn announce(own: u32) -> Message
         requires { (2 ≤ own) × (own ≤ 3) }
         ensures { result ≡ Message.Hello own }
@@ -53,18 +53,20 @@ impl Hello {
         Message::Hello { version: own }
     }
 
-    /// Whether the other side's greeting wasn't taken yet.
+    /// Returns whether the other side's greeting hasn't been taken yet.
     pub fn waiting(&self) -> bool
         ensures { result ≡ self.now.waiting }
     {
         self.waiting
     }
 
-    /// Takes the other side's first message, and answers the version that both go on with: the lower
-    /// of the two, 2 or 3. It may be called once, which `waiting` tests.
+    /// Takes the other side's first message, and returns the version that both go on with: the
+    /// lower of the two, 2 or 3. It may be called only once, which `waiting` tests.
     ///
-    /// `NotHello` comes exactly where the message is no `MSG_HELLO`, and `Version` exactly where it
-    /// says a version below 2.
+    /// # Errors
+    ///
+    /// `NotHello` if and only if the message isn't a `MSG_HELLO`; `Version` if and only if its
+    /// version is below 2.
     pub fn took(&mut self, message: &Message) -> Result<u32, HelloFault>
         requires { self.old.waiting ≡ true }
         ensures greeting { result ≡ greeting self.old.own message.now }
@@ -80,7 +82,7 @@ impl Hello {
         }
     }
 
-    /// Takes the other side's first message as `took` does, from where it lies.
+    /// Takes the other side's first message as `took` does, but borrowed.
     pub fn took_body(&mut self, body: Body<'_>) -> Result<u32, HelloFault>
         requires waiting { self.old.waiting ≡ true }
         requires whole { least_len body.kind ≤ length body.bytes.now }
@@ -97,7 +99,7 @@ impl Hello {
         }
     }
 
-    /// The version that both go on with, where the other side says this one.
+    /// Returns the version that both go on with, if the other side has this one.
     fn answer(&self, version: u32) -> Result<u32, HelloFault>
         ensures greet { result ≡ greet self.now.own version }
         ensures spoken { IfOk result (λ version. (2 ≤ version) × (version ≤ 3)) }

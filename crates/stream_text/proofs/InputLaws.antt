@@ -73,7 +73,7 @@ read-all input left number total fed none so_far = so_far ∙ ap (before fed) (a
 abbrev pub IsBegun : List ℕ → Lines → ℕ → Type 0
 IsBegun input left total = FirstIsGood (input_lines input) ⊎ ((left ≡ input_lines input) × (total ≡ 0))
 
--- a line that is good is the first, or stands behind a good one
+-- a line that is good is the first, or stands after a good one
 pub begun-good : (input : List ℕ) (left more : Lines) (number total : ℕ) (text : List ℕ) → left ≡ line number text more → IsOk (piece_at number total text) → IsBegun input left total → FirstIsGood (input_lines input)
 begun-good input left more number total text cut good (inl begun) = begun
 begun-good input left more number total text cut good (inr first) =
@@ -84,7 +84,7 @@ pub begun-end : (input : List ℕ) (left : Lines) (number total : ℕ) → left 
 begun-end input left number total none (inl begun) = begun
 begun-end input left number total none (inr first) = subst FirstIsGood (sym none ∙ first.0) tt
 
--- a line whose refusal is want of memory is good
+-- a line whose refusal is running out of memory is good
 pub good-line : {A : Type 0} (e : DecodeError) (due : Result A (ℕ × DecodeKind)) → IsLineRefusal e due → e ≡ error.Memory → IsOk due
 good-line e due is same = let family : DecodeError → Type 0 = λ e. IsLineRefusal e due in subst family same is
 

@@ -1,4 +1,4 @@
--- The input of decode: the pieces of a stream as byte strings, one a line.
+-- The input of decode: the pieces of a stream as byte strings, one to a line.
 -- Source: this project's own.
 use Rattle.std.specs.Prelude.{◌≡◌, ℕ, ◌+◌, ◌-◌, List, [], ◌++◌, length, Result, Ok, Err, IsOk}
 use Rattle.script_words.specs.Words.{lines_of}
@@ -12,7 +12,7 @@ use Rattle.stream_text.specs.declared.error.DecodeKind.TheVariants.{BadHex, TooM
 use Rattle.stream_text.specs.declared.error.DecodeError.{DecodeError}
 use Rattle.stream_text.specs.declared.error.DecodeError.TheVariants as error
 
--- the second step, where the first gave a value
+-- the second step, if the first gave a value
 infixl 10 ◌>>=◌
 abbrev pub ◌>>=◌ : {A B E : Type 0} → Result A E → (A → Result B E) → Result B E
 Ok x >>= f = f x
@@ -28,11 +28,11 @@ abbrev pub in_line : ℕ → Result (List ℕ) ByteFault → Result (List ℕ) (
 in_line number (Ok piece) = Ok piece
 in_line number (Err fault) = Err (number, fault_kind fault)
 
--- the piece of the line of this number, after lines that spell so many bytes: all lines spell at most 8,388,608
+-- the piece of the line of this number, after lines that spell this many bytes: all lines spell at most 8,388,608
 abbrev pub piece_at : ℕ → ℕ → List ℕ → Result (List ℕ) (ℕ × DecodeKind)
 piece_at number before text = in_line number (at_most (8388608 - before) (byte_string text))
 
--- the stream of these lines, after lines that spell so many bytes; or the number of the first bad line,
+-- the stream of these lines, after lines that spell this many bytes; or the number of the first bad line,
 -- and what is wrong with it
 unfoldable pub stream_from : Lines → ℕ → Result (List ℕ) (ℕ × DecodeKind)
 stream_from (stops number) before = Ok []
@@ -46,16 +46,16 @@ stream_from (line number text more) before = do
 abbrev pub input_lines : List ℕ → Lines
 input_lines input = kept_lines 1 (lines_of input)
 
--- the stream of an input: the pieces of its lines, one behind the other
+-- the stream of an input: the pieces of its lines, one after the other
 abbrev pub stream_of : List ℕ → Result (List ℕ) (ℕ × DecodeKind)
 stream_of input = stream_from (input_lines input) 0
 
--- a refusal of an input is the one that is due; want of memory may come at a line before the first bad one
+-- a refusal of an input is the one that is due; memory may run out at a line before the first bad one
 abbrev pub IsRefusal : {A : Type 0} → DecodeError → Result A (ℕ × DecodeKind) → Type 0
 IsRefusal (error.Bad number kind) due = due ≡ Err (number, kind)
 IsRefusal error.Memory due = Unit {0}
 
--- a refusal of a line is the one that is due; want of memory comes only where the line is good
+-- a refusal of a line is the one that is due; memory runs out only if the line is good
 abbrev pub IsLineRefusal : {A : Type 0} → DecodeError → Result A (ℕ × DecodeKind) → Type 0
 IsLineRefusal (error.Bad number kind) due = due ≡ Err (number, kind)
 IsLineRefusal error.Memory due = IsOk due
@@ -66,7 +66,7 @@ FirstIsGood (stops number) = Unit {0}
 FirstIsGood (refused number) = ⊥
 FirstIsGood (line number text more) = IsOk (piece_at number 0 text)
 
--- so that memory is taken before a bad line is found
+-- likewise of an input: memory may then be taken before a bad line is found
 abbrev pub BeginsWell : List ℕ → Type 0
 BeginsWell input = FirstIsGood (input_lines input)
 

@@ -22,12 +22,12 @@ pub record Gathers (channel : Channel) (bytes : List ℕ) (decoder : DecoderStat
   pub lists : Lists channel fed decoder text
   pub whole : fed ++ gathered ≡ bytes
 
--- how a stream ends, of which so many bytes are left: with a fault, or with those bytes
+-- how a stream ends, with this many bytes left: with a fault, or with those bytes
 abbrev pub EndsBy : Option FrameFault → ℕ → Ending Fault → Type 0
 EndsBy None left ending = ending ≡ Rest left
 EndsBy (Some fault) left ending = (at : ℕ) × (f : Fault) × (ending ≡ FaultAt at f) × (fault ≡ fault_at at f)
 
--- the text has the lines of all messages of the stream, which ends so
+-- the text has the lines of all messages of the stream, which ends in this way
 pub record ListsAll (channel : Channel) (fed : List ℕ) (decoder : DecoderState) (text : List ℕ) (fault : Option FrameFault) : Type 0 where
   pub lists : Lists channel fed decoder text
   pub lines : text ≡ all_printed (reading channel fed).placed

@@ -28,7 +28,7 @@ fault_line (TooLong at kind len) = codes "fault too-long " ++ (decimal at ++ (co
 fault_line (BadLength at kind len) = codes "fault bad-length " ++ (decimal at ++ (codes " " ++ (decimal kind ++ (codes " " ++ decimal len))))
 fault_line (NoNul at kind) = codes "fault no-nul " ++ (decimal at ++ (codes " " ++ decimal kind))
 
--- the last line: how many bytes are no whole message, or the fault
+-- the last line: how many bytes aren't a whole message, or the fault
 abbrev pub last_line : Ending Fault → List ℕ
 last_line (Rest left) = codes "rest " ++ decimal left
 last_line (FaultAt at fault) = fault_line (fault_at at fault)

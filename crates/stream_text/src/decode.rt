@@ -9,17 +9,19 @@ use qrexec_frame::Channel;
 use script_words::{LineReader, NextLine};
 use std::alloc::Global;
 
-/// The text of a captured stream. Each line of the input is a byte string, and the next piece of the
-/// stream; an empty line, and one that begins with `#`, are passed over. The text has a line for each
-/// message of the stream, as `message_line` has it, and then `rest K`, K being the number of bytes that
-/// are no whole message, or the fault with which the stream ends. It does not depend on where the
-/// stream was cut.
+/// Returns the text of a captured stream.
+///
+/// Each line of the input is a byte string, the next piece of the stream; an empty line and one
+/// that begins with `#` are skipped. The text has a line for each message of the stream, as
+/// `message_line` has it, and then `rest K`, where K bytes are left that aren't a whole message, or
+/// the fault with which the stream ends. The text doesn't depend on where the stream was cut.
 ///
 /// # Errors
 ///
-/// `Bad` exactly where a line is bad, with the first such line: the 65,537th is `TooManyLines`, else one
-/// that is no byte string `BadHex`, else one with which all byte strings have more than 8,388,608 bytes
-/// `TooManyBytes`. `Memory`, which in place of `Bad` comes only where a line before the bad one has a piece.
+/// `Bad` if and only if a line is bad, with the first such line: `TooManyLines` if it is the
+/// 65,537th, else `BadHex` if it isn't a byte string, else `TooManyBytes` if all byte strings up to
+/// it have more than 8,388,608 bytes. `Memory` if memory runs out; it replaces `Bad` only if the
+/// first line that isn't skipped has a piece.
 pub fn decode_text(alloc: Global, channel: Channel, bytes: &[u8]) -> Result<Vec<u8>, DecodeError>
     ensures text { IfOk result (λ text. decoded channel bytes.now ≡ Ok text.items) }
     ensures bad { IfErr result (λ e. IsRefusal e (decoded channel bytes.now)) }

@@ -9,11 +9,11 @@ use vchan_io::Memory;
 /// What is wrong with a line of the input.
 #[derive(Clone, Copy, Debug, PartialEq, Eq)]
 pub enum DecodeKind {
-    /// The line is no byte string.
+    /// The line isn't a byte string.
     BadHex,
     /// The line is the 65,537th.
     TooManyLines,
-    /// With this line the byte strings have more than 8,388,608 bytes.
+    /// With this line, the byte strings have more than 8,388,608 bytes.
     TooManyBytes,
 }
 
@@ -28,7 +28,7 @@ pub enum DecodeError {
         /// What is wrong with it.
         kind: DecodeKind,
     },
-    /// There was no memory for the stream or its text.
+    /// Memory ran out for the stream or its text.
     #[error("out of memory")]
     Memory,
 }
@@ -70,7 +70,7 @@ impl From<TooManyLines> for DecodeError {
 impl DecodeError {
     ghost use Rattle.stream_text.specs.Input.{refused_at};
 
-    /// Why the line of this number gave no piece.
+    /// Returns the error of the line of this number, which gave no piece.
     pub(crate) fn at(line: u32, refused: PushError) -> DecodeError
         ensures { result ≡ refused_at line refused }
     {

@@ -1,4 +1,4 @@
-//! The text of a stream, as it grows with the stream.
+//! The text of a stream, which grows with the stream.
 ghost use Rattle.std.specs.Prelude.{◌≡◌, ◌≤◌, ◌+◌, ℕ, List, [], ◌++◌, length, codes, decimal, IfErr, IfOk, OnOk};
 ghost use Rattle.qrexec_frame.specs.Fronts.{reading};
 ghost use Rattle.stream_text.specs.Input.{IsLineRefusal, piece_at};
@@ -12,10 +12,10 @@ use qrexec_frame::{Channel, Decoder, FrameFault, NextError};
 use std::alloc::{AllocError, Global};
 use vchan_io::Memory;
 
-/// From so many bytes on, what is gathered goes to the decoder.
+/// From this many bytes on, what was gathered goes to the decoder.
 const MANY: usize = 4_096;
 
-/// A decoder that takes a stream line by line, and the lines of the messages that it has given.
+/// A decoder that takes a stream line by line, with the lines of the messages that it has returned.
 // What the lines spell is gathered, so that the decoder looks at many short lines at once.
 #[derive(Drop)]
 pub(crate) struct Listing {
@@ -25,7 +25,7 @@ pub(crate) struct Listing {
 }
 
 impl Listing {
-    /// The listing of a stream of which nothing has come.
+    /// Returns the listing of a stream of which nothing has come yet.
     pub(crate) fn new(alloc: Global, channel: Channel) -> Listing
         ensures { Gathers channel [] result.decoder result.gathered.items result.text.items }
     {
@@ -36,13 +36,13 @@ impl Listing {
         }
     }
 
-    /// Takes the piece of the stream that the line of this number spells, and gives how many bytes it
-    /// has; `before` is how many bytes the lines before it spell.
+    /// Takes the piece of the stream that the line of this number spells, and returns how many
+    /// bytes it has; the lines before it spell `before` bytes.
     ///
     /// # Errors
     ///
-    /// `Bad` exactly where the line is no byte string, or one with which there are too many bytes; `Memory`
-    /// only where it is neither.
+    /// `Bad` if and only if the line isn't a byte string, or is one with which there are too many
+    /// bytes; `Memory` only if it is neither.
     pub(crate) fn take_line(
         &mut self,
         number: u32,
@@ -62,7 +62,7 @@ impl Listing {
         Ok(count)
     }
 
-    /// Hands what is gathered to the decoder, and prints the messages that it completes.
+    /// Feeds what was gathered to the decoder, and prints the messages that it completes.
     fn feed_gathered(&mut self) -> Result<(), Memory>
         ensures { (channel : Channel) (bytes : List ℕ) → Gathers channel bytes self.old.decoder self.old.gathered.items self.old.text.items →
             OnOk result (Gathers channel bytes self.new.decoder self.new.gathered.items self.new.text.items) }
@@ -73,7 +73,7 @@ impl Listing {
         Ok(())
     }
 
-    /// Prints the messages that are whole, and gives the fault behind them, if there is one.
+    /// Prints the messages that are whole, and returns the fault after them, if there is one.
     fn print_messages(&mut self) -> Result<Option<FrameFault>, Memory>
         ensures listed { (channel : Channel) (fed : List ℕ) → Lists channel fed self.old.decoder self.old.text.items →
             IfOk result (λ fault. ListsAll channel fed self.new.decoder self.new.text.items fault) }
@@ -89,7 +89,7 @@ impl Listing {
         }
     }
 
-    /// The whole text, after the last line of the stream.
+    /// Returns the whole text, after the last line of the stream.
     pub(crate) fn into_text(mut self) -> Result<Vec<u8>, Memory>
         ensures { (channel : Channel) (bytes : List ℕ) → Gathers channel bytes self.decoder self.gathered.items self.text.items →
             IfOk result (λ text. text.items ≡ text_of (reading channel bytes)) }
@@ -98,7 +98,7 @@ impl Listing {
         self.end()
     }
 
-    /// The whole text, once the decoder has all of the stream.
+    /// Returns the whole text, after the decoder was fed all of the stream.
     fn end(mut self) -> Result<Vec<u8>, Memory>
         ensures { (channel : Channel) (fed : List ℕ) → Lists channel fed self.decoder self.text.items →
             IfOk result (λ text. text.items ≡ text_of (reading channel fed)) }
@@ -142,7 +142,7 @@ fn put_fault(text: &mut Vec<u8>, fault: FrameFault) -> Result<(), AllocError>
     }
 }
 
-/// A name, where the faulty message begins, and the number of its type.
+/// Appends a name, the offset at which the faulty message begins, and the number of its type.
 fn put_place(text: &mut Vec<u8>, name: &[u8], at: u64, kind: u32) -> Result<(), AllocError>
     ensures { OnOk result (text.new.items ≡ text.old.items ++ (name.now ++ (decimal at ++ (codes " " ++ decimal kind)))) }
 {

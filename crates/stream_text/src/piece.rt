@@ -1,20 +1,20 @@
-//! The pieces of a stream, one a line.
+//! The pieces of a stream, one to a line.
 ghost use Rattle.std.specs.Prelude.{◌≡◌, ◌+◌, ◌≤◌, ◌++◌, ℕ, List, length, IfErr, IfOk};
 ghost use Rattle.stream_text.specs.Input.{IsLineRefusal, piece_at};
 
 use crate::error::DecodeError;
 use script_words::push_bytes;
 
-/// The most bytes that the lines of an input may spell in all.
+/// The greatest number of bytes that the lines of an input may spell in all.
 pub(crate) const MOST_BYTES: usize = 8_388_608;
 
-/// Appends the piece that the line of this number spells to `out`, and gives how many bytes it has;
-/// `before` is how many bytes the lines before it spell.
+/// Appends the piece that the line of this number spells to `out`, and returns how many bytes it
+/// has; the lines before it spell `before` bytes.
 ///
 /// # Errors
 ///
-/// `Bad` exactly where the line is no byte string, or one with which there are too many bytes; `Memory`
-/// only where it is neither.
+/// `Bad` if and only if the line isn't a byte string, or is one with which there are too many
+/// bytes; `Memory` only if it is neither.
 pub(crate) fn push_piece(
     out: &mut Vec<u8>,
     number: u32,
