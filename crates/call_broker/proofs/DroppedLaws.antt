@@ -63,7 +63,7 @@ or-false : (a : Bool) → (a || false) ≡ a
 or-false true = refl
 or-false false = refl
 
--- a pair takes a domain of its own for dropped exactly where an event dropped it
+-- a pair takes a domain of its own for dropped if and only if an event dropped it
 pub dropped-is : (hub : Domains) (pair : Pair) (d : ℕ) (es : List Event) → is_of d pair ≡ true → has d (state_after hub es pair).dropped ≡ list_any (drops d) es
 dropped-is hub pair d es mine = run-dropped hub pair d at_first es mine ∙ or-false (list_any (drops d) es)
 

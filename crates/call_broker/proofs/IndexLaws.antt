@@ -18,7 +18,7 @@ use Rattle.call_broker.specs.Domains.{place_of}
 abbrev pub name_cmp : Vec ℕ → Vec ℕ → Ordering
 name_cmp x y = slice_cmp nat_cmp x.items y.items
 
--- the entry's number, where its key is this name
+-- the entry's number, if its key is this name
 abbrev pub has_name : List ℕ → Vec ℕ → Bool
 has_name name key = is_at (λ (k : Vec ℕ). slice_cmp nat_cmp name k.items) key
 
@@ -84,7 +84,7 @@ first-more names place name last front split is = rw (split, bytes_eq-sym front 
     by_test true = ap Some (omega arith)
     by_test false = is ∙ shifted place (suc place) (place_of (drop (suc place) names) name) (omega arith)
 
--- the name of the domain at a place, and those behind it
+-- the name of the domain at a place, and those after it
 pub drop-name : (domains : List DomainEntry) (place : ℕ) (d : DomainEntry) → place < length domains
     → drop place (map (λ x. x.name) domains) ≡ (get_or domains place d).name ∷ drop (suc place) (map (λ x. x.name) domains)
 drop-name domains place d within =

@@ -1,4 +1,4 @@
--- What is known of a pair where a call of it is accepted, or ended.
+-- What is known of a pair if a call of it is accepted, or ended.
 use Rattle.std.proofs.Common.{◌≡◌, ℕ, suc, ◌<◌, List, [], ◌∷◌, length, refl, ap, ◌∙◌, arith, Option, Some, None}
 use Rattle.std.specs.Prelude.{true, false, Bool, ◌==◌, ◌&&◌, not, nat_le, bytes_eq, option_map, if◌then◌else◌}
 use Rattle.std.proofs.lemmas.Bool.Decides.{nat_tests}

@@ -154,7 +154,7 @@ on-target hub before f t from target service ident None =
     rw (refused-none f t from target service ident (has from (state_after hub before (Alone from)).dropped) NoDomain) refl
 on-target hub before f t from target service ident (Some to) = on-named hub before f t from to target service ident (to == from)
 
--- an event that is no trigger changes no count
+-- an event that isn't a trigger changes no count
 settles-calls : (hub : Domains) (pair : Pair) (s : PairState) (from other port : ℕ) → (settles s (Terminated from other port) (decides hub pair s (Terminated from other port))).calls ≡ s.calls
 settles-calls hub pair s from other port = by_dropped (has from s.dropped)
   where

@@ -53,7 +53,7 @@ pub none-before : (d : ℕ) (before rest : List Event) → list_any (drops d) (b
 none-before d [] rest clear = refl
 none-before d (e ∷ before) rest clear = let parts = or-parts (drops d e) (list_any (drops d) (before ++ rest)) clear in let more = none-before d before rest parts.1 in rw (parts.0, more) refl
 
--- ---- where an entry is decided
+-- ---- if an entry is decided
 
 pub record IsDecidedAt (hub : Domains) (done : List Event) (journal : List Entry) (x : Entry) : Type 0 where
   pub before : List Event

@@ -57,7 +57,7 @@ terminated-after hub es f t from other port d is =
     ∙ step-decided hub es f t (Terminated from other port)
     ∙ ap (λ x. settled_if hub es f t (Terminated from other port) x (pair_of hub (Terminated from other port))) (sym is)
 
--- ---- where nothing changes
+-- ---- if nothing changes
 
 same-calls : (old new : BTreeMap (ℕ × ℕ) Calls) (f t : ℕ) → SameCalls old new → calls_at new f t ≡ calls_at old f t
 same-calls old new f t same = ap (λ (es : List ((ℕ × ℕ) × Calls)). lookup (is_at (pair_cmp (f, t))) es) same

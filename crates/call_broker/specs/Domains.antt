@@ -45,7 +45,7 @@ pages_of hub from to = slice_index_or hub.pages ((from - 1) * count_of hub + (to
 abbrev pub first_port : ℕ → ℕ → ℕ
 first_port from to = if nat_lt from to then 513 else 514
 
--- its port after so many calls
+-- its port after this many calls
 abbrev pub port_after : ℕ → ℕ → ℕ → ℕ
 port_after from to calls = first_port from to + 2 * calls
 

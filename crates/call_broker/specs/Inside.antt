@@ -14,7 +14,7 @@ hub_of b = record { names = map (λ d. d.name) b.domains.items; pages = b.pages.
 abbrev pub brokered : Inside → Brokered
 brokered b = record { hub = hub_of b; journal = b.journal.items }
 
--- its domains and pages are as many as they may be, each entry of its journal is decided after those before it, and its tables follow from its journal
+-- its domains and pages are no more than allowed, each entry of its journal is decided after those before it, and its tables follow from its journal
 pub record IsKept (b : Inside) : Type 0 where
   pub few : count_of (hub_of b) ≤ 32
   pub square : length b.pages.items ≡ count_of (hub_of b) * count_of (hub_of b)

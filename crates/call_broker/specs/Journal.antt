@@ -1,4 +1,4 @@
--- A journal: events with what was decided on each.
+-- A journal: events with the decision on each.
 use Rattle.std.specs.Prelude.{◌≡◌, ℕ, ◌==◌, ◌&&◌, Bool, true, false, List, [], ◌∷◌, ◌++◌, map, filter_map, Option, Some, None, if◌then◌else◌}
 use Rattle.std.specs.List.{list_any}
 use Rattle.qrexec_frame.specs.Streams.{Each}

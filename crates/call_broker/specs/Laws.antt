@@ -38,7 +38,7 @@ OthersCountForNothing =
     (hub : Domains) (pair : Pair) (one other : List Entry) → IsJournal hub one → IsJournal hub other
     → own_events hub pair (events one) ≡ own_events hub pair (events other) → own_entries hub pair one ≡ own_entries hub pair other
 
--- after two lists of events that differ only in those of other pairs, the next event of this pair is decided alike
+-- after two lists of events that differ only in those of other pairs, the decision on the next event of this pair is the same
 abbrev pub DecidedByOwnEvents : Type 0
 DecidedByOwnEvents =
     (hub : Domains) (one other : List Event) (event : Event)
@@ -75,7 +75,7 @@ PortNamesPair = (f t call : ℕ) → f ≢ t → (by_port f t (port_after f t ca
 
 -- ---- accepted calls
 
--- an accepted call is to the other domain that its target names, for a service that there is, with a port of its pair
+-- an accepted call is to the other domain that its target names, for a service that exists, with a port of its pair
 pub record IsAccepted (hub : Domains) (from : ℕ) (target service : List ℕ) (to port : ℕ) : Type 0 where
   pub named : target_of hub target ≡ Some to
   pub apart : from ≢ to
@@ -84,11 +84,11 @@ pub record IsAccepted (hub : Domains) (from : ℕ) (target service : List ℕ) (
   pub within : call < pages_of hub from to
   pub port_is : port ≡ port_after from to call
 
--- where an entry is of an accepted call, it is accepted well
+-- an entry of an accepted call is as `IsAccepted` has it
 abbrev pub AcceptsWell : Domains → Event → Decision → Type 0
 AcceptsWell hub (Trigger from target service ident) (Accepted to port) = IsAccepted hub from target service to port
 AcceptsWell hub event decision = Unit {0}
 
--- each accepted call of a journal is accepted well
+-- each accepted call of a journal is as `IsAccepted` has it
 abbrev pub AcceptedCallsAreWell : Type 0
 AcceptedCallsAreWell = (hub : Domains) (journal : List Entry) → IsJournal hub journal → Each (λ x. AcceptsWell hub x.event x.decision) journal

@@ -22,12 +22,12 @@ abbrev pub is_of : ℕ → Pair → Bool
 is_of d (Ordered from to) = d == from || d == to
 is_of d (Alone domain) = d == domain
 
--- the pair of a trigger: its sender and its target, where that is another domain
+-- the pair of a trigger: its sender and its target, if that is another domain
 abbrev pub towards : ℕ → Option ℕ → Pair
 towards from None = Alone from
 towards from (Some to) = if to == from then Alone from else Ordered from to
 
--- the pair that two domains and a port name: from the lower to the higher where the port is odd
+-- the pair that two domains and a port name: from the lower to the higher if the port is odd
 abbrev pub by_port : ℕ → ℕ → ℕ → Pair
 by_port a b port = if is_odd port then Ordered (min a b) (max a b) else Ordered (max a b) (min a b)
 
@@ -36,7 +36,7 @@ pair_of hub (Trigger from target service ident) = towards from (target_of hub ta
 pair_of hub (Terminated from other port) = if is_domain hub other && not (other == from) then by_port from other port else Alone from
 pair_of hub (Dropped domain) = Alone domain
 
--- a dropped domain is news to each of its pairs
+-- that a domain was dropped is an event of each of its pairs
 abbrev pub belongs : Domains → Pair → Event → Bool
 belongs hub pair (Dropped domain) = is_of domain pair
 belongs hub pair event = is_pair (pair_of hub event) pair
@@ -88,7 +88,7 @@ settles s event decision = s
 abbrev pub step : Domains → Pair → PairState → Event → PairState
 step hub pair s event = if belongs hub pair event then settles s event (decides hub pair s event) else s
 
--- the pair after some events, of which it sees its own
+-- the pair after some events, of which only its own count
 abbrev pub run_on : Domains → Pair → PairState → List Event → PairState
 run_on hub pair s [] = s
 run_on hub pair s (event ∷ events) = run_on hub pair (step hub pair s event) events

@@ -64,14 +64,14 @@ SameDropped old new = new.keys ≡ old.keys
 abbrev pub AddsDropped : BTreeSet ℕ → BTreeSet ℕ → ℕ → Type 0
 AddsDropped old new domain = (d : ℕ) → set.contains nat_cmp new d ≡ (domain == d || set.contains nat_cmp old d)
 
--- what an event leaves of the tables, by what was decided on it
+-- the effect of an event on the tables, by the decision on it
 abbrev pub IsSettled : Event → Decision → BTreeMap (ℕ × ℕ) Calls → BTreeSet ℕ → BTreeMap (ℕ × ℕ) Calls → BTreeSet ℕ → Type 0
 IsSettled (Trigger from target service ident) (Accepted to port) calls dropped calls' dropped' = AddsCall calls calls' from to port × SameDropped dropped dropped'
 IsSettled (Terminated sender other named) (Ended from to port) calls dropped calls' dropped' = EndsCall calls calls' from to port × SameDropped dropped dropped'
 IsSettled (Dropped domain) decision calls dropped calls' dropped' = SameCalls calls calls' × AddsDropped dropped dropped' domain
 IsSettled event decision calls dropped calls' dropped' = SameCalls calls calls' × SameDropped dropped dropped'
 
--- the tables are those of a broker after some events. A call of a dropped domain stays in the table and counts for nothing.
+-- the tables are those of a broker after some events. A call of a dropped domain stays in the table, but doesn't count.
 pub record IsTabled (hub : Domains) (after : List Event) (calls : BTreeMap (ℕ × ℕ) Calls) (dropped : BTreeSet ℕ) : Type 0 where
   pub gone : (d : ℕ) → set.contains nat_cmp dropped d ≡ list_any (drops d) after
   pub counted : (f t : ℕ) → (state_after hub after (Ordered f t)).calls ≡ number_of (calls_at calls f t)
@@ -82,11 +82,11 @@ pub record IsTabled (hub : Domains) (after : List Event) (calls : BTreeMap (ℕ 
 abbrev pub number_in : BTreeMap (Vec ℕ) ℕ → List ℕ → Option ℕ
 number_in index name = tree.get_by (λ key. slice_cmp nat_cmp name key.items) index
 
--- an index that has for each name the first domain of it
+-- an index that has, for each name, the first domain of that name
 pub record IsIndex (names : List (List ℕ)) (index : BTreeMap (Vec ℕ) ℕ) : Type 0 where
   pub first : (name : List ℕ) → number_in index name ≡ domain_at names name
 
--- where a trigger is accepted, its pair has room for one more call
+-- if a trigger is accepted, its pair has room for one more call
 abbrev pub HasRoom : Event → Decision → BTreeMap (ℕ × ℕ) Calls → Type 0
 HasRoom (Trigger from target service ident) (Accepted to port) calls = (length (live_of (calls_at calls from to)) < 16) × (number_of (calls_at calls from to) < 65536)
 HasRoom event decision calls = Unit {0}

@@ -22,11 +22,11 @@ to_b = Trigger 1 (codes "b") (codes "echo") (codes "i")
 abbrev pub to_a : Event
 to_a = Trigger 2 (codes "a") (codes "echo") (codes "i")
 
--- the first asks so often
+-- the first asks this many times
 abbrev pub asks : ℕ → List Event
 asks count = replicate count to_b
 
--- what is decided, row by row
+-- the decisions, row by row
 pub record RowsAreAsWorked : Type 0 where
   pub first : decision two [] to_b ≡ Accepted 2 513
   pub second : decision two (asks 1) to_b ≡ Accepted 2 515

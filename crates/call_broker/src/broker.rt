@@ -44,8 +44,13 @@ impl Model for Broker {
 }
 
 impl Broker {
-    /// The broker of these domains, before any event. `pages[(f - 1) * n + (t - 1)]` is the number
-    /// of pages that were laid for calls from the domain f to the domain t, of n domains.
+    /// Returns the broker of these domains, before any event. With n domains, the item
+    /// `pages[(f - 1) * n + (t - 1)]` is the number of pages that were laid for calls from the
+    /// domain f to the domain t.
+    ///
+    /// # Errors
+    ///
+    /// `Memory` if memory runs out; no other.
     pub fn new(alloc: Global, domains: Vec<DomainEntry>, pages: Vec<u32>) -> Result<Broker, Memory>
         requires few { vec_len domains ≤ 32 }
         requires square { vec_len pages ≡ vec_len domains * vec_len domains }
@@ -66,7 +71,10 @@ impl Broker {
     }
 
     /// Decides an event, and keeps it with its decision. docs/BROKER.md has the table of decisions.
-    /// `Memory` leaves the broker as it was.
+    ///
+    /// # Errors
+    ///
+    /// `Memory` if memory runs out; the broker is as it was then.
     pub fn event(&mut self, event: Event) -> Result<Decision, Memory>
         requires { IsNumbered self.old.hub event }
         ensures decided { IfOk result (λ decided. decided ≡ decision self.old.hub (events self.old.journal) event) }
@@ -80,7 +88,7 @@ impl Broker {
         Ok(decision)
     }
 
-    /// All events so far, each with its decision, in order.
+    /// Returns all events so far, each with its decision, in order.
     pub fn journal(&self) -> &[Entry]
         ensures entries { result.now ≡ self.now.journal }
         ensures decided { IsJournal self.now.hub result.now }
@@ -89,7 +97,7 @@ impl Broker {
         self.journal.as_slice()
     }
 
-    /// The name of a domain.
+    /// Returns the name of a domain.
     pub fn name(&self, domain: u32) -> &Text
         requires { is_domain self.now.hub domain ≡ true }
         ensures { result.now ≡ name_of self.now.hub domain }
@@ -97,7 +105,8 @@ impl Broker {
         &self.domains[domain as usize - 1].name
     }
 
-    /// How many calls from one domain to another are live. It is 0 where a number is no domain's.
+    /// Returns how many calls from one domain to another are live: 0 if one of the numbers isn't a
+    /// domain's.
     pub fn live(&self, from: u32, to: u32) -> u32
         ensures live { result ≡ length (live self.now.hub self.now.journal from to) }
         ensures no_domain { (is_domain self.now.hub from && is_domain self.now.hub to) ≡ false → result ≡ 0 }

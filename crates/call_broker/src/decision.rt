@@ -1,34 +1,34 @@
 use crate::event::Event;
 
-/// What a broker decides on an event.
+/// The decision of a broker on an event.
 #[derive(Clone, Copy, Debug, PartialEq, Eq)]
 pub enum Decision {
-    /// The call is let through.
+    /// The call is accepted.
     Accepted {
-        /// The domain that is to serve.
+        /// The domain that is to serve it.
         to: u32,
         /// The port at which the two domains meet.
         port: u32,
     },
-    /// The call isn't let through.
+    /// The call is refused.
     Refused {
-        /// Why not.
+        /// The first cause that applies.
         cause: Cause,
     },
     /// A live call has ended.
     Ended {
-        /// The domain that had asked for it.
+        /// The domain that asked for it.
         from: u32,
         /// The domain that served it.
         to: u32,
-        /// The port of it.
+        /// Its port.
         port: u32,
     },
-    /// Nothing comes of the event.
+    /// The event changes nothing.
     PassedOver,
 }
 
-/// Why a call was refused. Where several hold, the first of these is the answer.
+/// Why a call was refused: the first of these that applies.
 #[derive(Clone, Copy, Debug, PartialEq, Eq)]
 pub enum Cause {
     /// The target names no domain.
@@ -41,7 +41,7 @@ pub enum Cause {
     TargetDropped,
     /// The pair has as many live calls as a pair may have.
     PairFull {
-        /// How many.
+        /// How many live calls it has.
         live: u32,
     },
     /// Each page that was laid for the pair has had its call.
@@ -51,7 +51,7 @@ pub enum Cause {
     },
 }
 
-/// An event, and what was decided on it.
+/// An event, and the decision on it.
 #[derive(Debug, Drop)]
 pub struct Entry {
     /// The event.

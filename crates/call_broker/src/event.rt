@@ -1,6 +1,7 @@
 use qrexec_frame::Text;
 
-/// What a broker is told. Domains are numbered from 1, in the order in which they were handed in.
+/// An event that a broker decides. Domains are numbered from 1, in the order in which they were
+/// passed.
 #[derive(Debug, Drop)]
 pub enum Event {
     /// A domain asks for a service of another: MSG_TRIGGER_SERVICE3, or MSG_TRIGGER_SERVICE.
@@ -11,19 +12,20 @@ pub enum Event {
         target: Text,
         /// The name of the service, as it was sent.
         service: Text,
-        /// What the caller calls this call.
+        /// The name that the caller gives this call.
         ident: Text,
     },
-    /// A domain says that a call has ended: MSG_CONNECTION_TERMINATED.
+    /// A domain tells that a call has ended: MSG_CONNECTION_TERMINATED.
     Terminated {
-        /// The domain that says so.
+        /// The domain that tells it.
         from: u32,
         /// The other domain of the call, as it was sent.
         other: u32,
         /// The port of the call, as it was sent.
         port: u32,
     },
-    /// A domain is no longer listened to: its control channel ended, or said what no domain says.
+    /// A domain is no longer listened to: its control channel ended, or carried something that no
+    /// domain may send.
     Dropped {
         /// The domain.
         domain: u32,

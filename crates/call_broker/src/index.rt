@@ -7,10 +7,10 @@ use crate::domain::DomainEntry;
 use std::alloc::{AllocError, Global};
 use std::collections::BTreeMap;
 
-/// The numbers of the domains by their names.
+/// The numbers of the domains, by their names.
 pub(crate) type Index = BTreeMap<Vec<u8>, u32>;
 
-/// The index of some domains. Of domains with one name it has the first.
+/// Returns the index of some domains. Of several domains with one name, it has the first.
 pub(crate) fn index_of(alloc: Global, domains: &[DomainEntry]) -> Result<Index, AllocError>
     requires few { length domains.now < 2 ^ 32 }
     ensures { IfOk result (λ index. IsIndex (map (λ d. d.name) domains.now) index) }
@@ -23,7 +23,7 @@ pub(crate) fn index_of(alloc: Global, domains: &[DomainEntry]) -> Result<Index, 
     Ok(index)
 }
 
-/// The domain of this name, if there is one.
+/// Returns the domain of this name, if there is one.
 pub(crate) fn number_of(index: &Index, name: &[u8]) -> Option<u32>
     ensures { result ≡ number_in index.now name.now }
 {

@@ -36,12 +36,12 @@ pub fn port_names_pair()
 {}
 
 /// Each accepted call is to the other domain that its cleaned target names, for a service that
-/// there is.
+/// exists.
 pub fn accepted_calls_are_well()
     ensures { AcceptedCallsAreWell }
 {}
 
-/// Worked rows of the definitions: two domains and their calls, and a stranger's Terminated.
+/// Worked rows of the definitions: two domains and their calls, and a third domain's Terminated.
 pub fn worked_rows()
     ensures { RowsAreAsWorked }
 {}

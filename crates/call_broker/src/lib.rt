@@ -1,9 +1,9 @@
-//! The broker of calls: which calls between domains are let through, and by which port.
+//! The broker of calls: which calls between domains are accepted, and with which port.
 //!
 //! It serves the task that reads the control channels of all domains: each MSG_TRIGGER_SERVICE3,
 //! MSG_TRIGGER_SERVICE and MSG_CONNECTION_TERMINATED is an event, and each event has one decision.
 //! In Qubes OS the daemons `qrexec-daemon` and `qrexec-policy-daemon` do this; docs/BROKER.md says
-//! what is theirs and what is this project's own.
+//! which rules are theirs and which are this project's own.
 #![tactic(auto)]
 
 mod broker;

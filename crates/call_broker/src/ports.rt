@@ -10,7 +10,7 @@ const FIRST_UP: u32 = 513;
 /// The first port of a pair whose caller has the higher number.
 const FIRST_DOWN: u32 = 514;
 
-/// The port that an ordered pair of domains gives out after so many calls, of which there are at most
+/// Returns the port that an ordered pair of domains gives out after this many calls, at most
 /// 65,536.
 pub fn port_after(from: u32, to: u32, calls: u32) -> u32
     requires { calls ≤ 65536 }
@@ -25,7 +25,7 @@ fn first_port(from: u32, to: u32) -> u32
     if from < to { FIRST_UP } else { FIRST_DOWN }
 }
 
-/// The caller and the server of a call between two domains that has this port.
+/// Returns the caller and the server of a call between two domains that has this port.
 pub(crate) fn pair_by_port(one: u32, other: u32, port: u32) -> (u32, u32)
     ensures { Ordered result.0 result.1 ≡ by_port one other port }
 {

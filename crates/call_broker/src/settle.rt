@@ -1,4 +1,4 @@
-//! What an event leaves of the two tables that a broker keeps beside its journal.
+//! The effect of an event on the two tables that a broker keeps beside its journal.
 ghost use Rattle.std.specs.Prelude.{◌≡◌, ◌∷◌, [], ◌++◌, ◌<◌, vec_len, vec_capacity, OnOk, OnErr};
 ghost use Rattle.call_broker.specs.Tables.{HasRoom, IsSettled, SameCalls, SameDropped};
 
@@ -8,7 +8,7 @@ use crate::table::{self, Table};
 use std::alloc::AllocError;
 use std::collections::BTreeSet;
 
-/// Keeps what was decided on an event. An error leaves both tables as they were.
+/// Enters the decision on an event in the tables. If memory runs out, both tables are as they were.
 pub(crate) fn settle(
     calls: &mut Table,
     dropped: &mut BTreeSet<u32>,

@@ -11,7 +11,7 @@ use std::collections::BTreeMap;
 /// The calls of each ordered pair that has had one.
 pub(crate) type Table = BTreeMap<(u32, u32), Calls>;
 
-/// A call of the pair is live from now on. Only the first call of a pair takes memory.
+/// Adds a live call of the pair. Only the first call of a pair takes memory.
 pub(crate) fn add_call(table: &mut Table, from: u32, to: u32, port: u32) -> Result<(), AllocError>
     requires room { length (live_of (calls_at table.old from to)) < MOST_LIVE }
     requires pages { number_of (calls_at table.old from to) < MOST_PAGES }
@@ -28,7 +28,7 @@ pub(crate) fn add_call(table: &mut Table, from: u32, to: u32, port: u32) -> Resu
     Ok(())
 }
 
-/// A call of the pair is no longer live.
+/// Ends a live call of the pair.
 pub(crate) fn end_call(table: &mut Table, from: u32, to: u32, port: u32)
     ensures { EndsCall table.old table.new from to port }
 {
@@ -37,7 +37,7 @@ pub(crate) fn end_call(table: &mut Table, from: u32, to: u32, port: u32)
     }
 }
 
-/// How many live calls the pair has.
+/// Returns how many live calls the pair has.
 pub(crate) fn live_count(table: &Table, from: u32, to: u32) -> u32
     ensures { result ≡ length (live_of (calls_at table.now from to)) }
 {
@@ -47,7 +47,7 @@ pub(crate) fn live_count(table: &Table, from: u32, to: u32) -> u32
     }
 }
 
-/// How many calls the pair has had.
+/// Returns how many calls the pair has had.
 pub(crate) fn call_count(table: &Table, from: u32, to: u32) -> u32
     ensures { result ≡ number_of (calls_at table.now from to) }
 {
@@ -57,7 +57,7 @@ pub(crate) fn call_count(table: &Table, from: u32, to: u32) -> u32
     }
 }
 
-/// Whether a live call of the pair has this port.
+/// Returns whether a live call of the pair has this port.
 pub(crate) fn has_port(table: &Table, from: u32, to: u32, port: u32) -> bool
     ensures { result ≡ list_any (λ p. p == port) (live_of (calls_at table.now from to)) }
 {

@@ -1,5 +1,5 @@
 //! Worked rows: two domains and their calls, all pairs of 32 domains, names that are cleaned, and a
-//! Terminated by a stranger. Contracts say the rest.
+//! Terminated by a third domain. Contracts say the rest.
 ghost use Rattle.std.specs.Prelude.{◌≡◌, ◌≤◌, ◌*◌, OnOk, IfOk, All, length, vec_len};
 ghost use Rattle.call_broker.specs.Domains.{count_of};
 
@@ -45,14 +45,14 @@ macro_rules! ended {
     };
 }
 
-/// An event, and what is decided on it.
+/// An event, and the decision on it.
 type Row = (Told, Decision);
 
 fn text(alloc: Global, text: &str) -> Result<Text, Fail> {
     Ok(Text::of(alloc, text.as_bytes())?)
 }
 
-/// A broker of domains with these names, and so many pages for each ordered pair.
+/// A broker of domains with these names, and this many pages for each ordered pair.
 fn broker_of(alloc: Global, names: &[&str], pages: &[u32]) -> Result<Broker, Fail>
     ensures { IfOk result (λ broker. count_of broker.hub ≡ length names.now) }
 {
@@ -210,8 +210,8 @@ const NAMES: [&str; 32] = [
     "d29", "d30", "d31", "d32",
 ];
 
-/// One call for each ordered pair of the 32 domains, which is to get its pair's first port or, after
-/// so many rounds, a later one.
+/// One call for each ordered pair of the 32 domains, which is to get its pair's first port or,
+/// after this many rounds, a later one.
 fn ask_all_pairs(
     rt: &(impl Abort + AllocGlobal),
     broker: &mut Broker,

@@ -5,7 +5,7 @@ use Rattle.std.specs.Prelude.{true, false, IsSome, is_some}
 use Rattle.service_gate.specs.Triple.{Triple, Feeds}
 use Rattle.qrexec_data.specs.Answering.{AnsweringState, FeedsOn}
 
--- what a service was fed, where a part of its outputs stands in messages
+-- what a service was fed, if a part of its outputs stands in messages
 pub fed-on : {S : Type 0} (owes : S → List ℕ → Triple) (bytes : List ℕ) (old inside : AnsweringState S) (service' : S) (out out' err err' : List ℕ) (ol el : ℕ)
     → inside ≡ old → inside.out ≡ drop ol out → inside.err ≡ drop el err → ol ≤ length out → el ≤ length err → Feeds (owes inside.service) (owes service') bytes out out' err err'
     → FeedsOn owes bytes old (record inside { service = service'; out = drop ol out'; err = drop el err' })

@@ -378,7 +378,7 @@ still c none = by_version c.replies.version refl
         empty (inr (inr waits)) = waits.1
     by_version (Some version) is = let P : Option ℕ → Type 0 = By in subst P (sym is) (by_waiting version is (length c.requests.waiting == 0) refl)
 
--- the answers of `front` where there is no outcome
+-- the answers of `front` if there is no outcome
 pub none-if : (o : Option Outcome) → is_some o ≡ false → o ≡ None
 none-if None is = refl
 none-if (Some x) is = cc

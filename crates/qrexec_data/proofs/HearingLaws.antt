@@ -1,4 +1,4 @@
--- What is seen of one more message, where those before it decide nothing.
+-- What is seen of one more message, if those before it decide nothing.
 use Rattle.std.proofs.Common.{◌≡◌, ℕ, List, [], ◌∷◌, ◌++◌, refl, ap, sym, subst, ◌∙◌, Some, Ok, Err}
 use Rattle.std.proofs.lemmas.List.{append-nil}
 use Rattle.std.specs.Prelude.{true, false, Bool, ◌&&◌, ◌||◌, min, nat_lt}
@@ -37,9 +37,9 @@ greeted-any own (message.Terminated domain port) = Refused (NotHello (number (me
 greeted-any own (message.Trigger3 target ident service) = Refused (NotHello (number (message.Trigger3 target ident service))) refl refl
 greeted-any own (message.Trigger target ident service) = Refused (NotHello (number (message.Trigger target ident service))) refl refl
 
--- ---- behind messages that decide nothing
+-- ---- after messages that decide nothing
 
--- what follows the messages is seen behind their pieces
+-- what follows the messages is seen after their pieces
 pub record Behind (takes : Message → Use) (placed : List (Placed Message)) (before pieces : List Piece) (rest : List (Placed Message)) (ending : Ending Fault) : Type 0 where
   pub now : List Piece
   pub ended : (s : Stream) → has_ended s now ≡ (has_ended s before || has_ended s pieces)
@@ -95,7 +95,7 @@ left-over takes (p ∷ placed) a b = by_greeted (greeted-any 2 p.message)
     by_greeted (Accepted version low is low_is) = rw low_is (left-over-on takes placed a b [])
     by_greeted (Refused f is is2) = rw is2 refl
 
--- a fault of the bytes that follow is what is seen behind messages that decide nothing
+-- a fault of the bytes that follow is what is seen after messages that decide nothing
 pub seen-frame : (takes : Message → Use) (placed : List (Placed Message)) → (sees_all takes placed (Rest 0)).verdict ≡ Undecided → (at : ℕ) (fault : Fault)
     → sees_all takes placed (FaultAt at fault) ≡ record { pieces = (sees_all takes placed (Rest 0)).pieces; verdict = at_end (FaultAt at fault) }
 seen-frame takes [] none at fault = refl
@@ -110,7 +110,7 @@ seen-frame takes (p ∷ placed) none at fault = by_greeted (greeted-any 2 p.mess
 
 -- ---- one more message
 
--- the message behind a first one that greets
+-- the message after a first one that greets
 pub record Follows (takes : Message → Use) (own : ℕ) (q : Placed Message) (placed : List (Placed Message)) (p : Placed Message) : Type 0 where
   pub version : ℕ
   pub agreed : (rest : List (Placed Message)) → agreed_by own (q ∷ rest) ≡ Some version

@@ -1,4 +1,4 @@
--- A side that serves keeps what it stands for, where a message is laid and where bytes have gone.
+-- A side that serves keeps what it stands for, if a message is laid and where bytes have gone.
 use Rattle.std.proofs.Common.{◌≡◌, ℕ, ◌<◌, ◌≤◌, suc, zero, List, [], ◌∷◌, ◌++◌, length, take, drop, map, refl, ap, sym, ◌∙◌, subst, arith, append_assoc, ◌⊎◌, inl, inr, Option, Some, None}
 use Rattle.std.proofs.lemmas.List.{append-nil, take-append-drop, length-take-le}
 use Rattle.std.proofs.lemmas.Bool.Decides.{nat_tests}
@@ -394,7 +394,7 @@ stands-gone {S} owes owed old inside answering sent count same is stands =
           };
         })
 
--- ---- where nothing goes out
+-- ---- if nothing goes out
 
 behind-some : (xs ys : List ℕ) → 0 < length ys → xs ++ ys ≡ [] → ⊥
 behind-some [] ys some is = some-not ys some is

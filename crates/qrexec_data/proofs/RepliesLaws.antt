@@ -54,7 +54,7 @@ hears-first r m at k none = subst Is (sym (after-first m at r k.version)) (by_gr
       version = k.version ∙ rw is refl;
     })))
 
--- what a message behind the greeting is to a caller
+-- what a message after the greeting is to a caller
 data CallerUse (m : Message) : Type 0 where
   Output : (bytes : List ℕ) → caller_use m ≡ Carries (record { stream = Out; bytes = bytes }) → CallerUse m
   Error : (bytes : List ℕ) → caller_use m ≡ Carries (record { stream = Errors; bytes = bytes }) → CallerUse m
@@ -75,7 +75,7 @@ caller_view (message.Terminated domain port) = Stray refl
 caller_view (message.Trigger3 target ident service) = Stray refl
 caller_view (message.Trigger target ident service) = Stray refl
 
--- a message that decides, seen behind pieces
+-- a message that decides, seen after pieces
 decides : (r : RepliesState) (o : Outcome) (version : ℕ) (pieces : List Piece) (placed : List (Placed Message)) (seen : Seen)
     → r.stdout ≡ joined Out pieces → r.stderr ≡ joined Errors pieces → r.stdout_ended ≡ has_ended Out pieces → r.stderr_ended ≡ has_ended Errors pieces
     → r.version ≡ agreed_by r.own placed → AgreesWith (Some o) seen.verdict → seen.pieces ≡ pieces ++ []

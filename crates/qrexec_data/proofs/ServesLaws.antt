@@ -115,7 +115,7 @@ hears-first owes owed sent old new m at k none (Late some bytes m_is ended is) =
 hears-first owes owed sent old new m at k none (Fed some bytes m_is more unended feeds) = absurd (not-some old.version k.version some)
 hears-first owes owed sent old new m at k none (Ended some m_is unended ends) = absurd (not-some old.version k.version some)
 
--- ---- the messages behind it
+-- ---- the messages after it
 
 record Later {S : Type 0} (owes : S → List ℕ → Triple) (owed : List ℕ → Triple) (sent : List ℕ) (old : AnsweringState S) (q : Placed Message) (placed : List (Placed Message)) (m : Message) (at : ℕ) : Type 0 where
   version : ℕ

@@ -15,7 +15,7 @@ pub spelled-one : (pieces : List Piece) (p : Piece) → spelled (pieces ++ p ∷
 spelled-one [] p = append-nil (written (message_of p))
 spelled-one (q ∷ pieces) p = ap (λ r. written (message_of q) ++ r) (spelled-one pieces p) ∙ sym (append_assoc (written (message_of q)) (spelled pieces) (written (message_of p)))
 
--- one piece more, behind what waits
+-- one piece more, after what waits
 pub spelled-behind : (head sent waiting : List ℕ) (pieces : List Piece) (p : Piece) → sent ++ waiting ≡ head ++ spelled pieces
     → sent ++ (waiting ++ written (message_of p)) ≡ head ++ spelled (pieces ++ p ∷ [])
 spelled-behind head sent waiting pieces p is =

@@ -1,4 +1,4 @@
--- A side that serves: what it feeds its service, and what it sends of what that gives.
+-- A side that serves: what it feeds its service, and what it sends of what the service gives.
 use Rattle.std.specs.Prelude.{◌≡◌, ℕ, ℤ, ◌<◌, ◌==◌, min, nat_lt, Bool, true, List, [], ◌++◌, length, take, drop, Option, Some, None, IsSome, is_none, ◌&&◌, Result, Ok, Err, if◌then◌else◌}
 use Rattle.qrexec_frame.specs.declared.message.Message.{Message}
 use Rattle.qrexec_frame.specs.declared.message.Message.TheVariants.{Hello, Stdin, Stdout, Stderr, ExitCode}
@@ -15,17 +15,17 @@ use Rattle.qrexec_data.specs.Sending.{most}
 
 -- what a side that serves keeps
 pub record AnsweringState (S : Type 0) : Type 0 where
-  -- its own version, the most bytes of one message, and the version that both sides go on with once they are greeted
+  -- its own version, the greatest number of bytes of one message, and the version that both sides go on with after they greeted
   pub own : ℕ
   pub chunk : ℕ
   pub version : Option ℕ
   -- the service, and its exit code once the input has ended
   pub service : S
   pub code : Option ℤ
-  -- what the service gave on its outputs, and no message carries yet
+  -- what the service gave on its outputs that no message carries yet
   pub out : List ℕ
   pub err : List ℕ
-  -- whether the ends and the exit code stand in messages, and the bytes of messages that have not gone
+  -- whether the ends and the exit code stand in messages, and the bytes of messages that haven't gone
   pub closed : Bool
   pub waiting : List ℕ
   pub outcome : Option Outcome
@@ -51,7 +51,7 @@ pub record EndsOn {S : Type 0} (owes : S → List ℕ → Triple) (old new : Ans
   pub ends : Ends (owes old.service []) code old.out new.out old.err new.err
   pub rest : new ≡ record old { service = new.service; code = Some code; out = new.out; err = new.err }
 
--- a message at an offset: the first has to be a greeting, and only the input may follow, up to its end
+-- a message at an offset: the first must be a greeting, and only the input may follow, up to its end
 pub data AnswersTo {S : Type 0} (owes : S → List ℕ → Triple) (m : Message) (at : ℕ) (old new : AnsweringState S) : Type 0 where
   Greets : old.version ≡ None → new ≡ after_greeting (greeting old.own m) old → AnswersTo owes m at old new
   Stray : IsSome old.version → serving_use m ≡ Strays → new ≡ faulted (fault.WrongSide at (number m)) old → AnswersTo owes m at old new
@@ -61,7 +61,7 @@ pub data AnswersTo {S : Type 0} (owes : S → List ℕ → Triple) (m : Message)
 
 -- ---- one message that is sent
 
--- as many bytes as the next message of an output carries
+-- how many bytes the next message of an output carries
 abbrev pub next_len : {S : Type 0} → ℕ → AnsweringState S → List ℕ → ℕ
 next_len version a output = min (min a.chunk (most version)) (length output)
 
@@ -73,19 +73,19 @@ abbrev pub laid_end : {S : Type 0} → Option ℤ → AnsweringState S → Answe
 laid_end None a = a
 laid_end (Some code) a = if a.closed then a else record a { closed = true; waiting = a.waiting ++ end_bytes code }
 
--- the next bytes of the output, of the error output, or else the ends and the exit code, behind what waits
+-- the next bytes of the output, of the error output, or else the ends and the exit code, after what waits
 abbrev pub laid_next : {S : Type 0} → ℕ → AnsweringState S → AnsweringState S
 laid_next version a =
     if nat_lt 0 (length a.out) then record a { out = drop (next_len version a a.out) a.out; waiting = a.waiting ++ written (Stdout (take (next_len version a a.out) a.out)) }
     else if nat_lt 0 (length a.err) then record a { err = drop (next_len version a a.err) a.err; waiting = a.waiting ++ written (Stderr (take (next_len version a a.err) a.err)) }
     else laid_end a.code a
 
--- the next message, where a version is agreed on and none waits
+-- the next message, if a version is agreed on and none waits
 abbrev pub laid_on : {S : Type 0} → Option ℕ → AnsweringState S → AnsweringState S
 laid_on None a = a
 laid_on (Some version) a = if length a.waiting == 0 then laid_next version a else a
 
--- so many of the bytes that wait have gone, and with the last of all the call is done
+-- this many of the bytes that wait have gone; after the very last byte the call is done
 abbrev pub done_if : {S : Type 0} → Option ℤ → AnsweringState S → AnsweringState S
 done_if None a = a
 done_if (Some code) a = record a { outcome = Some (Done code) }

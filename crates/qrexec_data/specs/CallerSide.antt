@@ -43,7 +43,7 @@ pub record CallerStandsFor (c : CallerState) (sent : List ℕ) : Type 0 where
   pub read : HasRead c
   pub sends : SendsRequests c.replies.own c.replies.version c.requests sent
 
--- what `front` lends, and what it leaves: the next message is laid where there is no outcome
+-- what `front` returns, and what it leaves: the next message is laid if there is no outcome
 pub record LendsRequests (old new : CallerState) (piece : List ℕ) : Type 0 where
   pub piece_is : piece ≡ (if is_none old.replies.outcome then new.requests.waiting else [])
   pub new_is : new ≡ record old { requests = if is_none old.replies.outcome then laid_on old.replies.version old.requests else old.requests }
@@ -53,6 +53,6 @@ pub record LendsRequests (old new : CallerState) (piece : List ℕ) : Type 0 whe
 abbrev pub HasSentAll : CallerState → Type 0
 HasSentAll c = (c.requests.closed ≡ true) × (c.requests.waiting ≡ [])
 
--- nothing can go out: there is an outcome, or all has gone, or the greeting has and none was read
+-- nothing can go out: there is an outcome, or all has gone, or the greeting has gone and none was read
 abbrev pub IsStill : CallerState → Type 0
 IsStill c = IsSome c.replies.outcome ⊎ HasSentAll c ⊎ ((c.replies.version ≡ None) × (c.requests.waiting ≡ []))

@@ -31,7 +31,7 @@ pub record ReadsInput (input : List ℕ) (seen : ServingSeen) : Type 0 where
   pub fault : seen.fault ≡ None
   pub whole : seen.ended ≡ true → seen.input ≡ input
 
--- the exit code comes only behind the whole streams of the triple
+-- the exit code comes only after the whole streams of the triple
 abbrev pub CallersSeeTriples : Type 0
 CallersSeeTriples = (own limit : ℕ) (t : Triple) (stream : List Message) (got : List ℕ) → IsVersion own → limit ≤ 65536 → FitsSigned w32 t.code
     → IsServingStream own limit t stream → IsPrefixOf got (flat_map written stream) → FitsTriple t (caller_sees got)
@@ -46,17 +46,17 @@ abbrev pub CallersWait : Type 0
 CallersWait = (own limit : ℕ) (pieces : List Piece) (got : List ℕ) → IsVersion own → limit ≤ 65536 → ArePieces is_output limit pieces
     → IsPrefixOf got (flat_map written (Hello own ∷ map message_of pieces)) → (caller_sees got).verdict ≡ Undecided
 
--- of a caller's stream the side that serves sees no fault, and its input where that has ended
+-- a side that serves sees no fault of a caller's stream, and its input if that has ended
 abbrev pub InputsAreRead : Type 0
 InputsAreRead = (own limit : ℕ) (input : List ℕ) (stream : List Message) (got : List ℕ) → IsVersion own → limit ≤ 65536
     → IsCallerStream own limit input stream → IsPrefixOf got (flat_map written stream) → ReadsInput input (serving_sees got)
 
--- a greeting alone, or a part of it, is no fault and ends no input
+-- a greeting alone, or a part of it, isn't a fault and ends no input
 abbrev pub GreetingsAreNoFault : Type 0
 GreetingsAreNoFault = (own : ℕ) (got : List ℕ) → IsVersion own → IsPrefixOf got (written (Hello own))
     → ((serving_sees got).fault ≡ None) × ((serving_sees got).ended ≡ false)
 
--- ---- what stands is allowed
+-- ---- what an end stands for having sent is allowed
 
 -- what a caller sent is what a caller may send
 abbrev pub CallersSendStreams : Type 0

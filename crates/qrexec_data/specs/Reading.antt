@@ -16,7 +16,7 @@ pub record InboxState : Type 0 where
 abbrev pub read_bytes : InboxState → List ℕ
 read_bytes inbox = take inbox.read inbox.got
 
--- the bytes that were not read
+-- the bytes that haven't been read
 abbrev pub unread : InboxState → List ℕ
 unread inbox = drop inbox.read inbox.got
 
@@ -29,7 +29,7 @@ pub record IsAtMessage (inbox : InboxState) : Type 0 where
   pub within : inbox.read ≤ length inbox.got
   pub whole : (reading Data (read_bytes inbox)).ending ≡ Rest 0
 
--- nothing has decided yet, or bytes have: the owner has said nothing of the channel's end
+-- nothing has decided yet, or bytes have: the owner hasn't told of the channel's end
 abbrev pub IsByBytes : Option Outcome → Type 0
 IsByBytes (Some Closed) = ⊥
 IsByBytes (Some Gone) = ⊥

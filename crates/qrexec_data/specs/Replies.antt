@@ -14,7 +14,7 @@ use Rattle.qrexec_data.specs.Sending.{agreed_by}
 
 -- what a caller keeps of the messages that it has read
 pub record RepliesState : Type 0 where
-  -- its own version, and the one that both sides go on with once they are greeted
+  -- its own version, and the one that both sides go on with after they greeted
   pub own : ℕ
   pub version : Option ℕ
   -- the bytes of the two outputs, and whether they have ended
@@ -46,7 +46,7 @@ abbrev pub after_greeting : Result ℕ HelloFault → RepliesState → RepliesSt
 after_greeting (Ok version) r = record r { version = Some version }
 after_greeting (Err f) r = faulted (fault.Hello f) r
 
--- the message at this offset: the first has to be a greeting
+-- the message at this offset: the first must be a greeting
 abbrev pub after_message : Message → ℕ → RepliesState → RepliesState
 after_message m at r = by_version r.version
   where
@@ -54,7 +54,7 @@ after_message m at r = by_version r.version
     by_version None = after_greeting (greeting r.own m) r
     by_version (Some version) = after_use (caller_use m) at (number m) r
 
--- an outcome, or none yet, is what the bytes decide; closed and gone come where they decide nothing
+-- an outcome, or none yet, is what the bytes decide; closed and gone come only if they decide nothing
 abbrev pub AgreesWith : Option Outcome → Verdict → Type 0
 AgreesWith None verdict = verdict ≡ Undecided
 AgreesWith (Some (Done code)) verdict = verdict ≡ Exited code

@@ -8,32 +8,32 @@ use Rattle.qrexec_data.specs.Sending.{most}
 
 -- what a caller keeps of its sending
 pub record RequestsState : Type 0 where
-  -- the most bytes of one message, and the whole input
+  -- the greatest number of bytes of one message, and the whole input
   pub chunk : ℕ
   pub input : List ℕ
   -- how many bytes of the input stand in messages, and whether its end does
   pub laid : ℕ
   pub closed : Bool
-  -- the bytes of messages that have not gone
+  -- the bytes of messages that haven't gone
   pub waiting : List ℕ
 
--- as many bytes as the next message of the input carries
+-- how many bytes the next message of the input carries
 abbrev pub next_len : ℕ → RequestsState → ℕ
 next_len version r = min (min r.chunk (most version)) (length r.input - r.laid)
 
--- the next bytes of the input, or else its end, in a message behind those that wait
+-- the next bytes of the input, or else its end, in a message after those that wait
 abbrev pub laid_next : ℕ → RequestsState → RequestsState
 laid_next version r =
     if r.closed then r
     else if nat_lt r.laid (length r.input) then record r { laid = r.laid + next_len version r; waiting = r.waiting ++ written (Stdin (take (next_len version r) (drop r.laid r.input))) }
     else record r { closed = true; waiting = r.waiting ++ written (Stdin []) }
 
--- the next message, where a version is agreed on and none waits
+-- the next message, if a version is agreed on and none waits
 abbrev pub laid_on : Option ℕ → RequestsState → RequestsState
 laid_on None r = r
 laid_on (Some version) r = if length r.waiting == 0 then laid_next version r else r
 
--- the end of the input, where it stands in a message
+-- the end of the input, if it stands in a message
 abbrev pub end_if : Bool → List Piece
 end_if true = end_of In ∷ []
 end_if false = []
@@ -47,7 +47,7 @@ pub record SendsInput (own limit : ℕ) (r : RequestsState) (sent : List ℕ) : 
   pub stream : sent ++ r.waiting ≡ flat_map written (Hello own ∷ map message_of (pieces ++ end_if r.closed))
   pub done : r.closed ≡ true → r.laid ≡ length r.input
 
--- before a version is agreed on it is the greeting alone
+-- before a version is agreed on, it is the greeting alone
 pub record SendsGreeting (own : ℕ) (r : RequestsState) (sent : List ℕ) : Type 0 where
   pub none : r.laid ≡ 0
   pub unclosed : r.closed ≡ false

@@ -60,7 +60,7 @@ abbrev pub at_end : Ending Fault → Verdict
 at_end (Rest left) = Undecided
 at_end (FaultAt at fault) = Faulty (Frame (fault_at at fault))
 
--- one message after the greeting, `before` being the pieces before it
+-- one message after the greeting; `before` are the pieces before it
 abbrev pub sees_one : Use → ℕ → ℕ → List Piece → (List Piece → Seen) → Seen
 sees_one (Carries piece) at kind before next =
     if has_ended piece.stream before then decided (Faulty (AfterEnd (offset at) kind)) else piece_first piece (next (piece ∷ before))
@@ -72,7 +72,7 @@ abbrev pub sees_on : (Message → Use) → List (Placed Message) → Ending Faul
 sees_on takes [] ending before = decided (at_end ending)
 sees_on takes (p ∷ placed) ending before = sees_one (takes p.message) p.at (number p.message) before (λ now. sees_on takes placed ending now)
 
--- a stream of messages, the first of which has to be a greeting
+-- a stream of messages, the first of which must be a greeting
 abbrev pub sees_all : (Message → Use) → List (Placed Message) → Ending Fault → Seen
 sees_all takes [] ending = decided (at_end ending)
 sees_all takes (p ∷ placed) ending = after_greeting (greeting 2 p.message)

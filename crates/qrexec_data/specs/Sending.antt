@@ -22,11 +22,11 @@ agreed_by own (p ∷ placed) = accepted (greeting own p.message)
     accepted (Ok version) = Some version
     accepted (Err fault) = None
 
--- the version that both sides go on with, once the other side's greeting was read and accepted
+-- the version that both sides go on with, after the other side's greeting was read and accepted
 abbrev pub agreed : ℕ → List ℕ → Option ℕ
 agreed own got = agreed_by own (reading Data got).placed
 
--- the most bytes of one message in a version
+-- the greatest number of bytes of one message in a version
 abbrev pub most : ℕ → ℕ
 most version = if nat_lt version 3 then 4096 else 65536
 
@@ -58,14 +58,14 @@ pub record IsServingBegun (own limit : ℕ) (owed : List ℕ → Triple) (input 
 abbrev pub Begins : (List Message → Type 0) → List ℕ → Type 0
 Begins IsStream sent = (stream : List Message) × IsStream stream × IsPrefixOf sent (flat_map written stream)
 
--- what a caller may have sent that got these bytes
+-- what a caller that got these bytes may have sent
 abbrev pub CallerMaySend : ℕ → ℕ → List ℕ → List ℕ → List ℕ → Type 0
 CallerMaySend own chunk input got sent =
     MatchOption (agreed own got)
     (IsPrefixOf sent (written (Hello own)))
     (λ version. Begins (IsCallerStream own (min chunk (most version)) input) sent)
 
--- what a side that serves may have sent that got these bytes
+-- what a side that serves and got these bytes may have sent
 abbrev pub ServingMaySend : ℕ → ℕ → (List ℕ → Triple) → List ℕ → List ℕ → Type 0
 ServingMaySend own chunk owed got sent =
     MatchOption (agreed own got)

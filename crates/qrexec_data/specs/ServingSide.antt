@@ -30,7 +30,7 @@ abbrev pub Gives : {S : Type 0} → (S → List ℕ → Triple) → (List ℕ �
 Gives owes owed None a input pieces = (more : List ℕ) → owed (input ++ more) ≡ after_outputs (joined Out pieces ++ a.out) (joined Errors pieces ++ a.err) (owes a.service more)
 Gives owes owed (Some code) a input pieces = owed input ≡ record { stdout = joined Out pieces ++ a.out; stderr = joined Errors pieces ++ a.err; code = code }
 
--- the messages that end a serving stream, where they stand in messages
+-- the messages that end a serving stream, if they stand in messages
 abbrev pub ends_if : Bool → Option ℤ → List Message
 ends_if false code = []
 ends_if true None = []
@@ -44,7 +44,7 @@ pub record SendsOutputs {S : Type 0} (owes : S → List ℕ → Triple) (owed : 
   pub stream : sent ++ a.waiting ≡ flat_map written (Hello a.own ∷ (map message_of pieces ++ ends_if a.closed a.code))
   pub done : a.closed ≡ true → (a.out ≡ []) × (a.err ≡ []) × IsSome a.code
 
--- before a version is agreed on nothing is sent, and the service was fed nothing
+-- before a version is agreed on, nothing is sent, and the service was fed nothing
 pub record SendsNothing {S : Type 0} (owes : S → List ℕ → Triple) (owed : List ℕ → Triple) (a : AnsweringState S) (input sent : List ℕ) : Type 0 where
   pub none : sent ≡ []
   pub waits : a.waiting ≡ []
@@ -59,7 +59,7 @@ SendsAnswers owes owed (Some version) a input sent = SendsOutputs owes owed (min
 
 -- ---- what it knows
 
--- an outcome, or none yet, is what the bytes decide; done comes only behind the input's end, and closed and gone where nothing decides
+-- an outcome, or none yet, is what the bytes decide; done comes only after the input's end, and closed and gone only if nothing decides
 abbrev pub AgreesWith : Option Outcome → Seen → Type 0
 AgreesWith None seen = seen.verdict ≡ Undecided
 AgreesWith (Some (outcome.Done code)) seen = (seen.verdict ≡ Undecided) × (has_ended In seen.pieces ≡ true)
@@ -94,7 +94,7 @@ pub record IsServing {S : Type 0} (owes : S → List ℕ → Triple) (owed : Lis
 abbrev pub HasSentAll : {S : Type 0} → AnsweringState S → Type 0
 HasSentAll a = (a.closed ≡ true) × (a.waiting ≡ [])
 
--- all bytes were read that decide something; done comes where all has gone
+-- all bytes were read that decide something; done comes only if all has gone
 pub record HasServed {S : Type 0} (owes : S → List ℕ → Triple) (owed : List ℕ → Triple) (s : ServingState S) (sent : List ℕ) : Type 0 where
   pub serves : Serves owes owed s.answering sent (reading Data s.inbox.got).placed (seen_by serving_use s.inbox.got)
   pub done : (code : ℤ) → s.answering.outcome ≡ Some (outcome.Done code) → HasSentAll s.answering × (s.answering.code ≡ Some code)
@@ -105,7 +105,7 @@ pub record ServingStandsFor {S : Type 0} (owes : S → List ℕ → Triple) (owe
   pub chunk : 0 < s.answering.chunk
   pub read : HasServed owes owed s sent
 
--- what `front` lends, and what it leaves: the next message is laid where there is no outcome
+-- what `front` returns, and what it leaves: the next message is laid if there is no outcome
 pub record LendsAnswers {S : Type 0} (owes : S → List ℕ → Triple) (old new : ServingState S) (piece : List ℕ) : Type 0 where
   pub piece_is : piece ≡ (if is_none old.answering.outcome then new.answering.waiting else [])
   pub new_is : new ≡ record old { answering = if is_none old.answering.outcome then laid_on old.answering.version old.answering else old.answering }
@@ -115,7 +115,7 @@ pub record LendsAnswers {S : Type 0} (owes : S → List ℕ → Triple) (old new
 abbrev pub StillWaits : {S : Type 0} → AnsweringState S → AnsweringState S → Type 0
 StillWaits old new = IsPrefixOf old.waiting new.waiting
 
--- all that the service gave stands in messages that have gone, and its input has not ended
+-- all that the service gave stands in messages that have gone, and its input hasn't ended
 pub record HasGivenAll {S : Type 0} (a : AnsweringState S) : Type 0 where
   pub greeted : IsSome a.version
   pub out : a.out ≡ []
@@ -123,6 +123,6 @@ pub record HasGivenAll {S : Type 0} (a : AnsweringState S) : Type 0 where
   pub waits : a.waiting ≡ []
   pub unended : a.code ≡ None
 
--- nothing can go out: there is an outcome, no greeting was read, or all that the service gave has gone and the input has not ended
+-- nothing can go out: there is an outcome, no greeting was read, or all that the service gave has gone and the input hasn't ended
 abbrev pub IsStill : {S : Type 0} → AnsweringState S → Type 0
 IsStill a = IsSome a.outcome ⊎ ((a.version ≡ None) × (a.waiting ≡ [])) ⊎ HasGivenAll a

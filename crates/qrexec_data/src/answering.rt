@@ -20,8 +20,8 @@ use std::alloc::Global;
 use std::marker::Model;
 use vchan_io::Memory;
 
-/// A service, what it gave that no message carries yet, and the messages that wait to go. A message is laid
-/// only where no other waits.
+/// A service, the bytes that it gave and that no message carries yet, and the messages that wait to
+/// go. A message is laid only if no other waits.
 #[derive(Drop)]
 pub(crate) struct Answering<S: Service> {
     own: u32,
@@ -61,7 +61,7 @@ impl<S: Service> Model for Answering<S> {
 }
 
 impl<S: Service> Answering<S> {
-    /// A side of this version, 2 or 3, that has read nothing.
+    /// Returns a side of this version, 2 or 3, that has read nothing yet.
     pub(crate) fn new(alloc: Global, service: S, own: u32, chunk: u32) -> Answering<S>
         requires own { (2 ≤ own) × (own ≤ 3) }
         requires chunk { (0 < chunk) × (chunk ≤ 65536) }
@@ -103,7 +103,7 @@ impl<S: Service> Answering<S> {
         }
     }
 
-    // Reads the first message, which has to be a greeting, and greets.
+    // Reads the first message, which must be a greeting, and greets.
     fn greet(&mut self, body: Body<'_>) -> Result<(), Memory>
         requires { least_len body.kind ≤ length body.bytes.now }
         ensures ok { OnOk result (self.new ≡ after_greeting (greeting self.old.own (made body.entry.kind body.entry.bytes.now)) self.old) }
@@ -161,14 +161,14 @@ impl<S: Service> Answering<S> {
         Ok(())
     }
 
-    /// The bytes got are wrong.
+    /// Ends the call, because the bytes got are wrong.
     pub(crate) fn fail(&mut self, fault: SessionFault)
         ensures { self.new ≡ faulted fault self.old }
     {
         self.outcome = Some(Outcome::Fault(fault));
     }
 
-    /// The call has come out so, where it had not before.
+    /// Sets the outcome of the call, if it has none yet.
     pub(crate) fn end(&mut self, outcome: Outcome)
         ensures { self.new ≡ record self.old { outcome = option_or self.old.outcome (Some outcome) } }
     {
@@ -177,7 +177,7 @@ impl<S: Service> Answering<S> {
         }
     }
 
-    /// Lays the next message of what the service gave where none waits.
+    /// Lays the next message of what the service gave, if none waits.
     pub(crate) fn lay(&mut self) -> Result<(), Memory>
         ensures { OnOk result (self.new ≡ laid_on self.old.version self.old) }
     {
@@ -221,7 +221,8 @@ impl<S: Service> Answering<S> {
         }
     }
 
-    /// So many of the bytes that wait have gone. With the last of all the call is done.
+    /// Drops the first `count` of the bytes that wait, which have gone. After the very last byte
+    /// the call is done.
     pub(crate) fn advance(&mut self, count: usize)
         requires { count ≤ length self.old.waiting }
         ensures { self.new ≡ after_gone count self.old }
@@ -240,7 +241,7 @@ impl<S: Service> Answering<S> {
         }
     }
 
-    /// Lends the bytes that wait.
+    /// Borrows the bytes that wait.
     pub(crate) fn waiting(&self) -> &[u8]
         ensures { result.now ≡ self.now.waiting }
     {
@@ -254,7 +255,8 @@ impl<S: Service> Answering<S> {
     }
 }
 
-// Puts the next bytes of an output, at most so many, in a message behind those that wait.
+// Puts the next bytes of an output, at most as many as a message may carry, in a message after
+// those that wait.
 fn lay_output(
     waiting: &mut Outbox,
     kind: Kind,
@@ -279,7 +281,7 @@ fn lay_output(
     Ok(())
 }
 
-// Puts the ends of both outputs and the exit code behind the messages that wait.
+// Puts the ends of both outputs and the exit code after the messages that wait.
 fn lay_end(waiting: &mut Outbox, code: i32) -> Result<(), Memory>
     ensures { OnOk result (waiting.new ≡ waiting.old ++ end_bytes code) }
 {

@@ -10,11 +10,13 @@ use std::alloc::Global;
 use std::marker::Model;
 use vchan_io::Memory;
 
-/// The side of a call that made it: it sends the call's input, and reads the two outputs and the exit code.
+/// The side of a call that made it: it sends the call's input, and reads the two outputs and the
+/// exit code.
 ///
-/// It reads and writes bytes alone. Its owner takes from a channel what it is to read, and reports what of
-/// the bytes that it lends has gone. After want of memory in `take` or `front` the session is spent: what
-/// it got can still be asked for, and nothing else is claimed of it.
+/// It only reads and writes bytes. Its owner moves them: it gives the caller what came on a
+/// channel, and tells it how many of the bytes borrowed by `front` have gone. After memory ran out
+/// in `take` or `front`, the session is spent: what it got can still be asked for, and nothing else
+/// is claimed of it.
 #[derive(Debug, Drop)]
 pub struct Caller {
     inbox: Inbox,
@@ -37,10 +39,13 @@ impl Caller {
     ghost use Rattle.qrexec_data.specs.Reading.{IsByBytes};
     ghost use Rattle.qrexec_data.specs.CallerLent.{RestsLent};
 
-    /// A caller with this input, of this version, 2 or 3. No message of its input has more than `chunk`
-    /// bytes, 1 to 65,536, nor more than the version allows that both sides go on with.
+    /// Returns a caller with this input, of this version, 2 or 3. A message of its input has at
+    /// most `chunk` bytes, 1 to 65,536, and at most as many as the version allows that both sides
+    /// go on with.
     ///
-    /// Want of memory drops the input.
+    /// # Errors
+    ///
+    /// `Memory` if memory runs out; the input is dropped then.
     pub fn new(alloc: Global, stdin: Vec<u8>, own: u32, chunk: u32) -> Result<Caller, Memory>
         requires own { (2 ≤ own) × (own ≤ 3) }
         requires chunk { (0 < chunk) × (chunk ≤ 65536) }
@@ -54,8 +59,8 @@ impl Caller {
         })
     }
 
-    /// Reads the next bytes that came. With an outcome it changes nothing. Want of memory leaves what was
-    /// got as it was.
+    /// Reads the next bytes that came. If there is an outcome, it changes nothing. If memory runs
+    /// out, the bytes got are what they were.
     pub fn take(&mut self, piece: &[u8]) -> Result<(), Memory>
         ensures over { IsSome self.old.replies.outcome → IsOk result × (self.new ≡ self.old) }
         ensures got { self.old.replies.outcome ≡ None → OnOk result (self.new.inbox.got ≡ self.old.inbox.got ++ piece.now) }
@@ -93,7 +98,7 @@ impl Caller {
         }
     }
 
-    // Reads the next message, and answers whether another may follow.
+    // Reads the next message, and returns whether another may follow.
     fn read_one(&mut self) -> Result<bool, Memory>
         ensures got { self.new.inbox.got ≡ self.old.inbox.got }
         ensures same { (self.new.requests ≡ self.old.requests) × (self.new.replies.own ≡ self.old.replies.own) }
@@ -119,8 +124,8 @@ impl Caller {
         }
     }
 
-    /// Lends the bytes that go out next. None can go exactly where there is an outcome, where the whole
-    /// stream has gone, or where the greeting has gone and the other side's was not read yet.
+    /// Borrows the bytes that go out next. There are none if and only if there is an outcome, the
+    /// whole stream has gone, or the greeting has gone and the other side's hasn't been read yet.
     pub fn front(&mut self) -> Result<&[u8], Memory>
         ensures* after { sem 𝓛 (RestsLent self.entry result) }
         ensures nothing { IfOk result (λ piece. (piece.now ≡ []) ↔ IsStill self.old) }
@@ -133,7 +138,7 @@ impl Caller {
         Ok(self.requests.waiting())
     }
 
-    /// So many of the bytes lent last have gone.
+    /// Drops the first `count` of the bytes borrowed last, which have gone.
     pub fn advance(&mut self, count: usize)
         requires { count ≤ length self.old.requests.waiting }
         ensures gone { self.new ≡ record self.old { requests = record self.old.requests { waiting = drop count self.old.requests.waiting } } }
@@ -142,7 +147,7 @@ impl Caller {
         self.requests.advance(count);
     }
 
-    /// The other side has closed the channel: the outcome is `Closed` where there is none yet.
+    /// Tells that the other side has closed the channel: the outcome is `Closed` if there was none.
     pub fn closed(&mut self)
         ensures outcome { self.new ≡ record self.old { replies = record self.old.replies { outcome = option_or self.old.replies.outcome (Some Outcome.Closed) } } }
         ensures stands { (sent : List ℕ) → CallerStandsFor self.old sent → CallerStandsFor self.new sent }
@@ -150,7 +155,7 @@ impl Caller {
         self.replies.end(Outcome::Closed);
     }
 
-    /// The other side has gone: the outcome is `Gone` where there is none yet.
+    /// Tells that the other side has gone: the outcome is `Gone` if there was none.
     pub fn gone(&mut self)
         ensures outcome { self.new ≡ record self.old { replies = record self.old.replies { outcome = option_or self.old.replies.outcome (Some Outcome.Gone) } } }
         ensures stands { (sent : List ℕ) → CallerStandsFor self.old sent → CallerStandsFor self.new sent }
@@ -158,14 +163,14 @@ impl Caller {
         self.replies.end(Outcome::Gone);
     }
 
-    /// How the call came out, `None` where nothing has decided yet.
+    /// Returns how the call came out, or `None` if nothing has decided that yet.
     pub fn outcome(&self) -> Option<Outcome>
         ensures { result ≡ self.now.replies.outcome }
     {
         self.replies.outcome()
     }
 
-    /// The output that came before what decided.
+    /// Returns the output that came before the message that decided.
     pub fn stdout(&self) -> &[u8]
         ensures is { result.now ≡ self.now.replies.stdout }
         ensures sees { (sent : List ℕ) → CallerStandsFor self.now sent → result.now ≡ (caller_sees self.now.inbox.got).stdout }
@@ -173,7 +178,7 @@ impl Caller {
         self.replies.stdout()
     }
 
-    /// The error output that came before what decided.
+    /// Returns the error output that came before the message that decided.
     pub fn stderr(&self) -> &[u8]
         ensures is { result.now ≡ self.now.replies.stderr }
         ensures sees { (sent : List ℕ) → CallerStandsFor self.now sent → result.now ≡ (caller_sees self.now.inbox.got).stderr }
@@ -181,14 +186,14 @@ impl Caller {
         self.replies.stderr()
     }
 
-    /// The bytes of all pieces that were taken while there was no outcome.
+    /// Returns the bytes of all pieces that were taken while there was no outcome.
     pub fn got(&self) -> &[u8]
         ensures { result.now ≡ self.now.inbox.got }
     {
         self.inbox.got()
     }
 
-    /// What is left of a caller that is done with, without a copy.
+    /// Returns what is left of a caller that is done with, without a copy.
     pub fn into_parts(self) -> CallerParts
         ensures outputs { (result.stdout.items ≡ self.replies.stdout) × (result.stderr.items ≡ self.replies.stderr) }
         ensures got { result.got.items ≡ self.inbox.got }
@@ -206,9 +211,9 @@ impl Caller {
 /// The bytes that a caller has when it is done with.
 #[derive(Debug, Drop)]
 pub struct CallerParts {
-    /// The output that came before what decided.
+    /// The output that came before the message that decided.
     pub stdout: Vec<u8>,
-    /// The error output that came before what decided.
+    /// The error output that came before the message that decided.
     pub stderr: Vec<u8>,
     /// All bytes that came while there was no outcome.
     pub got: Vec<u8>,

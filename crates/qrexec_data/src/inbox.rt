@@ -10,7 +10,7 @@ use std::alloc::Global;
 use std::marker::Model;
 use vchan_io::Memory;
 
-/// All bytes got, and how many of them were read. A message is read from where it lies here.
+/// All bytes got, and how many of them were read. A message is borrowed from these bytes.
 #[derive(Debug, Drop)]
 pub(crate) struct Inbox {
     got: Vec<u8>,
@@ -50,7 +50,7 @@ impl Inbox {
         Ok(())
     }
 
-    /// Forgets all bytes but the first, so many.
+    /// Drops all bytes got but the first `len`.
     pub(crate) fn cut(&mut self, len: usize)
         ensures { self.new.got ≡ take len self.old.got }
     {
@@ -58,14 +58,14 @@ impl Inbox {
         self.read = self.read.min(self.got.len());
     }
 
-    /// What stands at the front of the bytes that were not read.
+    /// Returns what stands at the front of the bytes that haven't been read.
     pub(crate) fn front(&self) -> Result<Option<Body<'_>>, FrameFault>
         ensures { StandsAtFront Data self.now.read (unread self.now) result }
     {
         Body::at_front(Channel::Data, self.read as u64, &self.got[self.read..])
     }
 
-    /// All bytes got.
+    /// Returns all bytes got.
     pub(crate) fn into_got(self) -> Vec<u8>
         ensures { result.items ≡ self.got }
     {
@@ -73,7 +73,7 @@ impl Inbox {
         got
     }
 
-    /// How many bytes were read, which is the offset of the next message.
+    /// Returns how many bytes were read, which is the offset of the next message.
     pub(crate) fn read(&self) -> usize
         ensures at { result ≡ self.now.read }
         ensures within { result ≤ length self.now.got }
@@ -81,7 +81,7 @@ impl Inbox {
         self.read
     }
 
-    /// So many more bytes were read.
+    /// Tells that `len` more bytes were read.
     pub(crate) fn pass(&mut self, len: usize)
         requires { self.old.read + len ≤ length self.old.got }
         ensures { self.new ≡ record self.old { read = self.old.read + len } }
@@ -89,7 +89,7 @@ impl Inbox {
         self.read += len;
     }
 
-    /// All bytes got.
+    /// Returns all bytes got.
     pub(crate) fn got(&self) -> &[u8]
         ensures { result.now ≡ self.now.got }
     {

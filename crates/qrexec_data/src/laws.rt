@@ -1,10 +1,10 @@
-//! Laws of what one side of a call sees of what the other sends. A law is a function with no body, whose
-//! contract states it.
+//! Laws of what one side of a call sees of what the other sends. A law is a function with no body,
+//! whose contract states it.
 ghost use Rattle.qrexec_data.specs.Laws.{CallersSeeTriples, CallersAreDone, CallersWait, InputsAreRead, GreetingsAreNoFault, CallersSendStreams, ServingSendsStreams, DoneSendsAll};
 
 use service_gate::Service;
 
-/// What a caller sees of a beginning of a serving stream: nothing that decides, or the exit code behind
+/// A caller sees, of a beginning of a serving stream, nothing that decides, or the exit code after
 /// the whole of both outputs.
 pub fn callers_see_triples()
     ensures { CallersSeeTriples }
@@ -15,31 +15,32 @@ pub fn callers_are_done()
     ensures { CallersAreDone }
 {}
 
-/// Before the outputs have ended nothing decides.
+/// Before the outputs have ended, nothing decides.
 pub fn callers_wait()
     ensures { CallersWait }
 {}
 
-/// What a side that serves sees of a beginning of a caller's stream: no fault, and the whole input where
+/// A side that serves sees, of a beginning of a caller's stream, no fault, and the whole input if
 /// it has ended.
 pub fn inputs_are_read()
     ensures { InputsAreRead }
 {}
 
-/// A greeting alone, or a part of it, is no fault and ends no input.
+/// A greeting alone, or a part of it, isn't a fault and ends no input.
 pub fn greetings_are_no_fault()
     ensures { GreetingsAreNoFault }
 {}
 
-/// What a caller stands for having sent is what a caller may send that got these bytes: the beginning of a
-/// caller's whole stream, or of its greeting alone until it has read the other side's.
+/// What a caller stands for having sent is what a caller that got these bytes may send: the
+/// beginning of a caller's whole stream, or of its greeting alone until it has read the other
+/// side's.
 pub fn callers_send_streams()
     ensures { CallersSendStreams }
 {}
 
-/// What a serving side stands for having sent is what such a side may send that got these bytes: nothing
-/// before a greeting, then a beginning of what its service gives, and behind the input's end the beginning of
-/// its whole stream.
+/// What a serving side stands for having sent is what such a side that got these bytes may send:
+/// nothing before a greeting, then a beginning of what its service gives, and after the input's end
+/// the beginning of its whole stream.
 pub fn serving_sends_streams<S: Service>()
     ensures { ServingSendsStreams S }
 {}

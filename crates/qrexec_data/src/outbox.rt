@@ -12,7 +12,8 @@ use std::alloc::Global;
 use std::marker::Model;
 use vchan_io::Memory;
 
-/// Messages that wait to go, in their written spelling. Contracts see the bytes that have not gone.
+/// Messages that wait to go, in their written spelling. Contracts see the bytes that haven't gone
+/// yet.
 #[derive(Debug, Drop)]
 pub(crate) struct Outbox {
     bytes: Vec<u8>,
@@ -39,21 +40,21 @@ impl Outbox {
         }
     }
 
-    /// Whether no byte waits.
+    /// Returns whether no byte waits.
     pub(crate) fn is_empty(&self) -> bool
         ensures { result ≡ (length self.now == 0) }
     {
         self.waiting().is_empty()
     }
 
-    /// Lends the bytes that wait.
+    /// Borrows the bytes that wait.
     pub(crate) fn waiting(&self) -> &[u8]
         ensures { result.now ≡ self.now }
     {
         &self.bytes[self.gone..]
     }
 
-    /// So many of the bytes that wait have gone.
+    /// Drops the first `count` of the bytes that wait, which have gone.
     pub(crate) fn advance(&mut self, count: usize)
         requires { count ≤ length self.old }
         ensures { self.new ≡ drop count self.old }
@@ -61,7 +62,7 @@ impl Outbox {
         self.gone += count;
     }
 
-    /// Puts a message of a stream behind the others.
+    /// Appends a message of a stream.
     pub(crate) fn put_data(&mut self, kind: Kind, bytes: &[u8]) -> Result<(), Memory>
         requires stream { IsData kind }
         requires fits { length bytes.now ≤ 65536 }
@@ -72,7 +73,7 @@ impl Outbox {
         encode_data(kind, bytes, &mut self.bytes)
     }
 
-    /// Puts the greeting of a side of this version, 2 or 3, behind the others.
+    /// Appends the greeting of a side of this version, 2 or 3.
     pub(crate) fn put_greeting(&mut self, own: u32) -> Result<(), Memory>
         requires { (2 ≤ own) × (own ≤ 3) }
         ensures { OnOk result (self.new ≡ self.old ++ written (message.Hello own)) }
@@ -81,7 +82,7 @@ impl Outbox {
         self.put(&greeting)
     }
 
-    /// Puts an exit code behind the others.
+    /// Appends an exit code.
     pub(crate) fn put_code(&mut self, code: i32) -> Result<(), Memory>
         ensures { OnOk result (self.new ≡ self.old ++ written (message.ExitCode code)) }
     {
@@ -98,7 +99,7 @@ impl Outbox {
         encode(message, &mut self.bytes)
     }
 
-    // Begins the list anew where all its bytes have gone.
+    // Begins a new list if all bytes have gone.
     fn begin_anew(&mut self) -> Result<(), Memory>
         ensures { self.new ≡ self.old }
     {

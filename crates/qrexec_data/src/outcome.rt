@@ -1,9 +1,9 @@
 use crate::fault::SessionFault;
 
-/// How a side of a call came out.
+/// How a call came out, as one side knows it.
 #[derive(Clone, Copy, Debug, PartialEq, Eq)]
 pub enum Outcome {
-    /// The call is over, with the service's exit code: a caller has read it, and on the service's side its
+    /// The call is over, with the service's exit code: a caller has read it; of a serving side, the
     /// last byte has gone.
     Done { code: i32 },
     /// The bytes that were got are wrong.

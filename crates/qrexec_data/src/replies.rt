@@ -49,7 +49,7 @@ impl Model for Replies {
 }
 
 impl Replies {
-    /// A caller of this version, 2 or 3, that has read nothing.
+    /// Returns a caller of this version, 2 or 3, that has read nothing yet.
     pub(crate) fn new(alloc: Global, own: u32) -> Replies
         requires { (2 ≤ own) × (own ≤ 3) }
         ensures { result ≡ no_replies own }
@@ -93,7 +93,7 @@ impl Replies {
         }
     }
 
-    // Reads the first message, which has to be a greeting.
+    // Reads the first message, which must be a greeting.
     fn greet(&mut self, body: Body<'_>)
         requires { least_len body.kind ≤ length body.bytes.now }
         ensures after { self.new ≡ after_greeting (greeting self.old.own (made body.entry.kind body.entry.bytes.now)) self.old }
@@ -137,14 +137,14 @@ impl Replies {
         Ok(())
     }
 
-    /// The bytes got are wrong.
+    /// Ends the call, because the bytes got are wrong.
     pub(crate) fn fail(&mut self, fault: SessionFault)
         ensures { self.new ≡ faulted fault self.old }
     {
         self.outcome = Some(Outcome::Fault(fault));
     }
 
-    /// The call has come out so, where it had not before.
+    /// Sets the outcome of the call, if it has none yet.
     pub(crate) fn end(&mut self, outcome: Outcome)
         ensures { self.new ≡ record self.old { outcome = option_or self.old.outcome (Some outcome) } }
     {
@@ -177,7 +177,7 @@ impl Replies {
         &self.stderr
     }
 
-    /// The two outputs.
+    /// Returns the two outputs.
     pub(crate) fn into_outputs(self) -> (Vec<u8>, Vec<u8>)
         ensures { (result.0.items ≡ self.stdout) × (result.1.items ≡ self.stderr) }
     {

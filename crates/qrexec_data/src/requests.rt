@@ -12,8 +12,8 @@ use std::alloc::Global;
 use std::marker::Model;
 use vchan_io::Memory;
 
-/// The input of a call, and the messages of it that wait to go. A message is laid only where no other
-/// waits, so that a session costs no second copy of its input.
+/// The input of a call, and its messages that wait to go. A message is laid only if no other waits,
+/// so that a session needs no second copy of its input.
 #[derive(Debug, Drop)]
 pub(crate) struct Requests {
     chunk: usize,
@@ -41,7 +41,7 @@ impl Model for Requests {
 }
 
 impl Requests {
-    /// The requests of a caller of this version, whose greeting waits to go.
+    /// Returns the requests of a caller of this version, whose greeting waits to go.
     pub(crate) fn new(
         alloc: Global,
         input: Vec<u8>,
@@ -63,7 +63,7 @@ impl Requests {
         })
     }
 
-    /// Lays the next message of the input where none waits, once a version is agreed on.
+    /// Lays the next message of the input, if none waits and a version is agreed on.
     pub(crate) fn lay(&mut self, version: Option<u32>) -> Result<(), Memory>
         ensures { OnOk result (self.new ≡ laid_on version self.old) }
     {
@@ -94,14 +94,14 @@ impl Requests {
         Ok(())
     }
 
-    /// Lends the bytes that wait.
+    /// Borrows the bytes that wait.
     pub(crate) fn waiting(&self) -> &[u8]
         ensures { result.now ≡ self.now.waiting }
     {
         self.waiting.waiting()
     }
 
-    /// So many of the bytes that wait have gone.
+    /// Drops the first `count` of the bytes that wait, which have gone.
     pub(crate) fn advance(&mut self, count: usize)
         requires { count ≤ length self.old.waiting }
         ensures { self.new ≡ record self.old { waiting = drop count self.old.waiting } }

@@ -11,11 +11,11 @@ use std::alloc::Global;
 use std::marker::Model;
 use vchan_io::Memory;
 
-/// The side of a call that serves it: it reads the call's input, feeds it to a service, and sends what that
-/// gives.
+/// The side of a call that serves it: it reads the call's input, feeds it to a service, and sends
+/// what the service gives.
 ///
-/// It reads and writes bytes alone, as a `Caller` does. After want of memory in `take` or `front` the
-/// session is spent: what it got can still be asked for, and nothing else is claimed of it.
+/// It only reads and writes bytes, as a `Caller` does. After memory ran out in `take` or `front`,
+/// the session is spent: what it got can still be asked for, and nothing else is claimed of it.
 #[derive(Drop)]
 pub struct Serving<S: Service> {
     inbox: Inbox,
@@ -38,10 +38,13 @@ impl<S: Service> Serving<S> {
     ghost use Rattle.qrexec_data.specs.Answering.{after_gone};
     ghost use Rattle.qrexec_data.specs.ServingSide.{ServingStandsFor, ReadsInput, IsServing, HasServed, LendsAnswers, IsStill, StillWaits};
 
-    /// A side that serves with this service, of this version, 2 or 3. No message of an output has more than
-    /// `chunk` bytes, 1 to 65,536, nor more than the version allows that both sides go on with.
+    /// Returns a side that serves with this service, of this version, 2 or 3. A message of an
+    /// output has at most `chunk` bytes, 1 to 65,536, and at most as many as the version allows
+    /// that both sides go on with.
     ///
-    /// Want of memory drops the service.
+    /// # Errors
+    ///
+    /// `Memory` if memory runs out; the service is dropped then.
     pub fn new(alloc: Global, service: S, own: u32, chunk: u32) -> Result<Serving<S>, Memory>
         requires own { (2 ≤ own) × (own ≤ 3) }
         requires chunk { (0 < chunk) × (chunk ≤ 65536) }
@@ -54,8 +57,8 @@ impl<S: Service> Serving<S> {
         })
     }
 
-    /// Reads the next bytes that came. With an outcome it changes nothing. Want of memory leaves what was
-    /// got as it was.
+    /// Reads the next bytes that came. If there is an outcome, it changes nothing. If memory runs
+    /// out, the bytes got are what they were.
     pub fn take(&mut self, piece: &[u8]) -> Result<(), Memory>
         ensures over { IsSome self.old.answering.outcome → IsOk result × (self.new ≡ self.old) }
         ensures got { self.old.answering.outcome ≡ None → OnOk result (self.new.inbox.got ≡ self.old.inbox.got ++ piece.now) }
@@ -96,7 +99,7 @@ impl<S: Service> Serving<S> {
         }
     }
 
-    // Reads the next message, and answers whether another may follow.
+    // Reads the next message, and returns whether another may follow.
     fn read_one(&mut self) -> Result<bool, Memory>
         ensures got { self.new.inbox.got ≡ self.old.inbox.got }
         ensures same { (self.new.answering.own ≡ self.old.answering.own) × (self.new.answering.chunk ≡ self.old.answering.chunk) }
@@ -121,8 +124,9 @@ impl<S: Service> Serving<S> {
         }
     }
 
-    /// Lends the bytes that go out next. None can go exactly where there is an outcome, where the other side's
-    /// greeting was not read yet, or where all that the service gave has gone and its input has not ended.
+    /// Borrows the bytes that go out next. There are none if and only if there is an outcome, the
+    /// other side's greeting hasn't been read yet, or all that the service gave has gone and its
+    /// input hasn't ended.
     pub fn front(&mut self) -> Result<&[u8], Memory>
         ensures* after { sem 𝓛 (Rests (the_row S.row S.Service) self.entry (λ new. IfOk result (λ piece. LendsAnswers S.owes self.old new piece.now))) }
         ensures nothing { (owed : List ℕ → Triple) (sent : List ℕ) → ServingStandsFor S.owes owed self.old sent →
@@ -135,7 +139,8 @@ impl<S: Service> Serving<S> {
         Ok(self.answering.waiting())
     }
 
-    /// So many of the bytes lent last have gone. With the last byte of the exit code the call is done.
+    /// Drops the first `count` of the bytes borrowed last, which have gone. After the last byte of
+    /// the exit code the call is done.
     pub fn advance(&mut self, count: usize)
         requires { count ≤ length self.old.answering.waiting }
         ensures gone { self.new ≡ record self.old { answering = after_gone count self.old.answering } }
@@ -145,7 +150,7 @@ impl<S: Service> Serving<S> {
         self.answering.advance(count);
     }
 
-    /// The other side has closed the channel: the outcome is `Closed` where there is none yet.
+    /// Tells that the other side has closed the channel: the outcome is `Closed` if there was none.
     pub fn closed(&mut self)
         ensures outcome { self.new ≡ record self.old { answering = record self.old.answering { outcome = option_or self.old.answering.outcome (Some Outcome.Closed) } } }
         ensures stands { (owed : List ℕ → Triple) (sent : List ℕ) → ServingStandsFor S.owes owed self.old sent → ServingStandsFor S.owes owed self.new sent }
@@ -153,7 +158,7 @@ impl<S: Service> Serving<S> {
         self.answering.end(Outcome::Closed);
     }
 
-    /// The other side has gone: the outcome is `Gone` where there is none yet.
+    /// Tells that the other side has gone: the outcome is `Gone` if there was none.
     pub fn gone(&mut self)
         ensures outcome { self.new ≡ record self.old { answering = record self.old.answering { outcome = option_or self.old.answering.outcome (Some Outcome.Gone) } } }
         ensures stands { (owed : List ℕ → Triple) (sent : List ℕ) → ServingStandsFor S.owes owed self.old sent → ServingStandsFor S.owes owed self.new sent }
@@ -161,21 +166,22 @@ impl<S: Service> Serving<S> {
         self.answering.end(Outcome::Gone);
     }
 
-    /// How the call came out, `None` where nothing has decided yet.
+    /// Returns how the call came out, or `None` if nothing has decided that yet.
     pub fn outcome(&self) -> Option<Outcome>
         ensures { result ≡ self.now.answering.outcome }
     {
         self.answering.outcome()
     }
 
-    /// The bytes of all pieces that were taken while there was no outcome.
+    /// Returns the bytes of all pieces that were taken while there was no outcome.
     pub fn got(&self) -> &[u8]
         ensures { result.now ≡ self.now.inbox.got }
     {
         self.inbox.got()
     }
 
-    /// All bytes that came while there was no outcome, without a copy, of a side that is done with.
+    /// Returns all bytes that came while there was no outcome, without a copy, of a side that is
+    /// done with.
     pub fn into_got(self) -> Vec<u8>
         ensures { result.items ≡ self.inbox.got }
     {

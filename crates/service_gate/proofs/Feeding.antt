@@ -102,7 +102,7 @@ split_feeds self to_stderr piece out out' err err' is to_out to_err = record {
       (turned_is (not to_stderr) piece ∙ same_turn to_stderr (nat_eq (length piece % 2) 1)));
 }
 
--- which output is the first, where the next byte goes to stderr and where it doesn't
+-- which output is the first, if the next byte goes to stderr and if it doesn't
 pub first_to_stderr : (to_stderr : Bool) (piece : List ℕ) → to_stderr ≡ true
     → (every_other false piece ≡ every_other (not to_stderr) piece) × (every_other true piece ≡ every_other (not (not to_stderr)) piece)
 first_to_stderr true piece is = (refl, refl)

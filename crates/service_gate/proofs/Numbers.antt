@@ -84,7 +84,7 @@ number_of-decimal most n small le =
     zero_or_more : (k : ℕ) → (k ≡ 0) ⊎ (0 < k)
     zero_or_more k = grind arith
 
--- a text that is no service's name has no service
+-- a text that isn't a service's name has no service
 no_tests : (echo upper count split : Bool) (a b c d : Triple) (o : Option Triple) → ¬ (echo ≡ true) → ¬ (upper ≡ true) → ¬ (count ≡ true) → ¬ (split ≡ true) → o ≡ None
     → (if echo then Some a else if upper then Some b else if count then Some c else if split then Some d else o) ≡ None
 no_tests true upper count split a b c d o e u n s is = absurd (e refl)

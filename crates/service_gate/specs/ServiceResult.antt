@@ -12,21 +12,21 @@ most_first = 1048576
 abbrev pub most_exit : ℕ
 most_exit = 255
 
--- what follows the prefix in the text, where the text begins with it
+-- what follows the prefix in the text, if the text begins with it
 abbrev pub after_prefix : List ℕ → List ℕ → Option (List ℕ)
 after_prefix prefix text = if bytes_eq (take (length prefix) text) prefix then Some (drop (length prefix) text) else None
 
--- the number N, at most `most`, where the name is the prefix and then N in decimal digits without a leading zero
+-- the number N, at most `most`, if the name is the prefix and then N in decimal digits without a leading zero
 abbrev pub number_after : List ℕ → ℕ → List ℕ → Option ℕ
 number_after prefix most name = option_and_then (number_of most) (after_prefix prefix name)
 
--- every other byte: those at places 0, 2, 4 and so on where `first` is true, else those at places 1, 3, 5 and so on
+-- every other byte: those at places 0, 2, 4 and so on if `first` is true, else those at places 1, 3, 5 and so on
 abbrev pub every_other : Bool → List ℕ → List ℕ
 every_other first [] = []
 every_other true (x ∷ xs) = x ∷ every_other false xs
 every_other false (x ∷ xs) = every_other true xs
 
--- the bytes in turn on stdout and stderr, the first on stdout where `first` is true
+-- the bytes in turn on stdout and stderr, the first on stdout if `first` is true
 abbrev pub splits : Bool → List ℕ → Triple
 splits first input = record { stdout = every_other first input; stderr = every_other (not first) input; code = pos 0 }
 
@@ -38,7 +38,7 @@ exits code = record { stdout = []; stderr = []; code = pos code }
 abbrev pub count_line : ℕ → List ℕ
 count_line n = decimal (n % 2 ^ 64) ++ 10 ∷ []
 
--- what the services make of their input whose names end in a number: `first+N` and `exit+N`
+-- what the services whose names end in a number make of their input: `first+N` and `exit+N`
 abbrev pub numbered_service : List ℕ → List ℕ → Option Triple
 numbered_service name input =
     option_or (option_map (λ n. writes (take n input)) (number_after (codes "first+") most_first name))

@@ -24,7 +24,7 @@ pub record Feeds (before now : List ℕ → Triple) (piece out out' err err' : L
   pub err_grows : err' ≡ err ++ stderr
   pub owed : (more : List ℕ) → before (piece ++ more) ≡ after_outputs stdout stderr (now more)
 
--- the end of the input appended all that was owed for no further input, and gave its code
+-- the end of the input appended all that was owed if no more input comes, and gave its code
 pub record Ends (owed : Triple) (code : ℤ) (out out' err err' : List ℕ) : Type 0 where
   pub out_ends : out' ≡ out ++ owed.stdout
   pub err_ends : err' ≡ err ++ owed.stderr

@@ -6,7 +6,7 @@ use std::alloc::Global;
 use std::marker::Model;
 use vchan_io::Memory;
 
-/// What a service gave for its whole input. Contracts see its triple.
+/// What a service gave for its whole input. Contracts see it as a triple.
 #[derive(Debug, Drop)]
 pub struct Answer {
     stdout: Vec<u8>,
@@ -23,28 +23,28 @@ impl Model for Answer {
 }
 
 impl Answer {
-    /// The bytes on stdout.
+    /// Returns the bytes on stdout.
     pub fn stdout(&self) -> &[u8]
         ensures { result.now ≡ self.now.stdout }
     {
         &self.stdout
     }
 
-    /// The bytes on stderr.
+    /// Returns the bytes on stderr.
     pub fn stderr(&self) -> &[u8]
         ensures { result.now ≡ self.now.stderr }
     {
         &self.stderr
     }
 
-    /// The exit code.
+    /// Returns the exit code.
     pub fn code(&self) -> i32
         ensures { result ≡ self.now.code }
     {
         self.code
     }
 
-    /// The bytes on stdout, those on stderr, and the exit code.
+    /// Returns the bytes on stdout, those on stderr, and the exit code.
     pub fn into_parts(self) -> (Vec<u8>, Vec<u8>, i32)
         ensures stdout { result.0.items ≡ self.stdout }
         ensures stderr { result.1.items ≡ self.stderr }
@@ -59,8 +59,12 @@ impl Answer {
     }
 }
 
-/// Runs a service over the pieces of its input and to its end. It gives what the service owed at
-/// first for all pieces joined, so the cutting makes no difference.
+/// Runs a service over the pieces of its input and to its end. Returns what the service owed at
+/// first for all pieces joined, so it makes no difference how the input was cut.
+///
+/// # Errors
+///
+/// `Memory` if memory runs out; no other.
 pub fn serve<S: Service>(alloc: Global, mut service: S, pieces: &[&[u8]]) -> Result<Answer, Memory>
     ensures { IfOk result (λ answer. answer ≡ S.owes service (flat_map (λ piece. piece.now) pieces.now)) }
 {

@@ -6,7 +6,8 @@ ghost use Rattle.service_gate.specs.ServiceResult.{every_other};
 use itoa::Buffer;
 use vchan_io::Memory;
 
-/// Appends the piece with `a` to `z` as `A` to `Z`, or leaves `out` as it was.
+/// Appends the piece with `A` to `Z` in place of `a` to `z`. If memory runs out, `out` is as it
+/// was.
 pub(crate) fn append_upper(piece: &[u8], out: &mut Vec<u8>) -> Result<(), Memory>
     ensures ok { OnOk result (out.new.items ≡ out.old.items ++ map to_ascii_uppercase piece.now) }
     ensures no_memory { OnErr result (out.new.items ≡ out.old.items) }
@@ -18,8 +19,8 @@ pub(crate) fn append_upper(piece: &[u8], out: &mut Vec<u8>) -> Result<(), Memory
     Ok(())
 }
 
-/// Appends the first `left` bytes of the piece, or all of a shorter one, and answers how many more
-/// may come; or leaves `out` as it was.
+/// Appends the first `left` bytes of the piece, or all of a shorter one, and returns how many more
+/// may come. If memory runs out, `out` is as it was.
 pub(crate) fn append_first(left: u32, piece: &[u8], out: &mut Vec<u8>) -> Result<u32, Memory>
     ensures ok { IfOk result (λ less. (out.new.items ≡ out.old.items ++ take left piece.now) × (less ≡ left - length piece.now)) }
     ensures no_memory { OnErr result (out.new.items ≡ out.old.items) }
@@ -29,7 +30,8 @@ pub(crate) fn append_first(left: u32, piece: &[u8], out: &mut Vec<u8>) -> Result
     Ok(left - count as u32)
 }
 
-/// Appends the bytes of the piece in turn, beginning with `first`; or leaves both as they were.
+/// Appends the bytes of the piece to the two outputs in turn, beginning with `first`. If memory
+/// runs out, both are as they were.
 pub(crate) fn append_in_turn(
     piece: &[u8],
     first: &mut Vec<u8>,
@@ -53,7 +55,7 @@ pub(crate) fn append_in_turn(
     Ok(())
 }
 
-/// Appends the text of the count and a line feed, or leaves `out` as it was.
+/// Appends the text of the count and a line feed. If memory runs out, `out` is as it was.
 pub(crate) fn append_count(taken: u64, out: &mut Vec<u8>) -> Result<(), Memory>
     ensures ok { OnOk result (out.new.items ≡ out.old.items ++ (decimal taken ++ 10 ∷ [])) }
     ensures no_memory { OnErr result (out.new.items ≡ out.old.items) }

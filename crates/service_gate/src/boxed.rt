@@ -1,10 +1,10 @@
-//! A service of the caller's own.
+//! A service of the caller's own type.
 ghost use Rattle.std.specs.Prelude.{◌≡◌};
 
 use crate::service::Service;
 use vchan_io::Memory;
 
-/// A service behind a pointer, made by the caller.
+/// A service behind a pointer, of any type of the caller's.
 #[derive(Drop)]
 pub struct Boxed {
     /// The service.

@@ -4,8 +4,8 @@ use crate::naming::state_named;
 use crate::service::Service;
 use vchan_io::Memory;
 
-/// A built-in service, with what it has to remember of its input. Only `named` makes one, so each
-/// is a service of a name.
+/// A built-in service, with what it remembers of its input. Only `named` makes one, so each is a
+/// service that has a name.
 #[derive(Clone, Copy, Debug, PartialEq, Eq)]
 pub struct Builtin {
     state: State,
@@ -45,9 +45,9 @@ impl Builtin {
     ghost use Rattle.service_gate.specs.ServiceResult.{service};
     ghost use Rattle.service_gate.specs.Owing.{builtin_owes};
 
-    /// The service that the text names, before any input. `None` comes exactly where the text
-    /// names none: it is none of the six names, or its number is not in range, or not in decimal
-    /// digits without a leading zero.
+    /// Returns the service that the text names, before any input. Returns `None` if and only if the
+    /// text names none: it is none of the six names, or its number is out of range, or not in
+    /// decimal digits without a leading zero.
     pub fn named(text: &[u8]) -> Option<Builtin>
         ensures { (input : List ℕ) → service text.now input ≡ option_map (λ b. builtin_owes b input) result }
     {

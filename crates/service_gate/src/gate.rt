@@ -1,13 +1,13 @@
 //! The gate that a worker passes before each turn of a task.
 
-/// What a pool of workers calls before each turn. A gate of a test may hold its caller for a
-/// stated number of tries; it has no handle by which it could wait.
+/// What a worker of a pool calls before each turn. A test's gate may hold its caller for a given
+/// number of tries; no gate has a handle by which it could wait.
 pub trait Gate: Sync {
-    /// A worker is about to make a turn of the task at this place.
+    /// Tells that a worker is about to make a turn of the task at this place.
     fn enter(&self, task: u32);
 }
 
-/// The gate that holds nobody.
+/// A gate that holds no worker.
 #[derive(Clone, Copy, Debug)]
 pub struct OpenGate;
 

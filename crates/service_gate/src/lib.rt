@@ -1,9 +1,9 @@
 //! The services that answer calls, and the gate that a worker of a pool passes.
 //!
-//! A service reads its input piece by piece, writes to two outputs and ends with an exit code,
-//! as the program behind a qrexec service call does. The built-in services stand for such
-//! programs; a caller may hand in an object of its own. The crates of sessions, of the broker
-//! and of the pool of workers build on it.
+//! A service reads its input piece by piece, writes to two outputs and ends with an exit code, as
+//! the program at the other end of a qrexec service call does. The built-in services stand for such
+//! programs; a caller may pass a service of its own. The crates of sessions, of the broker and of
+//! the pool of workers build on this one.
 #![tactic(auto)]
 
 mod answer;

@@ -15,7 +15,7 @@ const MOST_FIRST: u32 = 1_048_576;
 /// The greatest N of `exit+N`.
 const MOST_EXIT: u32 = 255;
 
-/// The service of the name, before any input, where the text names one.
+/// Returns the service that the text names, before any input.
 #[tactic(auto, unfolding(crate::specs::ServiceResult::service))]
 pub(crate) fn state_named(text: &[u8]) -> Option<State>
     ensures { (input : List ℕ) → service text.now input ≡ option_map (λ s. state_owes s input) result }
@@ -57,8 +57,8 @@ fn number_to(most: u32, text: &[u8]) -> Option<u32>
     Some(number as u32)
 }
 
-/// What the services are, name by name: each of the six kinds of name has its service, and a text
-/// that is none of them has none.
+/// What each service does, name by name: each of the six kinds of name has its service, and any
+/// other text has none.
 #[tactic(auto, unfolding(crate::specs::ServiceResult::service))]
 pub fn services_by_name()
     ensures echo { (input : List ℕ) → service (codes "echo") input ≡ Some (writes input) }
@@ -70,8 +70,8 @@ pub fn services_by_name()
     ensures others { (name : List ℕ) (input : List ℕ) → ¬ IsName name → service name input ≡ None }
 {}
 
-/// What holds of every service: whether a name has one doesn't depend on the input, and its exit code is
-/// 0 to 255.
+/// What holds of every service: whether a name has one doesn't depend on the input, and its exit
+/// code is 0 to 255.
 #[tactic(auto, using(crate::proofs::EveryService::known_anyway, crate::proofs::EveryService::small_codes))]
 pub fn every_service()
     ensures known { (name one other : List ℕ) → is_some (service name one) ≡ is_some (service name other) }

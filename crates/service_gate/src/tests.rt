@@ -107,7 +107,7 @@ fn knows_its_names(rt: HostRuntime) {
     }
 }
 
-// A service of the test's own: it tells of each end, and counts no input.
+// A service of the test's own: it answers each end with a text, and doesn't look at its input.
 #[derive(Drop)]
 struct Greeting;
 

@@ -5,7 +5,7 @@ use Rattle.qrexec_frame.specs.Messages.{written}
 use Rattle.qrexec_frame.specs.declared.message.Message.TheVariants.{Stdout, Stderr, ExitCode}
 use Rattle.qrexec_data.proofs.answering.lay_end.Goals as goal
 
--- three messages behind others
+-- three messages after others
 three : (w out err code one two all : List ℕ) → one ≡ w ++ out → two ≡ one ++ err → all ≡ two ++ code → all ≡ w ++ (out ++ (err ++ code))
 three w out err code one two all a b c =
     c ∙ ap (λ x. x ++ code) (b ∙ ap (λ x. x ++ err) a) ∙ append_assoc (w ++ out) err code ∙ append_assoc w out (err ++ code)
