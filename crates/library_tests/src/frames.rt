@@ -1,5 +1,5 @@
-//! Messages and texts by the calls that lend, clean and print them. Streams are read through the whole
-//! program.
+//! Messages and texts by the calls that borrow, clean and print them. Streams are read through the
+//! whole program.
 use qrexec_frame::{
     Channel, Decoder, Kind, Message, Text, clean_name, clean_service, clean_target, encode_data,
     fits, message_line,
@@ -45,7 +45,8 @@ fn prints_texts_without_nul(rt: HostRuntime) -> Result<(), Fail> {
     Ok(())
 }
 
-/// How many messages a decoder gives of these bytes, fed one at a time, and after how many bytes the first.
+/// How many messages a decoder returns of these bytes, fed one at a time, and after how many bytes
+/// the first comes.
 fn fed_in_single_bytes(decoder: &mut Decoder, bytes: &[u8]) -> Result<(usize, usize), Fail> {
     let mut given: usize = 0;
     let mut first = 0;

@@ -1,7 +1,8 @@
-//! What the libraries of messages, sessions, scripts and scenarios do on worked inputs, as tests of their public calls.
+//! What the libraries of messages, sessions, scripts and scenarios do on worked inputs, as tests of
+//! their public calls.
 //!
-//! They stand here and not beside what they test, since a crate with tests is proved twice. What a script, a
-//! stream or a scenario file is refused for is played through the whole program.
+//! The tests stand in a crate of their own, since a crate with tests is proved twice. The errors
+//! for a bad script, stream or scenario file are tested through the whole program.
 #![tactic(auto)]
 
 #[cfg(test)]

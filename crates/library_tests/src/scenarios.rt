@@ -1,4 +1,4 @@
-//! What a scenario is without its hostile domains, and a scenario that is made from a number.
+//! A scenario without its hostile domains, and a scenario that is made from a number.
 use scenario_file::{
     CallPlan, Line, LineResult, Scenario, generate, honest_lines, next_number, read,
     without_hostile,
@@ -30,8 +30,8 @@ to = "nobody"
 service = "echo"
 "#;
 
-/// Whether the visited scenario without its hostile domain has two domains, and the lines of the two calls
-/// that aren't with it, under their numbers.
+/// Whether the visited scenario without its hostile domain has two domains, and the lines of the
+/// two calls that don't name it, with their numbers.
 fn stands_without_the_hostile(alloc: Global) -> Result<bool, Fail> {
     let visited = read(alloc, VISITED)?;
     let left = without_hostile(alloc, &visited)?;
@@ -45,7 +45,7 @@ fn a_scenario_stands_without_its_hostile_domain(rt: HostRuntime) -> Result<(), F
     Ok(())
 }
 
-/// The first numbers behind 7, worked by hand.
+/// The first numbers after 7, worked by hand.
 const NUMBERS: [u32; 8] = [599, 44_999, 32_612, 21_105, 10_061, 33_742, 40_318, 9_222];
 
 #[test]
@@ -60,7 +60,8 @@ fn a_number_gives_a_scenario(rt: HostRuntime) -> Result<(), Fail> {
     Ok(())
 }
 
-/// Whether a call goes from the domain of this number to that of this name, for the service, with an input of so many bytes.
+/// Whether a call goes from the domain of this number to the domain of this name, for the service,
+/// with an input of this many bytes.
 fn is_call(call: &CallPlan, from: u32, to: &[u8], service: &[u8], len: usize) -> bool {
     call.from == from
         && call.to.bytes() == to
@@ -68,7 +69,8 @@ fn is_call(call: &CallPlan, from: u32, to: &[u8], service: &[u8], len: usize) ->
         && call.stdin.slice().len() == len
 }
 
-/// Whether a line is done with code 0, the bytes on standard output and so many bytes on each stream.
+/// Whether a line is done with code 0, with these bytes at the beginning of standard output, and
+/// with this many bytes on each stream.
 fn is_done(line: &Line, begins: &[u8], stdout_len: usize, stderr_len: usize) -> bool {
     match &line.result {
         LineResult::Done {

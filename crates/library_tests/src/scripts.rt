@@ -1,4 +1,4 @@
-//! The way from a script's bytes to its text by the calls that the program doesn't make.
+//! The way from a script's bytes to its text, by the calls that the program doesn't make.
 use std::alloc::Global;
 use std::test::Fail;
 use step_script::{ScriptError, parse, play, text};

@@ -21,7 +21,7 @@ fn bytes_of(alloc: Global, parts: &[&str]) -> Result<Vec<u8>, Fail> {
     Ok(bytes)
 }
 
-/// The lines of the messages of a data channel, with `;` behind each.
+/// The lines of the messages of a data channel, with `;` after each.
 fn lines_of(alloc: Global, bytes: &[u8]) -> Result<String, Fail> {
     let mut decoder = Decoder::new(alloc, Channel::Data);
     decoder.feed(bytes)?;
@@ -67,7 +67,7 @@ enum Side {
     Serving,
 }
 
-/// What the owner says behind the bytes of a row.
+/// What the owner tells a side after the bytes of a row.
 #[derive(Clone, Copy, Debug)]
 enum End {
     Open,
@@ -75,10 +75,10 @@ enum End {
     Gone,
 }
 
-/// What a side of version 3 takes, what its owner says then, and how it comes out.
+/// What a side of version 3 takes, what its owner tells it then, and how it comes out.
 type Row = (Side, &'static [&'static str], End, &'static str);
 
-/// Streams of the one side and of the other that aren't what they should be, and some that are.
+/// Streams of either side that aren't as they should be, and some that are.
 const STREAMS: [Row; 18] = [
     (
         Side::Serving,
@@ -150,7 +150,7 @@ const STREAMS: [Row; 18] = [
         "Some(Closed)",
     ),
     (Side::Caller, &[], End::Gone, "Some(Gone)"),
-    // The same of the other side, and what its owner says once something has decided.
+    // The same of the other side, and what its owner tells it after something has decided.
     (
         Side::Caller,
         &["9001000000000000"],
@@ -184,7 +184,7 @@ const STREAMS: [Row; 18] = [
     (Side::Serving, &[], End::Gone, "Some(Gone)"),
 ];
 
-/// How a caller comes out that takes these bytes in pieces of at most `most`.
+/// How a caller that takes these bytes in pieces of at most `most` comes out.
 fn called(alloc: Global, bytes: &[u8], most: usize, end: End) -> Result<Option<Outcome>, Fail> {
     let mut side = caller(alloc, b"", 3, 1)?;
     for piece in bytes.chunks(most.max(1)) {
@@ -283,7 +283,7 @@ fn answered<S: Service>(
     lines_of(alloc, &out)
 }
 
-/// Whether a caller of `hello` sends its greeting, and its input once it is greeted.
+/// Whether a caller of `hello` sends its greeting, and its input after it is greeted.
 fn sends_hello(alloc: Global, side: &mut Caller, out: &mut Vec<u8>) -> Result<bool, Fail> {
     caller_sends(side, out, 5)?;
     if lines_of(alloc, out)?.as_str() != "hello 3;" {
@@ -316,7 +316,7 @@ fn serves_split_in_single_bytes(rt: HostRuntime) -> Result<(), Fail> {
 
 // ---- both sides
 
-/// Passes what the caller and the side that serves send to the other, at most so many bytes at a time.
+/// Passes what each of the two sides sends to the other, at most this many bytes at a time.
 fn pass<S: Service>(
     caller: &mut Caller,
     serving: &mut Serving<S>,
@@ -347,8 +347,9 @@ fn count_of(alloc: Global, bytes: &[u8]) -> Result<(usize, usize), Fail> {
     Err(Fail::from("too many messages"))
 }
 
-/// A call of `echo`: both versions, the chunk, the length of the input, the most bytes that go over at a
-/// time; and then how many messages the caller sends, and how long the longest body on either way is.
+/// A call of `echo`: both versions, the chunk, the length of the input, and the greatest number of
+/// bytes that go over at a time; then how many messages the caller sends, and how long the longest
+/// body on either way is.
 type Call = (u32, u32, u32, usize, usize, usize, usize);
 
 const CALLS: [Call; 8] = [
@@ -393,7 +394,7 @@ fn counts_of<S: Service>(
     Ok((asked, longest_asked.max(longest_answered)))
 }
 
-/// Passes a call of `echo` to its end, and answers its counts.
+/// Passes a call of `echo` to its end, and returns its counts.
 fn passed_between<S: Service>(
     alloc: Global,
     caller: &mut Caller,
@@ -408,7 +409,7 @@ fn passed_between<S: Service>(
     counts_of(alloc, caller, serving)
 }
 
-/// Passes a call to its end, and answers its counts.
+/// Passes a call to its end, and returns its counts.
 fn passed<S: Service>(alloc: Global, service: S, call: Call) -> Result<(usize, usize), Fail> {
     let (own, theirs, chunk, len, most, _, _) = call;
     let input = vec![in alloc; 0x61; len]?;
@@ -433,14 +434,15 @@ fn calls_of_echo_give_their_input(rt: HostRuntime) -> Result<(), Fail> {
     check_calls(&rt, rt.alloc(), &CALLS)
 }
 
-/// A message of the longest body, behind a greeting, that a side of version 2 takes.
+/// A greeting and a message of the longest body, which a side of version 2 takes.
 fn longest(alloc: Global, header: &str) -> Result<Vec<u8>, Fail> {
     let mut bytes = bytes_of(alloc, &[HELLO, header])?;
     bytes.extend_from_slice(&vec![in alloc; 0x61; 65_536]?)?;
     Ok(bytes)
 }
 
-/// How many messages a side of version 2 sends that takes these bytes, and how long the longest body is.
+/// How many messages a side of version 2 that takes these bytes sends, and how long the longest
+/// body is.
 fn sent_by<S: Service>(alloc: Global, service: S, bytes: &[u8]) -> Result<(usize, usize), Fail> {
     let mut side = serving(alloc, service, 2, 65_536)?;
     side.take(bytes)?;
@@ -471,7 +473,7 @@ fn version_two_takes_the_longest_bodies_and_sends_none(rt: HostRuntime) -> Resul
 
 // ---- services of the test's own
 
-/// It tells of the end, and looks at no input.
+/// A service that answers the end with a text, and doesn't look at its input.
 #[derive(Drop)]
 struct Greeting;
 
@@ -506,7 +508,7 @@ fn serves_with_an_object_of_the_callers(rt: HostRuntime) -> Result<(), Fail> {
     Ok(())
 }
 
-/// It has no memory for any input.
+/// A service that runs out of memory at any input.
 #[derive(Drop)]
 struct Poor;
 
@@ -527,7 +529,7 @@ impl Service for Poor {
     }
 }
 
-/// Whether a side that takes the first piece and not the second has got the first alone.
+/// Whether a side that takes the first piece, but not the second, has got only the first.
 fn keeps_the_first<S: Service>(
     alloc: Global,
     service: S,

@@ -112,7 +112,7 @@ apart = (
   ),
 )
 
--- so many generated calls between the generated domains make a scenario
+-- that many generated calls between the generated domains make a scenario
 pub generated_is_scenario : (seed calls : ℕ) (orders : Orders) → number_of orders.left ≡ 10 → number_of orders.right ≡ 11 → calls ≤ 2000
     → IsScenario (record { control = orders; payload = orders; start = 0; domains = made_domains; calls = generated_calls 1 seed calls })
 generated_is_scenario seed calls orders left right few = record {
@@ -130,7 +130,7 @@ generated_is_scenario seed calls orders left right few = record {
       rw count (omega (arith, laid, all));
 }
 
--- the first of so many calls
+-- the first of that many calls
 pub generated_step : (number x count : ℕ) → 0 < count → generated_calls number x count ≡ call_from number x ∷ generated_calls (number + 1) (after_call x) (count - 1)
 unfolding generated_calls
 generated_step number x zero h = absurd (omega arith)
@@ -141,7 +141,7 @@ unfolding generated_calls
 generated_none number x zero h = refl
 generated_none number x (suc count) h = absurd (omega arith)
 
--- a call behind those before
+-- a call after those before
 pub generated_more : (done : List CallPlan) (call : CallPlan) (number x last left less : ℕ) (all : List CallPlan) → 0 < left → less ≡ left - 1
     → call ≡ call_from number x → last ≡ after_call x → done ++ generated_calls number x left ≡ all
     → (done ++ call ∷ []) ++ generated_calls (number + 1) last less ≡ all

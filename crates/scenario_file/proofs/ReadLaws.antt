@@ -50,7 +50,7 @@ apart-push (x ∷ domains) domain h none = by_name (bytes_eq x.name domain.name)
     by_name false is None o-is e more = (All-push (λ other. bytes_eq x.name other.name ≡ false) domains domain h.0 is, more o-is)
     by_name false is (Some k) o-is e more = let e' = rw (is, o-is) at e in absurd (cc e')
 
--- an item that was read, behind those before
+-- an item that was read, after those before
 pub all_from-next : {A : Type 0} (next : List A → Data → Result A Fault) (before : List A) (vs : List Value) (i : ℕ) (v : Value) (x : A) → i < length vs → v ≡ get_or vs i v
     → next before (view v) ≡ Ok x → all_from next before (items_view (drop i vs)) ≡ all_from next (before ++ x ∷ []) (items_view (drop (i + 1) vs))
 unfolding all_from
@@ -114,7 +114,7 @@ pub some_items_full : (vs : List Value) → length vs ≢ 0 → some_items (item
 some_items_full [] some = absurd (some refl)
 some_items_full (v ∷ vs) some = refl
 
--- what a loop over the items owes where an item is refused, where one is read, and at its end
+-- what a loop over the items owes if an item is refused, if one is read, and at its end
 pub item_refused : {A : Type 0} (next : List A → Data → Result A Fault) (before seen : List A) (vs : List Value) (i : ℕ) (v : Value) (all : Result (List A) Fault) (e : Refusal) → i < length vs
     → v ≡ get_or vs i v → seen ≡ before → all_from next before (items_view (drop i vs)) ≡ all → IsRefusal e (next seen (view v)) → IsRefusal e all
 item_refused next before seen vs i v all e within same is so_far h =

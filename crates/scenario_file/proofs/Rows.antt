@@ -21,7 +21,7 @@ evil = record { name = codes "evil"; hostile = Some (Hello ∷ []); ports = 8; v
 abbrev plan : ℕ → ℕ → List ℕ → List ℕ → List ℕ → CallPlan
 plan number from to service stdin = record { number = number; from = from; to = to; service = service; stdin = stdin }
 
--- three honest domains behind a hostile one, so that the callers' places move, and a call to the hostile one
+-- three honest domains after a hostile one, so that the callers' places move, and a call to the hostile one
 abbrev office : Orders → Plan
 office orders = record {
   control = orders;

@@ -17,12 +17,12 @@ use Rattle.scenario_file.specs.declared.acts.ActPage.TheVariants as page
 use Rattle.scenario_file.specs.declared.acts.Act.{Act}
 use Rattle.scenario_file.specs.declared.acts.Act.TheVariants.{Hello, Say, Trigger, Terminate, Poke, Scribble, Signal, Rest}
 
--- the second step, where the first gave a value
+-- the second step, if the first gave a value
 infixl 10 ◌>>=◌
 abbrev pub ◌>>=◌ : {A B : Type 0} → Option A → (A → Option B) → Option B
 o >>= f = option_and_then f o
 
--- this, where no word is left
+-- this, if no word is left
 abbrev pub alone : Act → List (List ℕ) → Option Act
 alone act [] = Some act
 alone act (word ∷ more) = None
@@ -86,7 +86,7 @@ rest_of words = do
   turns ← number_from 1 65536 word
   Some (Rest turns)
 
--- what stands before the first colon (58) and behind it
+-- what stands before the first colon (58) and after it
 abbrev pub colon_parts : List ℕ → Option (List ℕ × List ℕ)
 colon_parts word = option_map (λ at. (take at word, drop (at + 1) word)) (position (λ byte. byte == 58) word)
 
@@ -116,7 +116,7 @@ fields =
     (codes "srv_notify", SrvNotify) ∷
     []
 
--- what stands behind these bytes, and before these
+-- what stands after these bytes, and before these
 abbrev pub without_front : List ℕ → List ℕ → Option (List ℕ)
 without_front front word =
     if bytes_eq (take (length front) word) front then Some (drop (length front) word) else None
@@ -129,7 +129,7 @@ without_end end word =
 abbrev pub place_in : List ℕ → List ℕ → Option (List ℕ)
 place_in name word = option_and_then (without_end (codes "]")) (without_front name word)
 
--- a byte of a ring, K being a number of 32 bits
+-- a byte of a ring; K is a number of 32 bits
 abbrev pub byte_at : Ring → List ℕ → Option WordName
 byte_at ring place = option_map (RingByte ring) (any_number place)
 
@@ -172,6 +172,6 @@ act_of_words (verb ∷ words) =
     else if bytes_eq verb (codes "rest") then rest_of words
     else None
 
--- an act, its words separated by one space each
+-- an act: its words, with one space between each two
 abbrev pub act_of : List ℕ → Option Act
 act_of text = act_of_words (words_of text)

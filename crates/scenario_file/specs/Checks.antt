@@ -1,4 +1,4 @@
--- The checks of a scenario file: one after another, the first that fails being the answer.
+-- The checks of a scenario file, one after another; the first that fails is the answer.
 -- Source: this project's own; the values of a file are those of TOML.
 use Rattle.std.specs.Prelude.{ℕ, ℤ, pos, ◌&&◌, nat_le, Bool, List, [], ◌∷◌, ◌++◌, if◌then◌else◌, ok_or, Option, None, Some, Result, Ok, Err, codes, decimal, bytes_eq}
 use Rattle.std.specs.List.{list_any}
@@ -12,7 +12,7 @@ use Rattle.scenario_file.specs.declared.place.Section.TheVariants.{Top, Rings, D
 abbrev pub Fault : Type 0
 Fault = ScenarioKind × List ℕ
 
--- the second step, where the first gave a value
+-- the second step, if the first gave a value
 infixl 10 ◌>>=◌
 abbrev pub ◌>>=◌ : {A B E : Type 0} → Result A E → (A → Result B E) → Result B E
 Ok x >>= f = f x
@@ -45,7 +45,7 @@ item_path section key number = item_of (path_of section key) number
 abbrev pub call_keys : List (List ℕ)
 call_keys = codes "from" ∷ codes "to" ∷ codes "service" ∷ codes "stdin" ∷ codes "stdin_hex" ∷ codes "stdin_fill" ∷ []
 
--- the keys that a table may have; of a domain also whether it is hostile
+-- the keys that a table may have; for a domain they depend on whether it is hostile
 abbrev pub keys_of : Section → Bool → List (List ℕ)
 keys_of Top hostile = codes "rings" ∷ codes "domain" ∷ codes "call" ∷ []
 keys_of Rings hostile = codes "control" ∷ codes "data" ∷ codes "start" ∷ []
@@ -57,7 +57,7 @@ abbrev pub key_list : Members → List (List ℕ)
 key_list no_members = []
 key_list (member key value more) = key ∷ key_list more
 
--- no key is unknown, or the first that is
+-- no key is unknown, or the first unknown one
 abbrev pub known_keys : Section → Bool → List (List ℕ) → Result (Unit {0}) Fault
 known_keys section hostile [] = Ok tt
 known_keys section hostile (key ∷ keys) =
@@ -67,7 +67,7 @@ known_keys section hostile (key ∷ keys) =
 abbrev pub needed : Section → List ℕ → Members → Result Data Fault
 needed section key ms = ok_or (get_member key ms) (MissingKey, path_of section key)
 
--- what a key gives, by its value where it has one
+-- what a key gives, by its value if it has one
 abbrev pub optional : {A : Type 0} → A → (Data → Result A Fault) → Option Data → Result A Fault
 optional default read None = Ok default
 optional default read (Some value) = read value
@@ -92,7 +92,7 @@ needed_text section key ms = do
   value ← needed section key ms
   text_in (path_of section key) value
 
--- a list, empty where the key has no value
+-- a list, empty if the key has no value
 abbrev pub list_at : Section → List ℕ → Members → Result Items Fault
 list_at section key ms = optional no_items (list_in (path_of section key)) (get_member key ms)
 
@@ -112,11 +112,11 @@ number_in least most path value = do
   z ← integer_in path value
   ok_or (within least most (natural z)) (BadNumber, path)
 
--- such a number, or the default where the key has no value
+-- such a number, or the default if the key has no value
 abbrev pub number_at : ℕ → ℕ → ℕ → Section → List ℕ → Members → Result ℕ Fault
 number_at least most default section key ms = optional default (number_in least most (path_of section key)) (get_member key ms)
 
--- the items of a list one by one, each behind those before
+-- the items of a list one by one, each after those before
 unfoldable pub all_from : {A : Type 0} → (List A → Data → Result A Fault) → List A → Items → Result (List A) Fault
 all_from next before no_items = Ok before
 all_from next before (item value more) = do

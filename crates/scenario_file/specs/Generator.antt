@@ -16,14 +16,14 @@ pub record Drawn : Type 0 where
   pub word : ℕ
   pub value : ℕ
 
--- the numbers of so many stores
+-- the numbers of this many stores
 abbrev pub drawn : ℕ → ℕ → List Drawn
 drawn x zero = []
 drawn x (suc count) =
     record { page = next_number x; word = next_number (next_number x); value = next_number (next_number (next_number x)) }
     ∷ drawn (next_number (next_number (next_number x))) count
 
--- so many bytes of a fill: byte i is i modulo 251
+-- the first bytes of a fill, of which byte i is i modulo 251
 unfoldable pub fill : ℕ → List ℕ
 fill count = map (λ i. i % 251) (range_with_len 0 count)
 
@@ -44,7 +44,7 @@ text_at texts place = unwrap_or (slice_get texts place) []
 abbrev pub generated_domain : List ℕ → Domain
 generated_domain name = record { name = name; hostile = None; ports = 4; version = 3 }
 
--- of the three places beside a caller's, in order, the one of this number from 0 on
+-- one of the three places beside a caller's, the one of this number in their order, from 0 on
 abbrev pub other_place : ℕ → ℕ → ℕ
 other_place caller number = if nat_lt number caller then number else number + 1
 
@@ -70,7 +70,7 @@ call_from number x =
 abbrev pub after_call : ℕ → ℕ
 after_call x = next_number (next_number (next_number (next_number x)))
 
--- so many calls, the first of this number, from the numbers after x
+-- this many calls, the first of this number, from the numbers after x
 unfoldable pub generated_calls : ℕ → ℕ → ℕ → List CallPlan
 generated_calls number x zero = []
 generated_calls number x (suc count) = call_from number x ∷ generated_calls (number + 1) (after_call x) count

@@ -21,7 +21,7 @@ kind_word kind.BadCaller = codes "bad-caller"
 kind_word kind.TwoStdin = codes "two-stdin"
 kind_word kind.TooMany = codes "too-many"
 
--- the line that tells a fault: its path, and the word for its kind
+-- the line that tells of a fault: its path, and the word for its kind
 abbrev pub fault_line : ScenarioKind → List ℕ → List ℕ
 fault_line kind path = path ++ codes ": " ++ kind_word kind
 

@@ -16,7 +16,7 @@ abbrev pub by_service : Option Triple → LineResult
 by_service None = Refused NoService
 by_service (Some gives) = Done gives.code gives.stdout gives.stderr
 
--- no domain has the target's name; or it is the caller; or the service decides
+-- no domain has the target's name; or the target is the caller; or the service decides
 abbrev pub by_domain : CallPlan → Option ℕ → LineResult
 by_domain call None = Refused NoDomain
 by_domain call (Some to) = if to == call.from then Refused SameDomain else by_service (service call.service call.stdin)
@@ -60,6 +60,6 @@ call_left domains call = record call { from = number_left domains call.from }
 abbrev pub calls_left : List Domain → List CallPlan → List CallPlan
 calls_left domains calls = map (call_left domains) (filter (λ call. not (targets_hostile domains call)) calls)
 
--- the hostile domains are taken out, and the calls that name one
+-- the scenario without its hostile domains, and without the calls that name one
 abbrev pub without_hostile : Plan → Plan
 without_hostile s = record s { domains = honest s.domains; calls = calls_left s.domains s.calls }

@@ -52,7 +52,7 @@ domain_at domains (suc k) = slice_get domains k
 abbrev pub domain_of : Plan → ℕ → Option Domain
 domain_of s number = domain_at s.domains number
 
--- a domain is hostile where it has a list of acts
+-- a domain is hostile if it has a list of acts
 abbrev pub is_hostile : Domain → Bool
 is_hostile domain = is_some domain.hostile
 
@@ -78,7 +78,7 @@ abbrev pub place_named : List Domain → List ℕ → Option ℕ
 place_named [] name = None
 place_named (domain ∷ domains) name = if bytes_eq domain.name name then Some 0 else option_map suc (place_named domains name)
 
--- the number of the domain of a name
+-- the number of the first domain of a name
 abbrev pub number_named : List Domain → List ℕ → Option ℕ
 number_named domains name = option_map suc (place_named domains name)
 
@@ -106,7 +106,7 @@ lays_page domains call = option_map_or (λ place. not (suc place == call.from)) 
 abbrev pub data_pages : List Domain → List CallPlan → ℕ
 data_pages domains calls = sum_by (hostile_pages (length domains)) domains + count_by (lays_page domains) calls
 
--- the words of all pages, where a control page and a data page have so many
+-- the words of all pages, if each control page and each data page has this many
 abbrev pub words_laid : ℕ → ℕ → List Domain → List CallPlan → ℕ
 words_laid control payload domains calls = length domains * control + data_pages domains calls * payload
 
@@ -152,12 +152,12 @@ pub record CallFits (domains : List Domain) (call : CallPlan) : Type 0 where
   pub service : is_service call.service ≡ true
   pub stdin : length call.stdin ≤ 1048576
 
--- the numbers of the calls rise, from above this one on
+-- the numbers of the calls rise, and all are above this one
 abbrev pub Rises : ℕ → List CallPlan → Type 0
 Rises below [] = Unit {0}
 Rises below (call ∷ calls) = (below < call.number) × Rises call.number calls
 
--- what whoever runs a scenario may rely on; its list of domains may be empty
+-- what every user of a scenario may rely on; its list of domains may be empty
 pub record IsScenario (s : Plan) : Type 0 where
   pub few_domains : length s.domains ≤ 32
   pub few_calls : length s.calls ≤ 4096

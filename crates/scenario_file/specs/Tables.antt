@@ -1,4 +1,4 @@
--- What a scenario file says: the scenario, or the first check that fails, its kind and its path.
+-- What a scenario file means: the scenario, or the first check that fails, its kind and its path.
 -- Source: this project's own; the values of a file are those of TOML.
 use Rattle.std.specs.Prelude.{ℕ, ◌+◌, ◌^◌, ◌==◌, ◌&&◌, ◌||◌, not, nat_le, nat_lt, Bool, true, false, List, [], length, slice_get, is_some, if◌then◌else◌, ok_or, unwrap_or, Option, None, Some, Result, Ok, Err, codes}
 use Rattle.std.specs.Option.{option_map_or, option_and_then}
@@ -26,7 +26,7 @@ two_of (item left no_items) = None
 two_of (item left (item right no_items)) = Some (left, right)
 two_of (item left (item right (item third more))) = None
 
--- two numbers that a page may have as orders: 10 to 20 each, and not the same one below 12
+-- two numbers that a page may have as orders: 10 to 20 each, and not the same one if it is below 12
 abbrev pub are_orders : ℕ → ℕ → Bool
 are_orders left right = (nat_le 10 left && nat_le left 20) && (nat_le 10 right && nat_le right 20) && (not (left == right) || nat_le 12 left)
 
@@ -86,7 +86,7 @@ act_in path value = do
   text ← text_in path value
   ok_or (act_of text) (BadAct, path)
 
--- the act behind those before
+-- the act after those before it
 abbrev pub next_act : ℕ → List Act → Data → Result Act Fault
 next_act number before value = act_in (item_path (section.Domain number) (codes "hostile") (length before + 1)) value
 
@@ -95,11 +95,11 @@ abbrev pub item_count : Items → ℕ
 item_count no_items = 0
 item_count (item value more) = item_count more + 1
 
--- a list of so many items at most
+-- a list of at most this many items
 abbrev pub at_most : ℕ → List ℕ → Items → Result Items Fault
 at_most most path items = if nat_lt most (item_count items) then Err (TooMany, path) else Ok items
 
--- a list of acts, of 256 at most
+-- a list of acts, at most 256
 abbrev pub hostile_in : ℕ → Data → Result (Option (List Act)) Fault
 hostile_in number value = do
   items ← list_in (path_of (section.Domain number) (codes "hostile")) value
@@ -116,7 +116,7 @@ numbers_of number false ms = do
   version ← number_at 2 3 3 (section.Domain number) (codes "version") ms
   Ok (4, version)
 
--- a table as the domain behind those before
+-- a table as the domain after those before it
 abbrev pub domain_in : List Domain → ℕ → Members → Result Domain Fault
 domain_in before number ms = do
   known ← known_keys (section.Domain number) (is_some (get_member (codes "hostile") ms)) (key_list ms)
@@ -126,7 +126,7 @@ domain_in before number ms = do
   numbers ← numbers_of number (is_some hostile) ms
   Ok (record { name = name; hostile = hostile; ports = numbers.0; version = numbers.1 })
 
--- the domain behind those before
+-- the domain after those before it
 abbrev pub next_domain : List Domain → Data → Result Domain Fault
 next_domain before value = do
   ms ← table_in (item_path section.Top (codes "domain") (length before + 1)) value
@@ -208,7 +208,7 @@ fill_input_in number before value = do
   count ← ok_or (natural z) (BadNumber, path_of (section.Call number) (codes "stdin_fill"))
   fill_within number count
 
--- the input of a call, by one of three keys; none of them gives no bytes
+-- the input of a call, by one of three keys; no bytes if it has none of them
 abbrev pub stdin_of : ℕ → Members → Result (List ℕ) Fault
 stdin_of number ms = do
   text ← optional None (input_in number) (get_member (codes "stdin") ms)
@@ -226,13 +226,13 @@ call_in domains number ms = do
   stdin ← stdin_of number ms
   Ok (record { number = number; from = from; to = to; service = service; stdin = stdin })
 
--- the call behind those before
+-- the call after those before it
 abbrev pub next_call : List Domain → List CallPlan → Data → Result CallPlan Fault
 next_call domains before value = do
   ms ← table_in (item_path section.Top (codes "call") (length before + 1)) value
   call_in domains (length before + 1) ms
 
--- the list `call`, of 4,096 tables at most
+-- the list `call`, of at most 4,096 tables
 abbrev pub calls_of : List Domain → Members → Result (List CallPlan) Fault
 calls_of domains top = do
   items ← list_at section.Top (codes "call") top

@@ -19,9 +19,9 @@ use vchan_io::Memory;
 /// Why a text wasn't read as an act.
 #[derive(Clone, Copy)]
 pub(crate) enum ActError {
-    /// It is none.
+    /// It isn't an act.
     Bad,
-    /// There was no memory for it.
+    /// Memory ran out for it.
     Memory,
 }
 
@@ -76,7 +76,7 @@ pub(crate) fn read_act(alloc: Global, text: &[u8]) -> Result<Act, ActError>
     }
 }
 
-/// This act, where no word is left.
+/// Returns this act, if no word is left.
 fn alone(act: Act, mut words: WordsOfLine) -> Result<Act, ActError>
     ensures act { Spells (λ act. act) result (alone act (words_left words.entry)) }
     ensures same { IfOk result (λ made. made ≡ act) }
@@ -87,7 +87,7 @@ fn alone(act: Act, mut words: WordsOfLine) -> Result<Act, ActError>
     }
 }
 
-/// The bytes of `say BYTES`.
+/// Reads the bytes of `say BYTES`.
 fn read_say(alloc: Global, words: WordsOfLine) -> Result<Act, ActError>
     ensures act { Spells (λ act. act) result (say_of (words_left words.entry)) }
     ensures fits { IfOk result ActFits }
@@ -97,7 +97,7 @@ fn read_say(alloc: Global, words: WordsOfLine) -> Result<Act, ActError>
     Ok(Act::Say { bytes })
 }
 
-/// The words of `trigger TO SERVICE K`.
+/// Reads the words of `trigger TO SERVICE K`.
 fn read_trigger(alloc: Global, mut words: WordsOfLine) -> Result<Act, ActError>
     ensures act { Spells (λ act. act) result (trigger_of (words_left words.entry)) }
     ensures fits { IfOk result ActFits }
@@ -108,7 +108,7 @@ fn read_trigger(alloc: Global, mut words: WordsOfLine) -> Result<Act, ActError>
     trigger_from(alloc, to, service, count)
 }
 
-/// A trigger of its three words.
+/// Reads the three words of a trigger.
 fn trigger_from(alloc: Global, to: &[u8], service: &[u8], count: &[u8]) -> Result<Act, ActError>
     ensures act { Spells (λ act. act) result (trigger_from to.now service.now count.now) }
     ensures fits { IfOk result ActFits }
@@ -120,7 +120,7 @@ fn trigger_from(alloc: Global, to: &[u8], service: &[u8], count: &[u8]) -> Resul
     })
 }
 
-/// The words of `terminate DOMAIN PORT`.
+/// Reads the words of `terminate DOMAIN PORT`.
 fn read_terminate(mut words: WordsOfLine) -> Result<Act, ActError>
     ensures act { Spells (λ act. act) result (terminate_of (words_left words.entry)) }
     ensures fits { IfOk result ActFits }
@@ -133,7 +133,7 @@ fn read_terminate(mut words: WordsOfLine) -> Result<Act, ActError>
     })
 }
 
-/// The words of `scribble SEED K`.
+/// Reads the words of `scribble SEED K`.
 fn read_scribble(mut words: WordsOfLine) -> Result<Act, ActError>
     ensures act { Spells (λ act. act) result (scribble_of (words_left words.entry)) }
     ensures fits { IfOk result ActFits }
@@ -146,7 +146,7 @@ fn read_scribble(mut words: WordsOfLine) -> Result<Act, ActError>
     })
 }
 
-/// The word of `rest K`.
+/// Reads the word of `rest K`.
 fn read_rest(words: WordsOfLine) -> Result<Act, ActError>
     ensures act { Spells (λ act. act) result (rest_of (words_left words.entry)) }
     ensures fits { IfOk result ActFits }
@@ -157,7 +157,7 @@ fn read_rest(words: WordsOfLine) -> Result<Act, ActError>
     })
 }
 
-/// The words of `poke PAGE WORD VALUE`.
+/// Reads the words of `poke PAGE WORD VALUE`.
 fn read_poke(alloc: Global, mut words: WordsOfLine) -> Result<Act, ActError>
     ensures act { Spells (λ act. act) result (poke_of (words_left words.entry)) }
     ensures fits { IfOk result ActFits }
@@ -168,7 +168,7 @@ fn read_poke(alloc: Global, mut words: WordsOfLine) -> Result<Act, ActError>
     poke_from(alloc, page, word, value)
 }
 
-/// A poke of its three words.
+/// Reads the three words of a poke.
 fn poke_from(alloc: Global, page: &[u8], word: &[u8], value: &[u8]) -> Result<Act, ActError>
     ensures act { Spells (λ act. act) result (poke_from page.now word.now value.now) }
     ensures fits { IfOk result ActFits }
@@ -180,7 +180,7 @@ fn poke_from(alloc: Global, page: &[u8], word: &[u8], value: &[u8]) -> Result<Ac
     })
 }
 
-/// A number from the least to the most.
+/// Reads a number from `least` to `most`.
 fn number_from(least: u32, most: u32, word: &[u8]) -> Result<u32, ActError>
     ensures number { Spells (λ n. n) result (number_from least most word.now) }
     ensures within { IfOk result (λ n. (least ≤ n) × (n ≤ most)) }
@@ -193,7 +193,7 @@ fn number_from(least: u32, most: u32, word: &[u8]) -> Result<u32, ActError>
     }
 }
 
-/// A number of 32 bits.
+/// Reads a number of 32 bits.
 fn any_number(word: &[u8]) -> Option<u32>
     ensures { result ≡ any_number word.now }
 {
@@ -201,7 +201,7 @@ fn any_number(word: &[u8]) -> Option<u32>
     Some(number as u32)
 }
 
-/// A word that is a domain's name.
+/// Reads the name of a domain.
 #[tactic(auto, using(crate::proofs::NameLaws::no_nul_in_name))]
 fn name_word(alloc: Global, word: &[u8]) -> Result<Text, ActError>
     ensures name { Spells (λ name. name) result (name_word word.now) }
@@ -214,7 +214,7 @@ fn name_word(alloc: Global, word: &[u8]) -> Result<Text, ActError>
     }
 }
 
-/// A word that is a service's name.
+/// Reads the name of a service.
 #[tactic(auto, using(crate::proofs::NameLaws::no_nul_in_service))]
 fn service_word(alloc: Global, word: &[u8]) -> Result<Text, ActError>
     ensures service { Spells (λ name. name) result (service_word word.now) }
@@ -227,7 +227,7 @@ fn service_word(alloc: Global, word: &[u8]) -> Result<Text, ActError>
     }
 }
 
-/// The page that a word names: `control`, or `NAME:PORT`.
+/// Reads the name of a page: `control`, or `NAME:PORT`.
 fn page_of(alloc: Global, word: &[u8]) -> Result<ActPage, ActError>
     ensures page { Spells (λ page. page) result (page_of word.now) }
     ensures fits { IfOk result PageFits }
@@ -239,7 +239,7 @@ fn page_of(alloc: Global, word: &[u8]) -> Result<ActPage, ActError>
     }
 }
 
-/// The data page of `NAME:PORT`.
+/// Reads `NAME:PORT`, the name of a data page.
 fn data_page(alloc: Global, word: &[u8]) -> Result<ActPage, ActError>
     ensures page { Spells (λ page. page) result (data_page word.now) }
     ensures fits { IfOk result PageFits }
@@ -251,7 +251,7 @@ fn data_page(alloc: Global, word: &[u8]) -> Result<ActPage, ActError>
     })
 }
 
-/// What stands before the first colon, and behind it.
+/// Returns what stands before the first colon, and what stands after it.
 fn colon_parts(word: &[u8]) -> Option<(&[u8], &[u8])>
     ensures { option_map (λ parts. (parts.0.now, parts.1.now)) result ≡ colon_parts word.now }
 {
@@ -261,7 +261,7 @@ fn colon_parts(word: &[u8]) -> Option<(&[u8], &[u8])>
     }
 }
 
-/// The place of the first colon.
+/// Returns the place of the first colon.
 fn first_colon(word: &[u8]) -> Option<usize>
     ensures place { result ≡ position (λ byte. byte == 58) word.now }
     ensures within { IfSome result (λ at. at < length word.now) }
@@ -269,8 +269,8 @@ fn first_colon(word: &[u8]) -> Option<usize>
     word.iter().position(|byte| *byte == b':')
 }
 
-/// The word of a page that a word names: a header field, or `left[K]` and `right[K]` for a byte of a
-/// ring.
+/// Returns the word of a page that this text names: a header field, or `left[K]` and `right[K]` for
+/// a byte of a ring.
 fn word_named(word: &[u8]) -> Option<WordName>
     ensures { result ≡ word_named word.now }
 {
@@ -285,14 +285,14 @@ fn word_named(word: &[u8]) -> Option<WordName>
     }
 }
 
-/// What stands between this front of a word and a `]` at its end.
+/// Returns what stands between this front of a word and a `]` at its end.
 fn place_in<'a>(front: &[u8], word: &'a [u8]) -> Option<&'a [u8]>
     ensures { option_copied result ≡ place_in front.now word.now }
 {
     word.strip_prefix(front)?.strip_suffix(b"]")
 }
 
-/// The byte of a ring at the place that a word says.
+/// Returns the byte of a ring at the place that this text gives.
 fn byte_at(ring: Ring, place: &[u8]) -> Option<WordName>
     ensures { result ≡ byte_at ring place.now }
 {
@@ -300,7 +300,7 @@ fn byte_at(ring: Ring, place: &[u8]) -> Option<WordName>
     Some(WordName::RingByte { ring, at })
 }
 
-/// The header field that a word names.
+/// Returns the header field that this text names.
 fn field_named(word: &[u8]) -> Option<WordName>
     ensures { result ≡ lookup (bytes_eq word.now) fields }
 {

@@ -22,23 +22,23 @@ pub enum ActPage {
 /// One thing that a hostile domain does.
 #[derive(Debug, Drop)]
 pub enum Act {
-    /// Says the greeting of version 3 on its control channel.
+    /// Sends the greeting of version 3 on its control channel.
     Hello,
-    /// Says some bytes on its control channel.
+    /// Sends some bytes on its control channel.
     Say {
         /// The bytes.
         bytes: Bytes,
     },
-    /// Says triggers, with the idents `h-1`, `h-2` and so on.
+    /// Sends triggers, with the idents `h-1`, `h-2` and so on.
     Trigger {
         /// The target that each names.
         to: Text,
         /// The service that each asks for.
         service: Text,
-        /// How many, from 1 to 64.
+        /// How many triggers, from 1 to 64.
         count: u32,
     },
-    /// Says that a call has ended.
+    /// Sends that a call has ended.
     Terminate {
         /// The number of the domain that it names.
         domain: u32,
@@ -51,7 +51,7 @@ pub enum Act {
         page: ActPage,
         /// The word; the place of a ring's byte may be any number.
         word: WordName,
-        /// What is stored.
+        /// The value.
         value: u64,
     },
     /// Stores drawn values to drawn words of drawn pages.
@@ -61,7 +61,7 @@ pub enum Act {
         /// How many stores, from 1 to 65,536.
         count: u32,
     },
-    /// Signals on all its pages.
+    /// Signals on each of its pages.
     Signal,
     /// Does nothing.
     Rest {
@@ -93,7 +93,7 @@ impl Model for Acts {
 impl Acts {
     ghost use Rattle.scenario_file.specs.Acts.{AreActs};
 
-    /// The acts of a list.
+    /// Returns the acts of a list.
     pub fn of(list: Vec<Act>) -> Acts
         requires { AreActs list.items }
         ensures { result ≡ list.items }
@@ -101,7 +101,7 @@ impl Acts {
         Acts { list }
     }
 
-    /// Lends the acts, in order.
+    /// Borrows the acts, in order.
     pub fn list(&self) -> &[Act]
         ensures list { result.now ≡ self.now }
         ensures fit { AreActs result.now }

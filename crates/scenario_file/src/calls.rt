@@ -27,10 +27,10 @@ use script_words::{ByteError, bytes_of};
 use std::alloc::Global;
 use toml::{Table, Value};
 
-/// The most calls of a scenario.
+/// The greatest number of calls of a scenario.
 const MOST_CALLS: usize = 4096;
 
-/// The most bytes of an input.
+/// The greatest number of bytes of an input.
 const MOST_STDIN: usize = 1_048_576;
 
 /// Reads the list `call` of the file.
@@ -71,7 +71,7 @@ fn read_items<'t>(
     Ok(calls)
 }
 
-/// Reads an item as the call behind those before.
+/// Reads an item as the call after those before it.
 fn next_call<'t>(
     alloc: Global,
     domains: &[Domain],
@@ -89,7 +89,7 @@ fn next_call<'t>(
     read_call(alloc, domains, number, table)
 }
 
-/// Reads a table as the call of a number.
+/// Reads a table as the call of this number.
 fn read_call<'t>(
     alloc: Global,
     domains: &[Domain],
@@ -126,7 +126,7 @@ fn read_caller<'t>(domains: &[Domain], number: usize, table: &'t Table) -> Resul
     ))
 }
 
-/// The number of the honest domain of a name.
+/// Returns the number of the honest domain with this name.
 fn caller_named(domains: &[Domain], name: &[u8]) -> Option<u32>
     requires { length domains.now ≤ 32 }
     ensures number { result ≡ caller_named domains.now name.now }
@@ -180,7 +180,7 @@ fn read_stdin<'t>(alloc: Global, number: usize, table: &'t Table) -> Result<Byte
     }
 }
 
-/// The input by the key `stdin`, a text, where it has a value.
+/// Returns the input by the key `stdin`, a text, or `None` if the key has no value.
 fn read_text_input<'t>(
     alloc: Global,
     number: usize,
@@ -197,7 +197,7 @@ fn read_text_input<'t>(
     Ok(Some(Bytes::of(Vec::from_slice(alloc, bytes)?)))
 }
 
-/// The input by the key `stdin_hex`, a byte string, or the input before where it has no value.
+/// Returns the input by the key `stdin_hex`, a byte string, or the input before if it has no value.
 fn read_hex_input<'t>(
     alloc: Global,
     number: usize,
@@ -219,8 +219,8 @@ fn read_hex_input<'t>(
     Ok(Some(Bytes::of(bytes)))
 }
 
-/// The input by the key `stdin_fill`, the length of a fill, or the input before where it has no
-/// value.
+/// Returns the input by the key `stdin_fill`, the length of a fill, or the input before if it has
+/// no value.
 #[tactic(auto, using(crate::proofs::GeneratedLaws::length_fill))]
 fn read_fill_input<'t>(
     alloc: Global,
@@ -248,7 +248,7 @@ fn read_fill_input<'t>(
     Ok(Some(Bytes::of(fill(alloc, count as u32)?)))
 }
 
-/// Checks that no input stands before the key at a place.
+/// Checks that no input was given before the key at this place.
 fn first_input<'t>(is_second: bool, at: Place<'t>) -> Result<(), Refusal<'t>>
     ensures { Gives (λ x. x) result (first_input (place_path at.entry) is_second) }
 {
@@ -259,7 +259,7 @@ fn first_input<'t>(is_second: bool, at: Place<'t>) -> Result<(), Refusal<'t>>
     }
 }
 
-/// The bytes of a byte string.
+/// Returns the bytes that a byte string spells.
 fn hex_bytes<'t>(alloc: Global, text: &[u8], at: Place<'t>) -> Result<Vec<u8>, Refusal<'t>>
     ensures { Gives (λ bytes. bytes.items) result (ok_or (byte_string text.now) (BadText, place_path at.entry)) }
 {

@@ -6,7 +6,7 @@ use crate::scenario::Domain;
 use qrexec_frame::Bytes;
 use std::alloc::{AllocError, Global};
 
-/// A copy of an honest domain.
+/// Returns a copy of an honest domain.
 pub(crate) fn copy_of_honest(domain: &Domain) -> Result<Domain, AllocError>
     requires { is_hostile domain.now ≡ false }
     ensures { IfOk result (λ copy. copy ≡ domain.now) }
@@ -19,7 +19,7 @@ pub(crate) fn copy_of_honest(domain: &Domain) -> Result<Domain, AllocError>
     })
 }
 
-/// A copy of some bytes.
+/// Returns a copy of some bytes.
 pub(crate) fn copy_of_bytes(alloc: Global, bytes: &Bytes) -> Result<Bytes, AllocError>
     ensures { IfOk result (λ copy. copy ≡ bytes.now) }
 {

@@ -24,10 +24,10 @@ use crate::text::text_of;
 use std::alloc::Global;
 use toml::{Table, Value};
 
-/// The most domains of a scenario.
+/// The greatest number of domains of a scenario.
 const MOST_DOMAINS: usize = 32;
 
-/// The most acts of a domain.
+/// The greatest number of acts of a domain.
 const MOST_ACTS: usize = 256;
 
 /// Reads the list `domain` of the file.
@@ -55,7 +55,7 @@ fn some_items<'t>(items: &[Value]) -> Result<(), Refusal<'t>>
     }
 }
 
-/// Checks that a list has so many items at most.
+/// Checks that a list has at most `most` items.
 #[tactic(auto, using(crate::proofs::ReadLaws::item_count_seen))]
 pub(crate) fn at_most<'t>(most: usize, items: &[Value], at: Place<'t>) -> Result<(), Refusal<'t>>
     ensures items { Gives (λ x. items_view items.now) result (at_most most (place_path at.entry) (items_view items.now)) }
@@ -84,7 +84,7 @@ fn read_items(alloc: Global, items: &[Value]) -> Result<Vec<Domain>, Refusal<'_>
     Ok(domains)
 }
 
-/// Reads an item as the domain behind those before.
+/// Reads an item as the domain after those before it.
 fn next_domain<'t>(alloc: Global, before: &[Domain], item: &'t Value) -> Result<Domain, Refusal<'t>>
     requires { length before.now < 32 }
     ensures domain { Gives (λ domain. domain) result (next_domain before.now (view item.now)) }
@@ -96,7 +96,7 @@ fn next_domain<'t>(alloc: Global, before: &[Domain], item: &'t Value) -> Result<
     read_domain(alloc, before, number, table)
 }
 
-/// Reads a table as the domain of a number, behind those before.
+/// Reads a table as the domain of this number, after those before it.
 #[tactic(auto, using(crate::proofs::TotalLaws::domain_fits, crate::proofs::NameLaws::no_nul_in_name))]
 fn read_domain<'t>(
     alloc: Global,
@@ -122,7 +122,7 @@ fn read_domain<'t>(
     })
 }
 
-/// Reads the ports of a hostile domain, or the version of an honest one. The other of them has its
+/// Reads the ports of a hostile domain, or the version of an honest one. The other number has its
 /// default.
 #[tactic(auto, using(crate::proofs::TotalLaws::two_or_three))]
 fn read_numbers<'t>(
@@ -141,7 +141,7 @@ fn read_numbers<'t>(
     }
 }
 
-/// Checks that a text is a name that no domain before has.
+/// Checks that a text is a name, and that no domain before has it.
 fn new_name<'t>(before: &[Domain], number: usize, text: &'t str) -> Result<&'t [u8], Refusal<'t>>
     ensures name { Gives (λ name. name.now) result (new_name number before.now text.now) }
     ensures clean { IfOk result (λ name. is_name name.now ≡ true) }
@@ -158,7 +158,7 @@ fn new_name<'t>(before: &[Domain], number: usize, text: &'t str) -> Result<&'t [
     }
 }
 
-/// Reads the acts of a domain, where it has some.
+/// Reads the acts of a domain, if it has some.
 fn read_hostile<'t>(
     alloc: Global,
     number: usize,
@@ -202,7 +202,7 @@ fn read_act_items<'t>(
     Ok(acts)
 }
 
-/// Reads an item as the act behind those before.
+/// Reads an item as the act after those before it.
 fn next_act<'t>(
     alloc: Global,
     number: usize,

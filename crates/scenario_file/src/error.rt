@@ -11,23 +11,23 @@ use vchan_io::Memory;
 pub enum ScenarioKind {
     /// The bytes aren't UTF-8, or aren't TOML.
     Toml,
-    /// The table has no such key.
+    /// The table can't have this key.
     UnknownKey,
     /// A key that is needed has no value, or there is no domain.
     MissingKey,
     /// A value is of another type.
     WrongType,
-    /// A page can't have these orders.
+    /// No page can have these orders.
     BadOrders,
     /// A number is out of range.
     BadNumber,
-    /// A text or a byte string isn't allowed.
+    /// A text or a byte string isn't allowed at its place.
     BadText,
-    /// A text is no act.
+    /// A text isn't an act.
     BadAct,
-    /// A domain has the name of one before it.
+    /// A domain has the name of an earlier one.
     SameName,
-    /// A caller is no honest domain.
+    /// A caller isn't an honest domain.
     BadCaller,
     /// A call has a second input.
     TwoStdin,
@@ -43,10 +43,10 @@ pub enum ScenarioError {
     Bad {
         /// What is wrong.
         kind: ScenarioKind,
-        /// Where.
+        /// The path of what the check looked at.
         at: Path,
     },
-    /// There was no memory for the scenario.
+    /// Memory ran out for the scenario.
     #[error("out of memory")]
     Memory,
 }
@@ -64,10 +64,13 @@ impl From<AllocError> for ScenarioError {
 impl ScenarioError {
     ghost use Rattle.scenario_file.specs.KindWords.{error_line};
 
-    /// Appends the line that tells a user of it, without its end: of a failed check the path and the
-    /// word for the kind, as `call[2].service: bad-text`, and else `out of memory`.
+    /// Appends the line that tells a user of the error, without a line feed: for a failed check the
+    /// path and the word for the kind, as `call[2].service: bad-text`, and else `out of memory`.
     ///
-    /// Want of memory leaves `out` as it was, and never comes where `out` has room for the line.
+    /// # Errors
+    ///
+    /// `Memory` if memory runs out, which never happens if `out` has room for the line; `out` is as
+    /// it was then.
     pub fn push_line(&self, out: &mut Vec<u8>) -> Result<(), Memory>
         ensures ok { OnOk result (out.new.items ≡ out.old.items ++ error_line self.now) }
         ensures err { OnErr result (out.new.items ≡ out.old.items) }
@@ -86,7 +89,7 @@ impl ScenarioError {
 impl ScenarioKind {
     ghost use Rattle.scenario_file.specs.KindWords.{kind_word};
 
-    /// The word for it, as `bad-text`.
+    /// Returns the word for the kind, as `bad-text`.
     pub fn word(self) -> &'static [u8]
         ensures { result.now ≡ kind_word self }
     {

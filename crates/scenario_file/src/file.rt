@@ -21,8 +21,9 @@ use toml::Table;
 ///
 /// # Errors
 ///
-/// [`ScenarioError::Bad`] exactly where the bytes are no scenario, with the first check that fails
-/// and the path of what it looked at; `ScenarioError::Memory`.
+/// [`ScenarioError::Bad`] if and only if the bytes aren't a scenario and memory doesn't run out,
+/// with the first check that fails and the path of what it looked at; `ScenarioError::Memory` if
+/// memory runs out.
 pub fn read(alloc: Global, bytes: &[u8]) -> Result<Scenario, ScenarioError>
     ensures scenario { IfOk result (λ scenario. scenario_of bytes.now ≡ Ok (written scenario)) }
     ensures bad { IfErr result (λ e. IsFault e (scenario_of bytes.now)) }
@@ -52,7 +53,7 @@ fn read_document(alloc: Global, bytes: &[u8]) -> Result<Table, ScenarioError>
     }
 }
 
-/// The error of bytes that are no TOML.
+/// Returns the error of bytes that aren't TOML.
 fn no_document(alloc: Global) -> ScenarioError
     ensures { IsNoDocument result }
 {

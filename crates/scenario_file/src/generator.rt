@@ -12,7 +12,7 @@ use ring_words::{Orders, check_orders};
 use std::alloc::Global;
 use vchan_io::Memory;
 
-/// The orders of both rings where a scenario names none.
+/// The orders of both rings if a scenario gives none.
 pub(crate) const DEFAULT_ORDERS: (u16, u16) = (10, 11);
 
 /// The names of the generated domains.
@@ -28,7 +28,7 @@ const SERVICES: [&[u8]; 6] = [
     b"exit+7",
 ];
 
-/// The number after `x`: one step of the generator, 75 x + 74 modulo 65,537.
+/// Returns the number after `x`: one step of the generator, 75 x + 74 modulo 65,537.
 pub fn next_number(x: u32) -> u32
     requires { x ≤ 65536 }
     ensures number { result ≡ next_number x }
@@ -37,9 +37,13 @@ pub fn next_number(x: u32) -> u32
     (75 * x + 74) % 65_537
 }
 
-/// The scenario of a seed: four honest domains `d1` to `d4`, rings of the default orders, and so many
-/// calls. The generator begins at the seed, and each call takes four numbers of it, for the caller,
-/// the target, the service and the length of the input.
+/// Returns the scenario of a seed: four honest domains `d1` to `d4`, rings of the default orders,
+/// and this many calls. The generator begins at the seed, and each call takes four of its numbers:
+/// for the caller, the target, the service and the length of the input.
+///
+/// # Errors
+///
+/// `Memory` if memory runs out; no other.
 pub fn generate(alloc: Global, number: u32, calls: u32) -> Result<Scenario, Memory>
     requires seed { number ≤ 65535 }
     requires some { 1 ≤ calls }
@@ -56,7 +60,7 @@ pub fn generate(alloc: Global, number: u32, calls: u32) -> Result<Scenario, Memo
     })
 }
 
-/// The orders 10 and 11.
+/// Returns the orders 10 and 11.
 pub(crate) fn default_orders() -> Orders
     ensures { (number_of result.left ≡ 10) × (number_of result.right ≡ 11) }
 {
@@ -66,7 +70,7 @@ pub(crate) fn default_orders() -> Orders
     }
 }
 
-/// The four domains.
+/// Returns the four domains.
 fn generated_domains(alloc: Global) -> Result<Vec<Domain>, Memory>
     ensures { IfOk result (λ domains. domains.items ≡ map generated_domain generated_names) }
 {
@@ -79,7 +83,7 @@ fn generated_domains(alloc: Global) -> Result<Vec<Domain>, Memory>
     Ok(domains)
 }
 
-/// An honest domain of a name.
+/// Returns an honest domain with this name.
 fn generated_domain(alloc: Global, name: &[u8]) -> Result<Domain, Memory>
     requires { HasNoNul name.now }
     ensures { IfOk result (λ domain. domain ≡ generated_domain name.now) }
@@ -92,7 +96,7 @@ fn generated_domain(alloc: Global, name: &[u8]) -> Result<Domain, Memory>
     })
 }
 
-/// So many calls, from the numbers after the seed.
+/// Returns this many calls, from the numbers after the seed.
 fn generated_calls(alloc: Global, seed: u32, count: u32) -> Result<Vec<CallPlan>, Memory>
     requires seed { seed ≤ 65536 }
     requires few { count ≤ 2000 }
@@ -108,7 +112,7 @@ fn generated_calls(alloc: Global, seed: u32, count: u32) -> Result<Vec<CallPlan>
     Ok(calls)
 }
 
-/// The call that the four numbers after `x` make, and the last of them.
+/// Returns the call that the four numbers after `x` make, and the last of them.
 fn call_from(alloc: Global, number: u32, x: u32) -> Result<(CallPlan, u32), Memory>
     requires { x ≤ 65536 }
     ensures call { IfOk result (λ made. made.0 ≡ call_from number x) }
@@ -123,7 +127,7 @@ fn call_from(alloc: Global, number: u32, x: u32) -> Result<(CallPlan, u32), Memo
     Ok((call, stdin))
 }
 
-/// A call of four drawn numbers.
+/// Returns the call that four drawn numbers choose.
 fn generated_call(
     alloc: Global,
     number: u32,
@@ -145,7 +149,7 @@ fn generated_call(
     })
 }
 
-/// Of the three places beside a caller's, in order, the one of this number.
+/// Returns one of the three places beside a caller's, the one of this number in their order.
 fn other_place(caller: u32, number: u32) -> u32
     requires number { number < 3 }
     ensures place { result ≡ other_place caller number }
@@ -154,7 +158,7 @@ fn other_place(caller: u32, number: u32) -> u32
     if number < caller { number } else { number + 1 }
 }
 
-/// The name of the domain at a place.
+/// Returns the name of the domain at a place.
 fn name_at(place: u32) -> &'static [u8]
     requires { place < 4 }
     ensures name { result.now ≡ text_at generated_names place }
@@ -163,7 +167,7 @@ fn name_at(place: u32) -> &'static [u8]
     NAMES[place as usize]
 }
 
-/// The service at a place.
+/// Returns the service at a place.
 fn service_at(place: u32) -> &'static [u8]
     requires { place < 6 }
     ensures service { result.now ≡ text_at generated_services place }
@@ -172,7 +176,7 @@ fn service_at(place: u32) -> &'static [u8]
     SERVICES[place as usize]
 }
 
-/// So many bytes of a fill: byte i is i modulo 251.
+/// Returns the first bytes of a fill, of which byte i is i modulo 251.
 #[tactic(auto, unfolding(crate::specs::Generator::fill))]
 pub(crate) fn fill(alloc: Global, count: u32) -> Result<Vec<u8>, Memory>
     ensures { IfOk result (λ bytes. bytes.items ≡ fill count) }

@@ -11,14 +11,14 @@ use crate::place::{Place, Refusal, Section};
 use toml::value::Array;
 use toml::{Table, Value};
 
-/// The value of a key.
+/// Returns the value of a key.
 pub(crate) fn member<'t>(table: &'t Table, key: &str) -> Option<&'t Value>
     ensures { option_map (λ v. view v.now) result ≡ get_member key.now (table_view table.now) }
 {
     table.get(key)
 }
 
-/// Checks that a table has no key that it may not have. The first that it has in byte order is
+/// Checks that a table has no key that it can't have. The first unknown one, in byte order, is
 /// refused.
 pub(crate) fn check_keys<'t>(
     table: &'t Table,
@@ -35,7 +35,7 @@ pub(crate) fn check_keys<'t>(
     Ok(())
 }
 
-/// Whether a table may have a key.
+/// Returns whether a table can have this key.
 fn is_known(section: Section, hostile: bool, key: &str) -> bool
     ensures { result ≡ list_any (bytes_eq key.now) (keys_of section hostile) }
 {
@@ -49,7 +49,7 @@ fn is_known(section: Section, hostile: bool, key: &str) -> bool
     }
 }
 
-/// Whether a call may have a key.
+/// Returns whether a call can have this key.
 fn is_known_of_call(key: &str) -> bool
     ensures { result ≡ list_any (bytes_eq key.now) call_keys }
 {
@@ -61,7 +61,7 @@ fn is_known_of_call(key: &str) -> bool
         || key == "stdin_fill"
 }
 
-/// The text of a value.
+/// Returns the text of a value.
 pub(crate) fn text_in<'t>(value: &'t Value, at: Place<'t>) -> Result<&'t str, Refusal<'t>>
     ensures { Gives (λ text. text.now) result (text_in (place_path at.entry) (view value.now)) }
 {
@@ -70,7 +70,7 @@ pub(crate) fn text_in<'t>(value: &'t Value, at: Place<'t>) -> Result<&'t str, Re
         .ok_or(Refusal::Bad(ScenarioKind::WrongType, at))
 }
 
-/// The integer of a value.
+/// Returns the integer of a value.
 pub(crate) fn integer_in<'t>(value: &Value, at: Place<'t>) -> Result<i64, Refusal<'t>>
     ensures { Gives (λ z. z) result (integer_in (place_path at.entry) (view value.now)) }
 {
@@ -79,7 +79,7 @@ pub(crate) fn integer_in<'t>(value: &Value, at: Place<'t>) -> Result<i64, Refusa
         .ok_or(Refusal::Bad(ScenarioKind::WrongType, at))
 }
 
-/// The list of a value.
+/// Returns the list of a value.
 pub(crate) fn list_in<'t>(value: &'t Value, at: Place<'t>) -> Result<&'t Array, Refusal<'t>>
     ensures { Gives (λ list. array_view list.now) result (list_in (place_path at.entry) (view value.now)) }
 {
@@ -88,7 +88,7 @@ pub(crate) fn list_in<'t>(value: &'t Value, at: Place<'t>) -> Result<&'t Array, 
         .ok_or(Refusal::Bad(ScenarioKind::WrongType, at))
 }
 
-/// The table of a value.
+/// Returns the table of a value.
 pub(crate) fn table_in<'t>(value: &'t Value, at: Place<'t>) -> Result<&'t Table, Refusal<'t>>
     ensures { Gives (λ table. table_view table.now) result (table_in (place_path at.entry) (view value.now)) }
 {
@@ -97,7 +97,7 @@ pub(crate) fn table_in<'t>(value: &'t Value, at: Place<'t>) -> Result<&'t Table,
         .ok_or(Refusal::Bad(ScenarioKind::WrongType, at))
 }
 
-/// The value of a key that is needed.
+/// Returns the value of a key that is needed.
 fn needed<'t>(
     table: &'t Table,
     section: Section,
@@ -108,7 +108,7 @@ fn needed<'t>(
     member(table, key).ok_or(Refusal::Bad(ScenarioKind::MissingKey, Place::key(section, key)))
 }
 
-/// The text of a key that is needed.
+/// Returns the text of a key that is needed.
 pub(crate) fn needed_text<'t>(
     table: &'t Table,
     section: Section,
@@ -120,7 +120,7 @@ pub(crate) fn needed_text<'t>(
     text_in(value, Place::key(section, key))
 }
 
-/// The items of the list of a key, none where the key has no value.
+/// Returns the items of the list of a key; no items if the key has no value.
 pub(crate) fn list_at<'t>(
     table: &'t Table,
     section: Section,
@@ -134,14 +134,14 @@ pub(crate) fn list_at<'t>(
     }
 }
 
-/// An integer where it isn't negative.
+/// Returns an integer, if it isn't negative.
 pub(crate) fn natural(z: i64) -> Option<u64>
     ensures { result ≡ natural z }
 {
     u64::try_from(z).ok()
 }
 
-/// The number of a key, from the least to the most, or the default where the key has no value.
+/// Returns the number of a key, from `least` to `most`, or the default if the key has no value.
 pub(crate) fn number_at<'t>(
     table: &'t Table,
     section: Section,
@@ -161,7 +161,7 @@ pub(crate) fn number_at<'t>(
     }
 }
 
-/// The number of a value, from the least to the most.
+/// Returns the number of a value, from `least` to `most`.
 fn number_in<'t>(value: &Value, at: Place<'t>, least: u32, most: u32) -> Result<u32, Refusal<'t>>
     ensures number { Gives (λ n. n) result (number_in least most (place_path at.entry) (view value.now)) }
     ensures within { IfOk result (λ n. (least ≤ n) × (n ≤ most)) }
@@ -173,7 +173,7 @@ fn number_in<'t>(value: &Value, at: Place<'t>, least: u32, most: u32) -> Result<
     }
 }
 
-/// A number where it is within these bounds.
+/// Returns a number, if it is within these bounds.
 fn within(number: Option<u64>, least: u32, most: u32) -> Option<u32>
     ensures number { result ≡ within least most number }
     ensures bounds { IfSome result (λ n. (least ≤ n) × (n ≤ most)) }

@@ -1,8 +1,8 @@
 //! The scenario: which domains there are, which of them are hostile, and which calls are made.
 //!
 //! A scenario stands in a file of TOML, whose form is this project's own, or is generated from a
-//! seed. The crates that run it rely on what holds of every scenario. What comes of the calls between
-//! honest domains is said here too, by the services and the names alone.
+//! seed. The crates that run it rely on what holds of every scenario. This crate also defines what
+//! comes of the calls between honest domains, by the services and the names alone.
 #![tactic(auto)]
 
 mod act_words;

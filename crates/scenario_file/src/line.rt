@@ -12,7 +12,7 @@ pub enum LineCause {
     NoService,
 }
 
-/// What comes of a call.
+/// What came of a call.
 #[derive(Debug, Drop)]
 pub enum LineResult {
     /// The service ended.
@@ -26,7 +26,7 @@ pub enum LineResult {
     },
     /// The call was refused.
     Refused {
-        /// Why.
+        /// Why it was refused.
         cause: LineCause,
     },
 }
@@ -42,6 +42,6 @@ pub struct Line {
     pub to: Text,
     /// The service that was asked for.
     pub service: Text,
-    /// What came of it.
+    /// What came of the call.
     pub result: LineResult,
 }

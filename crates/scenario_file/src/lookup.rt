@@ -5,7 +5,7 @@ ghost use Rattle.scenario_file.specs.Scenario.{domain_at, is_hostile, number_nam
 use crate::scenario::{CallPlan, Domain};
 
 impl Domain {
-    /// Whether the domain is hostile.
+    /// Returns whether the domain is hostile.
     pub fn is_hostile(&self) -> bool
         ensures { result ≡ is_hostile self.now }
     {
@@ -13,7 +13,7 @@ impl Domain {
     }
 }
 
-/// The place of the first domain of a name, from 0 on.
+/// Returns the place of the first domain with this name, from 0 on.
 pub(crate) fn place_named(domains: &[Domain], name: &[u8]) -> Option<usize>
     ensures place { result ≡ place_named domains.now name.now }
     ensures within { IfSome result (λ place. place < length domains.now) }
@@ -21,7 +21,7 @@ pub(crate) fn place_named(domains: &[Domain], name: &[u8]) -> Option<usize>
     position_named(domains, name)
 }
 
-/// The same place, as the search in a list finds it.
+/// Returns the same place, as the search in a list finds it.
 fn position_named(domains: &[Domain], name: &[u8]) -> Option<usize>
     ensures { result ≡ position (λ domain. bytes_eq domain.name name.now) domains.now }
 {
@@ -30,7 +30,7 @@ fn position_named(domains: &[Domain], name: &[u8]) -> Option<usize>
         .position(|domain| domain.name.bytes() == name)
 }
 
-/// The domain at a place, from 0 on.
+/// Returns the domain at a place, from 0 on.
 pub(crate) fn domain_at_place(domains: &[Domain], place: usize) -> &Domain
     requires { place < length domains.now }
     ensures { slice_get domains.now place ≡ Some result.now }
@@ -38,7 +38,7 @@ pub(crate) fn domain_at_place(domains: &[Domain], place: usize) -> &Domain
     &domains[place]
 }
 
-/// The number of the first domain of a name, from 1 on, among at most 32.
+/// Returns the number of the first domain with this name, from 1 on, among at most 32 domains.
 pub fn number_named(domains: &[Domain], name: &[u8]) -> Option<u32>
     requires { length domains.now ≤ 32 }
     ensures { result ≡ number_named domains.now name.now }
@@ -47,7 +47,7 @@ pub fn number_named(domains: &[Domain], name: &[u8]) -> Option<u32>
     Some(place as u32 + 1)
 }
 
-/// Whether a call's target is a hostile domain.
+/// Returns whether a call's target is a hostile domain.
 pub(crate) fn targets_hostile(domains: &[Domain], call: &CallPlan) -> bool
     ensures { result ≡ targets_hostile domains.now call.now }
 {
@@ -57,7 +57,7 @@ pub(crate) fn targets_hostile(domains: &[Domain], call: &CallPlan) -> bool
     }
 }
 
-/// The honest domain of a number.
+/// Returns the honest domain of a number.
 pub(crate) fn honest_domain(domains: &[Domain], number: u32) -> &Domain
     requires { IsHonest domains.now number }
     ensures domain { domain_at domains.now number ≡ Some result.now }

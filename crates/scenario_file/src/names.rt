@@ -4,21 +4,22 @@ ghost use Rattle.std.specs.List.{list_all};
 ghost use Rattle.qrexec_frame.specs.Names.{is_name_byte};
 ghost use Rattle.scenario_file.specs.Names.{is_name, is_service, is_service_byte};
 
-/// The most bytes of a domain's name.
+/// The greatest number of bytes of a domain's name.
 const MOST_NAME: usize = 31;
 
-/// The most bytes of a service's name.
+/// The greatest number of bytes of a service's name.
 const MOST_SERVICE: usize = 63;
 
-/// Whether some bytes are the name of a domain: 1 to 31 letters and digits of ASCII, `_`, `-` and
-/// `.`.
+/// Returns whether some bytes are the name of a domain: 1 to 31 letters and digits of ASCII, `_`,
+/// `-` and `.`.
 pub(crate) fn is_name(text: &[u8]) -> bool
     ensures { result ≡ is_name text.now }
 {
     !text.is_empty() && text.len() <= MOST_NAME && are_name_bytes(text)
 }
 
-/// Whether some bytes are the name of a service: 1 to 63 bytes of a domain's name or `+`.
+/// Returns whether some bytes are the name of a service: 1 to 63 bytes, each of which a domain's
+/// name may have, or `+`.
 pub(crate) fn is_service(text: &[u8]) -> bool
     ensures { result ≡ is_service text.now }
 {

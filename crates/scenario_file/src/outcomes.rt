@@ -13,15 +13,19 @@ use service_gate::{Builtin, serve};
 use std::alloc::Global;
 use vchan_io::Memory;
 
-/// The lines of the calls whose target isn't a hostile domain, in order. They are told by the names
-/// and by the services alone: no channel and no broker is needed for them.
+/// Returns the lines of the calls whose target isn't a hostile domain, in order. The names and the
+/// services alone determine them: neither a channel nor a broker is needed.
+///
+/// # Errors
+///
+/// `Memory` if memory runs out; no other.
 pub fn honest_lines(alloc: Global, scenario: &Scenario) -> Result<Vec<Line>, Memory>
     ensures { IfOk result (λ made. made.items ≡ lines scenario.now) }
 {
     lines_among(alloc, &scenario.domains, &scenario.calls)
 }
 
-/// The lines of some calls between some domains.
+/// Returns the lines of some calls between some domains.
 fn lines_among(alloc: Global, domains: &[Domain], calls: &[CallPlan]) -> Result<Vec<Line>, Memory>
     requires few { length domains.now ≤ 32 }
     requires fit { All (CallFits domains.now) calls.now }
@@ -36,7 +40,7 @@ fn lines_among(alloc: Global, domains: &[Domain], calls: &[CallPlan]) -> Result<
     Ok(lines)
 }
 
-/// The line of a call.
+/// Returns the line of a call.
 fn line_of(alloc: Global, domains: &[Domain], call: &CallPlan) -> Result<Line, Memory>
     requires few { length domains.now ≤ 32 }
     requires fits { CallFits domains.now call.now }
@@ -51,7 +55,7 @@ fn line_of(alloc: Global, domains: &[Domain], call: &CallPlan) -> Result<Line, M
     })
 }
 
-/// What comes of a call.
+/// Returns what comes of a call.
 fn result_of(alloc: Global, domains: &[Domain], call: &CallPlan) -> Result<LineResult, Memory>
     requires { length domains.now ≤ 32 }
     ensures { IfOk result (λ outcome. outcome ≡ by_domain call.now (number_named domains.now call.now.to)) }
@@ -72,7 +76,7 @@ fn result_of(alloc: Global, domains: &[Domain], call: &CallPlan) -> Result<LineR
     }
 }
 
-/// What comes of a call to another domain.
+/// Returns what comes of a call to another domain.
 fn served(alloc: Global, call: &CallPlan) -> Result<LineResult, Memory>
     ensures { IfOk result (λ outcome. outcome ≡ by_service (service call.now.service call.now.stdin)) }
 {

@@ -1,4 +1,4 @@
-//! Where in a scenario file something stands.
+//! The places in a scenario file that errors name.
 ghost use Rattle.std.specs.Prelude.{◌≡◌, ◌≤◌, ◌+◌, ◌++◌, length, vec_len, vec_capacity, IsOk, OnOk, OnErr, string_bytes};
 ghost use Rattle.scenario_file.specs.KindWords.{fault_line};
 
@@ -22,7 +22,7 @@ impl Model for Path {
 }
 
 impl Path {
-    /// Lends the bytes of the path.
+    /// Borrows the bytes of the path.
     pub fn bytes(&self) -> &[u8]
         ensures { result.now ≡ self.now }
     {
@@ -30,9 +30,13 @@ impl Path {
     }
 }
 
-/// Appends the line that tells a failed check, without its end: the path and the word for the kind,
-/// as `call[2].service: bad-text`. Want of memory leaves `out` as it was, and never comes where `out`
-/// has room for the line.
+/// Appends the line that tells of a failed check, without a line feed: the path and the word for
+/// the kind, as `call[2].service: bad-text`.
+///
+/// # Errors
+///
+/// `Memory` if memory runs out, which never happens if `out` has room for the line; `out` is as it
+/// was then.
 pub fn push_fault_line(out: &mut Vec<u8>, kind: ScenarioKind, at: &Path) -> Result<(), Memory>
     ensures ok { OnOk result (out.new.items ≡ out.old.items ++ fault_line kind at.now) }
     ensures err { OnErr result (out.new.items ≡ out.old.items) }

@@ -13,13 +13,13 @@ pub(crate) enum Section {
     Top,
     /// The table `rings`.
     Rings,
-    /// The domain of that number, from 1 on.
+    /// The domain of this number, from 1 on.
     Domain(usize),
-    /// The call of that number, from 1 on.
+    /// The call of this number, from 1 on.
     Call(usize),
 }
 
-/// A key of a table, or an item of the list that stands there.
+/// A key of a table, or an item of the list that is its value.
 #[derive(Clone, Copy)]
 pub(crate) struct Place<'k> {
     section: Section,
@@ -27,12 +27,12 @@ pub(crate) struct Place<'k> {
     item: Option<usize>,
 }
 
-/// What a check refuses. Its path is made only where it is told.
+/// The refusal of a check. Its path is made only when it is told.
 #[derive(Clone, Copy)]
 pub(crate) enum Refusal<'k> {
-    /// The check failed at a place.
+    /// The check failed at this place.
     Bad(ScenarioKind, Place<'k>),
-    /// There was no memory.
+    /// Memory ran out.
     Memory,
 }
 
@@ -70,7 +70,7 @@ impl<'k> Place<'k> {
     ghost use Rattle.std.specs.Prelude.{None, Some};
     ghost use Rattle.scenario_file.specs.Readings.{place_path};
 
-    /// The place of a key.
+    /// Returns the place of a key.
     pub(crate) fn key(section: Section, key: &'k str) -> Place<'k>
         ensures { result ≡ record { section = section; key = key.entry; item = None } }
     {
@@ -81,7 +81,7 @@ impl<'k> Place<'k> {
         }
     }
 
-    /// The place of an item of the list at a key, from 1 on.
+    /// Returns the place of an item of the list at a key, from 1 on.
     pub(crate) fn item(section: Section, key: &'k str, number: usize) -> Place<'k>
         ensures { result ≡ record { section = section; key = key.entry; item = Some number } }
     {
@@ -92,7 +92,7 @@ impl<'k> Place<'k> {
         }
     }
 
-    /// The path of the place.
+    /// Returns the path of the place.
     fn path(self, alloc: Global) -> Result<Path, AllocError>
         ensures { IfOk result (λ path. path ≡ place_path self.entry) }
     {
@@ -106,7 +106,7 @@ impl<'k> Place<'k> {
     }
 }
 
-/// What stands before the keys of a table.
+/// Returns what stands before the keys of a table.
 fn section_path(alloc: Global, section: Section) -> Result<String, AllocError>
     ensures { IfOk result (λ path. string_bytes path ≡ section_path section) }
 {
@@ -121,7 +121,7 @@ fn section_path(alloc: Global, section: Section) -> Result<String, AllocError>
 impl Refusal<'_> {
     ghost use Rattle.scenario_file.specs.Readings.{Tells};
 
-    /// The error of the file, with the path of the place.
+    /// Returns the error of the file, with the path of the place.
     pub(crate) fn told(self, alloc: Global) -> ScenarioError
         ensures { Tells result self.entry }
     {

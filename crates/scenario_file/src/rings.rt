@@ -25,7 +25,7 @@ pub(crate) struct Rings {
     pub(crate) start: u32,
 }
 
-/// Reads the table `rings` of the file, where it has one.
+/// Reads the table `rings` of the file, if it has one.
 pub(crate) fn read_rings(top: &Table) -> Result<Rings, Refusal<'_>>
     ensures { Gives rings_seen result (rings_of (table_view top.now)) }
 {
@@ -52,7 +52,7 @@ fn read_table(value: &Value) -> Result<Rings, Refusal<'_>>
     })
 }
 
-/// The orders that a key gives: those of its list of two, or 10 and 11 where it has no value.
+/// Returns the orders of a key: those of its list of two, or 10 and 11 if it has no value.
 fn orders_at<'t>(table: &'t Table, key: &'static str) -> Result<Orders, Refusal<'t>>
     ensures { Gives order_numbers result (orders_at key.now (table_view table.now)) }
 {
@@ -62,7 +62,7 @@ fn orders_at<'t>(table: &'t Table, key: &'static str) -> Result<Orders, Refusal<
     }
 }
 
-/// A list of two orders.
+/// Returns the orders of a list of two.
 fn orders_in<'t>(value: &'t Value, key: &'static str) -> Result<Orders, Refusal<'t>>
     ensures { Gives order_numbers result (orders_in key.now (view value.now)) }
 {
@@ -74,7 +74,7 @@ fn orders_in<'t>(value: &'t Value, key: &'static str) -> Result<Orders, Refusal<
     orders_from(natural(left), natural(right)).ok_or(bad)
 }
 
-/// The items of a list of two.
+/// Returns the items of a list of two.
 #[tactic(auto, using(crate::proofs::ReadLaws::two_of_some, crate::proofs::ReadLaws::two_of_none))]
 fn two_of(items: &[Value]) -> Option<(&Value, &Value)>
     ensures { option_map (λ pair. (view pair.0.now, view pair.1.now)) result ≡ two_of (items_view items.now) }
@@ -86,7 +86,7 @@ fn two_of(items: &[Value]) -> Option<(&Value, &Value)>
     }
 }
 
-/// The orders of a page that two integers are.
+/// Returns two integers as the orders of a page.
 fn orders_from(left: Option<u64>, right: Option<u64>) -> Option<Orders>
     ensures { option_map order_numbers result ≡ orders_from left right }
 {

@@ -9,7 +9,7 @@ use std::marker::Model;
 pub struct Domain {
     /// Its name, of 1 to 31 bytes.
     pub name: Text,
-    /// What it does, where it is hostile.
+    /// Its acts, if it is hostile.
     pub hostile: Option<Acts>,
     /// How many data pages are laid for the calls of a hostile domain to each other domain, at most
     /// 32; 4 for an honest one.
@@ -21,9 +21,9 @@ pub struct Domain {
 /// A call that a scenario makes.
 #[derive(Debug, Drop)]
 pub struct CallPlan {
-    /// Its number, which is above those of the calls before it.
+    /// Its number, which is greater than those of the calls before it.
     pub number: u32,
-    /// The place of the caller in the list of domains, from 1 on. It is honest.
+    /// The number of the caller, an honest domain: its place in the list of domains, from 1 on.
     pub from: u32,
     /// The name of the target, of 1 to 31 bytes; no domain need have it.
     pub to: Text,

@@ -6,7 +6,7 @@ use qrexec_frame::{Text, TextError};
 use std::alloc::Global;
 use vchan_io::Memory;
 
-/// The text of bytes without NUL.
+/// Returns the text of bytes without NUL.
 pub(crate) fn text_of(alloc: Global, bytes: &[u8]) -> Result<Text, Memory>
     requires { HasNoNul bytes.now }
     ensures { IfOk result (λ text. text ≡ bytes.now) }

@@ -14,10 +14,10 @@ use crate::rings::Rings;
 use crate::scenario::{CallPlan, Domain};
 use ring_words::{Layout, Orders};
 
-/// The most bytes of all inputs.
+/// The greatest number of bytes of all inputs.
 const MOST_STDIN_TOTAL: u64 = 8_388_608;
 
-/// The most words of all pages.
+/// The greatest number of words of all pages.
 const MOST_WORDS: u64 = 16_777_216;
 
 /// Checks that the inputs and the pages aren't too many.
@@ -45,7 +45,7 @@ pub(crate) fn check_totals<'t>(
     }
 }
 
-/// The bytes of all inputs.
+/// Returns how many bytes all inputs have.
 fn stdin_total(domains: &[Domain], calls: &[CallPlan]) -> u64
     requires few { length calls.now ≤ 4096 }
     requires fit { All (CallFits domains.now) calls.now }
@@ -58,7 +58,7 @@ fn stdin_total(domains: &[Domain], calls: &[CallPlan]) -> u64
     total
 }
 
-/// The bytes of a call's input.
+/// Returns how many bytes a call's input has.
 fn stdin_len(domains: &[Domain], call: &CallPlan) -> usize
     requires { CallFits domains.now call.now }
     ensures len { result ≡ length call.now.stdin }
@@ -67,7 +67,7 @@ fn stdin_len(domains: &[Domain], call: &CallPlan) -> usize
     call.stdin.slice().len()
 }
 
-/// The words of all pages of these orders.
+/// Returns how many words all pages have, with these orders.
 fn words_laid(control: Orders, payload: Orders, domains: &[Domain], calls: &[CallPlan]) -> u64
     requires few_domains { length domains.now ≤ 32 }
     requires few_calls { length calls.now ≤ 4096 }
@@ -78,7 +78,7 @@ fn words_laid(control: Orders, payload: Orders, domains: &[Domain], calls: &[Cal
     domains.len() as u64 * page_words(control) + pages * page_words(payload)
 }
 
-/// The words of a page.
+/// Returns how many words a page has.
 fn page_words(orders: Orders) -> u64
     ensures words { result ≡ word_count orders }
     ensures within { result ≤ 2097166 }
@@ -87,7 +87,7 @@ fn page_words(orders: Orders) -> u64
     Layout::new(orders).count() as u64
 }
 
-/// The data pages of the hostile domains.
+/// Returns how many data pages all hostile domains have.
 fn hostile_page_total(domains: &[Domain]) -> u64
     requires few { length domains.now ≤ 32 }
     requires fit { All DomainFits domains.now }
@@ -101,7 +101,7 @@ fn hostile_page_total(domains: &[Domain]) -> u64
     total
 }
 
-/// The data pages of a domain among so many, where it is hostile.
+/// Returns how many data pages a domain among `count` domains has, if it is hostile.
 #[tactic(auto, using(crate::proofs::TotalLaws::pages_within))]
 fn hostile_pages(count: usize, domain: &Domain) -> u64
     requires few { count ≤ 32 }
@@ -116,7 +116,7 @@ fn hostile_pages(count: usize, domain: &Domain) -> u64
     }
 }
 
-/// The data pages of the calls.
+/// Returns how many data pages the calls have.
 fn laid_pages(domains: &[Domain], calls: &[CallPlan]) -> u64
     requires few { length calls.now ≤ 4096 }
     ensures pages { result ≡ count_by (lays_page domains.now) calls.now }
@@ -131,7 +131,7 @@ fn laid_pages(domains: &[Domain], calls: &[CallPlan]) -> u64
     count
 }
 
-/// Whether a page is laid for a call: its target is another domain of the scenario.
+/// Returns whether a page is laid for a call: its target is another domain of the scenario.
 fn lays_page(domains: &[Domain], call: &CallPlan) -> bool
     ensures { result ≡ lays_page domains.now call.now }
 {

@@ -10,9 +10,13 @@ use crate::scenario::{CallPlan, Domain, Scenario};
 use std::alloc::Global;
 use vchan_io::Memory;
 
-/// The scenario without its hostile domains and without the calls that name one. The other calls keep
-/// their numbers, and their callers have the places that they then have in the list of domains, which
-/// may be empty.
+/// Returns the scenario without its hostile domains and without the calls that name one. The other
+/// calls keep their numbers; their callers are numbered anew, by their places in the new list of
+/// domains, which may be empty.
+///
+/// # Errors
+///
+/// `Memory` if memory runs out; no other.
 pub fn without_hostile(alloc: Global, scenario: &Scenario) -> Result<Scenario, Memory>
     ensures { IfOk result (λ left. left ≡ without_hostile scenario.now) }
 {
@@ -27,7 +31,7 @@ pub fn without_hostile(alloc: Global, scenario: &Scenario) -> Result<Scenario, M
     })
 }
 
-/// The domains that aren't hostile.
+/// Returns the domains that aren't hostile.
 fn honest_domains(alloc: Global, domains: &[Domain]) -> Result<Vec<Domain>, Memory>
     ensures { IfOk result (λ left. left.items ≡ honest domains.now) }
 {
@@ -40,7 +44,8 @@ fn honest_domains(alloc: Global, domains: &[Domain]) -> Result<Vec<Domain>, Memo
     Ok(left)
 }
 
-/// The calls whose target isn't hostile, with their callers' numbers among the honest domains.
+/// Returns the calls whose target isn't hostile, with their callers' numbers among the honest
+/// domains.
 fn calls_left(
     alloc: Global,
     domains: &[Domain],
@@ -59,7 +64,7 @@ fn calls_left(
     Ok(left)
 }
 
-/// A copy of a call, with its caller's number among the honest domains.
+/// Returns a copy of a call, with its caller's number among the honest domains.
 fn call_left(alloc: Global, domains: &[Domain], call: &CallPlan) -> Result<CallPlan, Memory>
     requires few { length domains.now ≤ 32 }
     requires caller { IsHonest domains.now call.now.from }
@@ -74,7 +79,7 @@ fn call_left(alloc: Global, domains: &[Domain], call: &CallPlan) -> Result<CallP
     })
 }
 
-/// The number that an honest domain has among the honest ones.
+/// Returns the number that an honest domain has among the honest ones.
 fn number_left(domains: &[Domain], number: u32) -> u32
     requires few { length domains.now ≤ 32 }
     requires honest { IsHonest domains.now number }
@@ -83,7 +88,7 @@ fn number_left(domains: &[Domain], number: u32) -> u32
     honest_count(&domains[..number as usize - 1]) as u32 + 1
 }
 
-/// How many domains are honest.
+/// Returns how many domains are honest.
 fn honest_count(domains: &[Domain]) -> usize
     ensures count { result ≡ length (honest domains.now) }
     ensures within { result ≤ length domains.now }
