@@ -1,4 +1,4 @@
--- Where no two messages name one end, and each names an end that is unused, a call with a Connect or a Refused waits no more.
+-- If no two messages name one end, and each names an end that is unused, a call with a Connect or a Refused waits no more.
 use Rattle.std.proofs.Common.{◌≡◌, ℕ, List, [], ◌∷◌, refl, inl, inr, Option, Some, None, subst}
 use Rattle.std.specs.Prelude.{true, false, Bool, ◌&&◌, ◌||◌, bytes_eq, if◌then◌else◌}
 use Rattle.std.specs.List.{list_any}

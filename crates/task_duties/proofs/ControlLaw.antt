@@ -104,7 +104,7 @@ control-bytes own other may on said sent got two small h prefix = by_sent h.whol
         let b = begins (front Control) written Good (is_prefix_code Control) (is_read_again Control) (Hello other ∷ said) good got prefix.0 0 (prefix.1 ∙ is) in
         on-hello own other may said two h.each (reading Control got).placed (reading Control got).ending b.count (length b.over) b.read b.ending
 
--- where all that was said came, all of it is heard
+-- if all that was said came, all of it is heard
 pub all-heard : (own other : ℕ) (may : Message → Bool) → OnControl may → (said : List Message) (sent : List ℕ) → 2 ≤ other → other < 2 ^ 32
     → IsSaid other may said sent → (hears own may sent).messages ≡ said
 all-heard own other may on said sent two small h = by_sent h.whole

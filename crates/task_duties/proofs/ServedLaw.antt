@@ -1,4 +1,4 @@
--- Where no two messages name one end, and each names an end that is unused, each Exec of a service is served.
+-- If no two messages name one end, and each names an end that is unused, each Exec of a service is served.
 use Rattle.std.proofs.Common.{◌≡◌, ◌≢◌, ℕ, List, [], ◌∷◌, refl, ap, sym, ◌∙◌, arith, inl, inr, Option, Some, None}
 use Rattle.std.specs.Prelude.{true, false, Bool, ◌==◌, ◌&&◌, ◌||◌, Contains}
 use Rattle.std.specs.List.{list_any}
@@ -44,7 +44,7 @@ same-place (Payload f t p) (Payload g u q) h =
 same-place (Control d) (Payload f t p) h = cc
 same-place (Payload f t p) (Control d) h = cc
 
--- another place stays where one is taken out
+-- another place stays if one is taken out
 still-there : (taken place : PagePlace) → taken ≢ place → (places : List PagePlace) → has_place place places ≡ true → has_place place (without taken places) ≡ true
 still-there taken place apart [] h = cc
 still-there taken place apart (p ∷ places) h = by_here (is_place place p) refl (is_place taken p) refl h (still-there taken place apart places)

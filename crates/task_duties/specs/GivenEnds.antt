@@ -14,7 +14,7 @@ use Rattle.task_duties.specs.declared.ends.DoneEnd.TheVariants as done
 use Rattle.task_duties.specs.declared.ends.RetiredEnd.{RetiredEnd}
 use Rattle.task_duties.specs.TaskOwes.{EndAt}
 
--- an end that was given; of a page that isn't laid yet it is under the page's name
+-- an end that was given; on a page that isn't laid yet, it is on the page's name
 abbrev pub fresh_view : UnusedEnd → EndView
 fresh_view (unused.Laid end) = view end
 fresh_view (unused.Server side) = unused_view side.table Server

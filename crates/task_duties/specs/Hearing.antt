@@ -1,4 +1,4 @@
--- What each side of a control channel says, and what it makes of the bytes that it got.
+-- What each side of a control channel sends, and what it makes of the bytes that it got.
 -- Source: the messages are those of the qrexec protocol; who greets first is this project's own.
 use Rattle.std.specs.Prelude.{◌≡◌, ◌⊎◌, ℕ, Bool, true, false, List, [], ◌∷◌, Option, Some, None, Result, Ok, Err, if◌then◌else◌}
 use Rattle.std.specs.List.{flat_map}
@@ -16,7 +16,7 @@ use Rattle.qrexec_data.specs.declared.fault.SessionFault.TheVariants.{Frame, Wro
 use Rattle.qrexec_data.specs.declared.fault.SessionFault.TheVariants as fault
 use Rattle.qrexec_data.specs.Seeing.{offset, number}
 
--- what the broker may say to an agent behind its greeting
+-- what the broker may send to an agent after its greeting
 abbrev pub to_agent : Message → Bool
 to_agent (Connect domain port ident) = true
 to_agent (Refused ident) = true
@@ -24,7 +24,7 @@ to_agent (Exec domain port line) = true
 to_agent (JustExec domain port line) = true
 to_agent message = false
 
--- what an agent may say to the broker behind its greeting
+-- what an agent may send to the broker after its greeting
 abbrev pub to_broker : Message → Bool
 to_broker (Trigger3 target ident service) = true
 to_broker (Trigger target ident service) = true
@@ -40,7 +40,7 @@ pub record IsSaid (own : ℕ) (may : Message → Bool) (said : List Message) (se
 
 -- ---- what a side makes of the bytes that it got
 
--- the version that is agreed on, the messages behind the greeting up to the first that is wrong, and what is wrong with it
+-- the version that is agreed on, the messages after the greeting up to the first that is wrong, and what is wrong with it
 pub record Heard : Type 0 where
   pub version : Option ℕ
   pub messages : List Message
@@ -51,17 +51,17 @@ abbrev pub fault_of_end : Ending Fault → Option SessionFault
 fault_of_end (Rest left) = None
 fault_of_end (FaultAt at f) = Some (Frame (fault_at at f))
 
--- the messages before the first that the other side may not say
+-- the messages before the first that the other side may not send
 abbrev pub allowed : (Message → Bool) → List (Placed Message) → List Message
 allowed may [] = []
 allowed may (p ∷ placed) = if may p.message then p.message ∷ allowed may placed else []
 
--- the first message that the other side may not say, or else the fault with which the stream ends
+-- the first message that the other side may not send, or else the fault with which the stream ends
 abbrev pub first_fault : (Message → Bool) → List (Placed Message) → Ending Fault → Option SessionFault
 first_fault may [] ending = fault_of_end ending
 first_fault may (p ∷ placed) ending = if may p.message then first_fault may placed ending else Some (WrongSide (offset p.at) (number p.message))
 
--- a stream of messages, the first of which has to be a greeting
+-- a stream of messages, the first of which must be a greeting
 abbrev pub hears_on : ℕ → (Message → Bool) → List (Placed Message) → Ending Fault → Heard
 hears_on own may [] ending = record { version = None; messages = []; fault = fault_of_end ending }
 hears_on own may (p ∷ placed) ending = after_greeting (greeting own p.message)
@@ -70,6 +70,6 @@ hears_on own may (p ∷ placed) ending = after_greeting (greeting own p.message)
     after_greeting (Ok version) = record { version = Some version; messages = allowed may placed; fault = first_fault may placed ending }
     after_greeting (Err f) = record { version = None; messages = []; fault = Some (fault.Hello f) }
 
--- what a side of this version hears of another side that may say these messages
+-- what a side of this version hears of another side that may send these messages
 abbrev pub hears : ℕ → (Message → Bool) → List ℕ → Heard
 hears own may got = hears_on own may (reading Control got).placed (reading Control got).ending

@@ -13,6 +13,6 @@ abbrev pub SomeOf : {A : Type 0} → (A → Type 0) → List A → Type 0
 SomeOf P [] = ⊥
 SomeOf P (x ∷ xs) = P x ⊎ SomeOf P xs
 
--- the first list is some of the second, each element at most as often, in any order
+-- the first list has some of the second's elements, each at most as often, in any order
 abbrev pub IsPartOf : {A : Type 0} → List A → List A → Type 0
 IsPartOf {A} some all = (rest : List A) × IsPermutation (some ++ rest) all

@@ -5,7 +5,7 @@ use Rattle.std.specs.List.{list_any}
 use Rattle.task_duties.specs.declared.place.PagePlace.{PagePlace}
 use Rattle.task_duties.specs.declared.place.PagePlace.TheVariants.{Control, Payload}
 
--- so many numbers from one on, by steps
+-- this many numbers from one on, by steps
 abbrev pub numbers : ℕ → ℕ → ℕ → List ℕ
 numbers from by zero = []
 numbers from by (suc count) = from ∷ numbers (from + by) by count

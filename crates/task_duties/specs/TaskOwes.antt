@@ -49,7 +49,7 @@ abbrev pub broker_ends : ℕ → List EndView → List EndAt
 broker_ends domain [] = []
 broker_ends domain (control ∷ controls) = record { place = Control domain; view = control } ∷ broker_ends (domain + 1) controls
 
--- the task of the broker, with its domains, how many calls it awaits of each, and its ends
+-- the task of the broker, with its domains, how many calls of each it awaits, and its ends
 abbrev pub broker_given : Domains → List ℕ → List EndView → TaskGiven
 broker_given hub awaited controls = Broker hub awaited (broker_ends 1 controls)
 
@@ -61,7 +61,7 @@ pub record AgentReport : Type 0 where
   pub control : ControlEnd
   pub ends : List EndAt
 
--- what a task answers: an agent's report, a broker with its journal, a hostile domain's number, each with all its ends; or that memory didn't suffice
+-- what a task answers: an agent's report, a broker with its journal, a hostile domain's number, each with all its ends; or that memory ran out
 pub data TaskDone : Type 0 where
   AgentDone : (report : AgentReport) → TaskDone
   BrokerDone : (broker : Brokered) (ends : List EndAt) → TaskDone
@@ -88,7 +88,7 @@ pub record EndsOwed (turned : Bool) (given ends : List EndAt) (end : PagePlace �
 
 -- ---- what it owes
 
--- what a task owes by what it was given: only where memory didn't suffice nothing
+-- what a task owes by what it was given; nothing if memory ran out
 abbrev pub TaskOwes : TaskGiven → TaskDone → Type 0
 TaskOwes given NoMemory = Unit {0}
 TaskOwes (Agent plan given) (AgentDone report) =

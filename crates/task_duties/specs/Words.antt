@@ -25,12 +25,12 @@ is_space b = b == 32
 abbrev pub is_word : List ℕ → Bool
 is_word text = not (no_bytes text) && not (list_any is_space text)
 
--- the service of `SERVICE SOURCE`, where it is a built-in's name and SOURCE is one word
+-- the service of `SERVICE SOURCE`, if it is a built-in's name and SOURCE is one word
 abbrev pub service_in : List ℕ → Option (List ℕ)
 service_in rest =
     if is_word (after_first is_space rest) && is_some (service (before_first is_space rest) []) then Some (before_first is_space rest)
     else None
 
--- the built-in's name in a line, where the line is the user's, such a name and one word more
+-- the built-in's name in a line, if the line is the user, such a name and one more word
 abbrev pub service_of_line : List ℕ → Option (List ℕ)
 service_of_line line = option_and_then service_in (after_prefix user line)

@@ -41,7 +41,7 @@ always answer ident = answer
 abbrev pub two_ends : Answers
 two_ends = record { asked = []; unused = Payload 1 2 513 ∷ Payload 2 1 514 ∷ []; served = [] }
 
--- the agent of the second domain is asked for `echo` by the first, at this port
+-- the first domain asks the agent of the second for `echo`, at this port
 abbrev pub asked_at : ℕ → Message
 asked_at port = message.Exec 1 port (exec_line (codes "echo") (codes "a"))
 

@@ -1,11 +1,11 @@
-//! What an agent reports once it is done.
+//! What an agent reports after it is done.
 use qrexec_data::{Outcome, SessionFault};
 use qrexec_frame::Bytes;
 
 /// What came of a call of an agent's own.
 #[derive(Debug, Drop)]
 pub enum CallEnd {
-    /// The call was let through, and its session is over.
+    /// The call was accepted, and its session is over.
     Session {
         /// The port of the session.
         port: u32,
@@ -15,7 +15,7 @@ pub enum CallEnd {
         outcome: Outcome,
         /// What was read of the output.
         stdout: Bytes,
-        /// What was read of the errors.
+        /// What was read of the error output.
         stderr: Bytes,
         /// All bytes that were got.
         got: Bytes,
@@ -55,6 +55,6 @@ pub enum ControlEnd {
     Drained,
     /// The broker has gone.
     Gone,
-    /// What the broker said is wrong.
+    /// What the broker sent is wrong.
     Fault(SessionFault),
 }

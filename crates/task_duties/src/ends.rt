@@ -3,12 +3,12 @@ use crate::place::PagePlace;
 use page_offer::{DoneClient, DoneServer, UnlaidClient, UnlaidServer};
 use vchan_rule::{End, Retired};
 
-/// An end of a data page that nothing was done on.
+/// An end of a data page on which nothing was done yet.
 #[derive(Drop)]
 pub enum UnusedEnd<'p> {
     /// An end of a page that is laid.
     Laid(End<'p>),
-    /// The server's side of a page that is laid when it is first used.
+    /// The server's side of a page that is laid at its first use.
     Server(UnlaidServer<'p>),
     /// The client's side of such a page.
     Client(UnlaidClient),
@@ -21,24 +21,24 @@ pub struct DataEnd<'p> {
     pub from: u32,
     /// The domain that serves.
     pub to: u32,
-    /// The port, which is the page's own among those from the one domain to the other.
+    /// The port, which differs from page to page between the two domains.
     pub port: u32,
     /// The end: a server's at the domain that calls, else a client's.
     pub end: UnusedEnd<'p>,
 }
 
-/// An end that makes no event any more.
+/// An end that makes no more events.
 #[derive(Drop)]
 pub enum DoneEnd {
     /// An end of a page that was laid before the tasks began.
     Laid(Retired),
-    /// The server's side of a page that is laid when it is first used.
+    /// The server's side of a page that is laid at its first use.
     Server(DoneServer),
     /// The client's side of such a page.
     Client(DoneClient),
 }
 
-/// An end that makes no event any more, with the place of its page.
+/// An end that makes no more events, with the place of its page.
 #[derive(Drop)]
 pub struct RetiredEnd {
     /// The place.

@@ -14,7 +14,7 @@ pub enum PagePlace {
         from: u32,
         /// The domain that serves.
         to: u32,
-        /// The port, which is the page's own among those from the one domain to the other.
+        /// The port, which differs from page to page between the two domains.
         port: u32,
     },
 }

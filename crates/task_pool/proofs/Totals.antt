@@ -37,7 +37,7 @@ module _ {X : Type 0} (f : X → ℕ) where
   total-zeros [] none = refl
   total-zeros (x ∷ xs) none = let here = none 0 x refl in let rest = total-zeros xs (λ i u at. none (suc i) u at) in omega arith
 
--- where one element has all parts, and what has no part weighs nothing, the sum is that element's
+-- if one element has all parts, and what has no part weighs nothing, the sum is that element's
 pub total-alone : {X : Type 0} (f p : X → ℕ) (xs : List X) (i : ℕ) (v : X) → ((j : ℕ) (u : X) → get_elem? xs j ≡ some u → p u ≡ 0 → f u ≡ 0)
     → get_elem? xs i ≡ some v → total p xs ≡ p v → total f xs ≡ f v
 total-alone f p [] i v idle at all = absurd (some-ne-none v (sym at))

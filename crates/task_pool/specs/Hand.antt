@@ -6,6 +6,6 @@ use Rattle.task_pool.specs.declared.hand.Hand.{Hand}
 abbrev pub all_parts : ℕ
 all_parts = 1024
 
--- a pass with so many parts, to which these tasks were laid, and which keeps these places with the tasks first laid there
+-- a pass with this many parts, to which these tasks were laid, and which keeps these places with the tasks first laid there
 abbrev pub hand : {T : Type 0} → ℕ → List T → List (ℕ × T) → Hand T
 hand parts laid kept = record { parts = parts; laid = laid; kept = kept }

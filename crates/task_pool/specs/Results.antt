@@ -14,7 +14,7 @@ module _ {T D : Type 0} (owes : T → D → Type 0) where
   abbrev pub IsPaid : List T → (ℕ × T) → Finished D → Type 0
   IsPaid laid e f = (f.place ≡ e.0) × IsLaid laid e × owes e.1 f.done
 
-  -- what a turn tells that brought a task to its end: its place is kept, and the result was owed there
+  --   what a turn that brought a task to its end tells: its place is kept, and the result was owed there
   pub record Ends (v : Hand T) (f : Finished D) (w : Hand T) : Type 0 where
     pub first : T
     pub keeps : w ≡ hand v.parts v.laid (v.kept ++ (f.place, first) ∷ [])
@@ -27,7 +27,7 @@ module _ {T D : Type 0} (owes : T → D → Type 0) where
   Tries v (Again _) w = w ≡ v
   Tries v (Over f) w = Ends v f w
 
-  -- a pass with one part, to which these tasks were laid, keeps just the places of these results
+  --   a pass with one part, to which these tasks were laid, keeps just the places of these results
   pub record Keeps (laid : List T) (finished : List (Finished D)) (v : Hand T) : Type 0 where
     pub part : v.parts ≡ 1
     pub knows : v.laid ≡ laid

@@ -1,4 +1,4 @@
--- The rule of the queue of waiting tasks: each place waits, or is kept by one pass, once.
+-- The rule of the queue of waiting tasks: each place either waits or is kept by one pass, once.
 use Rattle.std.specs.Prelude.{◌≡◌, ℕ, zero, suc, ◌+◌, ◌-◌, ◌<◌, List, [], ◌∷◌, ◌++◌, length, take, slice_get, Some}
 use Rattle.std.specs.List.{AllByRecursion}
 use mathlib.Core.Option.{some}

@@ -27,7 +27,7 @@ pub(crate) struct Account<T: PoolTask> {
     pub answers: Vec<Option<T::Done>>,
 }
 
-/// So many answers that are still to come.
+/// Returns this many answers, all still to come.
 pub(crate) fn blank_answers<D: Drop>(
     alloc: Global,
     count: usize,
@@ -41,7 +41,7 @@ pub(crate) fn blank_answers<D: Drop>(
     Ok(answers)
 }
 
-/// Writes a result down at its place.
+/// Enters a result at its place.
 fn write_down<D: Drop>(answers: &mut Vec<Option<D>>, finished: Finished<D>)
     requires { finished.place < vec_len answers.old }
     ensures { answers.new.items ≡ slice_set answers.old.items finished.place (Some finished.done) }
@@ -51,7 +51,7 @@ fn write_down<D: Drop>(answers: &mut Vec<Option<D>>, finished: Finished<D>)
 }
 
 impl<T: PoolTask> Account<T> {
-    /// So many workers, each with a pass of its own and room for a result of each task.
+    /// Returns this many workers, each with a pass of its own and room for a result of each task.
     pub(crate) fn hire(
         &mut self,
         alloc: Global,
@@ -78,7 +78,7 @@ impl<T: PoolTask> Account<T> {
         Ok(hired)
     }
 
-    /// Lets the workers work, each in a thread of its own, until every task is done.
+    /// Runs the workers, each in a thread of its own, until every task is done.
     pub(crate) fn employ<G: Gate, R: Threads + Wait + Sync>(
         &self,
         rt: &R,
@@ -115,7 +115,7 @@ impl<T: PoolTask> Account<T> {
         thread::map_vec(rt, workers, &turns)
     }
 
-    /// Takes a worker's pass back, and writes its results down.
+    /// Takes a worker's pass back, and enters its results.
     pub(crate) fn take_back(&mut self, queue: &TaskQueue<T>, worker: Worker<T>)
         requires pass { IsPassOf queue.now self.old.pass }
         requires part { 0 < (view self.old.pass).parts }
@@ -134,7 +134,7 @@ impl<T: PoolTask> Account<T> {
         }
     }
 
-    /// Takes all workers' passes back, and writes their results down.
+    /// Takes all workers' passes back, and enters their results.
     pub(crate) fn take_all_back(&mut self, queue: &TaskQueue<T>, workers: Vec<Worker<T>>)
         requires pass { IsPassOf queue.now self.old.pass }
         requires part { 0 < (view self.old.pass).parts }
@@ -169,7 +169,7 @@ impl<T: PoolTask> Account<T> {
         unreachable!()
     }
 
-    /// The answers in the order of the places, in the vector that was made for them.
+    /// Returns the answers in the order of the places, in the vector that was made for them.
     pub(crate) fn into_dones(self, mut dones: Vec<T::Done>) -> Vec<T::Done>
         requires settled { Settled T.owes (view self.pass).laid (view self.pass).kept self.answers.items }
         requires whole { IsWhole (view self.pass).laid (view self.pass).kept }

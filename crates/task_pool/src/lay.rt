@@ -1,4 +1,4 @@
-//! Lays the tasks in the queue.
+//! Laying the tasks in the queue.
 ghost use Rattle.std.specs.Prelude.{◌≡◌, ◌<◌, ◌^◌, ◌++◌, [], length, vec_len, IfOk};
 ghost use Rattle.crossbeam_queue.specs.Passes.{view, IsPassOf, ruled_capacity};
 ghost use Rattle.task_pool.specs.Hand.{hand, all_parts};
@@ -9,7 +9,7 @@ use crate::waiting::Waiting;
 use std::alloc::{AllocError, Global};
 use std::sync::Wait;
 
-/// A queue with the tasks at their places, and the pass with all parts.
+/// Returns a queue with the tasks at their places, and the pass with all parts.
 pub(crate) fn lay_all<T: PoolTask, R: Wait>(
     rt: &R,
     alloc: Global,

@@ -1,8 +1,8 @@
-//! A pool of workers that runs tasks by turns, one `Done` for each task.
+//! A pool of workers that runs tasks turn by turn, with one `Done` for each task.
 //!
 //! A task is a value that makes one turn at a time. Workers take tasks from one queue, make one
-//! turn and give them back, until each task is done. The crates whose tasks are the domains of a
-//! run, the clients of a persistent server or the hops of a relay build on it.
+//! turn and give them back, until each task is done. Other crates build on it: their tasks are the
+//! domains of a run, the clients of a persistent server or the hops of a relay.
 #![tactic(auto)]
 
 mod account;

@@ -11,20 +11,23 @@ use std::sync::Wait;
 use std::thread::Threads;
 use vchan_io::Memory;
 
-/// The most workers of a pool.
+/// The greatest number of workers of a pool.
 pub const MOST_WORKERS: u32 = 16;
 
-/// Runs each task to its end by this many workers, and answers one `Done` for each task, in the
+/// Runs each task to its end by this many workers, and returns one `Done` for each task, in the
 /// order of the tasks, each as its task owed.
 ///
 /// A worker takes one task at a time from a queue, calls `gate.enter` with the task's place, makes
 /// one turn and gives the task back. A task that the queue doesn't take back stays with its worker,
-/// which turns it on. After the workers have ended the calling thread turns what is left in
-/// rounds, one turn each.
+/// which goes on with it. After the workers have ended, the calling thread turns the tasks that are
+/// left in rounds, one turn each.
 ///
-/// All memory for answers is taken before the workers start. `Memory` comes at want of memory
-/// alone, and the tasks are then dropped. Nothing is promised of time, of fairness, or that two
-/// workers ever run at once.
+/// All memory for answers is taken before the workers start. Nothing is promised of time, of
+/// fairness, or that two workers ever run at once.
+///
+/// # Errors
+///
+/// `Memory` if memory runs out; the tasks are dropped then. No other.
 pub fn run_pool<T: PoolTask, G: Gate, R: Threads + Wait + Sync>(
     rt: &R,
     alloc: Global,

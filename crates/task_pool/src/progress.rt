@@ -1,11 +1,11 @@
-//! How far the tasks have come, and how a worker waits until one moves.
+//! How far the tasks have come, and how a worker waits until one moves something.
 use crossbeam_utils::CachePadded;
 use std::sync::Wait;
 use std::sync::atomic::{AtomicU64, Ordering};
 use std::thread;
 use std::time::Duration;
 
-/// The longest sleep in milliseconds. A wake that is missed costs so much time, and never a run.
+/// The longest sleep, in milliseconds. A wake that is missed costs this much time, but never a run.
 const LONGEST: u64 = 1;
 
 /// What the workers share beside the queue. Nothing is claimed of its counts.
@@ -20,16 +20,16 @@ pub(crate) struct Progress {
 struct Counts {
     // How many tasks are done.
     done: AtomicU64,
-    // How often a turn moved something, on which workers sleep.
+    // How often a turn has moved something; workers sleep on it.
     moves: AtomicU64,
     // How many workers have begun.
     begun: AtomicU64,
-    // How many of them sleep, or are about to.
+    // How many workers sleep, or are about to.
     asleep: AtomicU64,
 }
 
 impl Progress {
-    /// The progress of so many tasks, of which none is done.
+    /// Returns the progress of this many tasks, none of which is done.
     pub(crate) fn new(tasks: u64) -> Progress {
         Progress {
             tasks,
@@ -42,23 +42,23 @@ impl Progress {
         }
     }
 
-    /// How many tasks aren't done.
+    /// Returns how many tasks aren't done.
     pub(crate) fn left(&self) -> u64 {
         let done = self.counts.done.load(Ordering::SeqCst);
         self.tasks.saturating_sub(done)
     }
 
-    /// How often a turn has moved something.
+    /// Returns how often a turn has moved something.
     pub(crate) fn moves(&self) -> u64 {
         self.counts.moves.load(Ordering::SeqCst)
     }
 
-    /// A worker begins.
+    /// Notes that a worker begins.
     pub(crate) fn begin(&self) {
         self.counts.begun.fetch_add(1, Ordering::SeqCst);
     }
 
-    /// A turn has moved something, and its task can be taken again.
+    /// Notes that a turn has moved something, and that its task can be taken again.
     pub(crate) fn note_move(&self) {
         self.counts.moves.fetch_add(1, Ordering::SeqCst);
         if self.counts.asleep.load(Ordering::SeqCst) > 0 {
@@ -66,14 +66,15 @@ impl Progress {
         }
     }
 
-    /// A task is done.
+    /// Notes that a task is done.
     pub(crate) fn note_done(&self) {
         self.counts.done.fetch_add(1, Ordering::SeqCst);
         self.note_move();
     }
 
-    /// Gives way once, and then sleeps until the count of moves is no longer this one, for 1 ms at most. The
-    /// last worker awake does neither: what the others wait for only its turns can bring.
+    /// Yields once, if `yields` is set, and then sleeps while the count of moves is `seen`, for at
+    /// most 1 ms. The last worker awake does neither: only its turns can bring what the others wait
+    /// for.
     pub(crate) fn wait<R: Wait>(&self, rt: &R, seen: u64, yields: bool) {
         let others = self.counts.asleep.fetch_add(1, Ordering::SeqCst);
         if others.saturating_add(1) < self.counts.begun.load(Ordering::SeqCst) {

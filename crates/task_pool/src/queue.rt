@@ -1,7 +1,7 @@
 //! The queue of waiting tasks, and the moves of a pass on it.
 //!
 //! A pass holds parts of the right to know every other pass. The calling thread begins with all
-//! of them, lays the tasks, and cuts a part off for each worker.
+//! parts, lays the tasks, and cuts off a part for each worker.
 ghost use Rattle.std.specs.Prelude.{◌≡◌, ◌+◌, ◌-◌, [], ◌++◌};
 ghost use Rattle.task_pool.specs.Rule.{Holds, Takes, Lays, Gives, Counts};
 ghost use Rattle.task_pool.specs.Hand.{hand, all_parts};
@@ -13,7 +13,7 @@ use crossbeam_queue::protocol::{Join, Lesson, Outcome, Protocol, Split};
 use crossbeam_queue::{Pass, RuledArrayQueue};
 use std::marker::PhantomData;
 
-/// The rule of the queue: each place waits, or is kept by one pass, once.
+/// The rule of the queue: each place either waits or is kept by one pass, once.
 pub(crate) struct Law<T>(PhantomData<T>);
 
 impl<T: PoolTask> Protocol<Waiting<T>, Hand<T>> for Law<T> {

@@ -5,15 +5,15 @@ use std::sync::Wait;
 /// How many turns in a row moved nothing, while no other worker's turn did.
 #[derive(Clone, Copy)]
 pub(crate) struct QuietTurns {
-    // The count of moves since which that is so.
+    // The count of moves since which no turn has moved anything.
     seen: u64,
     turns: u64,
-    // Whether the worker has given way since.
+    // Whether the worker has yielded since then.
     yielded: bool,
 }
 
 impl QuietTurns {
-    /// None yet, since this count of moves.
+    /// Returns that there was no such turn yet since this count of moves.
     pub(crate) fn since(seen: u64) -> QuietTurns {
         QuietTurns {
             seen,
@@ -22,14 +22,14 @@ impl QuietTurns {
         }
     }
 
-    /// Begins anew where the count of moves is another one now.
+    /// Begins anew if the count of moves has changed.
     pub(crate) fn look(&mut self, moves: u64) {
         if moves != self.seen {
             *self = QuietTurns::since(moves);
         }
     }
 
-    /// One turn more that moved nothing. Once there are as many as tasks are left, it waits.
+    /// Counts one more turn that moved nothing. After as many as tasks are left, it waits.
     pub(crate) fn one_more<R: Wait>(&mut self, rt: &R, progress: &Progress, left: u64) {
         self.turns = self.turns.saturating_add(1);
         if self.turns >= left {
@@ -37,7 +37,7 @@ impl QuietTurns {
         }
     }
 
-    /// Waits until something moves, and not for long.
+    /// Waits until something moves, but not for long.
     pub(crate) fn wait<R: Wait>(&mut self, rt: &R, progress: &Progress) {
         progress.wait(rt, self.seen, !self.yielded);
         self.yielded = true;

@@ -8,7 +8,7 @@ use std::test::Fail;
 use std::thread;
 use std::time::Duration;
 
-// A task of so many turns, which answers how many it made.
+// A task of this many turns, which answers how many it made.
 #[derive(Drop)]
 struct Steps {
     made: u32,
@@ -33,7 +33,7 @@ impl PoolTask for Steps {
     }
 }
 
-// So many tasks, of which the one at place k needs k + 1 turns.
+// This many tasks, of which the one at place k needs k + 1 turns.
 fn rising(alloc: Global, count: u32) -> Result<Vec<Steps>, AllocError>
     requires { count < 2 ^ 16 }
     ensures { IfOk result (λ v. vec_len v ≡ count) }
@@ -82,11 +82,11 @@ fn forty_tasks(rt: HostRuntime) -> Result<(), Fail> {
     Ok(())
 }
 
-// How many tries a gate holds a task whose companions do not come.
+// How many tries a gate holds a task whose companions don't come.
 const PATIENCE: u32 = 100_000_000;
 
-// Holds the first turn of each task of a set, by the bits of their places, until all of the set
-// have entered.
+// Holds the first turn of each task of a set, given by the bits of their places, until all of the
+// set have entered.
 #[derive(Drop)]
 struct Together {
     set: u64,
@@ -193,11 +193,11 @@ fn one_turn_at_a_time(rt: HostRuntime) -> Result<(), Fail> {
     Ok(())
 }
 
-// How many turns a task makes whose companions do not come.
+// How many turns a task makes whose companions don't come.
 const MOST_TURNS: u32 = 1_000_000;
 
-// A task that is done once each task of a set, by the bits of their places, has had a turn. It
-// gives up after `MOST_TURNS` turns, and answers whether all of them came.
+// A task that is done after each task of a set, given by the bits of their places, has had a turn.
+// It gives up after `MOST_TURNS` turns, and answers whether all of them came.
 #[derive(Drop)]
 struct Awaiting<'a> {
     set: u64,
@@ -293,8 +293,8 @@ const HOLD: u64 = 200;
 // How many turns each of the others may make meanwhile.
 const MOST_WAITED: u32 = 300;
 
-// A task that stays inside its one turn for a while, or one that waits for that, and answers how many turns it
-// made until then.
+// A task that stays inside its one turn for a while, or one that waits for that; it answers how
+// many turns it made until then.
 #[derive(Drop)]
 struct Held<'a> {
     rt: &'a HostRuntime,

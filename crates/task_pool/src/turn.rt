@@ -9,8 +9,8 @@ use crate::waiting::{Finished, Tried, Waiting};
 use service_gate::Gate;
 use std::sync::Wait;
 
-/// Takes the task that has waited longest, makes one turn of it behind the gate, and gives it
-/// back. A task that the queue doesn't take back stays with the caller, and is turned on.
+/// Takes the task that has waited longest, makes one turn of it after the gate, and gives it back.
+/// A task that the queue doesn't take back stays with the caller, which goes on with it.
 pub(crate) fn try_turn<T: PoolTask, G: Gate, R: Wait>(
     rt: &R,
     queue: &TaskQueue<T>,

@@ -1,4 +1,4 @@
-//! A task on its way between workers, and what it gave.
+//! A task on its way between workers, and what a task gave.
 
 /// A task that waits for its next turn.
 #[derive(Drop)]

@@ -12,7 +12,7 @@ use crate::waiting::{Finished, Tried};
 use service_gate::Gate;
 use std::sync::Wait;
 
-/// What a worker holds: its pass, and what those tasks gave that it brought to their end.
+/// What a worker holds: its pass, and the results of the tasks that it brought to their end.
 #[derive(Drop)]
 pub(crate) struct Worker<T: PoolTask> {
     /// Its pass of the queue.
@@ -21,9 +21,11 @@ pub(crate) struct Worker<T: PoolTask> {
     pub finished: Vec<Finished<T::Done>>,
 }
 
-/// Makes turns until every task is done. A worker that found no task, or that has made as many turns in a row
-/// as tasks are left, none of which moved anything while no other worker's did, waits for the next move. It
-/// holds no task then. Where none came in time it makes one turn more, and waits again.
+/// Makes turns until every task is done.
+///
+/// A worker waits for the next move, without a task, if it found none, or if it has made as many
+/// turns in a row as tasks are left, while no turn of any worker moved anything. If no move comes
+/// in time, it makes one more turn, and waits again.
 pub(crate) fn work<T: PoolTask, G: Gate, R: Wait>(
     rt: &R,
     queue: &TaskQueue<T>,

@@ -1,5 +1,5 @@
 -- What an agent makes of the messages that it heard: which of its calls were answered, and which MSG_EXEC_CMDLINE it serves.
--- Source: the messages are those of the qrexec protocol; what is passed over is this project's own.
+-- Source: the messages are those of the qrexec protocol; what is skipped is this project's own.
 use Rattle.std.specs.Prelude.{ℕ, ◌&&◌, bytes_eq, Bool, true, false, List, [], ◌∷◌, ◌++◌, map, Option, Some, None, if◌then◌else◌}
 use Rattle.std.specs.List.{list_any}
 use Rattle.qrexec_frame.specs.declared.message.Message.{Message}
@@ -11,7 +11,7 @@ use Rattle.task_duties.specs.Places.{has_place, without}
 use Rattle.task_duties.specs.Words.{ident_of, service_of_line}
 use Rattle.task_duties.specs.Agent.Given.{AgentPlan}
 
--- what a call was answered: nothing yet, a refusal, or a domain and the port at which it serves
+-- the answer to a call: nothing yet, a refusal, or a domain and the port at which it serves
 pub data Answer : Type 0 where
   Waits : Answer
   IsRefused : Answer
@@ -28,7 +28,7 @@ pub record Served : Type 0 where
   pub port : ℕ
   pub service : List ℕ
 
--- the calls with their answers, the data ends that are unused, and the sessions that are served, in order
+-- the calls with their answers, the unused data ends, and the sessions that are served, in order
 pub record Answers : Type 0 where
   pub asked : List Asked
   pub unused : List PagePlace
@@ -43,11 +43,11 @@ waits answer = false
 abbrev pub waits_as : List ℕ → Asked → Bool
 waits_as ident a = bytes_eq (ident_of a.call.number) ident && waits a.answer
 
--- the call of an ident is answered, where it waits
+-- the call of an ident is answered, if it waits
 abbrev pub answered : List ℕ → Answer → List Asked → List Asked
 answered ident answer asked = map (λ a. if waits_as ident a then record { call = a.call; answer = answer } else a) asked
 
--- a MSG_EXEC_CMDLINE is served where its line names a service and its end is unused
+-- a MSG_EXEC_CMDLINE is served if its line names a service and its end is unused
 abbrev pub serves : ℕ → ℕ → ℕ → Option (List ℕ) → Answers → Answers
 serves domain from port None a = a
 serves domain from port (Some service) a =
@@ -55,7 +55,7 @@ serves domain from port (Some service) a =
     then record a { unused = without (Payload from domain port) a.unused; served = a.served ++ record { from = from; port = port; service = service } ∷ [] }
     else a
 
--- one message to the agent of a domain: what is passed over changes nothing
+-- one message to the agent of a domain: what is skipped changes nothing
 abbrev pub takes : ℕ → Answers → Message → Answers
 takes domain a (Refused ident) = record a { asked = answered ident IsRefused a.asked }
 takes domain a (Connect to port ident) =

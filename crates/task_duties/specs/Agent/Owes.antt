@@ -57,9 +57,9 @@ heard_by plan end = hears plan.version to_agent (end (Control plan.domain)).got
 abbrev pub answers_of : AgentPlan → (PagePlace → EndView) → Answers
 answers_of plan end = answers plan (heard_by plan end).messages
 
--- what an agent owes that reports so of its calls, of what it served and of its control channel
+-- what an agent with these reports of its calls, of what it served and of its control channel owes
 pub record AgentOwes (plan : AgentPlan) (end : PagePlace → EndView) (calls : List CallDone) (served : List ServedDone) (control : ControlEnd) : Type 0 where
-  -- what it said: the triggers of its calls, in their order, as far as it came, each of the version that was agreed on, and nothing before that
+  --   what it sent: the triggers of its calls, in their order, as far as it came, each of the agreed version, and nothing before that
   pub said : List Message
   pub says : IsSaid plan.version to_broker said (end (Control plan.domain)).sent
   pub in_order : IsPrefixOf (filter_map asking said) (map asking_of plan.calls)

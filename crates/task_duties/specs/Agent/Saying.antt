@@ -1,4 +1,4 @@
--- What an agent says on its control channel: its triggers, in the order of its calls and with at most sixteen calls to a target open, and which calls it tells to have ended.
+-- What an agent sends on its control channel: its triggers, in the order of its calls and with at most sixteen calls to a target open, and which calls it tells to have ended.
 -- Source: the messages are those of the qrexec protocol; the order and the limit are this project's own.
 use Rattle.std.specs.Prelude.{◌≡◌, ◌⊎◌, ℕ, ◌<◌, ◌==◌, ◌&&◌, not, nat_lt, bytes_eq, Bool, true, false, List, [], ◌∷◌, length, filter, Option, Some, None, if◌then◌else◌}
 use Rattle.qrexec_frame.specs.declared.message.Message.{Message}
@@ -8,13 +8,13 @@ use Rattle.task_duties.specs.Pairwise.{SomeOf}
 use Rattle.task_duties.specs.Words.{ident_of}
 use Rattle.task_duties.specs.Agent.Answers.{Answer, IsRefused, At, Asked}
 
--- a call as its trigger says it
+-- a call as its trigger asks for it
 pub record Asking : Type 0 where
   pub target : List ℕ
   pub service : List ℕ
   pub ident : List ℕ
 
--- what a message asks for, where it is a trigger
+-- what a message asks for, if it is a trigger
 abbrev pub asking : Message → Option Asking
 asking (Trigger3 target ident service) = Some (record { target = target; service = service; ident = ident })
 asking (Trigger target ident service) = Some (record { target = target; service = service; ident = ident })
@@ -24,7 +24,7 @@ asking message = None
 abbrev pub asking_of : CallPlan → Asking
 asking_of call = record { target = call.to; service = call.service; ident = ident_of call.number }
 
--- below version 3 a trigger is a MSG_TRIGGER_SERVICE, and else a MSG_TRIGGER_SERVICE3
+-- below version 3 a trigger is a MSG_TRIGGER_SERVICE, else a MSG_TRIGGER_SERVICE3
 abbrev pub IsOfVersion : Option ℕ → Message → Type 0
 IsOfVersion version (Trigger3 target ident service) = (v : ℕ) × (version ≡ Some v) × (nat_lt v 3 ≡ false)
 IsOfVersion version (Trigger target ident service) = (v : ℕ) × (version ≡ Some v) × (nat_lt v 3 ≡ true)
@@ -42,7 +42,7 @@ abbrev pub is_refusal : Answer → Bool
 is_refusal IsRefused = true
 is_refusal answer = false
 
--- the idents of the open calls to a target after a trigger, from those before it: a call that is refused is never open
+-- the idents of the open calls to a target after a trigger, from those before it: a refused call is never open
 abbrev pub opened : (List ℕ → Answer) → List ℕ → Option Asking → List (List ℕ) → List (List ℕ)
 opened answer target None calls = calls
 opened answer target (Some a) calls = if bytes_eq a.target target && not (is_refusal (answer a.ident)) then a.ident ∷ calls else calls
@@ -57,7 +57,7 @@ abbrev pub asks_for : List ℕ → Option Asking → Bool
 asks_for target None = false
 asks_for target (Some a) = bytes_eq a.target target
 
--- at each trigger to the target fewer than 16 calls to it are open, from these on
+-- at each trigger to the target, fewer than 16 calls to it are open, if these are open at first
 abbrev pub KeepsTo : (List ℕ → Answer) → List ℕ → List (List ℕ) → List Message → Type 0
 KeepsTo answer target calls [] = Unit {0}
 KeepsTo answer target calls (m ∷ said) =

@@ -11,7 +11,7 @@ use Rattle.qrexec_data.specs.Sending.{CallerMaySend, ServingMaySend, SentAll}
 use Rattle.qrexec_data.specs.Fitting.{FitsCaller, FitsServing}
 use Rattle.end_view.specs.EndView.{EndView}
 
--- the most bytes that a session of an agent puts into one message of version 3
+-- the greatest number of bytes that a session of an agent puts into one message of version 3
 abbrev pub chunk : ℕ
 chunk = 65536
 
@@ -35,7 +35,7 @@ pub record CallerDone : Type 0 where
   pub stderr : List ℕ
   pub got : List ℕ
 
--- how the end of a caller stands, where its outcome says so
+-- the state of a caller's end that its outcome implies
 abbrev pub CallerEnded : Outcome → EndView → Type 0
 CallerEnded Closed end = IsClosed end
 CallerEnded Gone end = IsGone end
@@ -56,7 +56,7 @@ pub record CallerOwes (own : ℕ) (input : List ℕ) (done : CallerDone) (end : 
 abbrev pub IsService : List ℕ → (List ℕ → Triple) → Type 0
 IsService name owed = (input : List ℕ) → service name input ≡ Some (owed input)
 
--- how the end of a side that serves stands, where its outcome says so; a side that is done has sent all of its stream
+-- the state of a serving side's end that its outcome implies; a side that is done has sent all of its stream
 abbrev pub ServingEnded : ℕ → (List ℕ → Triple) → Outcome → EndView → Type 0
 ServingEnded own owed (Done code) end =
     (code ≡ (owed (serving_sees end.got).input).code) × SentAll own chunk (owed (serving_sees end.got).input) end.got end.sent

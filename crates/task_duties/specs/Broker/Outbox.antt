@@ -14,11 +14,11 @@ use Rattle.call_broker.specs.Domains.{Domains, name_of}
 use Rattle.call_broker.specs.Journal.{events, live}
 use Rattle.task_duties.specs.Words.{exec_line}
 
--- a message, where the test holds
+-- a message, if the test holds
 abbrev pub only_if : Bool → Message → List Message
 only_if b m = if b then m ∷ [] else []
 
--- what one entry puts into the outbox of a domain: the caller of an accepted call gets a Connect and its target an Exec, the caller of a refused one a Refused
+-- what one entry puts into the outbox of a domain: the caller of an accepted call gets a Connect and its target an Exec; the caller of a refused one gets a Refused
 abbrev pub puts : Domains → ℕ → Event → Decision → List Message
 puts hub d (Trigger from target service ident) (Accepted to port) =
     only_if (d == from) (message.Connect to port ident) ++ only_if (d == to) (message.Exec from port (exec_line (cleaned_service service) (name_of hub from)))

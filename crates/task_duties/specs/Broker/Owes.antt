@@ -20,27 +20,27 @@ broker_version = 3
 abbrev pub heard_from : (ℕ → EndView) → ℕ → Heard
 heard_from end d = hears broker_version to_broker (end d).got
 
--- how many calls it awaits of a domain, those of the first domain standing first
+-- how many calls of a domain it awaits; the count of the first domain stands first
 abbrev pub awaited_of : List ℕ → ℕ → ℕ
 awaited_of awaited d = slice_index_or awaited (d - 1) 0
 
--- what it owes that was made for these domains, awaits so many calls of each, and has this journal
+-- what a broker owes that was made for these domains, awaits this many calls of each, and has this journal
 pub record BrokerOwes (hub : Domains) (awaited : List ℕ) (journal : List Entry) (end : ℕ → EndView) : Type 0 where
-  -- each entry is decided after those before it, and is of domains that there are
+  --   each entry is decided after those before it, and is of domains that exist
   pub decided : IsJournal hub journal
   pub numbered : AreNumbered hub journal
-  -- the journal has what was heard of each domain; a domain is dropped only where its end or what it said gives cause
+  --   the journal has what was heard of each domain; a domain is dropped only if its end or what it sent gives cause
   pub reads : (d : ℕ) → is_domain hub d ≡ true → read_from journal d ≡ filter_map (event_of d) (heard_from end d).messages
   pub drops : (d : ℕ) → is_domain hub d ≡ true → is_dropped journal d ≡ true
       → ((end d).saw ≡ true) ⊎ ((end d).misled ≡ true) ⊎ IsSome (heard_from end d).fault
-  -- to each domain it said messages of its outbox, in any order
+  --   to each domain it sent messages of its outbox, in any order
   pub said : ℕ → List Message
   pub says : (d : ℕ) → is_domain hub d ≡ true → IsSaid broker_version to_agent (said d) (end d).sent
   pub from_journal : (d : ℕ) → is_domain hub d ≡ true → IsPartOf (said d) (outbox hub journal d)
-  -- who was sent a Connect finds a target that was sent the Exec, or that was dropped
+  --   if a domain was sent a Connect, its target was sent the Exec, or was dropped
   pub exec_first : (f t port : ℕ) (ident : List ℕ) → is_domain hub f ≡ true → Contains (said f) (Connect t port ident)
       → (is_dropped journal t ≡ true) ⊎ ((line : List ℕ) × Contains (said t) (Exec f port line))
-  -- of a domain that isn't dropped the awaited calls were answered and are over, and where there were some all of its outbox was said
+  --   if a domain isn't dropped, its awaited calls were answered and are over; if there were some, all of its outbox was sent
   pub settled : (d : ℕ) → is_domain hub d ≡ true → is_dropped journal d ≡ false
       → awaited_of awaited d + live_calls hub journal (numbers 1 1 (count_of hub)) d ≤ answered journal d
   pub all_said : (d : ℕ) → is_domain hub d ≡ true → is_dropped journal d ≡ false → 0 < awaited_of awaited d

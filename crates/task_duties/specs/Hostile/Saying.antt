@@ -1,4 +1,4 @@
--- What a hostile domain says on its control channel, turn by turn.
+-- What a hostile domain sends on its control channel, turn by turn.
 -- Source: this project's own, over the ring of libxenvchan's io.c.
 use Rattle.std.specs.Prelude.{◌≡◌, ◌≢◌, ◌⊎◌, ℕ, ◌+◌, ◌%◌, ◌^◌, ◌<◌, ◌≤◌, min, List, [], ◌∷◌, ◌++◌, length, take, drop}
 use Rattle.ring_words.specs.Rings.{room}
@@ -18,7 +18,7 @@ pub record Voice : Type 0 where
 abbrev pub fits : Voice → List ℕ → ℕ → ℕ
 fits v bytes cons = min (min (length bytes) 1048576) (room v.own (low32 cons) (order_of v.orders (written_ring Server)))
 
--- the index moves on by so many bytes
+-- the index moves on by this many bytes
 abbrev pub moved : Voice → ℕ → Voice
 moved v count = record v { own = (v.own + count) % 2 ^ 32 }
 
@@ -26,7 +26,7 @@ moved v count = record v { own = (v.own + count) % 2 ^ 32 }
 abbrev pub said_once : Voice → List ℕ → ℕ → List PastEvent
 said_once v bytes cons = say_events Server v.orders v.own cons (take (fits v bytes cons) bytes) (moved v (fits v bytes cons)).own
 
--- the events of some turns, the index behind them, and the bytes that are left then
+-- the events of some turns, the index after them, and the bytes that are left then
 pub record Saying : Type 0 where
   pub events : List PastEvent
   pub voice : Voice
@@ -40,7 +40,7 @@ said v bytes (cons ∷ loads) = then_said (said_once v bytes cons) (said (moved 
     then_said : List PastEvent → Saying → Saying
     then_said events more = record more { events = events ++ more.events }
 
--- these bytes are said by these events: it goes on while bytes are left, for at most 1,024 turns
+-- these bytes are sent by these events: it goes on while bytes are left, for at most 1,024 turns
 pub record IsSaying (before after : Voice) (bytes : List ℕ) (events : List PastEvent) : Type 0 where
   pub loads : List ℕ
   pub events_are : events ≡ (said before bytes loads).events

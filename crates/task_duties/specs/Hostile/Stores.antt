@@ -40,7 +40,7 @@ role_at domain (Payload from to port) = if from == domain then Server else Clien
 abbrev pub peer_on : ℕ → ℕ → ℕ → ℕ
 peer_on domain from to = if from == domain then to else from
 
--- the name of a domain, the first domain's name standing first
+-- the name of a domain; the first domain's name stands first
 abbrev pub name_of : HostilePlan → ℕ → List ℕ
 name_of plan d = unwrap_or (slice_get ([] ∷ plan.names) d) []
 
@@ -71,7 +71,7 @@ is_named plan page.Control (Control d) = true
 is_named plan (page.Payload peer port) (Payload from to p) = p == port && bytes_eq peer (name_of plan (peer_on plan.domain from to))
 is_named plan _ _ = false
 
--- the stores of a poke: one on the page that it names, where it reaches the word
+-- the stores of a poke: one on the page that it names, if it reaches the word
 abbrev pub poked : HostilePlan → PagePlace → ActPage → WordName → ℕ → List PastEvent
 poked plan place page word value = if is_named plan page place && reaches (orders_at plan place) word then stored word value ∷ [] else []
 
@@ -85,16 +85,16 @@ header_words = LeftCons ∷ LeftProd ∷ RightCons ∷ RightProd ∷ LeftOrder �
 abbrev pub field_of : ℕ → WordName
 field_of number = unwrap_or (slice_get header_words (number % 10)) SrvNotify
 
--- the store that three drawn numbers make, where the page that the first one names is this one
+-- the store that three drawn numbers make, if the page that the first one names is this one
 abbrev pub drawn_on : HostilePlan → PagePlace → Drawn → List PastEvent
 drawn_on plan place d =
     if option_map_or (is_place place) (slice_get plan.places (d.page % length plan.places)) false then stored (field_of d.word) d.value ∷ [] else []
 
--- those of so many stores that fall on this page
+-- those of this many stores that fall on this page
 abbrev pub scribbled : HostilePlan → PagePlace → ℕ → ℕ → List PastEvent
 scribbled plan place seed count = flat_map (drawn_on plan place) (drawn seed count)
 
--- ---- an act that says nothing
+-- ---- an act that sends nothing
 
 -- its stores on a page
 abbrev pub stores_of : HostilePlan → PagePlace → Act → List PastEvent

@@ -23,7 +23,7 @@ use Rattle.task_duties.specs.Hostile.Saying.{Voice, IsSaying}
 abbrev pub numbered_trigger : List ℕ → List ℕ → ℕ → List ℕ
 numbered_trigger to service k = written (message.Trigger3 to (codes "h-" ++ decimal k) service)
 
--- the bytes that an act says, where it says some
+-- the bytes that an act sends, if it sends some
 abbrev pub words_of : Act → Option (List ℕ)
 words_of Hello = Some (written (message.Hello 3))
 words_of (Say bytes) = Some bytes
