@@ -1,4 +1,4 @@
--- One turn of saying behind the others.
+-- One turn of saying after the others.
 use Rattle.std.proofs.Common.{◌≡◌, ◌≢◌, ◌⊎◌, ℕ, ◌+◌, ◌%◌, ◌^◌, ◌<◌, ◌≤◌, min, suc, zero, List, [], ◌∷◌, ◌++◌, Bool, true, false, length, take, drop, inl, inr, ⊎_elim, refl, sym, subst, ap, ◌∙◌, append_assoc, zero-add, arith}
 use Rattle.std.proofs.lemmas.List.{append-nil, length-append, length-drop, take-append-le}
 use Rattle.std.proofs.lemmas.Bool.{cases_lt}
@@ -53,7 +53,7 @@ pub fits-room : (v : Voice) (bytes : List ℕ) (cons : ℕ) → fits v bytes con
 fits-room v bytes cons =
     omega (arith, (size-within (order_of v.orders (written_ring Server))).1, room_within v.own (low32 cons) (order_of v.orders (written_ring Server)))
 
--- so it is over where nothing is left, or after the last turn
+-- so it is over if nothing is left, or after the last turn
 pub says_no_more : (v : Voice) (bytes : List ℕ) (p : Progress) (events : List PastEvent) → SaysSoFar v bytes p events → p.turns ≤ 1024 → (length bytes ≤ p.said) ⊎ (p.turns ≡ 1024) → IsSaying v (voice_at v p) bytes events
 says_no_more v bytes p events so_far few stops = record {
   loads = so_far.loads;

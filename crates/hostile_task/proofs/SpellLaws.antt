@@ -18,7 +18,7 @@ pub numbers-push : (from count : ℕ) → numbers from 1 (suc count) ≡ numbers
 numbers-push from zero = ap (λ (n : ℕ). n ∷ []) (omega arith)
 numbers-push from (suc count) = ap (λ (ns : List ℕ). from ∷ ns) (numbers-push (from + 1) count ∙ ap (λ (n : ℕ). numbers (from + 1) 1 count ++ n ∷ []) (omega arith))
 
--- one text more behind the others
+-- one text more after the others
 pub flat_map-numbers : (f : ℕ → List ℕ) (before : List ℕ) (count : ℕ) → (before ++ flat_map f (numbers 1 1 count)) ++ f (count + 1) ≡ before ++ flat_map f (numbers 1 1 (suc count))
 flat_map-numbers f before count =
     append_assoc before (flat_map f (numbers 1 1 count)) (f (count + 1))

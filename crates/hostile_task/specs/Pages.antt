@@ -61,7 +61,7 @@ places_in pages = pages.control.place ∷ map (λ p. p.place) pages.payload.item
 abbrev pub given_in : Pages → List EndAt
 given_in pages = map given_of (pages.control ∷ pages.payload.items)
 
--- each page after the events that its place names
+-- each page after the events of its place
 pub record AreAfter (events : PagePlace → List PastEvent) (old new : Pages) : Type 0 where
   pub control : new.control ≡ after_events old.control (events old.control.place)
   pub payload : new.payload.items ≡ map (λ p. after_events p (events p.place)) old.payload.items

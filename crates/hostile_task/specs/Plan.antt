@@ -28,7 +28,7 @@ pub record IsControlOf (d : HostileDomain) (end : SeatedEnd) : Type 0 where
   pub role : end.side.role ≡ Server
   pub orders : end.side.orders ≡ d.control
 
--- an end of a data page of it: the page is laid
+-- an end of one of its data pages: the page is laid
 pub record IsDataOf (d : HostileDomain) (data_end : DataEnd) : Type 0 where
   pub end : SeatedEnd
   pub laid : data_end.end ≡ Laid end

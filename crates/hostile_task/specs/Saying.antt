@@ -10,19 +10,19 @@ use Rattle.task_duties.specs.Hostile.Saying.{Voice, said, IsSaying}
 use Rattle.task_duties.specs.Hostile.Trail.{words_of}
 use Rattle.hostile_task.specs.declared.progress.Progress.{Progress}
 
--- ---- what is said
+-- ---- what is sent
 
 -- the words that are held for an act: in the act itself, or spelled out beside it
 abbrev pub held_words : Act → List ℕ → List ℕ
 held_words (Say bytes) spelled = bytes
 held_words act spelled = spelled
 
--- these are the words of an act that says some
+-- these are the words of an act that sends some
 abbrev pub AreWords : Option (List ℕ) → List ℕ → Type 0
 AreWords (Some bytes) held = held ≡ bytes
 AreWords None held = Unit {0}
 
--- the words of an act are ready to be said
+-- the words of an act are ready to be sent
 abbrev pub IsReady : Act → List ℕ → Type 0
 IsReady act spelled = AreWords (words_of act) (held_words act spelled)
 
@@ -32,7 +32,7 @@ IsReady act spelled = AreWords (words_of act) (held_words act spelled)
 abbrev pub voice_at : Voice → Progress → Voice
 voice_at v p = record v { own = p.own }
 
--- the turns so far of saying these bytes made these events, and left what is not said yet; some were left before each of these turns
+-- the turns so far of sending these bytes made these events, and left what isn't sent yet; some were left before each of these turns
 pub record SaysSoFar (before : Voice) (bytes : List ℕ) (p : Progress) (events : List PastEvent) : Type 0 where
   pub loads : List ℕ
   pub turns : length loads ≡ p.turns
@@ -56,7 +56,7 @@ SaysOrSaid false before bytes p events = SaysSoFar before bytes p events
 abbrev pub side_after : SeatedSide → List PastEvent → SeatedSide
 side_after e events = record e { side = strays_along e.side events }
 
--- one more turn behind these events
+-- one more turn after these events
 pub record SaysOn (before : Voice) (bytes : List ℕ) (events : List PastEvent) (over : Bool) (p : Progress) (old new : SeatedSide) : Type 0 where
   pub more : List PastEvent
   pub end_is : new ≡ side_after old more

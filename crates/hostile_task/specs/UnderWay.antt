@@ -32,11 +32,11 @@ ActsDone plan place (act ∷ acts) before after events =
     (first : List PastEvent) × (rest : List PastEvent) × (between : Voice) × (events ≡ first ++ rest)
     × Acts plan place act (words_of act) before between first × ActsDone plan place acts between after rest
 
--- what the act of a number says, where it says something
+-- the bytes that the act of a number sends, if it sends some
 abbrev pub words_at : HostilePlan → ℕ → Option (List ℕ)
 words_at plan number = option_and_then words_of (slice_get plan.acts number)
 
--- a part of the events of an act under way: only saying is cut into parts
+-- a part of the events of an act under way: only an act that sends bytes has parts
 abbrev pub IsPart : Option (List ℕ) → Voice → Progress → List PastEvent → Type 0
 IsPart (Some bytes) v p events = SaysSoFar v bytes p events
 IsPart None v p events = (events ≡ []) × (p.own ≡ v.own)
@@ -69,7 +69,7 @@ HaveOrders plan pages = EachPage (λ p. p.end.side.orders ≡ orders_at plan p.p
 abbrev pub HaveRoles : ℕ → Pages → Type 0
 HaveRoles domain pages = EachPage (λ p. p.end.side.role ≡ role_at domain p.place) pages
 
--- a page is the one that was given, in the hands of the domain, which has come so far on it
+-- a page is the one that was given, turned over to the domain, which has come so far on it
 pub record IsPageSoFar (plan : HostilePlan) (p : Progress) (page : TurnedPage) : Type 0 where
   pub same : page.end.page ≡ page.given.value.page
   pub same_role : page.given.value.side.role ≡ role_at plan.domain page.place
@@ -88,7 +88,7 @@ IsPayload (Payload from to port) = Unit {0}
 
 -- ---- the act under way
 
--- how many turns an act takes at most
+-- the greatest number of turns that an act takes
 abbrev pub most_turns : Act → ℕ
 most_turns (Rest turns) = turns
 most_turns act = 1024
@@ -98,7 +98,7 @@ abbrev pub HasBegun : Option Act → Progress → List ℕ → Type 0
 HasBegun None p spelled = Unit {0}
 HasBegun (Some act) p spelled = 0 < p.turns → (p.turns < most_turns act) × IsReady act spelled
 
--- the domain is so far with its acts on its pages
+-- how far the domain has come with its acts on its pages
 pub record IsUnderWay (domain : HostileDomain) (pages : Pages) (p : Progress) (spelled : List ℕ) : Type 0 where
   pub acts : p.acts ≤ length domain.acts
   pub begun : HasBegun (slice_get domain.acts p.acts) p spelled

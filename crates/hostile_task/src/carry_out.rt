@@ -12,11 +12,13 @@ use scenario_file::Act;
 use std::alloc::Global;
 use vchan_io::Memory;
 
-/// Carries out one turn of the next act. A scribble is one turn: its stores are drawn one by one, and
-/// nothing waits in between.
+/// Carries out one turn of the next act. A scribble is one turn: its stores are drawn one by one,
+/// without waiting in between.
 ///
-/// Want of memory comes only where a trigger, a greeting or a termination is spelled out; no event was
-/// made then.
+/// # Errors
+///
+/// `Memory` if memory runs out for the bytes of a trigger, a greeting or a termination; no event
+/// was made then.
 pub fn carry_out(
     alloc: Global,
     domain: &HostileDomain,

@@ -1,4 +1,4 @@
-//! What a hostile domain is, beside its ends.
+//! What a hostile domain has beside its ends.
 ghost use Rattle.std.specs.Prelude.{◌≡◌, []};
 
 use qrexec_frame::Text;
@@ -8,15 +8,15 @@ use scenario_file::Acts;
 /// A hostile domain.
 #[derive(Drop)]
 pub struct HostileDomain {
-    /// Its number, from 1 on.
+    /// The names of all domains; the first domain's name stands first.
     pub number: u32,
     /// The names of all domains, the first domain's standing first.
     pub names: Vec<Text>,
-    /// What it does.
+    /// Its acts, in order.
     pub acts: Acts,
-    /// The orders of a control page.
+    /// The orders of each control page.
     pub control: Orders,
-    /// The orders of a data page.
+    /// The orders of each data page.
     pub payload: Orders,
 }
 
@@ -24,7 +24,7 @@ impl HostileDomain {
     ghost use Rattle.task_duties.specs.Hostile.Stores.{name_of};
     ghost use Rattle.hostile_task.specs.Plan.{plan_of};
 
-    /// The name of a domain, empty where there is no such domain.
+    /// Returns the name of a domain, or no bytes if there is no such domain.
     pub(crate) fn name_of(&self, number: u32) -> &[u8]
         ensures { result.now ≡ name_of (plan_of self.now []) number }
     {

@@ -1,7 +1,7 @@
 //! The task of a hostile domain: it carries out a list of acts on the pages of the domain, and then
 //! retires all its ends.
 //!
-//! It serves a run, which plays such domains against honest ones. The acts are this project's own.
+//! It serves a run that plays such domains against honest ones. The acts are this project's own.
 #![tactic(auto)]
 
 mod carry_out;

@@ -10,11 +10,11 @@ use std::snapshot::Snapshot;
 use task_duties::{DataEnd, DoneEnd, PagePlace, RetiredEnd, UnusedEnd};
 use vchan_rule::End;
 
-/// A page, whose end the domain has.
+/// A page of which the domain has an end.
 #[derive(Drop)]
 pub struct TurnedPage<'p> {
     pub place: PagePlace,
-    /// The end as it was given, for clauses alone.
+    /// The end as it was given; only clauses use it.
     pub given: Snapshot<End<'p>>,
     pub end: Hostile<'p>,
 }
@@ -36,7 +36,7 @@ impl<'p> TurnedPage<'p> {
         }
     }
 
-    /// The same of the end of a data page, which is laid.
+    /// Does the same with the end of a data page, which is laid.
     pub fn of_data(given: DataEnd<'p>) -> TurnedPage<'p>
         requires { IsLaid given }
         ensures { IsDataTurnedOver given.entry result }
@@ -53,8 +53,8 @@ impl<'p> TurnedPage<'p> {
         }
     }
 
-    /// Stores a value to a word, where an act that names it means this page, and the word is one that a
-    /// hostile user reaches.
+    /// Stores a value to a word, if the page that the act names is this one, and a hostile user
+    /// reaches the word.
     pub fn poke(&mut self, domain: &HostileDomain, page: &ActPage, word: WordName, value: u64)
         requires { self.old.end.side.orders ≡ orders_at (plan_of domain.now []) self.old.place }
         ensures { self.new ≡ after_events self.old (poked (plan_of domain.now []) self.old.place page.now word value) }
@@ -64,7 +64,7 @@ impl<'p> TurnedPage<'p> {
         }
     }
 
-    // Whether an act that names a page so means this one.
+    // Whether the page that an act names is this one.
     fn is_named(&self, domain: &HostileDomain, page: &ActPage) -> bool
         ensures { result ≡ is_named (plan_of domain.now []) page.now self.now.place }
     {

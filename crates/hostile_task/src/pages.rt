@@ -47,7 +47,7 @@ impl<'p> Pages<'p> {
     ghost use Rattle.qrexec_frame.specs.Streams.{Each};
     ghost use Rattle.hostile_task.specs.UnderWay.{HaveOrders, HaveRoles};
 
-    /// Turns the ends of a domain over to it, that of its control page first.
+    /// Turns the ends of a domain over to it, the end of its control page first.
     pub fn turn(
         alloc: Global,
         domain: u32,
@@ -69,7 +69,8 @@ impl<'p> Pages<'p> {
         })
     }
 
-    /// Stores a value to a word of each page that an act names so, where a hostile user reaches it.
+    /// Stores a value to a word of each page that the act names, if a hostile user reaches the
+    /// word.
     pub fn poke(&mut self, domain: &HostileDomain, page: &ActPage, word: WordName, value: u64)
         requires { HaveOrders (plan_of domain.now []) self.old }
         ensures { AreAfter (λ place. poked (plan_of domain.now []) place page.now word value) self.old self.new }
@@ -90,7 +91,7 @@ impl<'p> Pages<'p> {
         }
     }
 
-    /// Makes so many stores, each drawn by three numbers of the generator.
+    /// Makes this many stores, each drawn by three numbers of the generator.
     pub fn scribble(&mut self, seed: u32, count: u32)
         requires seed { seed ≤ 65535 }
         requires apart { AreApart (places_in self.old) }
@@ -120,7 +121,11 @@ impl<'p> Pages<'p> {
         }
     }
 
-    /// Retires all ends, and gives them in their order. Where memory runs out they are retired too.
+    /// Retires all ends, and returns them in their order.
+    ///
+    /// # Errors
+    ///
+    /// `Memory` if memory runs out; the ends are retired then too.
     pub fn retire(self, alloc: Global) -> Result<Vec<RetiredEnd>, Memory>
         ensures { IfOk result (λ ends. EachPair IsRetiredOf (self.entry.control ∷ self.entry.payload.items) ends.items) }
     {
@@ -146,7 +151,7 @@ impl<'p> Pages<'p> {
     }
 }
 
-/// The field of the header that a drawn number names.
+/// Returns the field of the header that a drawn number names.
 pub fn field_of(number: u32) -> WordName
     ensures field { result ≡ field_of number }
     ensures reached { (orders : Orders) → MayPoke orders result }

@@ -1,16 +1,16 @@
-//! How far a task is.
+//! The progress of a task.
 
-/// How far a hostile domain is with its acts.
+/// How far a hostile domain has come with its acts.
 #[derive(Clone, Copy, Debug, PartialEq, Eq)]
 pub struct Progress {
     /// How many acts are done.
     pub acts: usize,
     /// How many turns the act under way has taken.
     pub turns: u32,
-    /// How many bytes of it were said.
+    /// How many bytes of it were sent.
     pub said: usize,
-    /// The domain's own producer index of its control channel. It is read from the page once, and
-    /// then kept here, so that nobody else moves it.
+    /// The domain's own producer index of its control channel. It is read from the page only once
+    /// and kept in this field, so that no other domain moves it.
     pub own: u32,
 }
 
@@ -18,7 +18,7 @@ impl Progress {
     ghost use Rattle.std.specs.Prelude.{◌≡◌, ◌+◌, ◌<◌, ◌^◌};
     ghost use Rattle.hostile_task.specs.Saying.{after_turn};
 
-    /// Nothing is done, and the producer index was found so.
+    /// Returns the progress of a domain that has done nothing yet, and found this producer index.
     pub fn start(own: u32) -> Progress
         ensures { result ≡ record { acts = 0; turns = 0; said = 0; own = own } }
     {
@@ -30,7 +30,7 @@ impl Progress {
         }
     }
 
-    /// The act under way takes one turn more.
+    /// Counts one more turn of the act under way.
     pub fn rest(&mut self)
         requires { self.old.turns + 1 < 2 ^ 32 }
         ensures { self.new ≡ record self.old { turns = self.old.turns + 1 } }
@@ -38,7 +38,8 @@ impl Progress {
         self.turns += 1;
     }
 
-    /// A turn of the act under way is over: the next act follows, or the next turn of this one.
+    /// Ends a turn of the act under way: the next act follows if this one is over, else its next
+    /// turn.
     pub fn end_turn(&mut self, over: bool)
         requires { self.old.acts + 1 < 2 ^ 64 }
         ensures { self.new ≡ after_turn over self.old }

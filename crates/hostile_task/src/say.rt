@@ -1,4 +1,4 @@
-//! One turn of saying.
+//! One turn of an act that sends bytes.
 ghost use Rattle.std.specs.Prelude.{◌≡◌, ◌≤◌, ◌<◌, ◌+◌, false, List, ℕ, length};
 ghost use Rattle.ring_words.specs.declared.page.Role.TheVariants.{Server};
 ghost use Rattle.vchan_protocol.specs.declared.op.PastEvent.{PastEvent};
@@ -8,12 +8,13 @@ ghost use Rattle.hostile_task.specs.Saying.{SaysSoFar, SaysOn};
 use crate::progress::Progress;
 use hostile_seat::Hostile;
 
-/// The most turns that an act of saying takes. Then it gives up, since its peer may never read on.
+/// The greatest number of turns that an act of saying takes. Then it gives up, since its peer may
+/// never read on.
 const MOST_TURNS: u32 = 1_024;
 
-/// Says as many of the words that are left as have room, which are never more than 1,048,576, the bytes
-/// of the greatest ring. It answers whether the act is over: nothing is left, or it has taken the most
-/// turns. Where nothing was left, no event is made.
+/// Sends as many of the bytes that are left as have room, never more than 1,048,576, the bytes of
+/// the greatest ring. Returns whether the act is over: nothing is left, or it has taken the
+/// greatest number of turns. If nothing was left, no event is made.
 pub fn say(control: &mut Hostile<'_>, progress: &mut Progress, words: &[u8]) -> bool
     requires role { control.old.side.role ≡ Server }
     requires within { progress.old.said ≤ length words.now }

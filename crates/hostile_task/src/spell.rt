@@ -1,4 +1,4 @@
-//! What an act says, as it is written.
+//! The bytes that an act sends, in their written spelling.
 ghost use Rattle.std.specs.Prelude.{◌≡◌, ◌++◌, ◌∷◌, [], ◌≤◌, codes, decimal, true, ◌<◌, IfOk, OnOk, OnErr};
 ghost use Rattle.qrexec_frame.specs.Texts.{FitsText};
 ghost use Rattle.scenario_file.specs.Acts.{ActFits};
@@ -13,10 +13,11 @@ use scenario_file::Act;
 use std::alloc::Global;
 use vchan_io::Memory;
 
-/// The version that a hostile domain greets with.
+/// The version in the greeting of a hostile domain.
 const VERSION: u32 = 3;
 
-/// The words of an act that says some: the act's own bytes, or those that were spelled out.
+/// Returns the bytes that an act sends, if it sends some: those in the act itself, or those that
+/// were spelled out.
 pub fn held_words<'a>(act: &'a Act, spelled: &'a [u8]) -> &'a [u8]
     ensures { result.now ≡ held_words act.now spelled.now }
 {
@@ -26,7 +27,11 @@ pub fn held_words<'a>(act: &'a Act, spelled: &'a [u8]) -> &'a [u8]
     }
 }
 
-/// Makes ready what an act says, before its first turn. Want of memory comes then alone.
+/// Makes the bytes that an act sends ready, before its first turn.
+///
+/// # Errors
+///
+/// `Memory` if memory runs out, which happens only before the first turn.
 pub fn prepare(alloc: Global, act: &Act, turns: u32, spelled: &mut Vec<u8>) -> Result<(), Memory>
     requires fits { ActFits act.now }
     requires ready { 0 < turns → IsReady act.now spelled.old.items }
@@ -39,7 +44,7 @@ pub fn prepare(alloc: Global, act: &Act, turns: u32, spelled: &mut Vec<u8>) -> R
     spell(alloc, act, spelled)
 }
 
-// Spells out what an act says, where it doesn't hold that itself.
+// Spells out the bytes that an act sends, if it doesn't hold them itself.
 fn spell(alloc: Global, act: &Act, spelled: &mut Vec<u8>) -> Result<(), Memory>
     requires { ActFits act.now }
     ensures { OnOk result (IsReady act.now spelled.new.items) }
@@ -59,7 +64,7 @@ fn spell(alloc: Global, act: &Act, spelled: &mut Vec<u8>) -> Result<(), Memory>
     }
 }
 
-// Appends so many triggers, numbered from 1 on.
+// Appends this many triggers, numbered from 1 on.
 fn put_triggers(
     alloc: Global,
     to: &Text,

@@ -13,7 +13,7 @@ use task_duties::{DataEnd, PagePlace, RetiredEnd};
 use vchan_io::Memory;
 use vchan_rule::End;
 
-/// A hostile domain that carries out its acts. Contracts see of it what it was given, which no turn
+/// A hostile domain that carries out its acts. Contracts see only what it was given, which no turn
 /// changes.
 #[derive(Drop)]
 pub struct HostileTask<'p> {
@@ -21,7 +21,7 @@ pub struct HostileTask<'p> {
     domain: HostileDomain,
     pages: Pages<'p>,
     progress: Progress,
-    // What the act under way says, kept for its room.
+    // The bytes that the act under way sends; kept for the room of the list.
     spelled: Vec<u8>,
     // Whether the last turn made an event.
     moved: bool,
@@ -45,7 +45,7 @@ pub enum HostileTurn<'p> {
     Again(HostileTask<'p>),
     /// All acts are done.
     Done(HostileDone),
-    /// Memory ran out. All ends have retired.
+    /// Memory ran out. All ends have been retired.
     NoMemory,
 }
 
@@ -54,7 +54,7 @@ pub enum HostileTurn<'p> {
 pub struct HostileDone {
     /// The number of the domain.
     pub domain: u32,
-    /// Its ends, in the order in which they were given, that of the control page first.
+    /// Its ends, in the order in which they were given, the end of the control page first.
     pub ends: Vec<RetiredEnd>,
 }
 
@@ -68,10 +68,12 @@ impl<'p> HostileTask<'p> {
     ghost use Rattle.hostile_task.specs.Plan.{plan_of, AreApart, IsControlOf, AreDataOf};
     ghost use Rattle.hostile_task.specs.Turns.{Pays};
 
-    /// The task of a domain with these ends. They are turned over at once, and the producer index of the
-    /// control page is read.
+    /// Returns the task of a domain with these ends. They are turned over at once, and the producer
+    /// index of the control page is read.
     ///
-    /// After want of memory all that it took is dropped, the ends unretired.
+    /// # Errors
+    ///
+    /// `Memory` if memory runs out; all that was passed is dropped then, with the ends not retired.
     pub fn new(
         alloc: Global,
         domain: HostileDomain,
@@ -96,13 +98,13 @@ impl<'p> HostileTask<'p> {
         })
     }
 
-    /// Whether the last turn made an event that another task may wait for, or there was none yet: one of an
-    /// act that rests made none. No contract relies on it.
+    /// Returns whether the last turn made an event that another task may wait for, or there was no
+    /// turn yet. A turn of an act that rests makes none. No contract relies on it.
     pub fn moved(&self) -> bool {
         self.moved
     }
 
-    /// One turn: of the next act, and after the last one the ends are retired.
+    /// Makes one turn: of the next act, or, after the last act, the turn that retires the ends.
     pub fn turn(self) -> HostileTurn<'p>
         ensures { Pays self.entry result }
     {

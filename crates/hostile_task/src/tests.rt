@@ -9,7 +9,7 @@ use vchan_rule::Page;
 /// More turns than any of the lists of acts takes.
 const MOST: u32 = 3_000;
 
-/// How many turns the acts of the only domain of a scenario take, nobody reading what it says; 0 where
+/// How many turns the acts of the only domain of a scenario take, if its peer never reads; 0 if
 /// memory runs out.
 fn turns_of(alloc: Global, text: &[u8]) -> Result<u32, Fail> {
     let Scenario {

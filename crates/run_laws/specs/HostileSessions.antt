@@ -23,11 +23,11 @@ pub record HostileSession : Type 0 where
 abbrev pub session_of : ℕ → ServedDone → HostileSession
 session_of d done = record { from = done.from; to = d; port = done.port; outcome = mixed_outcome done.outcome; got = done.got }
 
--- those of its sessions whose caller is hostile
+-- its sessions whose caller is hostile
 abbrev pub sessions_at : Scenario → Run → ℕ → List HostileSession
 sessions_at s run d = if hostile_at s d then [] else map (session_of d) (filter (λ done. hostile_at s done.from) (run.served d))
 
--- those of all honest domains, domain by domain
+-- these sessions of all honest domains, domain by domain
 abbrev pub hostile_sessions : Scenario → Run → List HostileSession
 hostile_sessions s run = flat_map (sessions_at s run) (all_domains s)
 
@@ -39,7 +39,7 @@ stands_before a b = nat_lt a.from b.from || (a.from == b.from && (nat_lt a.to b.
 abbrev pub session_line : Scenario → HostileSession → ServedLine
 session_line s x = record { from = name_at s x.from; to = name_at s x.to; port = x.port; outcome = x.outcome; got = x.got }
 
--- the report of a run is lawful with the lines of all these sessions, once they are sorted
+-- the report of a run is lawful with the lines of all these sessions, after they are sorted
 abbrev pub SortedSessionsAreLawful : Type 0
 SortedSessionsAreLawful =
     (s : Scenario) (run : Run) → IsRun s run → (sorted : List HostileSession) → IsPermutation (hostile_sessions s run) sorted → AllPairs (λ a b. stands_before b a ≡ false) sorted

@@ -68,7 +68,7 @@ pub record BeganAsSaid (s : Scenario) (place : PagePlace) (page : Settled) : Typ
   pub orders : page.orders ≡ orders_of s place
   pub start : page.start ≡ s.start
 
--- whose end the server of a page is, and whose the client; 0 is the broker
+-- which domain has the server's end of a page, and which the client's; 0 is the broker
 abbrev pub server_of : PagePlace → ℕ
 server_of (Control d) = d
 server_of (Payload from to port) = from

@@ -36,11 +36,11 @@ use Rattle.run_laws.specs.Report.{SettledPage, Report, plain_line, FitsCaller, F
 
 -- ---- the pages
 
--- the broker is no domain, and so it isn't hostile
+-- the broker isn't a domain, and so it isn't hostile
 abbrev pub is_turned : Scenario → ℕ → Bool
 is_turned s d = hostile_at s d
 
--- an end is turned exactly where its domain is hostile
+-- an end is turned if and only if its domain is hostile
 pub record TurnedAsSaid (s : Scenario) (page : SettledPage) : Type 0 where
   pub server : page.settled.server.turned ≡ is_turned s (server_of page.place)
   pub client : page.settled.client.turned ≡ is_turned s (client_of page.place)
@@ -78,20 +78,20 @@ pub record IsAnswered (call : CallPlan) (page : Settled) (code : ℤ) (stdout st
   pub input_is : (serving_sees page.client.got).input ≡ call.stdin
   pub input_ended : (serving_sees page.client.got).ended ≡ true
 
--- how an end was done with, where its outcome says so
+-- the state of an end that its outcome implies
 abbrev pub EndedAs : MixedOutcome → EndView → Type 0
 EndedAs Closed end = (end.ended ≡ Some AllRead) × (end.drained ≡ true)
 EndedAs Gone end = end.ended ≡ Some PeerGone
 EndedAs outcome end = Unit {0}
 
--- the target has no such service, or the broker gave the target up
+-- the target has no such service, or the broker had cause to drop the target
 abbrev pub MayRefuse : Scenario → Report → CallPlan → ℕ → Type 0
 MayRefuse s r call to =
     (service call.service [] ≡ None)
     ⊎ ((page : Settled) × LiesAt r (Control to) page
     × ((page.client.saw ≡ true) ⊎ (page.client.misled ≡ true) ⊎ IsSome (hears 3 to_broker page.client.got).fault))
 
--- the caller's end of its page stands as the outcome says, and sent what a caller may send
+-- the state of the caller's end of its page is as the outcome implies, and it sent what a caller may send
 abbrev pub MixedOn : Scenario → CallPlan → MixedOutcome → List ℕ → Settled → Type 0
 MixedOn s call outcome got page =
     (page.server.got ≡ got) × FitsCaller outcome got × CallerMaySend (version_at s call.from) chunk call.stdin got page.server.sent × EndedAs outcome page.server
@@ -111,7 +111,7 @@ abbrev pub is_mixed_result : CallResult → Bool
 is_mixed_result (IsMixed outcome got) = true
 is_mixed_result result = false
 
--- the line of a call stands: it is mixed exactly where its target is hostile, and its page bears it out
+-- the line of a call stands: it is mixed if and only if its target is hostile, and its page confirms it
 abbrev pub CallStands : Scenario → Report → Ports → CallPlan → CallLine → Type 0
 CallStands s r ports call l =
     (is_mixed_result l.result ≡ is_mixed s call) × ((to : ℕ) → domain_named s call.to ≡ Some to → ResultStands s r ports call to l.result)
@@ -147,7 +147,7 @@ hostile_execs s r = flat_map (λ p. execs_on s p.place p.settled) r.pages
 abbrev pub comes_before : ExecAt → ExecAt → Bool
 comes_before a b = nat_lt a.from b.from || (a.from == b.from && (nat_lt a.to b.to || (a.to == b.to && nat_lt a.port b.port)))
 
--- what the serving end sent, and how it was done with, where its outcome says so
+-- what the serving end sent, and its state, if its outcome implies one
 abbrev pub ServedSent : Scenario → ExecAt → (List ℕ → Triple) → MixedOutcome → EndView → Type 0
 ServedSent s x owed (Done code) end =
     (code ≡ (owed (serving_sees end.got).input).code) × SentAll (version_at s x.to) chunk (owed (serving_sees end.got).input) end.got end.sent
@@ -155,7 +155,7 @@ ServedSent s x owed Closed end = (end.ended ≡ Some AllRead) ⊎ (end.misled �
 ServedSent s x owed Gone end = end.ended ≡ Some PeerGone
 ServedSent s x owed outcome end = Unit {0}
 
--- the line of a session with a hostile caller stands: its page bears it out
+-- the line of a session with a hostile caller stands: its page confirms it
 pub record IsServed (s : Scenario) (r : Report) (x : ExecAt) (l : ServedLine) : Type 0 where
   pub from : l.from ≡ name_at s x.from
   pub to : l.to ≡ name_at s x.to
@@ -195,14 +195,14 @@ pub record ControlStands (s : Scenario) (ports : Ports) (d : ℕ) (page : Settle
   pub asked : filter_map asking (control_messages page.client.got) ≡ map asking_of (calls_from s d)
   pub answered : Each (λ call. replies (ident_of call.number) (control_messages page.server.got) ≡ answer_of s ports call (domain_named s call.to) (ports call.number) ∷ []) (calls_from s d)
 
--- a call that was done was told to its target
+-- the target of a call that was done got its MSG_EXEC_CMDLINE
 abbrev pub ToldAs : Scenario → Report → Ports → CallPlan → ℕ → CallResult → Type 0
 ToldAs s r ports call to (IsDone code stdout stderr page) =
     (port : ℕ) × (settled : Settled) × (ports call.number ≡ Some port) × LiesAt r (Control to) settled
     × Contains (control_messages settled.server.got) (message.Exec call.from port (exec_line call.service (name_at s call.from)))
 ToldAs s r ports call to result = Unit {0}
 
--- a call has a page exactly where it isn't refused
+-- a call has a page if and only if it isn't refused
 abbrev pub has_page : CallResult → Bool
 has_page (IsDone code stdout stderr page) = true
 has_page (IsRefused cause) = false
@@ -214,14 +214,14 @@ has_page (IsMixed outcome got) = true
 -- a lawful report of a scenario
 pub record IsLawful (s : Scenario) (r : Report) : Type 0 where
   pub ports : Ports
-  -- the pages are those that are laid, each once, with the orders and the start that the scenario says, turned as it says and settled
+  --   the pages are those that are laid, each once, with the orders and the start of the scenario, turned as it says and settled
   pub pages : IsPermutation (map (λ p. p.place) r.pages) (laid s)
   pub begun : Each (λ p. BeganAsSaid s p.place p.settled) r.pages
   pub turned : Each (TurnedAsSaid s) r.pages
   pub settled : Each (λ p. IsSettled p.settled) r.pages
   -- each call has a line
   pub calls : EachPair (IsLineOf s) s.calls r.calls
-  -- the lines of calls to domains that aren't hostile are those that the services and names give without the hostile domains
+  --   the lines of calls to domains that aren't hostile are those that the services and names give without the hostile domains
   pub results : filter_map plain_line r.calls ≡ lines (without_hostile s)
   -- each result stands on a page of its own
   pub apart : AreApart s ports

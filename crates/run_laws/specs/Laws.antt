@@ -58,14 +58,14 @@ ControlBytes = (s : Scenario) (run : Run) → IsRun s run → (d : ℕ) → IsHo
 
 -- ---- of one control page: how it ends
 
--- the agent got all that the broker said, the broker saw no end before its own, and the domain wasn't dropped
+-- the agent got all that the broker sent, the broker saw no end before its own, and the domain wasn't dropped
 pub record WasAllHeard (run : Run) (d : ℕ) : Type 0 where
   pub all_got : (run.page (Control d)).server.got ≡ (run.page (Control d)).client.sent
   pub unseen : (run.page (Control d)).client.saw ≡ true → ⊥
   pub found : (run.page (Control d)).client.misled ≡ false
   pub kept : is_dropped run.journal d ≡ false
 
--- the control page of an honest domain ends by the broker, once all was said
+-- the control page of an honest domain is ended by the broker, after all was sent
 abbrev pub ControlEnds : Type 0
 ControlEnds = (s : Scenario) (run : Run) → IsRun s run → (d : ℕ) → IsHonest s d → WasAllHeard run d
 
@@ -92,7 +92,7 @@ IsExpected s f None (line.Done code stdout stderr) decision = ⊥
 IsExpected s f (Some to) (line.Done code stdout stderr) decision =
     ((port : ℕ) × (decision ≡ Accepted to port)) ⊎ ((decision ≡ Refused TargetDropped) × (hostile_at s to ≡ true))
 
--- no call of an honest domain is refused for want of a port, or since too many calls are live
+-- no call of an honest domain is refused because its ports are spent, or because too many calls are live
 abbrev pub LimitsKept : Type 0
 LimitsKept =
     (s : Scenario) (run : Run) → IsRun s run → (d : ℕ) → IsHonest s d → (call : CallPlan) → Contains (calls_from s d) call
@@ -101,7 +101,7 @@ LimitsKept =
 
 -- ---- of one honest domain: its calls are answered
 
--- there is one message
+-- there is exactly one message
 abbrev pub IsOne : List Message → Type 0
 IsOne [] = ⊥
 IsOne (m ∷ []) = Unit {0}
@@ -119,7 +119,7 @@ AnswersAll = (s : Scenario) (run : Run) → IsRun s run → (d : ℕ) → IsHone
 
 -- ---- of one call between honest domains: it is served
 
--- the call was told to its target, which served it on this page
+-- the target of the call got its MSG_EXEC_CMDLINE, and served it on this page
 pub record WasServed (s : Scenario) (run : Run) (f t port : ℕ) (call : CallPlan) : Type 0 where
   pub place : IsPlace s (Payload f t port)
   pub named : domain_named s call.to ≡ Some t
@@ -149,7 +149,7 @@ pub record IsEqual (call : CallPlan) (done : CallerDone) (page : Settled) : Type
   pub input_is : (serving_sees page.client.got).input ≡ call.stdin
   pub input_ended : (serving_sees page.client.got).ended ≡ true
 
--- `Holds` of each session with an honest domain
+-- `Holds` is true of each session with an honest domain
 abbrev pub OfSession : (ℕ → ℕ → CallerDone → Type 0) → Scenario → CallEnd → Type 0
 OfSession Holds s (Session port to outcome stdout stderr got) = IsHonest s to → Holds port to (caller_done outcome stdout stderr got)
 OfSession Holds s end = Unit {0}

@@ -37,7 +37,7 @@ use Rattle.run_laws.specs.declared.report.MixedOutcome.TheVariants as mixed
 use Rattle.run_laws.specs.Run.{Run, IsRun}
 use Rattle.run_laws.specs.Lawful.{Ports, AreApart, CallStands, ControlStands, ToldAs, LiesAt, IsLineOf, has_page, ExecAt, hostile_execs, comes_before, IsServed, IsLawful}
 
--- the end that an agent reports of the call of a number
+-- the end that an agent reports of the call with a number
 abbrev pub end_in : List CallDone → ℕ → CallEnd
 end_in [] number = Unanswered
 end_in (c ∷ calls) number = if c.number == number then c.end else end_in calls number
@@ -63,7 +63,7 @@ index_of place (p ∷ places) = if is_place place p then 0 else suc (index_of pl
 
 -- ---- results
 
--- an outcome without what is wrong
+-- an outcome without what is wrong with the bytes
 abbrev pub mixed_outcome : Outcome → MixedOutcome
 mixed_outcome (outcome.Done code) = mixed.Done code
 mixed_outcome (outcome.Fault fault) = mixed.Fault
@@ -75,7 +75,7 @@ abbrev pub session_result : Scenario → CallPlan → ℕ → ℕ → CallerDone
 session_result s call port to done (outcome.Done code) = IsDone code done.stdout done.stderr (index_of (Payload call.from to port) (laid s))
 session_result s call port to done other = IsMixed (mixed_outcome other) done.got
 
--- of a refusal: a cause that the names and services give, or that the broker gave the call up
+-- of a refusal: a cause that the names and services give, else a refusal by the broker's tables
 abbrev pub cause_result : Option Cause → CallResult
 cause_result (Some NoDomain) = IsRefused line_cause.NoDomain
 cause_result (Some SameDomain) = IsRefused line_cause.SameDomain

@@ -35,12 +35,12 @@ ends_of (BrokerDone broker ends) = ends
 ends_of (HostileDone domain ends) = ends
 ends_of NoMemory = []
 
--- the journal of a broker, and none of any other task
+-- the journal of a broker; no entries of any other task
 abbrev pub journal_of : TaskDone → List Entry
 journal_of (BrokerDone broker ends) = broker.journal
 journal_of done = []
 
--- what an agent reports, and nothing of any other task
+-- the calls that an agent reports; none of any other task
 abbrev pub calls_of : TaskDone → List CallDone
 calls_of (AgentDone report) = report.calls
 calls_of done = []
@@ -68,7 +68,7 @@ view_at dones number place = view_in (ends_of (answer_at dones number)) place
 abbrev pub page_at : Scenario → List TaskDone → PagePlace → Settled
 page_at s dones place = record { orders = orders_of s place; start = s.start; server = view_at dones (server_of place) place; client = view_at dones (client_of place) place }
 
--- the run that tasks answered so
+-- the run that is made of the tasks' answers
 abbrev pub run_of : Scenario → List TaskDone → Run
 run_of s dones = record {
   journal = journal_of (answer_at dones 0);
@@ -80,13 +80,13 @@ run_of s dones = record {
 
 -- ---- when it is one
 
--- what the task of a number is to be given: ends of the pages of its domain, and of the broker those of all control pages
+-- what the task of a number must be given: the ends of its domain's pages, or, for the broker, the ends of all control pages
 abbrev pub IsGivenTo : Scenario → ℕ → TaskGiven → Type 0
 IsGivenTo s number (Broker hub awaited ends) = (number ≡ 0) × (hub ≡ hub_of s) × (awaited ≡ awaited_by s) × (places_in ends ≡ map Control (all_domains s))
 IsGivenTo s number (Agent plan ends) = IsHonest s number × (plan ≡ agent_plan s number) × (places_in ends ≡ places_of s number)
 IsGivenTo s number (Hostile plan ends) = (hostile_at s number ≡ true) × (plan ≡ hostile_plan s number) × (places_in ends ≡ places_of s number)
 
--- the task of a number was given what it is to be given, and answered as it owed
+-- the task of a number was given what it must be given, and answered as it owed
 abbrev pub HasAnswered : Scenario → List TaskDone → ℕ → Type 0
 HasAnswered s dones number = (given : TaskGiven) × IsGivenTo s number given × (answer_at dones number ≢ NoMemory) × TaskOwes given (answer_at dones number)
 
@@ -104,7 +104,7 @@ pub record AreResults (s : Scenario) (dones : List TaskDone) (pages : List Settl
   pub places : map (λ p. p.place) pages ≡ laid s
   pub joined : Each (IsJoined s dones) pages
 
--- then they make up a run, with these pages
+-- such results make up a run, with these pages
 abbrev pub ResultsAreRuns : Type 0
 ResultsAreRuns = (s : Scenario) (dones : List TaskDone) (pages : List SettledPage) → AreResults s dones pages → IsRun s (run_of s dones) × (map (page_read (run_of s dones)) (laid s) ≡ pages)
 
@@ -112,7 +112,7 @@ ResultsAreRuns = (s : Scenario) (dones : List TaskDone) (pages : List SettledPag
 abbrev pub report_by : Scenario → List TaskDone → List SettledPage → List ServedLine → Report
 report_by s dones pages served = record { calls = map (line_read s (run_of s dones)) s.calls; served = served; pages = pages }
 
--- it is lawful with the lines of all sessions that honest domains report with hostile callers, once they are sorted
+-- the report of such results is lawful with the lines of all sessions with hostile callers that honest domains report, after they are sorted
 abbrev pub ResultsAreLawful : Type 0
 ResultsAreLawful =
     (s : Scenario) (dones : List TaskDone) (pages : List SettledPage) → AreResults s dones pages → (sorted : List HostileSession) → IsPermutation (hostile_sessions s (run_of s dones)) sorted

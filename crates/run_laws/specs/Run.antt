@@ -16,7 +16,7 @@ use Rattle.task_duties.specs.Broker.Owes.{BrokerOwes}
 use Rattle.task_duties.specs.Hostile.Trail.{IsTrail}
 use Rattle.run_laws.specs.Laid.{BeganAsSaid, server_of, client_of, hub_of, awaited_by, agent_plan, hostile_plan, pages_between, is_end_of}
 
--- a page lies here; `laid` lists all such places
+-- a page lies at this place; `laid` lists all such places
 abbrev pub IsPlace : Scenario → PagePlace → Type 0
 IsPlace s (Control d) = is_some (domain_of s d) ≡ true
 IsPlace s (Payload f t port) =
@@ -44,7 +44,7 @@ pub record IsHonest (s : Scenario) (d : ℕ) : Type 0 where
   pub there : is_some (domain_of s d) ≡ true
   pub honest : hostile_at s d ≡ false
 
--- a run of a scenario: each page is settled and began as the scenario says, the ends of hostile domains are turned and no others, and each task has done what it owes
+-- a run of a scenario: each page is settled and began as the scenario says, the ends of hostile domains, and only they, are turned, and each task has done what it owes
 pub record IsRun (s : Scenario) (run : Run) : Type 0 where
   pub scenario : IsScenario s
   pub settled : (place : PagePlace) → IsPlace s place → IsSettled (run.page place)

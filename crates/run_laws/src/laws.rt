@@ -5,24 +5,24 @@ ghost use Rattle.run_laws.specs.HostileSessions.{SortedSessionsAreLawful};
 ghost use Rattle.run_laws.specs.Results.{ResultsAreRuns, ResultsAreLawful};
 ghost use Rattle.run_laws.specs.ReadOff.{ReportsAreLawful, SortedReportsAreLawful};
 
-/// On the control page of an honest domain neither side hears anything wrong.
+/// On the control page of an honest domain, neither side hears anything wrong.
 pub fn control_bytes()
     ensures { ControlBytes }
 {}
 
-/// The control page of an honest domain ends by the broker, once its agent has got all that the
-/// broker said.
+/// The control page of an honest domain is ended by the broker, after the domain's agent has got
+/// all that the broker sent.
 pub fn control_ends()
     ensures { ControlEnds }
 {}
 
-/// Each ordered pair of domains has its first ports, in order, and no more than it has pages.
+/// Each ordered pair of domains has its first ports, in order, and no more ports than pages.
 pub fn ports_apart()
     ensures { PortsApart }
 {}
 
-/// No call of an honest domain is refused for want of a port, or since too many calls are live: it
-/// is decided by the names and services alone, unless its target is hostile and was dropped.
+/// No call of an honest domain is refused because its ports are spent, or because too many calls
+/// are live: the names and services alone decide it, unless its target is hostile and was dropped.
 pub fn limits_kept()
     ensures { LimitsKept }
 {}
@@ -58,26 +58,26 @@ pub fn sorted_reports_are_lawful()
     ensures { SortedReportsAreLawful }
 {}
 
-/// The report of a run is lawful with the lines of all sessions that honest domains report with
-/// hostile callers, once they are sorted.
+/// The report of a run is lawful with the lines of all sessions with hostile callers that honest
+/// domains report, after these lines are sorted.
 pub fn sorted_sessions_are_lawful()
     ensures { SortedSessionsAreLawful }
 {}
 
-/// There are runs, whatever the orders of their pages: of a domain without calls, of a call that is
+/// Runs exist, whatever the orders of their pages: of a domain without calls, of a call that is
 /// refused, and of a call that one honest domain serves for another.
 pub fn runs_are_there()
     ensures { (orders : Orders) → RunsAreThere orders }
 {}
 
-/// What the tasks of a scenario answered, each as it owed, and its settled pages make up a run with
-/// these pages.
+/// What the tasks of a scenario answered, each as it owed, and the scenario's settled pages make up
+/// a run with these pages.
 pub fn results_are_runs()
     ensures { ResultsAreRuns }
 {}
 
-/// The report of such answers and pages is lawful with the lines of all sessions that honest
-/// domains report with hostile callers, once they are sorted.
+/// The report of such answers and pages is lawful with the lines of all sessions with hostile
+/// callers that honest domains report, after these lines are sorted.
 pub fn results_are_lawful()
     ensures { ResultsAreLawful }
 {}

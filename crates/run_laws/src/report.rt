@@ -36,7 +36,7 @@ pub enum CallResult {
     },
     /// The call was refused.
     Refused {
-        /// Why.
+        /// Why it was refused.
         cause: LineCause,
     },
     /// The call's target is hostile.
@@ -59,7 +59,7 @@ pub struct CallLine {
     pub to: Text,
     /// The service that was asked for.
     pub service: Text,
-    /// What came of it.
+    /// What came of the call.
     pub result: CallResult,
 }
 

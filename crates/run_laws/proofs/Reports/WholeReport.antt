@@ -1,4 +1,4 @@
--- The report that is read off a run is lawful, where its lines of served sessions are.
+-- The report that is read off a run is lawful, if its lines of served sessions are.
 use Rattle.std.proofs.Common.{◌≡◌, ◌≢◌, ℕ, ◌+◌, ◌*◌, ◌<◌, suc, zero, List, [], ◌∷◌, ◌++◌, length, map, refl, ap, sym, ◌∙◌, arith, ◌⊎◌, inl, inr, Option, Some, None, subst}
 use Rattle.std.specs.Prelude.{true, false, Bool, nat_le, ◌==◌, ◌||◌, AllPairs, IsPermutation, is_some}
 use Rattle.std.specs.List.{flat_map, list_any}

@@ -1,4 +1,4 @@
--- Each trigger stands behind the others.
+-- Each trigger stands after the others.
 use Rattle.std.proofs.Common.{◌+◌, ◌++◌, ℕ, List, ap, sym, ◌∙◌, add-one}
 use Rattle.std.proofs.lemmas.List.{append-nil}
 use Rattle.std.specs.List.{flat_map}
