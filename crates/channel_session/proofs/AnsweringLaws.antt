@@ -50,7 +50,7 @@ chunk-over a = by_over (is_over a)
     by_over true = by_code a.code
     by_over false = refl
 
--- a side that was lent and then told what went is at work over its end
+-- a side that was borrowed and then told what went is at work over its end
 pub works-on : (old lent new : ServingState Builtin) (end end' : SeatedEnd) (piece : List ℕ) (count : ℕ) → IsAtWork old end → old.answering.outcome ≡ None → LendsAnswers builtin_owes old lent piece
     → new ≡ record lent { answering = after_gone count lent.answering } → (view end').idle ≡ true → (view end').state ≡ (view end).state → (view end').ended ≡ (view end).ended → IsAtWork new end'
 works-on old lent new end end' piece count work none lends new_is idle state ended =
@@ -74,7 +74,7 @@ works-on old lent new end end' piece count work none lends new_is idle state end
 small : (name : List ℕ) (owed : List ℕ → Triple) (input : List ℕ) → IsService name owed → IsSmallCode (owed input).code
 small name owed input is = small_codes name input (owed input) (is input)
 
--- an outcome that agrees with what is seen fits it, where the code is a service's
+-- an outcome that agrees with what is seen fits it, if the code is a service's
 fits : (outcome : Outcome) (s : ServingState Builtin) (owed : List ℕ → Triple) (sent : List ℕ) → IsSmallCode (owed (serving_sees s.inbox.got).input).code → ServingStandsFor builtin_owes owed s sent
     → s.answering.outcome ≡ Some outcome → FitsServing outcome (serving_sees s.inbox.got)
 fits outcome s owed sent code stands is = by_outcome outcome (subst (λ o. AgreesWith o seen) is stands.read.serves.outcome) is

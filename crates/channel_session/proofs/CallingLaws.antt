@@ -50,7 +50,7 @@ fits (Fault f) seen h = h
 fits Closed seen h = h
 fits Gone seen h = h
 
--- and what it says of its end stays said where that is retired
+-- and what it says of its end stays said if that is retired
 pub ended-stays : (outcome : Outcome) (end end' : EndView) → IsRetired end end' → CallerEnded outcome end → CallerEnded outcome end'
 ended-stays outcome end end' is h = subst (λ e. CallerEnded outcome e) (sym is) (retired-too outcome end h)
   where

@@ -38,7 +38,7 @@ pub record IsOpenCall (serving : ServingState Builtin) (end : SeatedEnd) : Type 
   pub got : (view end).got ≡ []
   pub ended : (view end).ended ≡ None
 
--- how the end stands by the outcome so far: it is open, and its stream goes on, while there is none
+-- the state of the end by the outcome so far: it is open, and its stream goes on, while there is none
 abbrev pub EndsBy : Option Outcome → EndView → Type 0
 EndsBy None end = (end.state ≡ Open) × (end.ended ≡ None)
 EndsBy (Some (Done code)) end = Unit {0}
@@ -51,7 +51,7 @@ pub record IsAnswering (owed : List ℕ → Triple) (serving : ServingState Buil
   pub got : serving.inbox.got ≡ (view end).got
   pub stands : ServingStandsFor builtin_owes owed serving (view end).sent
 
--- and its end is as its outcome says
+-- also its end is as its outcome says
 pub record IsAtWork (serving : ServingState Builtin) (end : SeatedEnd) : Type 0 where
   pub chunk_is : serving.answering.chunk ≡ chunk
   pub idle : (view end).idle ≡ true

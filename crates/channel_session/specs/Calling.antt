@@ -11,7 +11,7 @@ pub record CallerAt : Type 0 where
   pub caller : CallerState
   pub end : SeatedEnd
 
--- how the end stands by the outcome so far: its stream goes on while there is none
+-- the state of the end by the outcome so far: its stream goes on while there is none
 abbrev pub EndsBy : Option Outcome → EndView → Type 0
 EndsBy None end = end.ended ≡ None
 EndsBy (Some outcome) end = CallerEnded outcome end

@@ -16,12 +16,12 @@ use vchan_notify::take_event;
 use vchan_rule::{End, Retired};
 use vchan_stream::{WriteAnswer, write};
 
-/// The side of a call that made it, over the end of its data channel.
+/// The side of a call that made it, with the end of its data channel.
 #[derive(Drop)]
 pub struct CallerSession<'p> {
     caller: Caller,
     end: End<'p>,
-    // Whether the peer was found shut, so that nothing more is written.
+    // Whether the peer was found shut; nothing more is written then.
     peer_shut: bool,
     pause: Pause,
 }
@@ -35,7 +35,8 @@ impl<'p> Model for CallerSession<'p> {
 }
 
 impl<'p> CallerSession<'p> {
-    /// A session of a caller that has read and sent nothing, over an open end that has moved nothing.
+    /// Returns a session of a caller that has read and sent nothing, on an open end that has moved
+    /// nothing.
     pub fn new(caller: Caller, end: End<'p>) -> CallerSession<'p>
         requires { IsCalling caller end }
         ensures { (result.caller ≡ caller) × (result.end ≡ end.entry) }
@@ -48,8 +49,12 @@ impl<'p> CallerSession<'p> {
         }
     }
 
-    /// One turn: takes what has come, and writes what goes out next. Where the last turn moved nothing it is
-    /// passed over as long as the peer hasn't signalled, up to seven times. After want of memory the session is spent, and its end can still be retired.
+    /// Makes one turn: takes what has come, and writes what goes out next. After a turn that moved
+    /// nothing, turns are skipped while the peer hasn't signalled, up to seven.
+    ///
+    /// # Errors
+    ///
+    /// `Memory` if memory runs out; the session is spent then, but its end can still be retired.
     pub fn turn(&mut self, buf: &mut [u8]) -> Result<(), Memory>
         requires calling { IsCalling self.old.caller self.old.end }
         requires undecided { self.old.caller.replies.outcome ≡ None }
@@ -70,7 +75,7 @@ impl<'p> CallerSession<'p> {
         Ok(())
     }
 
-    // Whether a turn is to be made.
+    // Whether a turn must be made.
     fn is_due(&mut self) -> bool
         requires calling { IsCalling self.old.caller self.old.end }
         ensures end { IsSameEnd self.old.end self.new.end }
@@ -80,7 +85,7 @@ impl<'p> CallerSession<'p> {
         self.pause.is_over() || take_event(&mut self.end)
     }
 
-    // Takes what has come, or hears that no more comes. It answers whether it did.
+    // Takes what has come, or learns that no more comes. Returns whether it did either.
     fn read_on(&mut self, buf: &mut [u8]) -> Result<bool, Memory>
         requires calling { IsCalling self.old.caller self.old.end }
         requires undecided { self.old.caller.replies.outcome ≡ None }
@@ -100,8 +105,8 @@ impl<'p> CallerSession<'p> {
         Ok(true)
     }
 
-    // Writes what goes out next, as much as has room, where nothing has decided yet and the peer isn't
-    // shut. It answers whether bytes went.
+    // Writes what goes out next, as much as has room, if nothing has decided yet and the peer isn't
+    // shut. Returns whether any bytes went.
     fn write_on(&mut self) -> Result<bool, Memory>
         requires calling { IsCalling self.old.caller self.old.end }
         ensures end { IsSameEnd self.old.end self.new.end }
@@ -129,20 +134,20 @@ impl<'p> CallerSession<'p> {
         }
     }
 
-    /// Whether the last turn moved bytes, or there was none yet. No contract relies on it: whoever has
-    /// nothing to do gives way.
+    /// Returns whether the last turn moved bytes, or there was no turn yet. No contract relies on
+    /// it; a worker that has nothing to do yields.
     pub fn moved(&self) -> bool {
         self.pause.moved()
     }
 
-    /// How the call came out, `None` where nothing has decided yet.
+    /// Returns how the call came out, or `None` if nothing has decided that yet.
     pub fn outcome(&self) -> Option<Outcome>
         ensures { result ≡ self.now.caller.replies.outcome }
     {
         self.caller.outcome()
     }
 
-    /// Retires the end of a call that came out so, and says what the caller has.
+    /// Retires the end of a call with this outcome, and returns what the caller has.
     pub fn finish(self, outcome: Outcome) -> CallerEnd
         requires calling { IsCalling self.caller self.end }
         requires outcome { self.caller.replies.outcome ≡ Some outcome }
@@ -176,7 +181,7 @@ impl<'p> CallerSession<'p> {
     }
 }
 
-/// A call that is over at its caller's: how it came out, its outputs, all bytes got, and its end.
+/// A call that is over at its caller: how it came out, its outputs, all bytes got, and its end.
 #[derive(Drop)]
 pub struct CallerEnd {
     pub outcome: Outcome,

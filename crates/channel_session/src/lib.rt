@@ -1,9 +1,9 @@
-//! The two sides of a qrexec call over the end of its data channel: what a session reads comes from
-//! the end, and what it has to send goes there.
+//! The two sides of a qrexec call, with the end of its data channel: what a session reads comes
+//! from the end, and what it sends goes there.
 //!
 //! It serves the tasks of a run. A turn drains the end once and writes what is at the front of the
-//! session, and waits for nothing; a turn that most likely moves nothing is passed over. Which side is
-//! the vchan server is this project's own choice.
+//! session, and waits for nothing; a turn that most likely would move nothing is skipped. Which
+//! side is the vchan server is this project's own choice.
 #![tactic(auto)]
 
 mod caller;

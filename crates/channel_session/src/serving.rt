@@ -20,12 +20,12 @@ use vchan_notify::take_event;
 use vchan_rule::{End, Retired};
 use vchan_stream::{WriteAnswer, write};
 
-/// The side of a call that serves it, over the end of its data channel.
+/// The side of a call that serves it, with the end of its data channel.
 #[derive(Drop)]
 pub struct ServingSession<'p> {
     serving: Serving<Builtin>,
     end: End<'p>,
-    // Whether the peer was found shut, so that nothing more is written.
+    // Whether the peer was found shut; nothing more is written then.
     peer_shut: bool,
     pause: Pause,
 }
@@ -39,8 +39,8 @@ impl<'p> Model for ServingSession<'p> {
 }
 
 impl<'p> ServingSession<'p> {
-    /// Connects the end of a side that has read and sent nothing. Where the connect is refused, since
-    /// the page's order words don't say the page's orders, the call is closed at once.
+    /// Connects the end of a side that has read and sent nothing. If the connect is refused,
+    /// because the page's order words don't hold the page's orders, the call is closed at once.
     pub fn start(mut serving: Serving<Builtin>, mut end: End<'p>) -> ServingSession<'p>
         requires fresh { IsFreshCall serving end }
         ensures end { IsSameEnd end.entry result.end }
@@ -59,8 +59,8 @@ impl<'p> ServingSession<'p> {
         }
     }
 
-    /// A session of a side that has read and sent nothing, over an open end that has moved nothing, as
-    /// the server of a page has.
+    /// Returns a session of a side that has read and sent nothing, on an open end that has moved
+    /// nothing, as the server of a page has.
     pub fn of_open(serving: Serving<Builtin>, end: End<'p>) -> ServingSession<'p>
         requires open { IsOpenCall serving end }
         ensures parts { (result.serving ≡ serving) × (result.end ≡ end.entry) }
@@ -75,8 +75,12 @@ impl<'p> ServingSession<'p> {
         }
     }
 
-    /// One turn: takes what has come, and writes what goes out next. Where the last turn moved nothing it is
-    /// passed over as long as the peer hasn't signalled, up to seven times. After want of memory the session is spent, and its end can still be retired.
+    /// Makes one turn: takes what has come, and writes what goes out next. After a turn that moved
+    /// nothing, turns are skipped while the peer hasn't signalled, up to seven.
+    ///
+    /// # Errors
+    ///
+    /// `Memory` if memory runs out; the session is spent then, but its end can still be retired.
     pub fn turn(&mut self, buf: &mut [u8]) -> Result<(), Memory>
         requires work { IsAtWork self.old.serving self.old.end }
         requires undecided { self.old.serving.answering.outcome ≡ None }
@@ -98,7 +102,7 @@ impl<'p> ServingSession<'p> {
         Ok(())
     }
 
-    // Whether a turn is to be made.
+    // Whether a turn must be made.
     fn is_due(&mut self) -> bool
         requires work { IsAtWork self.old.serving self.old.end }
         requires undecided { self.old.serving.answering.outcome ≡ None }
@@ -110,7 +114,7 @@ impl<'p> ServingSession<'p> {
         self.pause.is_over() || take_event(&mut self.end)
     }
 
-    // Takes what has come, or hears that no more comes. It answers whether it did.
+    // Takes what has come, or learns that no more comes. Returns whether it did either.
     fn read_on(&mut self, buf: &mut [u8]) -> Result<bool, Memory>
         requires work { IsAtWork self.old.serving self.old.end }
         requires undecided { self.old.serving.answering.outcome ≡ None }
@@ -131,8 +135,8 @@ impl<'p> ServingSession<'p> {
         Ok(true)
     }
 
-    // Writes what goes out next, as much as has room, where nothing has decided yet and the peer isn't
-    // shut. It answers whether bytes went.
+    // Writes what goes out next, as much as has room, if nothing has decided yet and the peer isn't
+    // shut. Returns whether any bytes went.
     fn write_on(&mut self) -> Result<bool, Memory>
         requires work { IsAtWork self.old.serving self.old.end }
         ensures end { IsSameEnd self.old.end self.new.end }
@@ -161,20 +165,20 @@ impl<'p> ServingSession<'p> {
         }
     }
 
-    /// Whether the last turn moved bytes, or there was none yet. No contract relies on it: whoever has
-    /// nothing to do gives way.
+    /// Returns whether the last turn moved bytes, or there was no turn yet. No contract relies on
+    /// it; a worker that has nothing to do yields.
     pub fn moved(&self) -> bool {
         self.pause.moved()
     }
 
-    /// How the call came out, `None` where nothing has decided yet.
+    /// Returns how the call came out, or `None` if nothing has decided that yet.
     pub fn outcome(&self) -> Option<Outcome>
         ensures { result ≡ self.now.serving.answering.outcome }
     {
         self.serving.outcome()
     }
 
-    /// Retires the end of a call that came out so, and hands out all bytes that were got.
+    /// Retires the end of a call with this outcome, and returns all bytes that were got.
     pub fn finish(self, outcome: Outcome) -> ServingEnd
         requires work { IsAtWork self.serving self.end }
         requires outcome { self.serving.answering.outcome ≡ Some outcome }
@@ -203,7 +207,7 @@ impl<'p> ServingSession<'p> {
     }
 }
 
-/// A call that is over where it was served: how it came out, all bytes got, and its end.
+/// A call that is over at the side that served it: how it came out, all bytes got, and its end.
 #[derive(Drop)]
 pub struct ServingEnd {
     pub outcome: Outcome,

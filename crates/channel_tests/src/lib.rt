@@ -1,6 +1,7 @@
-//! Relays, calls that wait and servers for one client after another, as tests of their public calls.
+//! Relays, calls that wait and servers for one client after another, as tests of their public
+//! calls.
 //!
-//! They stand here and not beside what they test, since a crate with tests is proved twice.
+//! The tests stand in a crate of their own, since a crate with tests is proved twice.
 #![tactic(auto)]
 
 #[cfg(test)]

@@ -1,4 +1,4 @@
-//! Worked rows of one relay, and runs of some.
+//! Worked rows of one relay, and runs of several.
 ghost use Rattle.std.specs.Prelude.{◌≡◌, ◌≤◌, ◌<◌, ◌^◌, [], IfSome};
 ghost use Rattle.ring_words.specs.declared.page.Role.TheVariants.{Server, Client};
 ghost use Rattle.vchan_rule.specs.Seated.{view, IsOpen};
@@ -33,7 +33,8 @@ fn connected(page: &Page, seat: IdleSeat) -> Option<End<'_>>
     }
 }
 
-/// A relay that serves the near page, is the client of the far one and holds at most so many bytes.
+/// A relay that serves the near page, is the client of the far one and holds at most this many
+/// bytes.
 fn relay_between<'p>(
     alloc: Global,
     near: (&'p Page, IdleSeat),
@@ -169,7 +170,7 @@ fn the_far_reader_leaves_a_wrong_index(rt: HostRuntime) -> Result<(), Fail> {
     Ok(())
 }
 
-/// Whether so many bytes come through so many relays.
+/// Whether this many bytes come through this many relays.
 fn comes_through<R: Threads + Wait + AllocGlobal + Sync>(
     rt: &R,
     hops: u32,

@@ -1,4 +1,4 @@
-//! Lists of clients, and servers of some.
+//! Lists of clients, and servers of some lists.
 ghost use Rattle.std.specs.Prelude.{ℕ, List, IsSome};
 ghost use Rattle.service_gate.specs.ServiceResult.{service as service_of};
 
@@ -9,7 +9,7 @@ use std::test::Fail;
 use std::thread::Threads;
 use vchan_persist::{EpochResult, parse_clients, serve_clients};
 
-/// What is told of a list, and behind that line the list.
+/// What is told of a list, and on the lines after it the list.
 const CASES: &str = "\
 == 3 clients
 call 61
@@ -75,7 +75,7 @@ fn lists_are_read_or_refused(rt: HostRuntime) -> Result<(), Fail> {
     check_cases(&rt, CASES)
 }
 
-/// What the clients of a list are answered, one behind the other: `h` for a hostile one, else the two
+/// The answers to the clients of a list, one after the other: `h` for a hostile one, else the two
 /// outputs and the code.
 fn answers<R: Threads + Wait + AllocGlobal + Sync>(
     rt: &R,
@@ -94,7 +94,7 @@ fn answers<R: Threads + Wait + AllocGlobal + Sync>(
     Some(text)
 }
 
-/// Appends what a client is answered.
+/// Appends the answer to a client.
 fn push_answer(text: &mut Vec<u8>, answer: &EpochResult) -> Option<()> {
     match answer {
         EpochResult::Hostile => text.push(b'h').ok(),

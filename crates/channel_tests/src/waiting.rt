@@ -14,8 +14,8 @@ use vchan_rule::{IdleSeat, Page};
 /// How many pieces are written, about a mebibyte in all.
 const PIECES: u32 = 1_050;
 
-/// Connects, and writes pieces of 1 to 1,999 bytes: how many bytes were sent, and whether the peer was
-/// found shut.
+/// Connects, and writes pieces of 1 to 1,999 bytes: how many bytes were sent, and whether the peer
+/// was found shut.
 fn client_writes<R: Wait + Clock>(rt: &R, page: &Page, seat: IdleSeat) -> (u64, bool)
     requires { seat ≡ record { page = page.now; role = Client } }
 {
@@ -39,7 +39,7 @@ fn client_writes<R: Wait + Clock>(rt: &R, page: &Page, seat: IdleSeat) -> (u64, 
     (sent, false)
 }
 
-/// Reads until it got so many bytes, then closes: how many it got.
+/// Reads until it got this many bytes, then closes: how many it got.
 fn server_reads<R: Wait + Clock>(rt: &R, page: &Page, seat: IdleSeat, most: u64) -> u64
     requires { seat ≡ record { page = page.now; role = Server } }
 {
@@ -102,7 +102,7 @@ fn what_never_fits_is_refused(rt: HostRuntime) -> Result<(), Fail> {
     Ok(())
 }
 
-/// Whether a pipe hands back as many bytes as it was given.
+/// Whether a pipe gives back as many bytes as it was given.
 fn comes_back<R: Threads + Wait + Clock + AllocGlobal + Sync>(
     rt: &R,
     left: u16,

@@ -157,7 +157,7 @@ pub all-served : (name : List ℕ) (words : PageStart) (number : ℕ) (clients r
 all-served name words number clients rest dones none goes_on =
     subst (AreEpochs name words 1 clients) (append-nil dones) (goes_on [] (subst (λ (cs : List Client). AreEpochs name words number cs []) (sym none) tt))
 
--- what an epoch came to, under its number
+-- what an epoch came to, with its number
 pub epoch-at : (name : List ℕ) (words : PageStart) (number : ℕ) (client : Client) (service : Builtin) (r : EpochResult) (s : Settled) → IsService name (builtin_owes service) → ComesTo words client service r s → IsEpoch name words number client (record { number = number; result = r; settled = s })
 epoch-at name words number client service r s named comes = record {
   number_is = refl;

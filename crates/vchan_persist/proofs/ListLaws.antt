@@ -39,7 +39,7 @@ limits line count bytes none = (grind (arith, nat_tests), grind (arith, nat_test
 pub line-within : (line : ℕ) (clients : List Client) → too_many line clients ≡ false → line ≤ 65536
 line-within line clients none = (limits line (length clients) (stdin_total clients) none).0
 
--- one client more is within the limits where the test says so
+-- one client more is within the limits if the test says so
 pub list-more : (line : ℕ) (clients now : List Client) (client : Client) (bytes len : ℕ) → AreServable clients → bytes ≡ stdin_total clients → IsServable client → too_many line (clients ++ client ∷ []) ≡ false
     → now ≡ clients ++ client ∷ [] → len ≡ stdin_len client → AreServable now × (bytes + len ≡ stdin_total now) × (bytes + len ≤ 8388608)
 list-more line clients now client bytes len are total servable room is long =
@@ -127,11 +127,11 @@ read-all number clients lines all none is = is ∙ ap (clients_from number clien
 
 -- ---- the first client
 
--- a list begins well where its first line has a client
+-- a list begins well if its first line has a client
 pub begins-here : (text : List ℕ) (lines more : List (List ℕ)) → lines ≡ text ∷ more → HasClient text → BeginsWell lines
 begins-here text lines more cut has = subst BeginsWell (sym cut) (subst (λ (b : Bool). MatchBool b (BeginsWell more) (IsOk (client_of (words_of text)))) (sym has.0) has.1)
 
--- and where what is behind a good line begins well
+-- and where what is after a good line begins well
 pub begins-later : (number : ℕ) (clients now : List Client) (text : List ℕ) (lines more : List (List ℕ)) → lines ≡ text ∷ more → with_line number clients text ≡ Ok now → BeginsWell more → BeginsWell lines
 begins-later number clients now text lines more cut is later = subst BeginsWell (sym cut) (by_passed (is_passed_over text) refl)
   where

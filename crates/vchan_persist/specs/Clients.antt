@@ -11,7 +11,7 @@ use Rattle.vchan_persist.specs.declared.client.Client.TheVariants.{Call, Hostile
 use Rattle.vchan_persist.specs.declared.error.ClientsKind.{ClientsKind}
 use Rattle.vchan_persist.specs.declared.error.ClientsKind.TheVariants.{BadLine, BadNumber, BadHex, TooMany}
 
--- the second step, where the first gave a value
+-- the second step, if the first gave a value
 infixl 10 ◌>>=◌
 abbrev pub ◌>>=◌ : {A B E : Type 0} → Result A E → (A → Result B E) → Result B E
 Ok x >>= f = f x
@@ -35,14 +35,14 @@ number_between least most word = do
   number ← ok_or (number_of most word) BadNumber
   if nat_lt number least then Err BadNumber else Ok number
 
--- the words behind `call`: a byte string
+-- the words after `call`: a byte string
 abbrev pub call_of : List (List ℕ) → Result Client ClientsKind
 call_of words = do
   word ← operand_of words
   stdin ← ok_or (byte_string word) BadHex
   Ok (Call stdin)
 
--- the words behind `hostile`: a seed, and a number of stores
+-- the words after `hostile`: a seed, and a number of stores
 abbrev pub hostile_of : List (List ℕ) → Result Client ClientsKind
 hostile_of [] = Err BadLine
 hostile_of (first ∷ more) = do
@@ -52,7 +52,7 @@ hostile_of (first ∷ more) = do
   stores ← number_between 1 65536 second
   Ok (Hostile seed stores)
 
--- a line that isn't passed over, as its words
+-- a line that isn't skipped, as its words
 abbrev pub client_of : List (List ℕ) → Result Client ClientsKind
 client_of [] = Err BadLine
 client_of (word ∷ more) =
@@ -60,7 +60,7 @@ client_of (word ∷ more) =
     else if bytes_eq word (codes "hostile") then hostile_of more
     else Err BadLine
 
--- what stands on a line: a client, or nothing where it is passed over
+-- what stands on a line: a client, or nothing if it is skipped
 abbrev pub some_client : Result Client ClientsKind → Result (Option Client) ClientsKind
 some_client (Ok client) = Ok (Some client)
 some_client (Err kind) = Err kind
@@ -79,7 +79,7 @@ unfoldable pub stdin_total : List Client → ℕ
 stdin_total [] = 0
 stdin_total (client ∷ more) = stdin_len client + stdin_total more
 
--- with what stands on one line more
+-- the clients with what stands on one more line
 abbrev pub added : List Client → Option Client → List Client
 added clients None = clients
 added clients (Some client) = clients ++ client ∷ []
@@ -88,7 +88,7 @@ added clients (Some client) = clients ++ client ∷ []
 abbrev pub has_too_many : List Client → Bool
 has_too_many clients = nat_lt 4096 (length clients) || nat_lt 8388608 (stdin_total clients)
 
--- or the line of this number is one too many
+-- there are too many, or the line of this number is one too many
 abbrev pub too_many : ℕ → List Client → Bool
 too_many number clients = nat_lt 65536 number || has_too_many clients
 
@@ -98,12 +98,12 @@ with_line number clients text = do
   entry ← entry_of text
   if too_many number (added clients entry) then Err TooMany else Ok (added clients entry)
 
--- what is wrong with a line, under its number
+-- what is wrong with a line, with its number
 abbrev pub at_number : {A : Type 0} → ℕ → Result A ClientsKind → Result A (ℕ × ClientsKind)
 at_number number (Ok x) = Ok x
 at_number number (Err kind) = Err (number, kind)
 
--- the clients of lines from this number on, behind those of the lines before; or the number of the first bad line, and what is wrong with it
+-- the clients of lines from this number on, after those of the lines before; or the number of the first bad line, and what is wrong with it
 unfoldable pub clients_from : ℕ → List Client → List (List ℕ) → Result (List Client) (ℕ × ClientsKind)
 clients_from number clients [] = Ok clients
 clients_from number clients (text ∷ more) = do
@@ -121,11 +121,11 @@ abbrev pub IsServable : Client → Type 0
 IsServable (Call stdin) = Unit {0}
 IsServable (Hostile seed stores) = (seed ≤ 65535) × (1 ≤ stores) × (stores ≤ 65536)
 
--- no more clients than one server takes, all of them in range
+-- no more clients than one server takes, all in range
 abbrev pub AreServable : List Client → Type 0
 AreServable clients = (length clients ≤ 4096) × Each IsServable clients
 
--- the first line that isn't passed over has a client, or there is none
+-- the first line that isn't skipped has a client, or there is none
 abbrev pub BeginsWell : List (List ℕ) → Type 0
 BeginsWell [] = Unit {0}
 BeginsWell (text ∷ more) = MatchBool (is_passed_over text) (BeginsWell more) (IsOk (client_of (words_of text)))

@@ -1,4 +1,4 @@
--- The epochs of a persistent server, one a client: what each client is answered, and what stands of its page.
+-- The epochs of a persistent server, one for each client: the answer to each client, and what stands of its page.
 -- Source: this project's own; libxenvchan's server_persist keeps one page for all clients.
 use Rattle.std.specs.Prelude.{◌≡◌, ℕ, ◌+◌, true, false, List, [], ◌∷◌, ◌++◌, map, Option, None, Some, option_map, slice_get}
 use Rattle.ring_words.specs.declared.page.Role.TheVariants.{Client as ClientEnd}
@@ -17,12 +17,12 @@ use Rattle.vchan_persist.specs.declared.epoch.EpochResult.{EpochResult}
 use Rattle.vchan_persist.specs.declared.epoch.EpochResult.TheVariants as result
 use Rattle.vchan_persist.specs.declared.epoch.EpochDone.{EpochDone}
 
--- ---- what a client is answered
+-- ---- the answer to a client
 
 abbrev pub answered : Triple → EpochResult
 answered t = result.Answered t.code t.stdout t.stderr
 
--- a call is answered what the service of that name gives for its input
+-- the answer to a call is what the service of that name gives for its input
 abbrev pub answer_of : List ℕ → Client → Option EpochResult
 answer_of name (Call stdin) = option_map answered (service name stdin)
 answer_of name (Hostile seed stores) = Some result.Hostile
@@ -37,11 +37,11 @@ pub record IsAnswered (name stdin : List ℕ) (page : Settled) : Type 0 where
   pub caller : caller_sees page.client.got ≡ record { verdict = Exited gives.code; stdout = gives.stdout; stderr = gives.stderr }
   pub serving : serving_sees page.server.got ≡ record { fault = None; input = stdin; ended = true }
 
--- the store that three drawn numbers make, the first of which has one page to choose from
+-- the store that three drawn numbers make; the first number has only one page to choose from
 abbrev pub drawn_store : Drawn → PastEvent
 drawn_store d = stored (field_of d.word) d.value
 
--- so many drawn stores
+-- this many drawn stores
 abbrev pub scribbled : ℕ → ℕ → List PastEvent
 scribbled seed stores = map drawn_store (drawn seed stores)
 
@@ -58,7 +58,7 @@ IsPageOf name (Hostile seed stores) page = IsScribbled seed stores page
 
 -- ---- the epochs
 
--- the epoch of a client, under its number
+-- the epoch of a client, with its number
 pub record IsEpoch (name : List ℕ) (words : PageStart) (number : ℕ) (client : Client) (e : EpochDone) : Type 0 where
   pub number_is : e.number ≡ number
   pub result_is : answer_of name client ≡ Some e.result
@@ -67,7 +67,7 @@ pub record IsEpoch (name : List ℕ) (words : PageStart) (number : ℕ) (client 
   pub server_honest : e.settled.server.turned ≡ false
   pub page : IsPageOf name client e.settled
 
--- one epoch a client, in order, the first under this number
+-- one epoch for each client, in order, the first with this number
 abbrev pub AreEpochs : List ℕ → PageStart → ℕ → List Client → List EpochDone → Type 0
 AreEpochs name words number [] [] = Unit {0}
 AreEpochs name words number [] (e ∷ es) = ⊥
@@ -76,13 +76,13 @@ AreEpochs name words number (c ∷ cs) (e ∷ es) = IsEpoch name words number c 
 
 -- ---- the law
 
--- two epochs in which the client is answered the same
+-- two epochs in which the client gets the same answer
 abbrev pub AreAnsweredAlike : Option EpochDone → Option EpochDone → Type 0
 AreAnsweredAlike (Some one) (Some other) = one.result ≡ other.result
 AreAnsweredAlike (Some one) None = ⊥
 AreAnsweredAlike None other = ⊥
 
--- a client that two lists have is answered alike in both, wherever it stands, whatever the other clients are and whatever they stored, and whatever the orders of the pages
+-- a client that two lists have gets the same answer in both, at any place, whatever the other clients are and whatever they stored, and whatever the orders of the pages
 abbrev pub EpochsApart : Type 0
 EpochsApart =
     (name : List ℕ) (words others_words : PageStart) (clients others : List Client) (dones others_dones : List EpochDone)

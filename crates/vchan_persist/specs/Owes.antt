@@ -102,7 +102,7 @@ AreSides page client service (one ∷ []) = ⊥
 AreSides page client service (one ∷ other ∷ []) = Owes one (ClientHands page client) × Owes other (ServerHands page service)
 AreSides page client service (one ∷ other ∷ more ∷ tasks) = ⊥
 
--- and what they handed back
+-- what the two tasks handed back
 abbrev pub AreHandedBack : TableId → Client → Builtin → List SideDone → Type 0
 AreHandedBack page client service [] = ⊥
 AreHandedBack page client service (one ∷ []) = ⊥

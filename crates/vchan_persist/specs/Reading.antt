@@ -1,4 +1,4 @@
--- What a reader of a list of clients answers, against what the bytes are.
+-- The answers of a reader of a list of clients, against what the bytes are.
 -- Source: this project's own.
 use Rattle.std.specs.Prelude.{◌≡◌, ℕ, ◌≤◌, Option, List, Bool, true, false, IsSome, Result, Ok, Err, IsOk}
 use Rattle.script_words.specs.KeptLines.{is_passed_over}
@@ -18,7 +18,7 @@ abbrev pub Finds : {X Y : Type 0} → (X → Y) → Result X ClientsKind → Res
 Finds seen (Ok x) due = due ≡ Ok (seen x)
 Finds seen (Err kind) due = due ≡ Err kind
 
--- one that takes memory: want of it comes only where the line is good
+-- a reader that takes memory: memory runs out only if the line is good
 abbrev pub Gives : {X : Type 0} → Result X LineError → Result X ClientsKind → Type 0
 Gives (Ok x) due = due ≡ Ok x
 Gives (Err (line.Bad kind)) due = due ≡ Err kind
@@ -34,22 +34,22 @@ GivesEntry (Ok entry) text = entry_of text ≡ Ok entry
 GivesEntry (Err (line.Bad kind)) text = entry_of text ≡ Err kind
 GivesEntry (Err line.Memory) text = HasClient text
 
--- the error of the list whose line of this number it is
+-- the error of a list whose line of this number has this error
 abbrev pub error_at : LineError → ℕ → ClientsError
 error_at (line.Bad kind) number = list.Bad number kind
 error_at line.Memory number = list.Memory
 
--- the refusal of the line of this number, which is this text, where this is due; want of memory comes only where it has a client
+-- the refusal of the line of this number, which is this text, if this is due; memory runs out only if it has a client
 abbrev pub IsLineRefusal : ℕ → ClientsError → List ℕ → Result (List Client) ClientsKind → Type 0
 IsLineRefusal number (list.Bad at kind) text due = (at ≡ number) × (due ≡ Err kind)
 IsLineRefusal number list.Memory text due = HasClient text
 
--- the refusal of what stands on the line of this number, where it is one too many or not; want of memory comes only where it is a client
+-- the refusal of what stands on the line of this number, whether or not it is one too many; memory runs out only if it is a client
 abbrev pub IsAddRefusal : ℕ → Option Client → ClientsError → Bool → Type 0
 IsAddRefusal number entry (list.Bad at kind) full = (at ≡ number) × (kind ≡ TooMany) × (full ≡ true)
 IsAddRefusal number entry list.Memory full = IsSome entry
 
--- the refusal of a text; want of memory may come at a line before the first bad one
+-- the refusal of a text; memory may run out at a line before the first bad one
 abbrev pub IsRefusal : ClientsError → Result (List Client) (ℕ × ClientsKind) → Type 0
 IsRefusal (list.Bad number kind) due = due ≡ Err (number, kind)
 IsRefusal list.Memory due = Unit {0}

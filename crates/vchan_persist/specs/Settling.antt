@@ -1,4 +1,4 @@
--- What an epoch comes to, once its two tasks are done.
+-- The result of an epoch, after its two tasks are done.
 -- Source: this project's own.
 use Rattle.std.specs.Prelude.{◌≡◌, ℕ, false, List, Some}
 use Rattle.end_view.specs.Settled.{Settled, IsSettled}

@@ -6,13 +6,13 @@ use std::marker::Model;
 use std::snapshot::Snapshot;
 use task_pool::Turn;
 
-/// The server's end of the page with the side that serves the call, which isn't over, and room for what
-/// comes.
+/// The server's end of the page, with the side that serves a call that isn't over, and room for the
+/// bytes that come.
 #[derive(Drop)]
 pub(crate) struct Answering<'p> {
     session: ServingSession<'p>,
     room: Vec<u8>,
-    // The service before any input, for clauses alone.
+    // The service before any input; only clauses use it.
     service: Snapshot<Builtin>,
 }
 
@@ -38,7 +38,7 @@ impl<'p> Answering<'p> {
     ghost use Rattle.channel_session.specs.Answering.{IsAnswering, IsAtWork};
     ghost use Rattle.vchan_persist.specs.Owes.{epoch_owes};
 
-    /// The task of such a session with this service, and with some room.
+    /// Returns the task of such a session with this service, and with some room.
     pub(crate) fn new(session: ServingSession<'p>, service: Builtin, room: Vec<u8>) -> Answering<'p>
         requires work { IsAtWork session.serving session.end }
         requires answering { IsAnswering (builtin_owes service) session.serving session.end }
@@ -55,12 +55,13 @@ impl<'p> Answering<'p> {
         }
     }
 
-    /// Whether the last turn moved bytes, or there was none yet.
+    /// Returns whether the last turn moved bytes, or there was no turn yet.
     pub(crate) fn moved(&self) -> bool {
         self.session.moved()
     }
 
-    /// A turn of the session. Once the call is over, and where memory runs out, its end retires.
+    /// Makes a turn of the session. After the call is over, or if memory runs out, its end is
+    /// retired.
     pub(crate) fn turn(self) -> Turn<EpochTask<'p>>
         ensures { Pays epoch_owes (EpochTask.Serves self.entry) result }
     {

@@ -4,8 +4,8 @@ use channel_session::CallerSession;
 use std::marker::Model;
 use task_pool::Turn;
 
-/// The client's end of the page with the caller's side of its call, which isn't over, and room for what
-/// comes.
+/// The client's end of the page, with the caller's side of a call that isn't over, and room for the
+/// bytes that come.
 #[derive(Drop)]
 pub(crate) struct Calling<'p> {
     session: CallerSession<'p>,
@@ -32,7 +32,7 @@ impl<'p> Calling<'p> {
     ghost use Rattle.channel_session.specs.Calling.{IsCalling};
     ghost use Rattle.vchan_persist.specs.Owes.{epoch_owes};
 
-    /// The task of such a session, with some room.
+    /// Returns the task of such a session, with some room.
     pub(crate) fn new(session: CallerSession<'p>, room: Vec<u8>) -> Calling<'p>
         requires calling { IsCalling session.caller session.end }
         requires undecided { session.caller.replies.outcome ≡ None }
@@ -44,12 +44,13 @@ impl<'p> Calling<'p> {
         Calling { session, room }
     }
 
-    /// Whether the last turn moved bytes, or there was none yet.
+    /// Returns whether the last turn moved bytes, or there was no turn yet.
     pub(crate) fn moved(&self) -> bool {
         self.session.moved()
     }
 
-    /// A turn of the session. Once its call is over, and where memory runs out, its end retires.
+    /// Makes a turn of the session. After its call is over, or if memory runs out, its end is
+    /// retired.
     pub(crate) fn turn(self) -> Turn<EpochTask<'p>>
         ensures { Pays epoch_owes (EpochTask.Calls self.entry) result }
     {

@@ -20,24 +20,24 @@ pub enum Client {
     },
     /// It stores drawn numbers to the header of its page.
     Hostile {
-        /// Where the generator of the numbers begins, at most 65,535.
+        /// Where the generator of numbers begins, at most 65,535.
         seed: u32,
-        /// How many stores it makes, 1 to 65,536.
+        /// How many stores it makes, from 1 to 65,536.
         stores: u32,
     },
 }
 
-/// The clients of a text. Each line is `call BYTES`, with a byte string of this project's scripts, or
-/// `hostile SEED K`; an empty line, and one that begins with `#`, are passed over.
+/// Returns the clients of a text. Each line is `call BYTES`, with a byte string of this project's
+/// scripts, or `hostile SEED K`; an empty line and one that begins with `#` are skipped.
 ///
 /// # Errors
 ///
-/// `Bad` exactly where a line is bad, with the first such line. It is `BadLine` where the first word is
-/// neither, the number of words is another or a word is empty; else `BadNumber` where SEED isn't a
-/// number of at most 65,535 or K isn't one from 1 to 65,536; else `BadHex` where BYTES is no byte
-/// string; else `TooMany` where it is the 65,537th line or has the 4,097th client, or where with it the
-/// inputs have more than 8,388,608 bytes. `Memory`, which in place of `Bad` comes only where the first
-/// line that isn't passed over is a client's.
+/// `Bad` if and only if a line is bad, with the first such line. It is `BadLine` if the first word
+/// is neither, the line has another number of words, or a word is empty; else `BadNumber` if SEED
+/// isn't a number up to 65,535 or K isn't one from 1 to 65,536; else `BadHex` if BYTES isn't a byte
+/// string; else `TooMany` if it is the 65,537th line or has the 4,097th client, or if with it the
+/// inputs have more than 8,388,608 bytes. `Memory` if memory runs out; it replaces `Bad` only if
+/// the first line that isn't skipped is a client's.
 pub fn parse_clients(alloc: Global, bytes: &[u8]) -> Result<Vec<Client>, ClientsError>
     ensures clients { IfOk result (λ clients. clients_of bytes.now ≡ Ok clients.items) }
     ensures servable { IfOk result (λ clients. AreServable clients.items) }

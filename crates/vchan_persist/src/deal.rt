@@ -25,10 +25,10 @@ use vchan_rule::{End, IdleSeat, Page, Retired};
 /// The version that both sides announce.
 const VERSION: u32 = 3;
 
-/// The most bytes that a side puts into one message.
+/// The greatest number of bytes that a side puts into one message.
 const CHUNK: u32 = 65_536;
 
-/// The client of a page, connected. One that was refused has retired.
+/// Connects the client of a page, and returns its end. If it is refused, it is retired.
 fn connected<'p>(page: &'p Page, seat: IdleSeat) -> Result<End<'p>, Retired>
     requires { seat ≡ record { page = page.now; role = ClientEnd } }
     ensures ok { IfOk result (λ end. IsOpen end × (end.side.role ≡ ClientEnd) × (end.page ≡ page.now.table) × ((view end).sent ≡ []) × ((view end).got ≡ []) × ((view end).ended ≡ None)) }
@@ -41,14 +41,14 @@ fn connected<'p>(page: &'p Page, seat: IdleSeat) -> Result<End<'p>, Retired>
     }
 }
 
-/// Room for as many bytes as a ring has.
+/// Returns room for as many bytes as a ring has.
 fn make_room(alloc: Global, order: Order) -> Result<Vec<u8>, Memory>
     ensures { IfOk result (λ room. 0 < length room.items) }
 {
     Ok(vec![in alloc; 0u8; order.size() as usize]?)
 }
 
-/// The task of a client that calls by this caller.
+/// Returns the task of a client that calls by this caller.
 fn calling<'p>(page: &'p Page, seat: IdleSeat, caller: Caller, room: Vec<u8>) -> EpochTask<'p>
     requires seat { seat ≡ record { page = page.now; role = ClientEnd } }
     requires asked { (caller.requests.chunk ≡ 65536) × (caller.replies.own ≡ 3) }
@@ -62,7 +62,7 @@ fn calling<'p>(page: &'p Page, seat: IdleSeat, caller: Caller, room: Vec<u8>) ->
     }
 }
 
-/// The task of a server of this service.
+/// Returns the task of a server of this service.
 fn answering<'p>(
     page: &'p Page,
     seat: IdleSeat,
@@ -80,8 +80,12 @@ fn answering<'p>(
     EpochTask::Serves(Answering::new(session, service, room))
 }
 
-/// The two tasks of an epoch, the client's first. All memory is taken before an end is attached. Its
-/// error is want of memory.
+/// Returns the two tasks of an epoch, the client's first. All memory is taken before an end is
+/// attached.
+///
+/// # Errors
+///
+/// `Memory` if memory runs out; no other.
 pub(crate) fn deal<'p>(
     alloc: Global,
     page: &'p Page,

@@ -2,10 +2,10 @@
 use qrexec_frame::Bytes;
 use vchan_rule::Settled;
 
-/// What a client was answered in its epoch.
+/// The answer to a client in its epoch.
 #[derive(Debug, Drop)]
 pub enum EpochResult {
-    /// The client called, and has this.
+    /// The client called, and got this.
     Answered {
         /// The exit code.
         code: i32,
@@ -23,7 +23,7 @@ pub enum EpochResult {
 pub struct EpochDone {
     /// Its number, from 1 on.
     pub number: u32,
-    /// What its client was answered.
+    /// The answer to its client.
     pub result: EpochResult,
     /// Its page.
     pub settled: Settled,

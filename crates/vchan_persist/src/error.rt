@@ -1,4 +1,4 @@
-//! Why bytes are no list of clients.
+//! Why bytes aren't a list of clients.
 ghost use Rattle.std.specs.Prelude.{◌≡◌};
 
 use std::alloc::AllocFailed;
@@ -7,13 +7,14 @@ use thiserror::Error;
 /// What is wrong with a line of a list of clients.
 #[derive(Clone, Copy, Debug, PartialEq, Eq, Error)]
 pub enum ClientsKind {
-    /// The line begins with no word of a client, has another number of words, or has an empty one.
+    /// The line begins with neither word of a client, has another number of words, or has an empty
+    /// one.
     #[error("bad line")]
     BadLine,
-    /// A word isn't a number, or is one out of range.
+    /// A word isn't a number, or is a number out of range.
     #[error("bad number")]
     BadNumber,
-    /// A word is no byte string.
+    /// A word isn't a byte string.
     #[error("bad hex")]
     BadHex,
     /// The line is the 65,537th or has the 4,097th client, or with it the inputs have more than
@@ -33,7 +34,7 @@ pub enum ClientsError {
         /// What is wrong with it.
         kind: ClientsKind,
     },
-    /// There was no memory for the list.
+    /// Memory ran out for the list.
     #[error("out of memory")]
     Memory,
 }
@@ -43,14 +44,14 @@ pub enum ClientsError {
 pub(crate) enum LineError {
     /// It doesn't fit.
     Bad(ClientsKind),
-    /// There was no memory for it.
+    /// Memory ran out for it.
     Memory,
 }
 
 impl LineError {
     ghost use Rattle.vchan_persist.specs.Reading.{error_at};
 
-    /// The error of the list whose line of this number it is.
+    /// Returns the error of a list whose line of this number has this error.
     pub(crate) fn at(self, line: u32) -> ClientsError
         ensures { result ≡ error_at self line }
     {

@@ -1,9 +1,10 @@
-//! A server for one client after another: each client has an epoch, which is a page laid anew for it,
-//! and is served there by one of the built-in services.
+//! A server for one client after another: each client has an epoch with a new page of its own, on
+//! which one of the built-in services serves it.
 //!
-//! It serves whoever keeps a service up for clients that come and go, honest or not. It stands for
-//! what `server_persist` of libxenvchan is for: there a page stays for the next client, and here it
-//! never does. That the side which serves is the vchan server is this project's own choice.
+//! It serves anyone who keeps a service up for clients that come and go, honest or not. Its purpose
+//! is that of `server_persist` in libxenvchan; but there the next client gets the same page, and in
+//! this crate it never does. That the side that serves is the vchan server is this project's own
+//! choice.
 #![tactic(auto)]
 
 mod answering;

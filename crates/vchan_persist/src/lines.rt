@@ -12,16 +12,16 @@ use qrexec_frame::Bytes;
 use script_words::{ByteError, MOST_LINES, WordsOfLine, bytes_of, parse_number};
 use std::alloc::Global;
 
-/// The most clients of a list.
+/// The greatest number of clients of a list.
 const MOST_CLIENTS: usize = 4_096;
 
-/// The most bytes that the inputs of a list have.
+/// The greatest number of bytes that the inputs of a list may have.
 const MOST_BYTES: usize = 8_388_608;
 
 /// The greatest seed of a hostile client.
 const MOST_SEED: u32 = 65_535;
 
-/// The most stores of a hostile client.
+/// The greatest number of stores of a hostile client.
 const MOST_STORES: u32 = 65_536;
 
 /// The clients of the lines that were read.
@@ -35,7 +35,7 @@ pub(crate) struct ClientList {
 }
 
 impl ClientList {
-    /// The list of no line.
+    /// Returns a list without lines.
     pub(crate) fn new(alloc: Global) -> ClientList
         ensures list { IsList result }
         ensures none { (result.clients.items ≡ []) × (result.lines ≡ 0) }
@@ -48,12 +48,12 @@ impl ClientList {
         }
     }
 
-    /// Reads one line more.
+    /// Reads one more line.
     ///
     /// # Errors
     ///
-    /// `Bad` exactly where the line is bad behind those before it, with its number; `Memory` only where
-    /// it has a client.
+    /// `Bad` if and only if the line is bad after those before it, with its number; `Memory` only
+    /// if the line has a client.
     pub(crate) fn take(&mut self, text: &[u8]) -> Result<(), ClientsError>
         requires list { IsList self.old }
         ensures list { OnOk result (IsList self.new) }
@@ -95,7 +95,7 @@ impl ClientList {
         Ok(())
     }
 
-    // Whether there is no room for what stands on the line of this number.
+    // Whether the list is full for what stands on the line of this number.
     fn is_full(&self, line: u32, entry: &Option<Client>) -> bool
         requires list { IsList self.now }
         ensures { result ≡ too_many line (added self.now.clients.items entry.now) }
@@ -103,7 +103,7 @@ impl ClientList {
         line > MOST_LINES || self.has_no_room(entry)
     }
 
-    // Whether there are as many clients as may be, or too many bytes with one more.
+    // Whether one more entry makes too many clients, or too many bytes.
     fn has_no_room(&self, entry: &Option<Client>) -> bool
         requires list { IsList self.now }
         ensures { result ≡ has_too_many (added self.now.clients.items entry.now) }
@@ -115,7 +115,7 @@ impl ClientList {
         }
     }
 
-    /// The clients that were read.
+    /// Returns the clients that were read.
     pub(crate) fn into_clients(self) -> Vec<Client>
         ensures { result ≡ self.clients }
     {
@@ -124,7 +124,7 @@ impl ClientList {
     }
 }
 
-/// How many bytes the input of a client has.
+/// Returns how many bytes the input of a client has.
 fn stdin_len(client: &Client) -> usize
     ensures { result ≡ stdin_len client.now }
 {
@@ -134,7 +134,7 @@ fn stdin_len(client: &Client) -> usize
     }
 }
 
-/// Whether a line is passed over: it is empty, or begins with `#`.
+/// Returns whether a line is skipped: it is empty, or begins with `#`.
 fn is_passed_over(line: &[u8]) -> bool
     ensures { result ≡ is_passed_over line.now }
 {
@@ -144,7 +144,7 @@ fn is_passed_over(line: &[u8]) -> bool
     }
 }
 
-/// What stands on a line.
+/// Reads a line: a client, or nothing if the line is skipped.
 fn read_entry(alloc: Global, text: &[u8]) -> Result<Option<Client>, LineError>
     ensures entry { GivesEntry result text.now }
     ensures servable { IfOk result (λ entry. IfSome entry IsServable) }
@@ -158,7 +158,7 @@ fn read_entry(alloc: Global, text: &[u8]) -> Result<Option<Client>, LineError>
     }
 }
 
-/// The client of a line that isn't passed over.
+/// Reads a line that isn't skipped.
 fn read_client(alloc: Global, text: &[u8]) -> Result<Client, LineError>
     ensures client { Gives result (client_of (words_of text.now)) }
     ensures servable { IfOk result IsServable }
@@ -176,7 +176,7 @@ fn read_client(alloc: Global, text: &[u8]) -> Result<Client, LineError>
     }
 }
 
-/// Reads the words behind `call`.
+/// Reads the words after `call`.
 fn read_call(alloc: Global, words: WordsOfLine) -> Result<Client, LineError>
     ensures client { Gives result (call_of (words_left words.entry)) }
     ensures servable { IfOk result IsServable }
@@ -191,7 +191,7 @@ fn read_call(alloc: Global, words: WordsOfLine) -> Result<Client, LineError>
     }
 }
 
-/// Reads the words behind `hostile`.
+/// Reads the words after `hostile`.
 fn read_hostile(mut words: WordsOfLine) -> Result<Client, LineError>
     ensures client { Gives result (hostile_of (words_left words.entry)) }
     ensures servable { IfOk result IsServable }
@@ -206,14 +206,14 @@ fn read_hostile(mut words: WordsOfLine) -> Result<Client, LineError>
     Ok(Client::Hostile { seed, stores })
 }
 
-/// The only word that is left.
+/// Returns the only word that is left.
 fn read_operand<'a>(words: WordsOfLine<'a>) -> Result<&'a [u8], ClientsKind>
     ensures { Finds (λ word. word.now) result (operand_of (words_left words.entry)) }
 {
     read_given(words.only().ok_or(ClientsKind::BadLine)?)
 }
 
-/// A word that has a byte.
+/// Returns a word that isn't empty.
 fn read_given(word: &[u8]) -> Result<&[u8], ClientsKind>
     ensures { Finds (λ word. word.now) result (given word.now) }
 {
@@ -224,7 +224,7 @@ fn read_given(word: &[u8]) -> Result<&[u8], ClientsKind>
     }
 }
 
-/// The number of a word, from `least` to `most`.
+/// Reads a number from `least` to `most`.
 fn read_number(word: &[u8], least: u32, most: u32) -> Result<u32, ClientsKind>
     ensures number { Finds (λ number. number) result (number_between least most word.now) }
     ensures within { IfOk result (λ number. (least ≤ number) × (number ≤ most)) }

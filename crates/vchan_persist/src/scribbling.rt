@@ -11,7 +11,7 @@ use std::marker::Model;
 use task_pool::Turn;
 use vchan_rule::End;
 
-/// The client's end of the page, and the stores that its user is to make.
+/// The client's end of the page, and the stores that its user will make.
 #[derive(Drop)]
 pub(crate) struct Scribbling<'p> {
     end: End<'p>,
@@ -37,7 +37,8 @@ impl<'p> Scribbling<'p> {
     ghost use Rattle.task_pool.specs.Owes.{Pays};
     ghost use Rattle.vchan_persist.specs.Owes.{epoch_owes};
 
-    /// The task of a user who draws so many stores from this seed on. The end has moved no byte.
+    /// Returns the task of a user who draws this many stores from this seed on. The end has moved
+    /// no byte.
     pub(crate) fn new(end: End<'p>, seed: u32, stores: u32) -> Scribbling<'p>
         requires client { end.side.role ≡ Client }
         requires seed { seed ≤ 65535 }
@@ -47,7 +48,7 @@ impl<'p> Scribbling<'p> {
         Scribbling { end, seed, stores }
     }
 
-    /// The end is given up to its user, who makes all stores and retires it.
+    /// Gives the end up to its user, who makes all stores and retires it.
     pub(crate) fn turn(self) -> Turn<EpochTask<'p>>
         ensures { Pays epoch_owes (EpochTask.Scribbles self.entry) result }
     {
@@ -58,8 +59,8 @@ impl<'p> Scribbling<'p> {
     }
 }
 
-/// Makes so many stores to fields of the header, each drawn by three numbers of the generator: the
-/// first of them would choose among pages, of which there is one.
+/// Makes this many stores to fields of the header, each drawn by three numbers of the generator.
+/// The first of them would choose among pages, but there is only one.
 fn scribble(end: &mut Hostile<'_>, seed: u32, stores: u32)
     requires { seed ≤ 65535 }
     ensures page { end.new.page ≡ end.old.page }

@@ -23,18 +23,18 @@ use vchan_rule::Page;
 /// How many workers turn the two sides of an epoch.
 const WORKERS: u32 = 2;
 
-/// Serves clients one after another by the built-in service of this name, and answers one epoch for
+/// Serves clients one after another by the built-in service of this name, and returns one epoch for
 /// each, in order.
 ///
-/// In an epoch a page is laid anew, whose indices begin at `start`; its client and its server are two
-/// tasks of a pool with two workers. A client that calls is answered what the service gives for its
-/// input. The end of a hostile one is given up to it: it makes its stores and retires.
+/// Each epoch has a new page, whose indices begin at `start`; its client and its server are two
+/// tasks of a pool with two workers. A client that calls gets the answer of the service to its
+/// input. The end of a hostile client is given up to it: it makes its stores and retires.
 ///
 /// There are at most 4,096 clients, and their numbers are in range.
 ///
 /// # Errors
 ///
-/// Want of memory.
+/// `Memory` if memory runs out; no other.
 pub fn serve_clients<R: Threads + Wait + Sync>(
     rt: &R,
     alloc: Global,
@@ -64,7 +64,7 @@ pub fn serve_clients<R: Threads + Wait + Sync>(
     Ok(dones)
 }
 
-/// The epoch of one client.
+/// Serves one client, and returns its epoch.
 fn serve_client<R: Threads + Wait + Sync>(
     rt: &R,
     alloc: Global,

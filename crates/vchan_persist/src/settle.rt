@@ -1,4 +1,4 @@
-//! What an epoch comes to, by what its tasks handed back.
+//! The result of an epoch, by what its tasks handed back.
 ghost use Rattle.std.specs.Prelude.{◌≡◌, IfOk, ℕ, List};
 ghost use Rattle.atomic_table.specs.Seated.{TableId};
 ghost use Rattle.ring_words.specs.declared.page.Role.TheVariants.{Server, Client as ClientEnd};
@@ -25,7 +25,7 @@ pub(crate) struct Epoch {
     pub(crate) settled: Settled,
 }
 
-/// A page that is settled by its two ends.
+/// Settles a page by its two ends.
 fn settle_page(page: Page, server: Retired, client: Retired) -> Settled
     requires server { IsEndOf page.table Server server }
     requires client { IsEndOf page.table ClientEnd client }
@@ -36,7 +36,7 @@ fn settle_page(page: Page, server: Retired, client: Retired) -> Settled
     settled
 }
 
-/// The epoch of a client that called. Between honest ends its call is done.
+/// Returns the epoch of a client that called. Between honest ends its call is done.
 fn settle_call(page: Page, caller: CallerEnd, server: ServingEnd) -> Epoch
     requires { (name : List ℕ) × (stdin : List ℕ) × (service : Service) × IsService name (builtin_owes service) × HasCalled page.table stdin caller × HasServed page.table service server }
     ensures { (stdin : List ℕ) (service : Service) → HasCalled page.table stdin caller → HasServed page.table service server → ComesTo (words_of page) (Call stdin) service result.result result.settled }
@@ -62,7 +62,7 @@ fn settle_call(page: Page, caller: CallerEnd, server: ServingEnd) -> Epoch
     }
 }
 
-/// The epoch of a client that handed this back, where the server's side is over.
+/// Returns the epoch of a client whose task handed this back, after the server's side is over.
 fn settle_client(page: Page, client: SideDone, server: ServingEnd) -> Result<Epoch, Memory>
     requires { (name : List ℕ) × (guest : Guest) × (service : Service) × IsService name (builtin_owes service) × ClientHands page.table guest client × HasServed page.table service server }
     ensures { (guest : Guest) (service : Service) → ClientHands page.table guest client → HasServed page.table service server → IfOk result (λ e. ComesTo (words_of page) guest service e.result e.settled) }
@@ -74,7 +74,8 @@ fn settle_client(page: Page, client: SideDone, server: ServingEnd) -> Result<Epo
             settled: settle_page(page, server.retired, end),
         }),
         SideDone::Refused(end) => {
-            // The page's order words say its orders, as long as both ends are honest.
+            // Never reached: the page's order words hold its orders, as long as both ends are
+            // honest.
             let _ = settle_page(page, server.retired, end);
             unreachable!()
         }
@@ -83,7 +84,7 @@ fn settle_client(page: Page, client: SideDone, server: ServingEnd) -> Result<Epo
     }
 }
 
-/// The end of a server whose client is over.
+/// Returns the end of a server whose task is over.
 fn served(done: SideDone) -> Result<ServingEnd, Memory>
     requires { (page : TableId) × (service : Service) × ServerHands page service done }
     ensures { IfOk result (λ end. done ≡ SideDone.Served end) }
@@ -95,8 +96,11 @@ fn served(done: SideDone) -> Result<ServingEnd, Memory>
     }
 }
 
-/// The epoch whose two tasks handed this back, the client's first. Its error is want of memory, that a
-/// task met.
+/// Returns the epoch whose two tasks handed this back, the client's first.
+///
+/// # Errors
+///
+/// `Memory` if a task ran out of memory; no other.
 pub(crate) fn settle(page: Page, dones: Vec<SideDone>) -> Result<Epoch, Memory>
     requires { (name : List ℕ) × (guest : Guest) × (service : Service) × IsService name (builtin_owes service) × AreHandedBack page.table guest service dones.items }
     ensures { (guest : Guest) (service : Service) → AreHandedBack page.table guest service dones.items → IfOk result (λ e. ComesTo (words_of page) guest service e.result e.settled) }

@@ -19,7 +19,7 @@ pub(crate) enum EpochTask<'p> {
     Over(SideDone),
 }
 
-/// What a task hands back. Its end makes no event any more.
+/// What a task hands back. Its end makes no more events.
 #[derive(Drop)]
 pub(crate) enum SideDone {
     /// A client whose call is over.
@@ -30,7 +30,7 @@ pub(crate) enum SideDone {
     Scribbled(Retired),
     /// The server, whose client is over.
     Served(ServingEnd),
-    /// Memory ran out, and the end has retired.
+    /// Memory ran out, and the end was retired.
     NoMemory,
 }
 

@@ -1,4 +1,4 @@
--- Each client's epoch stands behind those before it.
+-- Each client's epoch stands after those before it.
 use Rattle.std.proofs.Common.{◌≡◌, ◌+◌, List, [], ◌∷◌, ap, length, refl, subst, arith}
 use Rattle.std.specs.Prelude.{IsSome}
 use Rattle.std.proofs.lemmas.Bool.{false≢true}
