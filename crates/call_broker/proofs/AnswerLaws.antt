@@ -31,7 +31,7 @@ page-within n from to of_from of_to =
     let t_high : to ≤ n = grind (arith, nat_tests, t.1) in
     mul-add-lt (from - 1) n (to - 1) n (omega (arith, f_low, f_high)) (omega (arith, t_low, t_high))
 
--- ---- who is of which pair
+-- ---- which domains are of which pair
 
 self-eq : (n : ℕ) → (n == n) ≡ true
 self-eq n = grind (arith, nat_tests)
@@ -193,7 +193,7 @@ or-none : (b : Bool) → (b || false) ≡ b
 or-none true = refl
 or-none false = refl
 
--- who of a pair is dropped, by the two domains that name it
+-- which domains of a pair are dropped, by the two domains that name it
 gone-of-pair : (es : List Event) (from other port caller server : ℕ) → Ordered caller server ≡ by_port from other port → list_any (drops from) es ≡ false
     → (list_any (drops caller) es || list_any (drops server) es) ≡ list_any (drops other) es
 gone-of-pair es from other port caller server is up = by_case (by-port-cases from other port)

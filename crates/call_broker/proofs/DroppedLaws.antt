@@ -75,7 +75,7 @@ any-append p (x ∷ xs) ys = ap (λ b. p x || b) (any-append p xs ys) ∙ or-shi
     or-shift true b c = refl
     or-shift false b c = refl
 
--- who is dropped after one more event
+-- which domains are dropped after one more event
 pub dropped-more : (d : ℕ) (es : List Event) (e : Event) → list_any (drops d) (es ++ e ∷ []) ≡ (drops d e || list_any (drops d) es)
 dropped-more d es e = any-append (drops d) es (e ∷ []) ∙ turned (drops d e) (list_any (drops d) es)
   where

@@ -1,4 +1,4 @@
--- The state of a pair after some events: who was dropped, and how many calls it has had.
+-- The state of a pair after some events: which domains were dropped, and how many calls it has had.
 use Rattle.std.proofs.Common.{◌≡◌, ℕ, ◌+◌, ◌≤◌, List, [], ◌∷◌, ◌++◌, refl, ap, sym, ◌∙◌, arith, append_assoc, Option, Some, None, subst}
 use Rattle.std.specs.Prelude.{true, false, Bool, ◌==◌, ◌&&◌, ◌||◌, if◌then◌else◌}
 use Rattle.std.specs.List.{list_any}
@@ -13,7 +13,7 @@ use Rattle.call_broker.specs.Journal.{IsDecidedOn, events, drops, is_dropped, po
 use Rattle.call_broker.proofs.PortLaws.{IsStep, on-event, state-after}
 use Rattle.call_broker.proofs.Decided.{accepted-view}
 
--- ---- who was dropped
+-- ---- which domains were dropped
 
 or-parts : (a b : Bool) → (a || b) ≡ false → (a ≡ false) × (b ≡ false)
 or-parts true b h = cc
@@ -53,7 +53,7 @@ pub none-before : (d : ℕ) (before rest : List Event) → list_any (drops d) (b
 none-before d [] rest clear = refl
 none-before d (e ∷ before) rest clear = let parts = or-parts (drops d e) (list_any (drops d) (before ++ rest)) clear in let more = none-before d before rest parts.1 in rw (parts.0, more) refl
 
--- ---- if an entry is decided
+-- ---- when an entry is decided
 
 pub record IsDecidedAt (hub : Domains) (done : List Event) (journal : List Entry) (x : Entry) : Type 0 where
   pub before : List Event

@@ -65,7 +65,7 @@ same-calls old new f t same = ap (λ (es : List ((ℕ × ℕ) × Calls)). lookup
 same-dropped : (old new : BTreeSet ℕ) (d : ℕ) → SameDropped old new → set.contains nat_cmp new d ≡ set.contains nat_cmp old d
 same-dropped old new d same = ap (λ (ks : List ℕ). list_any (is_at (nat_cmp d)) ks) same
 
--- an event that drops nobody
+-- an event that drops no domain
 gone-same : (hub : Domains) (es : List Event) (e : Event) (old new : BTreeSet ℕ) → ((d : ℕ) → drops d e ≡ false) → SameDropped old new
     → ((d : ℕ) → set.contains nat_cmp old d ≡ list_any (drops d) es) → (d : ℕ) → set.contains nat_cmp new d ≡ list_any (drops d) (es ++ e ∷ [])
 gone-same hub es e old new none same gone d = same-dropped old new d same ∙ gone d ∙ sym (dropped-more d es e ∙ ap (λ b. b || list_any (drops d) es) (none d))
@@ -73,7 +73,7 @@ gone-same hub es e old new none same gone d = same-dropped old new d same ∙ go
 gone-of : (es : List Event) (e : Event) → ((d : ℕ) → drops d e ≡ false) → (d : ℕ) → list_any (drops d) (es ++ e ∷ []) ≡ list_any (drops d) es
 gone-of es e none d = dropped-more d es e ∙ ap (λ b. b || list_any (drops d) es) (none d)
 
--- an event that changes no pair and drops nobody
+-- an event that changes no pair and drops no domain
 kept : (hub : Domains) (es : List Event) (e : Event) (calls calls' : BTreeMap (ℕ × ℕ) Calls) (dropped dropped' : BTreeSet ℕ)
     → ((d : ℕ) → drops d e ≡ false) → ((f t : ℕ) → state_after hub (es ++ e ∷ []) (Ordered f t) ≡ state_after hub es (Ordered f t))
     → SameCalls calls calls' → SameDropped dropped dropped' → IsTabled hub es calls dropped → IsTabled hub (es ++ e ∷ []) calls' dropped'

@@ -50,7 +50,7 @@ chunk-over a = by_over (is_over a)
     by_over true = by_code a.code
     by_over false = refl
 
--- a side that was borrowed and then told what went is at work over its end
+-- a side whose bytes were borrowed, and that was told how many of them went, is at work with its end
 pub works-on : (old lent new : ServingState Builtin) (end end' : SeatedEnd) (piece : List ℕ) (count : ℕ) → IsAtWork old end → old.answering.outcome ≡ None → LendsAnswers builtin_owes old lent piece
     → new ≡ record lent { answering = after_gone count lent.answering } → (view end').idle ≡ true → (view end').state ≡ (view end).state → (view end').ended ≡ (view end).ended → IsAtWork new end'
 works-on old lent new end end' piece count work none lends new_is idle state ended =

@@ -184,9 +184,14 @@ impl<'p> CallerSession<'p> {
 /// A call that is over at its caller: how it came out, its outputs, all bytes got, and its end.
 #[derive(Drop)]
 pub struct CallerEnd {
+    /// How it came out.
     pub outcome: Outcome,
+    /// The output that came before the message that decided.
     pub stdout: Bytes,
+    /// The error output that came before the message that decided.
     pub stderr: Bytes,
+    /// All bytes got.
     pub got: Bytes,
+    /// Its end, which makes no more events.
     pub retired: Retired,
 }

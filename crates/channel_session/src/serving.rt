@@ -210,7 +210,10 @@ impl<'p> ServingSession<'p> {
 /// A call that is over at the side that served it: how it came out, all bytes got, and its end.
 #[derive(Drop)]
 pub struct ServingEnd {
+    /// How it came out.
     pub outcome: Outcome,
+    /// All bytes got.
     pub got: Bytes,
+    /// Its end, which makes no more events.
     pub retired: Retired,
 }

@@ -127,7 +127,7 @@ draws_other plan control items d n dflt new places apart other is =
 
 -- ---- a scribble
 
--- of the draws of a scribble these were made, and that many are left from here on
+-- of the draws of a scribble, these were made, and this many are left
 pub record IsDrawnSoFar (seed count x rest : ℕ) (old now : Pages) : Type 0 where
   pub made : List Drawn
   pub draws : drawn seed count ≡ made ++ drawn x rest

@@ -61,7 +61,7 @@ are_after_none pages = record { control = refl; payload = all pages.payload.item
     all [] = refl
     all (p ∷ ps) = λ i. p ∷ all ps i
 
--- the pages stay if they are, and as they were given
+-- the pages stay at their places, and as they were given
 pub are_same_after : (events : PagePlace → List PastEvent) (old new : Pages) → AreAfter events old new → AreSamePages old new
 are_same_after events old new are = record {
   places = (λ i. (are.control i).place ∷ map (λ p. p.place) (are.payload i)) ∙ ap (λ (ps : List PagePlace). old.control.place ∷ ps) (places old.payload.items);

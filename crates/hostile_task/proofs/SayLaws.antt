@@ -36,7 +36,7 @@ said-orders : (v : Voice) (bytes loads : List ℕ) → (said v bytes loads).voic
 said-orders v bytes [] = refl
 said-orders v bytes (cons ∷ loads) = said-orders (moved v (fits v bytes cons)) (drop (fits v bytes cons) bytes) loads
 
--- nothing is said yet
+-- nothing is sent yet
 pub nothing_said : (v : Voice) (bytes : List ℕ) (p : Progress) → p.own ≡ v.own → p.turns ≡ 0 → p.said ≡ 0 → SaysSoFar v bytes p []
 nothing_said v bytes p own turns none = record {
   loads = [];
@@ -53,7 +53,7 @@ pub fits-room : (v : Voice) (bytes : List ℕ) (cons : ℕ) → fits v bytes con
 fits-room v bytes cons =
     omega (arith, (size-within (order_of v.orders (written_ring Server))).1, room_within v.own (low32 cons) (order_of v.orders (written_ring Server)))
 
--- so it is over if nothing is left, or after the last turn
+-- so the act is over if nothing is left, or after the last turn
 pub says_no_more : (v : Voice) (bytes : List ℕ) (p : Progress) (events : List PastEvent) → SaysSoFar v bytes p events → p.turns ≤ 1024 → (length bytes ≤ p.said) ⊎ (p.turns ≡ 1024) → IsSaying v (voice_at v p) bytes events
 says_no_more v bytes p events so_far few stops = record {
   loads = so_far.loads;
@@ -82,7 +82,7 @@ drop-add (x ∷ xs) (suc m) n = ap (λ (k : ℕ). drop k (x ∷ xs)) (suc-plus m
     suc-plus : (a b : ℕ) → suc a + b ≡ suc (a + b)
     suc-plus a b = omega arith
 
--- one turn more is said
+-- one more turn of sending
 pub says_more : (v : Voice) (bytes : List ℕ) (p next : Progress) (events : List PastEvent) (cons : ℕ) → SaysSoFar v bytes p events → p.said < length bytes
     → next.turns ≡ p.turns + 1 → next.said ≡ p.said + fits (voice_at v p) (drop p.said bytes) cons → next.own ≡ (moved (voice_at v p) (fits (voice_at v p) (drop p.said bytes) cons)).own
     → SaysSoFar v bytes next (events ++ said_once (voice_at v p) (drop p.said bytes) cons)
@@ -108,7 +108,7 @@ says_more v bytes p next events cons so_far some turns count own =
           (cases_lt k (length so_far.loads));
     }
 
--- a call that says as many bytes as have room is one turn more
+-- a call that sends as many bytes as have room is one more turn
 pub says_turn : (v : Voice) (bytes : List ℕ) (p next : Progress) (events : List PastEvent) (old new : SeatedSide) (left : List ℕ) (taken count : ℕ) → SaysSoFar v bytes p events → v.orders ≡ old.side.orders
     → old.side.role ≡ Server → p.said < length bytes → left ≡ drop p.said bytes → count ≡ min (length left) (room p.own (low32 taken) (order_of old.side.orders (written_ring old.side.role)))
     → new.page ≡ old.page → new.side ≡ strays_along old.side (say_events old.side.role old.side.orders p.own taken (take count left) next.own)
@@ -125,7 +125,7 @@ says_turn v bytes p next events old new left taken count so_far orders role some
       says_more v bytes p next events taken so_far some turns (now ∙ ap (λ (n : ℕ). p.said + n) same) index,
     )
 
--- it is over if a test says so that holds only then
+-- the act is over, by a test that holds only then
 pub says_or_said : (over : Bool) (v : Voice) (bytes : List ℕ) (p : Progress) (events : List PastEvent) → SaysSoFar v bytes p events → p.turns ≤ 1024 → (over ≡ true → (length bytes ≤ p.said) ⊎ (p.turns ≡ 1024)) → SaysOrSaid over v bytes p events
 says_or_said true v bytes p events so_far few stops = says_no_more v bytes p events so_far few (stops refl)
 says_or_said false v bytes p events so_far few stops = so_far

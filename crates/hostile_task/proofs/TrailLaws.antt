@@ -94,7 +94,7 @@ control_stores plan place act p next trail t at none one turns said own =
     (subst (λ (words : Option (List ℕ)). Acts plan place act words t.voice (voice_at t.voice next) stores) (sym none) (refl, same))
     (trail_more plan place p trail stores t ∙ ap (λ (first : List PastEvent). loaded (prod_word (written_ring Server)) t.value ∷ (t.done ++ (first ++ stores))) part.0) one turns said
 
--- an act that says nothing goes on
+-- an act that sends nothing goes on
 control_rests : (plan : HostilePlan) (place : PagePlace) (act : Act) (p next : Progress) (trail : List PastEvent) → IsControlTrail plan place p trail → slice_get plan.acts p.acts ≡ Some act → words_of act ≡ None
     → next.acts ≡ p.acts → next.own ≡ p.own → IsControlTrail plan place next trail
 control_rests plan place act p next trail t at none same own =
@@ -172,7 +172,7 @@ page_stores plan act p next page so_far at none one turns said own =
     by_place (Control d) trail is = control_stores plan (Control d) act p next trail is at none one turns said own
     by_place (Payload from to port) trail is = payload_stores plan from to port act p next trail is at one
 
--- what says something stores nothing
+-- an act that sends something stores nothing
 stores-words : (plan : HostilePlan) (place : PagePlace) (act : Act) (bytes : List ℕ) → words_of act ≡ Some bytes → stores_of plan place act ≡ []
 stores-words plan place Hello bytes is = refl
 stores-words plan place (Say said) bytes is = refl
@@ -183,7 +183,7 @@ stores-words plan place (Scribble seed count) bytes is = cc
 stores-words plan place Signal bytes is = cc
 stores-words plan place (Rest turns) bytes is = cc
 
--- a data page while the domain says something, or rests
+-- a data page while the domain sends something, or rests
 pub payload_stays : (plan : HostilePlan) (p next : Progress) (page : TurnedPage) → IsPayload page.place → IsPageSoFar plan p page → next.acts ≡ p.acts → IsPageSoFar plan next page
 payload_stays plan p next page payload so_far same =
     page_with plan p next page [] so_far (subst (λ (t : List PastEvent). IsTrailSoFar plan page.place next t) (sym (append-nil page.end.side.trail)) (by_place page.place payload page.end.side.trail so_far.trail))

@@ -194,7 +194,7 @@ pub act_at : (acts list : List Act) (n : ℕ) (result act : Act) → list ≡ ac
 act_at acts list n result act same within is act_is =
     get-at acts n result within ∙ ap (λ (a : Act). Some a) (ap (λ (others : List Act). slice_index_or others n result) (sym same) ∙ sym is ∙ act_is)
 
--- what is no other act says something
+-- an act that is none of these sends something
 pub says_some : (act : Act) → ((page : ActPage) (word : WordName) (value : ℕ) → act ≡ Poke page word value → ⊥) → ((seed count : ℕ) → act ≡ Scribble seed count → ⊥) → (act ≡ Signal → ⊥) → ((turns : ℕ) → act ≡ Rest turns → ⊥)
     → (bytes : List ℕ) × (words_of act ≡ Some bytes)
 says_some Hello poke scribble signal rest = (_, refl)

@@ -13,9 +13,11 @@ use vchan_rule::End;
 /// A page of which the domain has an end.
 #[derive(Drop)]
 pub struct TurnedPage<'p> {
+    /// Where the page lies.
     pub place: PagePlace,
     /// The end as it was given; only clauses use it.
     pub given: Snapshot<End<'p>>,
+    /// The end, turned over to the domain.
     pub end: Hostile<'p>,
 }
 

@@ -32,7 +32,9 @@ const FIELDS: [WordName; 10] = [
 /// The pages of a domain, the control page first.
 #[derive(Drop)]
 pub struct Pages<'p> {
+    /// The control page.
     pub control: TurnedPage<'p>,
+    /// The data pages.
     pub payload: Vec<TurnedPage<'p>>,
 }
 

@@ -264,7 +264,7 @@ sends-laid own (Some version) r sent some s = by_waiting (length r.waiting == 0)
         subst Is (sym (if-true (length r.waiting == 0) _ _ is)) next
     by_waiting false is = subst Is (sym (if-false (length r.waiting == 0) _ _ is)) s
 
--- what `front` lends
+-- the bytes that `front` returns
 reads-still : (c : CallerState) (r : RequestsState) → HasRead c → HasRead (record c { requests = r })
 reads-still c r h = record { knows = h.knows; goes_on = λ none. let g = h.goes_on none in record { undecided = g.undecided; at = g.at; knows = g.knows } }
 

@@ -1,4 +1,4 @@
--- A side that serves keeps what it stands for, if a message is laid and where bytes have gone.
+-- A side that serves keeps what it stands for when a message is laid and when bytes have gone.
 use Rattle.std.proofs.Common.{◌≡◌, ℕ, ◌<◌, ◌≤◌, suc, zero, List, [], ◌∷◌, ◌++◌, length, take, drop, map, refl, ap, sym, ◌∙◌, subst, arith, append_assoc, ◌⊎◌, inl, inr, Option, Some, None}
 use Rattle.std.proofs.lemmas.List.{append-nil, take-append-drop, length-take-le}
 use Rattle.std.proofs.lemmas.Bool.Decides.{nat_tests}
@@ -48,7 +48,7 @@ same-laid (Some version) a =
     (same-if a (nat_lt 0 (length a.err)) _ _ (record { own = refl; chunk = refl; version = refl; code = refl; outcome = refl }) (same-end a a.code)))
     (record { own = refl; chunk = refl; version = refl; code = refl; outcome = refl })
 
--- what is known stays, where what is sent does
+-- what is known stays, if what is sent stays
 serves-same : {S : Type 0} (owes : S → List ℕ → Triple) (owed : List ℕ → Triple) (a b : AnsweringState S) (sent sent' : List ℕ) → Same a b
     → ((input : List ℕ) → SendsAnswers owes owed a.version a input sent → SendsAnswers owes owed b.version b input sent') → (placed : List (Placed Message)) (seen : Seen)
     → Serves owes owed a sent placed seen → Serves owes owed b sent' placed seen

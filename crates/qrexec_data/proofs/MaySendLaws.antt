@@ -129,7 +129,7 @@ serving-begun {S} owes owed limit a input sent s none =
     nothing true None is = refl
     nothing true (Some x) is = cc
 
--- after the input's end, where the ends and the exit code stand in messages
+-- after the input's end, when the ends and the exit code stand in messages
 whole-stream : {S : Type 0} (owes : S → List ℕ → Triple) (owed : List ℕ → Triple) (limit : ℕ) (a : AnsweringState S) (input sent : List ℕ) (code : ℤ) → SendsOutputs owes owed limit a input sent
     → a.code ≡ Some code → a.closed ≡ true → (stream : List Message) × IsServingStream a.own limit (owed input) stream × (sent ++ a.waiting ≡ flat_map written stream)
 whole-stream {S} owes owed limit a input sent code s is closed =

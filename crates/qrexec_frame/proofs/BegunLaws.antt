@@ -40,7 +40,7 @@ completed channel bytes kind header range count some total =
     let length_is : 0 < length (replicate {A = ℕ} count 0) = omega (arith, some, length-replicate {A = ℕ} count 0) in
     inr (replicate count 0, made kind (take (number_at 4 bytes) (drop 8 (bytes ++ replicate count 0))), length_is, spelled)
 
--- where less than a message stands at the front, the bytes begin one, or aren't a header yet
+-- if less than a message stands at the front, the bytes begin one, or aren't a header yet
 pub short-begun : (channel : Channel) (bytes : List ℕ) → front channel bytes ≡ Short → IsBegun channel bytes
 short-begun channel bytes is = by_standing (standing channel bytes)
   where

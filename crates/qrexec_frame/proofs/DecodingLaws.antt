@@ -303,7 +303,7 @@ short-less channel bytes is = by_standing (standing channel bytes)
     by_standing (Unended kind header range there line last) = let here = front-no_nul channel bytes _ _ kind header range there line last in cc
     by_standing (Said kind header range there ended) = let here = front-whole channel bytes _ _ kind header range there ended in cc
 
--- so few bytes are left if a decoder gives nothing
+-- how few bytes are left if a decoder returns no message
 pub next-short : (old new : DecoderState) (r : Result (Option Message) NextError) → (old.fault ≡ None → Answers old new r)
     → ((f : FrameFault) → old.fault ≡ Some f → (r ≡ Err (error.Fault f)) × (new ≡ old)) → r ≡ Ok None → length old.left < 65544
 next-short old new r answer faulted is = by_fault old.fault refl

@@ -118,7 +118,7 @@ extends first code [] b at skip = (_, refl)
 extends first code (x ∷ a) b at (suc skip) = extends first code a b (at + 1) skip
 extends first code (x ∷ a) b at zero = extends-front first code x a b at (λ skip. extends first code a b (at + 1) skip)
 
--- where as many messages were read as were written, all the bytes came
+-- if as many messages were read as were written, all the bytes came
 pub all-came : {M F : Type 0} (first : List ℕ → Front M F) (written : M → List ℕ) (ms : List M) (bytes : List ℕ) → Begins first written ms bytes 0
     → length ms ≤ length (messages (reading_by first bytes)) → bytes ≡ flat_map written ms
 all-came first written ms bytes b same =
@@ -140,7 +140,7 @@ reads-all first written Good code again (m ∷ ms) each at =
     let more = reads-all first written Good code again ms each.1 (at + length (written m)) in
     rw read (ap (λ rest. m ∷ rest) more.0, more.1)
 
--- what was read to its end as whole messages is read so, whatever follows it
+-- what was read to its end as whole messages is read the same, whatever follows it
 pub reads-then : {M F : Type 0} (first : List ℕ → Front M F) → IsPrefixCode first → (bytes tail : List ℕ) (at skip : ℕ) → skip ≤ length bytes → (read_on first bytes at skip).ending ≡ Rest 0
     → read_on first (bytes ++ tail) at skip ≡ then_reading (read_on first bytes at skip).placed (read_on first tail (at + length bytes) 0)
 reads-then first code [] tail at zero within done = let same : at + 0 ≡ at = omega arith in rw same refl

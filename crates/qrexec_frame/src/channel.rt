@@ -2,6 +2,8 @@
 /// channel per call.
 #[derive(Clone, Copy, Debug, PartialEq, Eq)]
 pub enum Channel {
+    /// The channel of a domain, for triggers and their answers.
     Control,
+    /// The channel of one call, for its streams and its exit code.
     Data,
 }

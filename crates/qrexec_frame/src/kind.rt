@@ -10,17 +10,29 @@ pub(crate) const MOST_BODY: u32 = 65_536;
 /// The types of qrexec messages; [`Message`](crate::Message) says what each is for.
 #[derive(Clone, Copy, Debug, PartialEq, Eq)]
 pub enum Kind {
+    /// `MSG_HELLO`.
     Hello,
+    /// `MSG_DATA_STDIN`.
     Stdin,
+    /// `MSG_DATA_STDOUT`.
     Stdout,
+    /// `MSG_DATA_STDERR`.
     Stderr,
+    /// `MSG_DATA_EXIT_CODE`.
     ExitCode,
+    /// `MSG_EXEC_CMDLINE`.
     Exec,
+    /// `MSG_JUST_EXEC`.
     JustExec,
+    /// `MSG_SERVICE_CONNECT`.
     Connect,
+    /// `MSG_SERVICE_REFUSED`.
     Refused,
+    /// `MSG_CONNECTION_TERMINATED`.
     Terminated,
+    /// `MSG_TRIGGER_SERVICE3`.
     Trigger3,
+    /// `MSG_TRIGGER_SERVICE`.
     Trigger,
 }
 

@@ -1,4 +1,4 @@
--- The laws of one domain and of one ordered pair: what is said and heard, ports, answers, limits.
+-- The laws of one domain and of one ordered pair: what is sent and heard, ports, answers, limits.
 pub mod ControlLaws
 pub mod ControlMessages
 pub mod PortsLaw

@@ -112,7 +112,7 @@ apart = (
   ),
 )
 
--- that many generated calls between the generated domains make a scenario
+-- this many generated calls between the generated domains make a scenario
 pub generated_is_scenario : (seed calls : ℕ) (orders : Orders) → number_of orders.left ≡ 10 → number_of orders.right ≡ 11 → calls ≤ 2000
     → IsScenario (record { control = orders; payload = orders; start = 0; domains = made_domains; calls = generated_calls 1 seed calls })
 generated_is_scenario seed calls orders left right few = record {
@@ -130,7 +130,7 @@ generated_is_scenario seed calls orders left right few = record {
       rw count (omega (arith, laid, all));
 }
 
--- the first of that many calls
+-- the first of this many calls
 pub generated_step : (number x count : ℕ) → 0 < count → generated_calls number x count ≡ call_from number x ∷ generated_calls (number + 1) (after_call x) (count - 1)
 unfolding generated_calls
 generated_step number x zero h = absurd (omega arith)

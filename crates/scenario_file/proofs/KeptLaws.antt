@@ -50,7 +50,7 @@ stdin-left domains (call ∷ calls) = by_mixed (targets_hostile domains call) re
     by_mixed false is more =
         rw is (omega (arith, sum_by-cons (λ (c : CallPlan). length c.stdin) call calls, sum_by-cons (λ (c : CallPlan). length c.stdin) (call_left domains call) (calls_left domains calls), more))
 
--- a page is laid for a call that is left just if one was laid for it
+-- a page is laid for a call that is left if and only if one was laid for it
 same-lays : (domains : List Domain) (call : CallPlan) → IsHonest domains call.from → targets_hostile domains call ≡ false
     → lays_page (honest domains) (call_left domains call) ≡ lays_page domains call
 same-lays domains call caller plain = by_place (place_named domains call.to) refl plain

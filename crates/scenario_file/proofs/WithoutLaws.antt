@@ -138,7 +138,7 @@ pub honest-left : (domains : List Domain) (d : ℕ) → IsHonest domains d → I
 honest-left domains zero h = cc
 honest-left domains (suc k) h = rw (at-left domains k h) h
 
--- what a name leads to, if that isn't hostile
+-- what a name leads to, if it isn't the name of a hostile domain
 pub plain-named : (domains : List Domain) (name : List ℕ) (k : ℕ) → place_named domains name ≡ Some k → option_map_or (hostile_among domains) (Some (suc k)) false ≡ false
     → IsHonestAt domains k × (place_named (honest domains) name ≡ Some (left domains k))
 plain-named domains name k is plain =

@@ -35,7 +35,7 @@ pub next_line : (found : NextLine) (number : ℕ) (text : Bor (List ℕ)) (left 
 next_line found number text left after is same =
     let family : NextLine → Type 0 = λ n. IsNext (Ok n) left after in subst family same is
 
--- where the end is next, no line is left
+-- if the end is next, no line is left
 pub next_end : (found : NextLine) (number : ℕ) (left after : Lines) → IsNext (Ok found) left after → found ≡ nexts.End number → left ≡ stops number
 next_end found number left after is same =
     let family : NextLine → Type 0 = λ n. IsNext (Ok n) left after in subst family same is

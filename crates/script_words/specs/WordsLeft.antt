@@ -4,7 +4,7 @@ use Rattle.script_words.specs.Words.{words_of}
 use Rattle.script_words.specs.declared.words.WordsOfLine.{WordsOfLine}
 use denote.Ref.{Bor}
 
--- the words of what is left of the line, where anything is left
+-- the words of what is left of the line, if anything is left
 abbrev pub left_of : Option (Bor (List ℕ)) → List (List ℕ)
 left_of None = []
 left_of (Some rest) = words_of rest.now

@@ -84,7 +84,7 @@ pub begun-end : (input : List ℕ) (left : Lines) (number total : ℕ) → left 
 begun-end input left number total none (inl begun) = begun
 begun-end input left number total none (inr first) = subst FirstIsGood (sym none ∙ first.0) tt
 
--- a line whose refusal is running out of memory is good
+-- a line for which memory ran out is good
 pub good-line : {A : Type 0} (e : DecodeError) (due : Result A (ℕ × DecodeKind)) → IsLineRefusal e due → e ≡ error.Memory → IsOk due
 good-line e due is same = let family : DecodeError → Type 0 = λ e. IsLineRefusal e due in subst family same is
 

@@ -1,4 +1,4 @@
--- Control-bytes: what a side got of a beginning of what the other has said has no fault, and is the first few of those messages.
+-- Control-bytes: what a side got of a beginning of what the other has sent has no fault, and is the first few of those messages.
 use Rattle.std.proofs.Common.{◌≡◌, ℕ, ◌<◌, ◌≤◌, ◌^◌, suc, zero, List, [], ◌∷◌, ◌++◌, length, take, map, refl, ap, ◌∙◌, arith, ◌⊎◌, inl, inr, None}
 use Rattle.std.specs.Prelude.{true, false, Bool, nat_lt}
 use Rattle.std.specs.List.{flat_map}
@@ -21,7 +21,7 @@ Good m = IsSpellable m × GoesOn Control m
 abbrev pub the_messages : List (Placed Message) → List Message
 the_messages placed = map (λ p. p.message) placed
 
--- what may be said goes on a control channel
+-- what may be sent goes on a control channel
 abbrev pub OnControl : (Message → Bool) → Type 0
 OnControl may = (m : Message) → may m ≡ true → GoesOn Control m
 
@@ -70,7 +70,7 @@ allowed-all may (m ∷ said) each (p ∷ placed) (suc k) left is =
     let may_be : may p.message ≡ true = ap may a ∙ each.0.0 in
     rw may_be (let both : p.message ∷ allowed may placed ≡ m ∷ take k said = cc in (both, on.1))
 
--- what was heard: no fault, and the first few of what was said
+-- what was heard: no fault, and the first few of what was sent
 pub record IsClean (said : List Message) (heard : Heard) : Type 0 where
   pub fault : heard.fault ≡ None
   pub count : ℕ
@@ -104,7 +104,7 @@ control-bytes own other may on said sent got two small h prefix = by_sent h.whol
         let b = begins (front Control) written Good (is_prefix_code Control) (is_read_again Control) (Hello other ∷ said) good got prefix.0 0 (prefix.1 ∙ is) in
         on-hello own other may said two h.each (reading Control got).placed (reading Control got).ending b.count (length b.over) b.read b.ending
 
--- if all that was said came, all of it is heard
+-- if all that was sent came, all of it is heard
 pub all-heard : (own other : ℕ) (may : Message → Bool) → OnControl may → (said : List Message) (sent : List ℕ) → 2 ≤ other → other < 2 ^ 32
     → IsSaid other may said sent → (hears own may sent).messages ≡ said
 all-heard own other may on said sent two small h = by_sent h.whole

@@ -1,4 +1,4 @@
--- The triggers of a domain: in its journal, in what the broker read, and in what it said.
+-- The triggers of a domain: in its journal, in what the broker read, and in what it sent.
 use Rattle.std.proofs.Common.{◌≡◌, ℕ, ◌≤◌, suc, zero, List, [], ◌∷◌, ◌++◌, length, take, map, refl, ap, sym, ◌∙◌, arith, append_assoc, Option, Some, None}
 use Rattle.std.specs.Prelude.{true, false, Bool, ◌==◌, filter_map, option_map, if◌then◌else◌}
 use Rattle.std.proofs.lemmas.List.Elements.{filter_map-append}

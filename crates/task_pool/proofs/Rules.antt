@@ -29,7 +29,7 @@ pub all-map : {X : Type 0} (P Q : X → Type 0) → ((x : X) → P x → Q x) �
 all-map P Q go [] h = tt
 all-map P Q go (x ∷ xs) h = (go x h.0, all-map P Q go xs h.1)
 
--- what was laid stays if it is
+-- what was laid stays at its place
 laid_longer : {T : Type 0} (laid more : List T) (i : ℕ) (t : T) → slice_get laid i ≡ Some t → slice_get (laid ++ more) i ≡ Some t
 laid_longer [] more i t at = cc
 laid_longer (x ∷ laid) more zero t at = at

@@ -131,7 +131,7 @@ read-all number clients lines all none is = is ∙ ap (clients_from number clien
 pub begins-here : (text : List ℕ) (lines more : List (List ℕ)) → lines ≡ text ∷ more → HasClient text → BeginsWell lines
 begins-here text lines more cut has = subst BeginsWell (sym cut) (subst (λ (b : Bool). MatchBool b (BeginsWell more) (IsOk (client_of (words_of text)))) (sym has.0) has.1)
 
--- and where what is after a good line begins well
+-- likewise if what comes after a good line begins well
 pub begins-later : (number : ℕ) (clients now : List Client) (text : List ℕ) (lines more : List (List ℕ)) → lines ≡ text ∷ more → with_line number clients text ≡ Ok now → BeginsWell more → BeginsWell lines
 begins-later number clients now text lines more cut is later = subst BeginsWell (sym cut) (by_passed (is_passed_over text) refl)
   where

@@ -1,4 +1,4 @@
--- What ties the control page of an honest domain to the journal: what the agent heard is what the broker said, the triggers in the journal are those
+-- What ties the control page of an honest domain to the journal: what the agent heard is what the broker sent, the triggers in the journal are those
 -- of the first few calls of the plan, and one ident is one entry.
 use Rattle.std.proofs.Common.{◌≡◌, ℕ, ◌<◌, List, [], ◌∷◌, take, map, refl, ap, ◌∙◌, arith, Option, Some}
 use Rattle.std.specs.Prelude.{true, false, Bool, ◌==◌, ◌||◌, filter_map, option_map}
@@ -41,7 +41,7 @@ use Rattle.run_laws.proofs.Scenarios.Facts.{facts}
 
 -- ---- what was heard
 
--- the agent heard all that the broker said
+-- the agent heard all that the broker sent
 pub heard-is : (s : Scenario) (run : Run) (h : IsRun s run) (d : ℕ) → IsHonest s d → agent_heard s run d ≡ h.broker.said d
 heard-is s run h d honest =
     let end = control_ends s run h d honest in

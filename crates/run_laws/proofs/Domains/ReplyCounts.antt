@@ -1,4 +1,4 @@
--- Replies are counted: where as many triggers of a domain were answered as it has in the journal, its outbox has one reply to each.
+-- Replies are counted: if as many triggers of a domain were answered as it has in the journal, its outbox has one reply to each.
 use Rattle.std.proofs.Common.{◌≡◌, ◌≢◌, ℕ, ◌+◌, ◌≤◌, List, [], ◌∷◌, ◌++◌, length, map, refl, sym, ◌∙◌, arith, inl, inr, Option, Some, None, subst}
 use Rattle.std.specs.Prelude.{true, false, Bool, ◌==◌, bytes_eq, filter, is_some, if◌then◌else◌}
 use Rattle.std.proofs.lemmas.Bool.Decides.{nat_tests}

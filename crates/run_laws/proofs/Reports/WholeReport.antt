@@ -298,7 +298,7 @@ stands s run h served call there true mixed to named =
     let bad : hostile_at s to ≡ true = let e = rw named at mixed in e in
     subst (ResultStands s (report_of s run served) (ports_of s run) call to) (sym r) (mixed-stands s run h served call there to named bad (end_of_call run call) refl (reported s run h call there))
 
--- a call to a hostile domain is told nowhere
+-- nothing need be told of a call to a hostile domain
 told : (s : Scenario) (run : Run) (h : IsRun s run) (served : List ServedLine) (call : CallPlan) → Has s.calls call → (b : Bool) → is_mixed s call ≡ b
     → (to : ℕ) → domain_named s call.to ≡ Some to → lawful.ToldAs s (report_of s run served) (ports_of s run) call to (result_of s run call)
 told s run h served call there false plain to named = (fine s run h served call there plain).told to named

@@ -54,7 +54,7 @@ use Rattle.task_duties.specs.declared.done.CallEnd.TheVariants.{Session}
 use Rattle.run_laws.proofs.Runs.RefusedRun.{ident, ident-is, no-nul, version-on}
 use Rattle.run_laws.proofs.Runs.ServedBytes.{calls, serves, caller-owes, serving-owes}
 
--- ---- what is said
+-- ---- what is sent
 
 abbrev trigger : Message
 trigger = m.Trigger3 (codes "b") ident (codes "echo")

@@ -50,7 +50,7 @@ orders_failed : (left right : Order) (passed : Bool) (differ : passed ≡ true �
 orders_failed left right true differ is = absurd (cc)
 orders_failed left right false differ is = refl
 
--- the orders of two numbers, if the tests of each went so
+-- the orders of two numbers, by these results of the tests of each
 abbrev tested : (left right : ℕ) (a b : Bool) → (a ≡ true → (10 ≤ left) × (left ≤ 20)) → (b ≡ true → (10 ≤ right) × (right ≤ 20)) → Option Orders
 tested left right a b fits_left fits_right =
     option_and_then (λ (l : Order). option_and_then (λ (r : Order). orders_where l r (not (eqb l.number r.number) || leb 12 l.number) (orders_differ l.number r.number)) (order_where right b fits_right)) (order_where left a fits_left)
