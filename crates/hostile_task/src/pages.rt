@@ -50,6 +50,10 @@ impl<'p> Pages<'p> {
     ghost use Rattle.hostile_task.specs.UnderWay.{HaveOrders, HaveRoles};
 
     /// Turns the ends of a domain over to it, the end of its control page first.
+    ///
+    /// # Errors
+    ///
+    /// `Memory` if memory runs out; no other.
     pub fn turn(
         alloc: Global,
         domain: u32,

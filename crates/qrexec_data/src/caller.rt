@@ -126,6 +126,10 @@ impl Caller {
 
     /// Borrows the bytes that go out next. There are none if and only if there is an outcome, the
     /// whole stream has gone, or the greeting has gone and the other side's hasn't been read yet.
+    ///
+    /// # Errors
+    ///
+    /// `Memory` if memory runs out; no other.
     pub fn front(&mut self) -> Result<&[u8], Memory>
         ensures* after { sem 𝓛 (RestsLent self.entry result) }
         ensures nothing { IfOk result (λ piece. (piece.now ≡ []) ↔ IsStill self.old) }

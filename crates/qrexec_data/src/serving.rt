@@ -127,6 +127,10 @@ impl<S: Service> Serving<S> {
     /// Borrows the bytes that go out next. There are none if and only if there is an outcome, the
     /// other side's greeting hasn't been read yet, or all that the service gave has gone and its
     /// input hasn't ended.
+    ///
+    /// # Errors
+    ///
+    /// `Memory` if memory runs out; no other.
     pub fn front(&mut self) -> Result<&[u8], Memory>
         ensures* after { sem 𝓛 (Rests (the_row S.row S.Service) self.entry (λ new. IfOk result (λ piece. LendsAnswers S.owes self.old new piece.now))) }
         ensures nothing { (owed : List ℕ → Triple) (sent : List ℕ) → ServingStandsFor S.owes owed self.old sent →

@@ -83,6 +83,10 @@ impl Hello {
     }
 
     /// Takes the other side's first message as `took` does, but borrowed.
+    ///
+    /// # Errors
+    ///
+    /// Those of `took`.
     pub fn took_body(&mut self, body: Body<'_>) -> Result<u32, HelloFault>
         requires waiting { self.old.waiting ≡ true }
         requires whole { least_len body.kind ≤ length body.bytes.now }
