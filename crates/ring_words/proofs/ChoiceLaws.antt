@@ -1,4 +1,4 @@
--- When an order is the least that holds so many bytes.
+-- When an order is the least whose ring holds this many bytes.
 use Rattle.std.proofs.Common.{ℕ, ◌^◌, ◌<◌, ◌≤◌, ◌⊎◌, inl, inr, arith}
 use Rattle.std.proofs.lemmas.Bool.{cases_lt}
 use Rattle.ring_words.specs.Choice.{IsLeastOrder}

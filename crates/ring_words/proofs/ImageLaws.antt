@@ -1,4 +1,4 @@
--- Laws of images: where the pieces of a page lie, and what an image shows laid again.
+-- Laws of images: where the pieces of a page lie, and what an image shows once it is made again.
 use Rattle.std.proofs.Common.{◌≡◌, ℕ, ◌+◌, ◌^◌, ◌<◌, ◌≤◌, replicate, ◌⊎◌, ◌≢◌, Option, Some, None, inl, inr, Bool, true, List, [], ◌∷◌, ◌++◌, length, get_or, map, lit<, refl, sym, ap, subst, ◌∙◌, arith}
 use Rattle.std.specs.Prelude.{nat_le, ◌==◌, if◌then◌else◌}
 use Rattle.std.proofs.lemmas.Bool.{and_from, cases_eq, le-leb, ne_eqb, cases_lt}
@@ -18,7 +18,7 @@ use Rattle.ring_words.specs.Rings.{number_of, size}
 use Rattle.ring_words.specs.Image.{Field, Piece, bytes_piece, byte_at, byte_of, field_piece, fields, header_shown, image_of, number_from, number_piece, page_shown, pieces, ring_offset, ring_pieces, ring_shown, word_of, AreWithinPage, IsCovered, IsShown, Lays}
 use Rattle.ring_words.proofs.PieceLaws.{covered-append, same_piece, Agrees, AllAgree, AllAgree-append, byte_at-agrees, covered_between, covered_first, covered_second, apart_at, begin_from, covered_below, end_by, get_or-list_by, lay_more, lay_nothing, length-list_by, same_list_by}
 
--- a field laid behind others
+-- a field laid after others
 pub lay_field : (page : PageWords) (field : Field) {word : ℕ} {ps : List Piece} {old mid new : List ℕ} → Lays ps old mid → Lays (number_piece field.offset field.bytes word ∷ []) mid new → word ≡ word_of page field.name → end_by ps field.offset ≡ true → Lays (ps ++ field_piece page field ∷ []) old new
 lay_field page field {word} {ps} {old} {mid} {new} first second e ends =
     let begins : begin_from (field_piece page field ∷ []) field.offset ≡ true = and_from (nat_le field.offset field.offset) true (le-leb field.offset field.offset (omega arith)) refl in
@@ -85,7 +85,7 @@ rings_apart page at h k = go (in_ring page Left at h) (in_ring page Right at k)
     go (in_large _ g _) (in_small _ _ l) = omega (arith, l, g)
     go (in_large n _ _) (in_large m _ _) = omega (arith, n, page.orders.distinct (n ∙ sym m))
 
--- a ring lies behind the grant list
+-- a ring lies after the grant list
 ring_behind : (page : PageWords) (ring : Ring) (at : ℕ) → IsCovered (ring_pieces page ring) at → 1024 ≤ at
 ring_behind page ring at h = go (in_ring page ring at h)
   where
@@ -97,7 +97,7 @@ ring_behind page ring at h = go (in_ring page ring at h)
 abbrev pub header_pieces : PageWords → List Piece
 header_pieces page = map (field_piece page) fields
 
--- nothing of a page lies behind the image
+-- nothing of a page lies beyond the image
 covered_within : (page : PageWords) (at : ℕ) → IsCovered (pieces page) at → at < 4096
 covered_within page at h = go (covered-append (header_pieces page ++ ring_pieces page Left) (ring_pieces page Right) at h)
   where
@@ -145,7 +145,7 @@ ring_within : (orders : Orders) (ring : Ring) → index_of orders (RingByte ring
 ring_within orders Left = omega arith
 ring_within orders Right = omega arith
 
--- a ring laid where the page has it
+-- a ring laid at its place in the page
 pub lay_ring : (page : PageWords) (ring : Ring) (offset first : ℕ) (words old new : List ℕ) → length page.list ≡ word_count page.orders → ring_offset (order_of page.orders ring) ≡ Some offset → first ≡ index_of page.orders (RingByte ring 0) → words ≡ between first (first + size (order_of page.orders ring)) page.list → Lays (bytes_piece offset words ∷ []) old new → Lays (ring_pieces page ring) old new
 lay_ring page ring offset first words old new long e f is laid =
     subst (λ (ps : List Piece). Lays ps old new) (sym (ring_pieces-at page ring offset e))
@@ -166,7 +166,7 @@ lay_no_ring page ring old not = go (placed (order_of page.orders ring))
     go (large _ e _) = absurd (not 2048 e)
     go (away _ e) = subst (λ (ps : List Piece). Lays ps old old) (sym (ring_pieces-none page ring e)) (lay_nothing old)
 
--- ---- what an image shows, laid again
+-- ---- what an image shows, and its image again
 
 -- a field's bytes make its number
 agree_field : (image : List ℕ) (offset count : ℕ) → offset + count ≤ length image → ((i : ℕ) → get_or image i 0 < 256) → Agrees image (number_piece offset count (number_from (between offset (offset + count) image)))
@@ -290,7 +290,7 @@ orders_within orders within = go (cases_eq orders.left.number 10) (cases_eq orde
         let e : orders.left.number ≡ 11 = omega (arith, within, f, orders.left.in_range) in
         inr (e, omega (arith, within, e, other, orders.right.in_range))
 
--- two rings within the page fill it behind the grant list
+-- two rings within the page fill it after the grant list
 covered_by_rings : (page : PageWords) (at : ℕ) → AreWithinPage page.orders → 1024 ≤ at → at < 4096 → IsCovered (ring_pieces page Left) at ⊎ IsCovered (ring_pieces page Right) at
 covered_by_rings page at within low high = go (orders_within page.orders within) (cases_lt at 2048)
   where
@@ -300,7 +300,7 @@ covered_by_rings page at within low high = go (orders_within page.orders within)
     go (inr e) (inl l) = inr (covered_by_ring page Right at (in_small e.1 low l))
     go (inr e) (inr g) = inl (covered_by_ring page Left at (in_large e.0 g high))
 
--- within the page, something lies at each offset but in the grant list
+-- if both rings lie in the page, something lies at each offset except in the grant list
 covered_around : (page : PageWords) (at : ℕ) → AreWithinPage page.orders → (at < 24) ⊎ (1024 ≤ at) → at < 4096 → IsCovered (pieces page) at
 covered_around page at within (inl h) _ =
     covered_first (header_pieces page ++ ring_pieces page Left) (ring_pieces page Right) at
@@ -311,7 +311,7 @@ covered_around page at within (inr h) high = go (covered_by_rings page at within
     go (inl k) = covered_first (header_pieces page ++ ring_pieces page Left) (ring_pieces page Right) at (covered_second (header_pieces page) (ring_pieces page Left) at k)
     go (inr k) = covered_second (header_pieces page ++ ring_pieces page Left) (ring_pieces page Right) at k
 
--- where both rings lie in the page, the image of a shown page is the image but for the grant list
+-- if both rings lie in the page, the image of a shown page is the image, except in the grant list
 pub shown_around : (image : List ℕ) (orders : Orders) → length image ≡ 4096 → ((i : ℕ) → get_or image i 0 < 256) → AreWithinPage orders → (at : ℕ) → (at < 24) ⊎ (1024 ≤ at) → get_or (image_of (page_shown image orders)) at 0 ≡ get_or image at 0
 unfolding image_of page_shown
 shown_around image orders long fits within at o = go (cases_lt at 4096)
@@ -335,7 +335,7 @@ page_is_shown image page orders o l =
     let with_list : List ℕ → PageWords = λ list. record { orders = page.orders; list = list } in
     ap with_list (l ∙ ap (λ (these : Orders). (page_shown image these).list) (sym o))
 
--- the two laws of an image laid again, of a page that is the shown one
+-- the two laws of the image of a shown page, for a page that is the shown one
 pub page_shows_again : (image : List ℕ) (page : PageWords) → length image ≡ 4096 → ((i : ℕ) → get_or image i 0 < 256) → page ≡ page_shown image page.orders → (at : ℕ) → IsShown page at → get_or (image_of page) at 0 ≡ get_or image at 0
 unfolding IsShown
 page_shows_again image page long fits is =

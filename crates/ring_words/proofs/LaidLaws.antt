@@ -8,7 +8,7 @@ pub length-laid : (list : List ℕ) (first : ℕ) (values : List ℕ) → length
 length-laid list first [] = refl
 length-laid list first (value ∷ values) = length-laid (slice_set list first value) (first + 1) values ∙ length-set list first value
 
--- one more value is stored behind the others
+-- one more value is stored after the others
 pub laid-push : (list : List ℕ) (first : ℕ) (values : List ℕ) (value : ℕ) → laid list first (values ++ value ∷ []) ≡ slice_set (laid list first values) (first + length values) value
 laid-push list first [] value = let same : first ≡ first + 0 = omega arith in ap (λ (k : ℕ). slice_set list k value) same
 laid-push list first (head ∷ values) value =
@@ -48,7 +48,7 @@ loaded_more list buffer first count h =
     ∙ ap (λ (l : List ℕ). l ++ drop (suc count) buffer) (sym (low_bytes-push list first count))
     ∙ ap (λ (k : ℕ). low_bytes list first k ++ drop k buffer) more
 
--- values that are laid into a list that has room stand between what was before and behind them
+-- values that are laid into a list with room stand between what was before and after them
 pub laid_is : (list : List ℕ) (first : ℕ) (values : List ℕ) → first + length values ≤ length list → laid list first values ≡ take first list ++ (values ++ drop (length values) (drop first list))
 laid_is list first [] h = sym (take-append-drop first list)
 laid_is list first (value ∷ values) h =

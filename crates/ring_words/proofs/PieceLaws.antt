@@ -41,7 +41,7 @@ covers-denies p at e = go (cases_lt at p.offset) (cases_lt at (p.offset + p.coun
     go _ (inr h) = inr h
     go (inr h) (inl k) = absurd (false≢true (sym e ∙ covers-true p at h k))
 
--- where the first piece has the byte, and where it doesn't
+-- if the first piece has the byte, and if it doesn't
 pub byte_at-first : (p : Piece) (ps : List Piece) (at before : ℕ) → covers p at ≡ true → byte_at (p ∷ ps) at before ≡ p.byte (at - p.offset)
 unfolding byte_at
 byte_at-first p ps at before e = ap (λ (b : Bool). if b then p.byte (at - p.offset) else byte_at ps at before) e
@@ -55,7 +55,7 @@ data Standing (ps : List Piece) (at : ℕ) : Type 0 where
   covered : IsCovered ps at → Standing ps at
   bare : ((before : ℕ) → byte_at ps at before ≡ before) → Standing ps at
 
--- one of the two is so
+-- one of the two holds
 standing : (ps : List Piece) (at : ℕ) → Standing ps at
 unfolding byte_at
 standing [] at = bare (λ before. refl)
@@ -83,7 +83,7 @@ pub lay_part : (p : Piece) (xs ys : List ℕ) (width : ℕ) → p.offset + p.cou
 lay_part p xs ys width h e w inside =
     lay_one p xs (put_mid p.offset width xs ys) (grind (arith, places)) (λ k l. grind (arith, places, inside k l)) (λ at o. grind (arith, places))
 
--- what was there doesn't matter where a piece has the byte
+-- what was there before doesn't matter if a piece has the byte
 byte_at-covered : (ps : List Piece) (at before other : ℕ) → IsCovered ps at → byte_at ps at before ≡ byte_at ps at other
 byte_at-covered [] at before other h = absurd h
 byte_at-covered (p ∷ ps) at before other h = go (byte_at-covered ps at before other) h (cases_Bool (covers p at))
@@ -93,7 +93,7 @@ byte_at-covered (p ∷ ps) at before other h = go (byte_at-covered ps at before 
     go same (inr h) (inr e) = byte_at-others p ps at before e ∙ same h ∙ sym (byte_at-others p ps at other e)
     go same (inl h) (inr e) = absurd (false≢true (sym e ∙ covers-true p at h.0 h.1))
 
--- pieces behind others are looked through where none of the others has the byte
+-- later pieces count only if none of the earlier ones has the byte
 byte_at-append : (ps qs : List Piece) (at before : ℕ) → byte_at (ps ++ qs) at before ≡ byte_at ps at (byte_at qs at before)
 unfolding byte_at
 byte_at-append [] qs at before = refl
@@ -136,7 +136,7 @@ covered_above [] start at e h = absurd h
 covered_above (p ∷ ps) start at e (inl h) = omega (arith, leb-true start p.offset (and_parts (nat_le start p.offset) (begin_from ps start) e).0, h)
 covered_above (p ∷ ps) start at e (inr h) = covered_above ps start at (and_parts _ _ e).1 h
 
--- pieces before a place and pieces behind it are apart
+-- pieces before a place and pieces after it are apart
 pub apart_at : (ps qs : List Piece) (place : ℕ) → end_by ps place ≡ true → begin_from qs place ≡ true → (at : ℕ) → IsCovered ps at → IsCovered qs at → ⊥
 apart_at ps qs place e f at h k = omega (arith, covered_below ps place at e h, covered_above qs place at f k)
 
@@ -156,7 +156,7 @@ covered-append (p ∷ ps) qs at (inr h) = go (covered-append ps qs at h)
     go (inl k) = inl (inr k)
     go (inr k) = inr k
 
--- one piece said otherwise
+-- a piece with the same bytes in another form
 pub same_piece : (p q : Piece) (old new : List ℕ) → p.offset ≡ q.offset → p.count ≡ q.count → ((k : ℕ) → k < q.count → p.byte k ≡ q.byte k) → Lays (p ∷ []) old new → Lays (q ∷ []) old new
 same_piece p q old new o n same laid = record { same_length = laid.same_length; bytes = λ at. laid.bytes at ∙ go at (cases_Bool (covers q at)) }
   where
@@ -190,7 +190,7 @@ pub AllAgree-append : (image : List ℕ) (ps qs : List Piece) → AllAgree image
 AllAgree-append image [] qs _ h = h
 AllAgree-append image (p ∷ ps) qs h k = (h.0, AllAgree-append image ps qs h.1 k)
 
--- where a piece has the byte, it is that of the list
+-- if a piece has the byte, it is that of the list
 pub byte_at-agrees : (image : List ℕ) (ps : List Piece) (at before : ℕ) → AllAgree image ps → IsCovered ps at → byte_at ps at before ≡ get_or image at 0
 byte_at-agrees image [] at before h k = absurd k
 byte_at-agrees image (p ∷ ps) at before h k = go (byte_at-agrees image ps at before h.1) k (cases_Bool (covers p at))

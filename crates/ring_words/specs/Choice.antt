@@ -8,13 +8,13 @@ use Rattle.ring_words.specs.Rings.{number_of}
 abbrev pub largest_size : ℕ
 largest_size = 1048576
 
--- the least order from 12 whose ring holds so many bytes: min_order of init.c
+-- the least order from 12 on whose ring holds this many bytes: min_order of init.c
 pub record IsLeastOrder (bytes number : ℕ) : Type 0 where
   pub from_twelve : 12 ≤ number
   pub holds : bytes ≤ 2 ^ number
   pub least : (other : ℕ) → 12 ≤ other → bytes ≤ 2 ^ other → number ≤ other
 
--- an entry of the table: exactly this order, or the least one from 12 whose ring holds so many bytes
+-- an entry of the table: exactly this order, or the least one from 12 on whose ring holds this many bytes
 pub data Entry : Type 0 where
   exactly : ℕ → Entry
   holding : ℕ → Entry
@@ -27,7 +27,7 @@ table left right =
     (if nat_le left 2048 then (exactly 11, holding right) else
     (if nat_le right 2048 then (holding left, exactly 11) else (holding left, holding right))))
 
--- the order is the one that the entry says
+-- the order is the one that the entry gives
 abbrev pub Meets : Entry → Order → Type 0
 Meets (exactly number) order = number_of order ≡ number
 Meets (holding bytes) order = IsLeastOrder bytes (number_of order)
@@ -36,7 +36,7 @@ Meets (holding bytes) order = IsLeastOrder bytes (number_of order)
 abbrev pub AreChosen : ℕ → ℕ → Orders → Type 0
 AreChosen left right orders = Meets (table left right).0 orders.left × Meets (table left right).1 orders.right
 
--- the size that is refused where one is above the largest: the left one where it is above
+-- the size that is refused if one is above the largest: the left one if it is above
 abbrev pub refused_size : ℕ → ℕ → ℕ
 refused_size left right = if nat_le left largest_size then right else left
 

@@ -1,5 +1,5 @@
--- The image of a page: its 4,096 bytes in memory. Where each word lies is struct vchan_interface of
--- public/io/libxenvchan.h, and where the small rings lie is init.c of libxenvchan.
+-- The image of a page: its 4,096 bytes in memory. Each word lies as in struct vchan_interface of
+-- public/io/libxenvchan.h, and the small rings lie as in libxenvchan's init.c.
 use Rattle.std.specs.Prelude.{◌≡◌, ℕ, ◌+◌, ◌-◌, ◌*◌, ◌/◌, ◌%◌, ◌^◌, ◌≤◌, ◌<◌, ◌⊎◌, Bool, ◌&&◌, ◌==◌, nat_le, nat_lt, if◌then◌else◌, Option, Some, None, List, [], ◌∷◌, ◌++◌, length, map, replicate, slice_index, slice_range}
 use Rattle.std.specs.Option.{option_map_or}
 use Rattle.std.specs.List.{range_with_len}
@@ -33,7 +33,7 @@ left_order = field_at 16 2 LeftOrder
 abbrev pub right_order : Field
 right_order = field_at 18 2 RightOrder
 
--- the fields of struct vchan_interface, in the order of their words; the grant list is behind them
+-- the fields of struct vchan_interface, in the order of their words; the grant list comes after them
 abbrev pub fields : List Field
 fields =
     field_at 0 4 LeftCons
@@ -53,7 +53,7 @@ fields =
 abbrev pub ring_offset : Order → Option ℕ
 ring_offset order = if number_of order == 10 then Some 1024 else (if number_of order == 11 then Some 2048 else None)
 
--- so many bytes of an image, from an offset on
+-- some bytes of an image, from an offset on
 pub record Piece : Type 0 where
   pub offset : ℕ
   pub count : ℕ
@@ -94,17 +94,17 @@ pieces page = map (field_piece page) fields ++ ring_pieces page Left ++ ring_pie
 abbrev pub covers : Piece → ℕ → Bool
 covers piece at = nat_le piece.offset at && nat_lt at (piece.offset + piece.count)
 
--- the byte at an offset: that of the first piece which has one there, else the one that was there
+-- the byte at an offset: that of the first piece that has one there, else the one that was there before
 unfoldable pub byte_at : List Piece → ℕ → ℕ → ℕ
 byte_at [] at before = before
 byte_at (piece ∷ others) at before =
     if covers piece at then piece.byte (at - piece.offset) else byte_at others at before
 
--- the list of so many numbers, each told from its place
+-- the list of this many numbers, each computed from its place
 unfoldable pub list_by : (ℕ → ℕ) → ℕ → List ℕ
 list_by value count = map value (range_with_len 0 count)
 
--- the image of a page: 4,096 bytes, and 0 where nothing of the page lies
+-- the image of a page: 4,096 bytes, which are 0 wherever nothing of the page lies
 unfoldable pub image_of : PageWords → List ℕ
 image_of page = list_by (λ at. byte_at (pieces page) at 0) 4096
 
@@ -131,7 +131,7 @@ ring_shown image order =
 abbrev pub header_shown : List ℕ → List ℕ
 header_shown image = map (shown image) fields ++ 0 ∷ 0 ∷ 0 ∷ 0 ∷ []
 
--- the page that an image shows, where the rings have these orders
+-- the page that an image shows, if the rings have these orders
 unfoldable pub page_shown : List ℕ → Orders → PageWords
 page_shown image orders =
     record { orders = orders; list = header_shown image ++ ring_shown image orders.left ++ ring_shown image orders.right }
@@ -154,7 +154,7 @@ abbrev pub IsBadOrders : ImageError → Type 0
 IsBadOrders (BadOrders left right) = Unit {0}
 IsBadOrders Memory = ⊥
 
--- where the refusal is of two order fields, it names them
+-- if two order fields are refused, the error names them
 abbrev pub AreNamed : ℕ → ℕ → ImageError → Type 0
 AreNamed left right (BadOrders l r) = (l ≡ left) × (r ≡ right)
 AreNamed left right Memory = Unit {0}

@@ -1,12 +1,12 @@
--- Words one after another, as the bytes of a ring lie where they don't wrap.
+-- Words one after another, as the bytes of a ring lie if they don't wrap.
 use Rattle.std.specs.Prelude.{ℕ, ◌+◌, ◌%◌, suc, zero, List, [], ◌∷◌, slice_index, slice_set}
 
--- the list once these values are stored one after another, the first at this number
+-- the list after these values were stored one after another, the first at this place
 abbrev pub laid : List ℕ → ℕ → List ℕ → List ℕ
 laid list first [] = list
 laid list first (value ∷ values) = laid (slice_set list first value) (first + 1) values
 
--- so many words from this number on, each by its low 8 bits
+-- this many words from this place on, each by its low 8 bits
 abbrev pub low_bytes : List ℕ → ℕ → ℕ → List ℕ
 low_bytes list first zero = []
 low_bytes list first (suc count) = slice_index list first % 256 ∷ low_bytes list (first + 1) count

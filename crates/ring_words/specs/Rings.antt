@@ -15,14 +15,14 @@ size order = 2 ^ number_of order
 unfoldable pub diff : ℕ → ℕ → ℕ
 diff prod cons = if nat_le cons prod then prod - cons else prod + 2 ^ 32 - cons
 
--- the bytes that wait to be read, as raw_get_data_ready of io.c; none where that is more than the ring has
+-- the bytes that wait to be read, as raw_get_data_ready of io.c; none if that is more than the ring's size
 unfoldable pub ready : ℕ → ℕ → Order → ℕ
 ready prod cons order = if nat_le (diff prod cons) (size order) then diff prod cons else 0
 
--- the bytes that may be written, as raw_get_buffer_space of io.c; none where more than the ring has wait
+-- the bytes that may be written, as raw_get_buffer_space of io.c; none if more than the ring's size wait
 unfoldable pub room : ℕ → ℕ → Order → ℕ
 room prod cons order = if nat_le (diff prod cons) (size order) then size order - diff prod cons else 0
 
--- where in its ring the byte of an index lies, as io.c masks an index by the size
+-- the place in its ring of the byte at an index; io.c masks an index by the size
 unfoldable pub place : ℕ → Order → ℕ
 place index order = index % size order

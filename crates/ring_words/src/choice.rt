@@ -5,38 +5,38 @@ ghost use Rattle.ring_words.specs.Rings.{number_of};
 
 use crate::order::{Order, Orders};
 
-/// The bytes of the largest ring.
+/// The size of the largest ring, in bytes.
 const LARGEST_SIZE: u32 = 1_048_576;
 
-/// The bytes of the smaller ring within the shared page.
+/// The size of the smaller ring within the shared page, in bytes.
 const SMALL_SIZE: u32 = 1024;
 
-/// The bytes of the larger ring within the shared page.
+/// The size of the larger ring within the shared page, in bytes.
 const LARGE_SIZE: u32 = 2048;
 
-/// A wanted ring is larger than 1,048,576 bytes.
+/// A requested ring is larger than 1,048,576 bytes.
 #[derive(Clone, Copy, Debug, PartialEq, Eq)]
 pub struct SizeTooLarge {
-    /// The wanted size, in bytes.
+    /// The requested size, in bytes.
     pub size: u32,
 }
 
 /// Two numbers that aren't the orders of a page's rings.
 #[derive(Clone, Copy, Debug, PartialEq, Eq)]
 pub struct BadOrders {
-    /// What was said of the left ring.
+    /// The number given for the left ring.
     pub left: u16,
-    /// What was said of the right ring.
+    /// The number given for the right ring.
     pub right: u16,
 }
 
-/// The orders for rings that hold at least `left` and `right` bytes: rings within the shared page
-/// where they fit, as in `init.c`.
+/// Returns orders for rings that hold at least `left` and `right` bytes. Rings lie within the shared page
+/// if they fit, as in `init.c`.
 ///
 /// # Errors
 ///
-/// [`SizeTooLarge`] where a size is above 1,048,576 bytes. It names the left size where that is
-/// one.
+/// Returns [`SizeTooLarge`] if a size is above 1,048,576 bytes. It names the left size if that one is too
+/// large, else the right size.
 pub fn choose_orders(left: u32, right: u32) -> Result<Orders, SizeTooLarge>
     ensures ok { IsOk result ↔ ((left ≤ largest_size) × (right ≤ largest_size)) }
     ensures chosen { IfOk result (AreChosen left right) }
@@ -62,12 +62,12 @@ pub fn choose_orders(left: u32, right: u32) -> Result<Orders, SizeTooLarge>
     Ok(Orders { left, right })
 }
 
-/// The orders that a page's two order fields say.
+/// Returns the orders that a page's two order fields give.
 ///
 /// # Errors
 ///
-/// [`BadOrders`], with the two numbers, where one is below 10 or above 20, or both are equal and
-/// below 12: those two rings would lie at one place of the shared page.
+/// Returns [`BadOrders`], with the two numbers, if one is below 10 or above 20, or if both are equal and
+/// below 12: two such rings would lie at one place of the shared page.
 pub fn check_orders(left: u16, right: u16) -> Result<Orders, BadOrders>
     ensures ok { IfOk result (λ orders. (number_of orders.left ≡ left) × (number_of orders.right ≡ right)) }
     ensures bad { IsErr result ↔ AreBadOrders left right }
@@ -89,7 +89,7 @@ pub fn check_orders(left: u16, right: u16) -> Result<Orders, BadOrders>
 mod tests {
     use super::*;
 
-    /// The two numbers of a pair of orders.
+    /// Returns the two numbers of a pair of orders.
     fn numbers(orders: Orders) -> (u16, u16) {
         (orders.left.number(), orders.right.number())
     }

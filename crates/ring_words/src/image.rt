@@ -1,5 +1,5 @@
-//! A page's words as the bytes of its shared page, and back. Where each field lies is
-//! `struct vchan_interface` of Xen's `public/io/libxenvchan.h`; where the small rings lie is
+//! A page's words as the bytes of its shared page, and back. The fields lie as in
+//! `struct vchan_interface` of Xen's `public/io/libxenvchan.h`; the small rings lie as in
 //! libxenvchan's `init.c`.
 ghost use Rattle.std.specs.Prelude.{◌≡◌, ◌+◌, ◌*◌, ◌≤◌, ◌<◌, ◌++◌, ◌⊎◌, ◌↔◌, ◌∷◌, [], ℕ, length, map, slice_index, slice_range, IfErr, IfOk, IfSome, OnOk, IsErrAnd};
 ghost use Rattle.ring_words.specs.Choice.{AreBadOrders};
@@ -13,26 +13,26 @@ use crate::page::{Ring, WordName};
 use crate::words::Words;
 use std::alloc::{AllocError, Global};
 
-/// The bytes of a page.
+/// The size of a page, in bytes.
 const PAGE_SIZE: usize = 4096;
 
-/// Where a ring of order 10 lies in the page.
+/// The offset of a ring of order 10 in the page.
 const SMALL_RING_OFFSET: usize = 1024;
 
-/// Where a ring of order 11 lies in the page.
+/// The offset of a ring of order 11 in the page.
 const LARGE_RING_OFFSET: usize = 2048;
 
-/// Why the bytes of a page give no words.
+/// The reasons why the bytes of a page give no words.
 #[derive(Clone, Copy, Debug, PartialEq, Eq)]
 pub enum ImageError {
     /// The two order fields aren't the orders of a page's rings.
     BadOrders {
-        /// What the field `left_order` says.
+        /// The number in the field `left_order`.
         left: u16,
-        /// What the field `right_order` says.
+        /// The number in the field `right_order`.
         right: u16,
     },
-    /// There was no memory for the words.
+    /// Memory ran out for the words.
     Memory,
 }
 
@@ -59,9 +59,9 @@ impl From<AllocError> for ImageError {
     }
 }
 
-/// The bytes of the page in memory: the low bits of each field at its offset, little-endian, and
-/// the rings of order 10 and 11. The grant list, the bytes 24 to 1,023, is zeros, and so is the
-/// place of a ring that the page doesn't have. It takes no memory.
+/// Returns the bytes of the page in memory: the low bits of each field at its offset, little-endian, and
+/// the rings of order 10 and 11. The grant list, bytes 24 to 1,023, is zeros, and so is the place of a
+/// ring that the page doesn't have. It takes no memory.
 pub fn page_image(words: &Words) -> [u8; PAGE_SIZE]
     ensures { result ≡ image_of words.now }
 {
@@ -72,7 +72,7 @@ pub fn page_image(words: &Words) -> [u8; PAGE_SIZE]
     image
 }
 
-/// Puts the fields before the grant list.
+/// Puts the fields that lie before the grant list.
 fn put_header(image: &mut [u8; PAGE_SIZE], words: &Words)
     ensures { Lays (map (field_piece words.now) fields) image.old image.new }
 {
@@ -88,7 +88,7 @@ fn put_header(image: &mut [u8; PAGE_SIZE], words: &Words)
     put_field(image, 23, 1, words.load(WordName::SrvNotify));
 }
 
-/// Puts the low bytes of a word at an offset, the lowest first.
+/// Puts the low bytes of a word at an offset, the lowest byte first.
 fn put_field(image: &mut [u8; PAGE_SIZE], offset: usize, bytes: usize, word: u64)
     requires within { offset + bytes ≤ 4096 }
     requires of_word { bytes ≤ 8 }
@@ -97,7 +97,7 @@ fn put_field(image: &mut [u8; PAGE_SIZE], offset: usize, bytes: usize, word: u64
     image[offset..offset + bytes].copy_from_slice(&word.to_le_bytes()[..bytes]);
 }
 
-/// Puts a ring where the page has it.
+/// Puts a ring at its place, if it lies in the page.
 fn put_ring(image: &mut [u8; PAGE_SIZE], words: &Words, ring: Ring)
     ensures { Lays (ring_pieces words.now ring) image.old image.new }
 {
@@ -124,7 +124,7 @@ fn put_bytes(image: &mut [u8; PAGE_SIZE], offset: usize, words: &[u64])
     }
 }
 
-/// Where a ring of that order lies in the page, if it does.
+/// Returns the offset of a ring of that order in the page, if it lies there.
 fn ring_offset(order: Order) -> Option<usize>
     ensures offset { result ≡ offset_of_ring order }
     ensures within { IfSome result (λ offset. offset + size order ≤ 4096) }
@@ -136,14 +136,14 @@ fn ring_offset(order: Order) -> Option<usize>
     }
 }
 
-/// The words that the bytes of a page show: its fields, and its rings of order 10 and 11. Every
-/// word of a larger ring is 0, and so are the pending and the gone words. The grant list, the
-/// bytes 24 to 1,023, is passed over.
+/// Returns the words that the bytes of a page show: its fields, and its rings of order 10 and 11. Every
+/// word of a larger ring is 0, and so are the pending and the gone words. The grant list, bytes 24 to
+/// 1,023, is skipped.
 ///
 /// # Errors
 ///
-/// [`ImageError::BadOrders`], with the two order fields, where [`check_orders`] refuses them, and
-/// [`ImageError::Memory`].
+/// Returns [`ImageError::BadOrders`], with the two order fields, if [`check_orders`] refuses them, and
+/// [`ImageError::Memory`] if memory runs out.
 pub fn words_of_image(alloc: Global, image: &[u8; PAGE_SIZE]) -> Result<Words, ImageError>
     ensures bad_orders { IsErrAnd result IsBadOrders
         ↔ AreBadOrders (shown image.now left_order) (shown image.now right_order) }
@@ -152,7 +152,7 @@ pub fn words_of_image(alloc: Global, image: &[u8; PAGE_SIZE]) -> Result<Words, I
         × (number_of words.orders.right ≡ shown image.now right_order)) }
     ensures words { IfOk result (λ words. words ≡ page_shown image.now words.orders) }
 
-    // The image of the words is the given one wherever it shows something of them.
+    // At each offset that shows something of the words, their image is the given one.
     ensures shows_again { IfOk result (λ words. (at : ℕ) → IsShown words at
         → slice_index (image_of words) at ≡ slice_index image.now at) }
     ensures round_trip { IfOk result (λ words. AreWithinPage words.orders
@@ -167,7 +167,7 @@ pub fn words_of_image(alloc: Global, image: &[u8; PAGE_SIZE]) -> Result<Words, I
     Ok(Words::of(orders, list))
 }
 
-/// The words before the rings.
+/// Returns the words before the rings.
 fn header_shown(image: &[u8; PAGE_SIZE]) -> [u64; 14]
     ensures { result ≡ header_shown image.now }
 {
@@ -189,7 +189,7 @@ fn header_shown(image: &[u8; PAGE_SIZE]) -> [u64; 14]
     ]
 }
 
-/// The index in the field at an offset.
+/// Returns the index in the field at an offset.
 fn index_shown(image: &[u8; PAGE_SIZE], offset: usize) -> u64
     requires { offset + 4 ≤ 4096 }
     ensures { result ≡ number_from (slice_range image.now offset (offset + 4)) }
@@ -202,7 +202,7 @@ fn index_shown(image: &[u8; PAGE_SIZE], offset: usize) -> u64
     ]))
 }
 
-/// The order in the field at an offset.
+/// Returns the order in the field at an offset.
 fn order_shown(image: &[u8; PAGE_SIZE], offset: usize) -> u16
     requires { offset + 2 ≤ 4096 }
     ensures { result ≡ number_from (slice_range image.now offset (offset + 2)) }
@@ -210,7 +210,7 @@ fn order_shown(image: &[u8; PAGE_SIZE], offset: usize) -> u16
     u16::from_le_bytes([image[offset], image[offset + 1]])
 }
 
-/// Adds the words of a ring.
+/// Appends the words of a ring.
 fn extend_ring(list: &mut Vec<u64>, image: &[u8; PAGE_SIZE], order: Order) -> Result<(), AllocError>
     ensures { OnOk result (list.new.items ≡ list.old.items ++ ring_shown image.now order) }
 {
@@ -231,7 +231,7 @@ mod tests {
     use std::process::Abort;
     use std::test::Fail;
 
-    /// A page with a client, the first bytes of its image and the others that aren't 0.
+    /// A page with a client, the first bytes of its image, and the others that aren't 0.
     #[derive(Clone, Copy)]
     struct Row {
         orders: (u16, u16),
@@ -289,7 +289,7 @@ mod tests {
         },
     ];
 
-    /// The row's page, in which a word that its image doesn't show holds that value.
+    /// Returns the row's page; the word that its image doesn't show holds `lost`.
     fn page(alloc: Global, row: Row, lost: u64) -> Result<Words, Fail> {
         let (left, right) = row.orders;
         let orders = check_orders(left, right)?;
@@ -317,14 +317,14 @@ mod tests {
         Ok(page)
     }
 
-    /// Stores a value in a word, where the page has it.
+    /// Stores a value in a word, if the page has it.
     fn set(page: &mut Words, name: WordName, value: u64) {
         if Layout::new(page.orders()).has(name) {
             page.store(name, value);
         }
     }
 
-    /// The row's image.
+    /// Returns the row's image.
     fn image(row: Row) -> [u8; PAGE_SIZE] {
         let mut image = [0; PAGE_SIZE];
         let head = row.head;

@@ -1,15 +1,15 @@
-//! Where the words of a page lie in a list.
+//! The places of the words of a page in a list.
 ghost use Rattle.std.specs.Prelude.{◌≡◌, ◌<◌, ◌↔◌, IsTrue};
 ghost use Rattle.ring_words.specs.Page.{Has, index_of, word_count};
 
 use crate::order::Orders;
 use crate::page::{Ring, WordName};
 
-/// The number of the words before the rings.
+/// How many words come before the rings.
 const HEADER: usize = 14;
 
-/// The numbers of the words of a page: first the header, then the left ring, then the right ring,
-/// each byte of a ring being one word.
+/// The numbers of the words of a page: first the header, then the left ring, then the right ring. Each
+/// byte of a ring is one word.
 #[derive(Clone, Copy, Debug, PartialEq, Eq)]
 pub struct Layout {
     /// The orders of the page's rings.
@@ -17,21 +17,21 @@ pub struct Layout {
 }
 
 impl Layout {
-    /// The layout of a page whose rings have these orders.
+    /// Returns the layout of a page whose rings have these orders.
     pub fn new(orders: Orders) -> Layout
         ensures { result.orders ≡ orders }
     {
         Layout { orders }
     }
 
-    /// How many words the page has: 14 and both rings' sizes.
+    /// Returns how many words the page has: 14 and one for each byte of both rings.
     pub fn count(&self) -> usize
         ensures { result ≡ word_count self.now.orders }
     {
         HEADER + self.orders.left.size() as usize + self.orders.right.size() as usize
     }
 
-    /// Whether the page has that word: a ring's byte has to lie in its ring. It is the test of what
+    /// Returns whether the page has that word: a ring's byte must lie in its ring. It tests what
     /// [`Layout::word`] requires.
     pub fn has(&self, name: WordName) -> bool
         ensures { IsTrue result ↔ Has self.now.orders name }
@@ -42,7 +42,7 @@ impl Layout {
         }
     }
 
-    /// The number of a word, which is below [`Layout::count`].
+    /// Returns the number of a word, which is below [`Layout::count`].
     #[inline(always)]
     pub fn word(&self, name: WordName) -> usize
         requires { Has self.now.orders name }

@@ -1,8 +1,8 @@
 //! The words of the page that two ends of a vchan share, and the numbers of its two rings.
 //!
-//! The crates of the channel stand on it: they speak of a page by these names and numbers. The
-//! fields of the page are those of Xen's `public/io/libxenvchan.h`, the counting of bytes is that
-//! of libxenvchan's `io.c`, and the choice and the check of ring orders are those of its `init.c`.
+//! The crates of the channel rest on it: they use these names and numbers for a page. The fields of the
+//! page are those of Xen's `public/io/libxenvchan.h`, bytes are counted as in libxenvchan's `io.c`, and
+//! ring orders are chosen and checked as in its `init.c`.
 #![tactic(auto)]
 
 mod choice;

@@ -1,12 +1,11 @@
-//! What the two indices of a ring say. Indices count bytes modulo 2^32.
+//! What the two indices of a ring tell. Indices count bytes modulo 2^32.
 ghost use Rattle.std.specs.Prelude.{◌≡◌, ◌<◌, ◌≤◌};
 ghost use Rattle.ring_words.specs.Rings.{place as place_of, ready as ready_of, room as room_of, size};
 
 use crate::order::Order;
 
-/// The number of bytes that wait to be read, of a ring whose writer wrote up to `prod` and whose
-/// reader read up to `cons`. It is 0 where the indices lie further apart than the ring's size, as
-/// in `io.c`.
+/// Returns how many bytes wait to be read in a ring whose writer wrote up to `prod` and whose reader read
+/// up to `cons`. The result is 0 if the indices lie further apart than the ring's size, as in `io.c`.
 pub fn ready(prod: u32, cons: u32, order: Order) -> u32
     ensures ready { result ≡ ready_of prod cons order }
     ensures within { result ≤ size order }
@@ -15,9 +14,8 @@ pub fn ready(prod: u32, cons: u32, order: Order) -> u32
     if diff <= order.size() { diff } else { 0 }
 }
 
-/// The number of bytes that may be written into a ring whose writer wrote up to `prod` and whose
-/// reader read up to `cons`. It is 0 where the indices lie further apart than the ring's size, as
-/// in `io.c`.
+/// Returns how many bytes may be written into a ring whose writer wrote up to `prod` and whose reader read
+/// up to `cons`. The result is 0 if the indices lie further apart than the ring's size, as in `io.c`.
 pub fn room(prod: u32, cons: u32, order: Order) -> u32
     ensures room { result ≡ room_of prod cons order }
     ensures within { result ≤ size order }
@@ -27,7 +25,7 @@ pub fn room(prod: u32, cons: u32, order: Order) -> u32
     if diff <= size { size - diff } else { 0 }
 }
 
-/// The place in its ring, from 0 on, of the byte at an index.
+/// Returns the place in its ring, counted from 0, of the byte at an index.
 pub fn place(index: u32, order: Order) -> u32
     ensures place { result ≡ place_of index order }
     ensures within { result < size order }

@@ -3,7 +3,7 @@
 /// The two ends of a page.
 #[derive(Clone, Copy, Debug, PartialEq, Eq)]
 pub enum Role {
-    /// The end that laid the page.
+    /// The end that made the page.
     Server,
     /// The end that connects to it.
     Client,
@@ -21,8 +21,8 @@ pub enum Ring {
 /// A word of a page. The first ten are the fields of `struct vchan_interface` in Xen's
 /// `public/io/libxenvchan.h`; the pending and gone words stand for the event channel.
 ///
-/// An index counts bytes modulo 2^32. In a notify word the bit 1 asks for a signal when data is
-/// written, and the bit 2 for one when data is consumed.
+/// An index counts bytes modulo 2^32. In a notify word, bit 1 asks for a signal when data is written, and
+/// bit 2 for one when data is consumed.
 #[derive(Clone, Copy, Debug, PartialEq, Eq)]
 pub enum WordName {
     /// How many bytes of the left ring were read.
@@ -37,13 +37,13 @@ pub enum WordName {
     LeftOrder,
     /// The order of the right ring.
     RightOrder,
-    /// 0 where the client has closed, 2 where it hasn't connected yet.
+    /// 0 if the client has closed, 2 if it hasn't connected yet.
     CliLive,
-    /// 0 where the server has closed.
+    /// 0 if the server has closed.
     SrvLive,
-    /// What the server asks the client to signal.
+    /// What the server asks the client to signal to it.
     CliNotify,
-    /// What the client asks the server to signal.
+    /// What the client asks the server to signal to it.
     SrvNotify,
     /// A signal to the server that it hasn't taken yet.
     SrvPending,
@@ -57,7 +57,7 @@ pub enum WordName {
     RingByte {
         /// The ring in which it lies.
         ring: Ring,
-        /// Its place in the ring, from 0 on.
+        /// Its place in the ring, counted from 0.
         at: u32,
     },
 }

@@ -10,8 +10,7 @@ use crate::order::Orders;
 use crate::page::{Ring, WordName};
 use std::marker::Model;
 
-/// The words of a page whose rings have these orders. There are always as many words as
-/// [`Layout::count`] says.
+/// The words of a page whose rings have these orders. Their number is always [`Layout::count`].
 #[derive(Debug, Drop)]
 pub struct Words {
     orders: Orders,
@@ -31,8 +30,8 @@ impl Model for Words {
 }
 
 impl Words {
-    /// A page of these words, of which there have to be as many as [`Layout::count`] says. It only
-    /// keeps the list that it is handed.
+    /// Makes a page of these words, whose number must be [`Layout::count`]. It keeps the given list and
+    /// takes no memory.
     pub fn of(orders: Orders, list: Vec<u64>) -> Words
         requires { vec_len list ≡ word_count orders }
         ensures orders { result.orders ≡ orders }
@@ -41,7 +40,7 @@ impl Words {
         Words { orders, list }
     }
 
-    /// The orders of the page's rings.
+    /// Returns the orders of the page's rings.
     pub fn orders(&self) -> Orders
         ensures orders { result ≡ self.now.orders }
         ensures count { length self.now.list ≡ word_count self.now.orders }
@@ -49,7 +48,7 @@ impl Words {
         self.orders
     }
 
-    /// All words, each at the place that [`Layout::word`] gives.
+    /// Returns all words, each at the place that [`Layout::word`] gives.
     pub fn list(&self) -> &[u64]
         ensures list { result.now ≡ self.now.list }
         ensures count { length result.now ≡ word_count self.now.orders }
@@ -57,7 +56,7 @@ impl Words {
         self.list.as_slice()
     }
 
-    /// What a word holds. The page has to have the word, which [`Layout::has`] tests.
+    /// Returns what a word holds. The page must have the word, which [`Layout::has`] tests.
     #[inline(always)]
     pub fn load(&self, name: WordName) -> u64
         requires { Has self.now.orders name }
@@ -68,7 +67,7 @@ impl Words {
         self.list[Layout::new(self.orders).word(name)]
     }
 
-    /// Makes a word hold a value. The page has to have the word, which [`Layout::has`] tests.
+    /// Stores a value in a word. The page must have the word, which [`Layout::has`] tests.
     #[inline(always)]
     pub fn store(&mut self, name: WordName, value: u64)
         requires { Has self.old.orders name }
@@ -79,8 +78,8 @@ impl Words {
         self.list[index] = value;
     }
 
-    /// Stores bytes one after another into a ring, the first at the place `at`. The last has to lie
-    /// before the ring's end. It is as if each was stored by [`Words::store`].
+    /// Stores bytes one after another into a ring, the first at the place `at`. The last must lie before
+    /// the ring's end. The effect is that of [`Words::store`] for each byte.
     pub fn store_bytes(&mut self, ring: Ring, at: u32, bytes: &[u8])
         requires first { at < size (order_of self.old.orders ring) }
         requires last { at + length bytes.now ≤ size (order_of self.old.orders ring) }
@@ -93,8 +92,8 @@ impl Words {
         }
     }
 
-    /// Loads as many bytes as `buf` has one after another from a ring, the first at the place `at`.
-    /// The last has to lie before the ring's end. A word gives its low 8 bits.
+    /// Loads bytes one after another from a ring until `buf` is full, the first at the place `at`. The last
+    /// must lie before the ring's end. Each byte is the low 8 bits of its word.
     pub fn load_bytes(&self, ring: Ring, at: u32, buf: &mut [u8])
         requires first { at < size (order_of self.now.orders ring) }
         requires last { at + length buf.old ≤ size (order_of self.now.orders ring) }

@@ -1,4 +1,4 @@
--- Takings and appendings, one after another.
+-- Several takings, or several appendings, one after another.
 use Rattle.std.proofs.Common.{◌≡◌, ℕ, List, [], ◌++◌, Option, None, Some, refl, sym, ap, append_assoc, append-nil, IfSome, take, drop, ◌+◌}
 use Rattle.std.proofs.Math.Seq.{take-add}
 use Rattle.std.specs.Io.KnownBytes.{IsAtEnd}
@@ -19,7 +19,7 @@ pub Takes-all : (old new : Option (List ℕ)) (taken : List ℕ) → Takes old n
 Takes-all old None taken takes at_end = rw takes tt
 Takes-all old (Some bytes) taken takes at_end = rw (takes, at_end) (sym (append-nil taken))
 
--- a reading into a buffer after its filled part, which stays, takes what is filled then
+-- a read into a buffer, after its filled part, which stays as it is, takes what is filled afterwards
 pub Takes-filled : (old middle new : Option (List ℕ)) (before after : List ℕ) (filled count : ℕ) → take filled after ≡ take filled before → Takes old middle (take filled before) → Takes middle new (take count (drop filled after)) → Takes old new (take (filled + count) after)
 Takes-filled old middle new before after filled count kept takes more =
     rw (take-add filled count after, kept) (Takes-both old middle new _ _ takes more)
@@ -34,7 +34,7 @@ pub Appends-both : (old middle new : Option (List ℕ)) (first second : List ℕ
 Appends-both None middle new first second appends more = cc
 Appends-both (Some bytes) middle new first second appends more = rw (more, appends, append_assoc)
 
--- appending the next bytes of a list, those before them being appended, appends a longer front
+-- if the front of a list was appended and then the next bytes of it are, a longer front was appended
 pub Appends-front : (old middle new : Option (List ℕ)) (bytes : List ℕ) (written count : ℕ) → Appends old middle (take written bytes) → Appends middle new (take count (drop written bytes)) → Appends old new (take (written + count) bytes)
 Appends-front old middle new bytes written count appends more =
     rw take-add (Appends-both old middle new _ _ appends more)

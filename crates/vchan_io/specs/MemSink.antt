@@ -12,7 +12,7 @@ pub record MemSinkState : Type 0 where
   pub calls : ℕ
   pub faults : ℕ
 
--- the next write, of these bytes, fails: by its number, or for want of room
+-- the next write, of these bytes, fails: by its number, or because the room is used up
 abbrev pub FailsToWrite : MemSinkState → List ℕ → Type 0
 FailsToWrite sink piece = IsNextToFail sink.fails sink.calls ⊎ ((0 < length piece) × (length sink.held ≡ sink.room))
 
@@ -20,7 +20,7 @@ FailsToWrite sink piece = IsNextToFail sink.fails sink.calls ⊎ ((0 < length pi
 abbrev pub taken_count : MemSinkState → List ℕ → ℕ
 taken_count sink piece = min (length piece) (min sink.most (sink.room - length sink.held))
 
--- the sink after a write that took the first so many bytes of a piece
+-- the sink after a write that took the first `count` bytes of a piece
 abbrev pub after_taken : MemSinkState → List ℕ → ℕ → MemSinkState
 after_taken sink piece count = record sink { held = sink.held ++ take count piece; calls = one_more sink.calls }
 

@@ -10,11 +10,11 @@ pub record MemSourceState : Type 0 where
   pub calls : ℕ
   pub faults : ℕ
 
--- how many bytes a read into so much room gives
+-- how many bytes a read into a buffer of this length gives
 abbrev pub given_count : MemSourceState → ℕ → ℕ
 given_count source room = min room (min source.most (length source.left))
 
--- the source after a read that gave so many bytes
+-- the source after a read that gave this many bytes
 abbrev pub after_given : MemSourceState → ℕ → MemSourceState
 after_given source count = record source { left = drop count source.left; calls = one_more source.calls }
 

@@ -1,5 +1,5 @@
--- What readings and writings do to the bytes that a source has left and that a sink holds, where they
--- tell them.
+-- What reads and writes do to the bytes that a source has left and that a sink holds, if contracts
+-- see them.
 use Rattle.std.specs.Prelude.{◌≡◌, ℕ, ◌<◌, List, Option, length, take}
 use Rattle.std.specs.Io.KnownBytes.{prepend_known, append_known}
 

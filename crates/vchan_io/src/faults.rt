@@ -1,6 +1,6 @@
 use thiserror::Error;
 
-/// A read or a write met a fault, which its source or sink has counted.
+/// A read or a write failed; its source or sink has counted the fault.
 #[derive(Clone, Copy, Debug, PartialEq, Eq, Error)]
 #[error("fault of a source or a sink")]
 pub struct Failed;

@@ -1,10 +1,10 @@
 //! Where the bytes of a vchan program come from and go to: sources and sinks that count their faults.
 //!
-//! Generic code reads and writes through `Source` and `Sink`, and its contracts speak of their ghost
-//! members alone. `MemSource` and `MemSink` stand over memory and fail where they are told to, for tests
-//! and for callers that have their bytes at hand. `StdSource` and `StdSink` stand over the readers and
-//! writers of `std::io`, whose meaning of short counts and errors is the one kept here. `Memory` is the
-//! want of memory that the crates above answer.
+//! Generic code reads and writes through `Source` and `Sink`, and its contracts use only their ghost
+//! members. `MemSource` and `MemSink` work on memory and fail at calls that their maker chooses, for tests
+//! and for callers that have their bytes at hand. `StdSource` and `StdSink` wrap the readers and writers of
+//! `std::io`; short counts and errors mean the same for all of them as in `std::io`. `Memory` is the error
+//! of running out of memory that the crates above return.
 #![tactic(auto)]
 
 mod faults;

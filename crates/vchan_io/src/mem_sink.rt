@@ -8,8 +8,8 @@ use crate::sink::Sink;
 use std::alloc::Global;
 use std::marker::Model;
 
-/// A sink into memory that was taken at once, which takes at most a set number of bytes per call and
-/// fails at set calls. It tells its bytes.
+/// A sink into memory that it reserves when it is made. Each call takes at most a set number of bytes,
+/// and chosen calls fail. Contracts see its bytes.
 #[derive(Debug, Drop)]
 pub struct MemSink {
     held: Vec<u8>,
@@ -32,9 +32,13 @@ impl Model for MemSink {
 }
 
 impl MemSink {
-    /// A sink with room for `room` bytes, which it takes at once, of which each write fills at most `most`.
-    /// The writes whose numbers, from 1, stand in `fails` fail, and so does a write of at least one byte once
-    /// the room is spent; no other write does.
+    /// Makes a sink with room for `room` bytes, which it reserves at once. Each write takes at most `most`
+    /// bytes.
+    ///
+    /// A write fails if its number, counted from 1, is in `fails`, or if it has at least one byte and the room
+    /// is used up; no other write fails.
+    ///
+    /// Returns `Memory` if memory runs out.
     pub fn new(alloc: Global, room: usize, most: usize, fails: Vec<u64>) -> Result<MemSink, Memory>
         requires { 1 ≤ most }
         ensures held { IfOk result (λ sink. sink.held ≡ []) }
@@ -54,7 +58,7 @@ impl MemSink {
         })
     }
 
-    /// The bytes that the sink holds.
+    /// Returns the bytes that the sink holds.
     pub fn bytes(&self) -> &[u8]
         ensures { result.now ≡ self.now.held }
     {

@@ -6,8 +6,8 @@ use crate::faults::Failed;
 use crate::source::Source;
 use std::marker::Model;
 
-/// A source over bytes in memory, which gives at most a set number of bytes per call and fails at set
-/// calls. It tells its bytes.
+/// A source over bytes in memory. Each call gives at most a set number of bytes, and chosen calls fail.
+/// Contracts see its bytes.
 #[derive(Debug, Drop)]
 pub struct MemSource {
     bytes: Vec<u8>,
@@ -30,8 +30,8 @@ impl Model for MemSource {
 }
 
 impl MemSource {
-    /// A source of `bytes`, of which each read gives at most `most`. The reads whose numbers, from 1, stand
-    /// in `fails` fail, and no other read does.
+    /// Makes a source of `bytes`. Each read gives at most `most` of them. A read fails if and only if its
+    /// number, counted from 1, is in `fails`.
     pub fn new(bytes: Vec<u8>, most: usize, fails: Vec<u64>) -> MemSource
         requires { 1 ≤ most }
         ensures left { result.left ≡ bytes.items }

@@ -12,13 +12,13 @@ use thiserror::Error;
 /// The greatest limit that `read_all` may be given, in bytes.
 pub const GREATEST_LIMIT: usize = 1_073_741_824;
 
-// A read asks for as many bytes as were read so far, but for at least this many,
+// A read asks for as many bytes as were read so far, but for at least this many ..
 const SHORTEST_PIECE: usize = 8 * 1024;
 
-// and for at most this many.
+// .. and for at most this many.
 const LONGEST_PIECE: usize = 128 * 1024;
 
-/// Why a source was not read to its end.
+/// The reasons why a source was not read to its end.
 #[derive(Clone, Copy, Debug, PartialEq, Eq, Error)]
 pub enum ReadAllError {
     #[error("read fault")]
@@ -45,11 +45,12 @@ impl From<Failed> for ReadAllError {
     }
 }
 
-/// Reads a source to its end, at most `limit` bytes.
+/// Reads a source to its end, at most `limit` bytes, and returns all that it had left.
 ///
-/// `ReadFault` comes only where the source's count of faults rose in this call, and else that count stays
-/// as it was. `TooLong` comes exactly where more than `limit` bytes were taken, which are then one more.
-/// `Memory` is want of memory. With each error the bytes taken are gone from the source.
+/// Returns `ReadFault` only if the source's count of faults rose during this call; after every other result
+/// that count is as it was. Returns `TooLong` if and only if more than `limit` bytes were taken, which are
+/// then `limit + 1` bytes. Returns `Memory` if memory runs out. After each error the bytes that were taken
+/// are gone from the source.
 pub fn read_all<S: Source>(
     alloc: Global,
     source: &mut S,
@@ -81,8 +82,8 @@ pub fn read_all<S: Source>(
     Err(ReadAllError::TooLong)
 }
 
-// Makes `bytes` longer than `filled`, by zeros, for a read of a piece that stays within one byte more
-// than `limit`. What an earlier read left unfilled stays as it is, so no byte is zeroed twice.
+// Grows `bytes` with zeros beyond `filled`, for a read of one piece, to at most one byte more than `limit`.
+// What an earlier read left unfilled stays as it is, so no byte is zeroed twice.
 fn make_room(bytes: &mut Vec<u8>, filled: usize, limit: usize) -> Result<(), AllocError>
     requires small { limit ≤ GREATEST_LIMIT }
     requires within { filled ≤ vec_len bytes.old }
@@ -99,7 +100,7 @@ fn make_room(bytes: &mut Vec<u8>, filled: usize, limit: usize) -> Result<(), All
     bytes.resize((filled + piece).min(limit + 1), 0)
 }
 
-// One read into `bytes` after the first `filled`.
+// Makes one read into `bytes`, after the first `filled` of them.
 fn read_at<S: Source>(source: &mut S, bytes: &mut [u8], filled: usize) -> Result<usize, Failed>
     requires { filled < length bytes.old }
     ensures kept { take filled bytes.new ≡ take filled bytes.old }

@@ -4,19 +4,20 @@ ghost use Rattle.vchan_io.specs.Streams.{Appends};
 
 use crate::faults::Failed;
 
-/// What bytes are written to, with a count of the faults that it met.
+/// A place that bytes are written to, with a count of the faults that it met.
 ///
-/// As with `std::io::Write`, a write may take fewer bytes than it is handed.
+/// As with `std::io::Write`, a write may take fewer bytes than it is given.
 pub trait Sink {
-    // The bytes held, where the sink tells them.
+    // The bytes that the sink holds, if contracts see them.
     ghost held: { Self → Option (List ℕ) };
 
     // How many faults the sink met, as a `u64` that stays at its greatest number.
     ghost faults: { Self → ℕ };
 
-    /// Appends the front of `piece` and answers how many bytes it took, at least one if there is one.
+    /// Appends the front of `piece` and returns how many bytes were taken: at least one if `piece` has any.
     ///
-    /// With `Ok` the count of faults stays as it was. `Failed` comes only where it rose, and appends nothing.
+    /// With `Ok` the count of faults stays as it was. Returns `Failed` only if the count rose (or stands at its
+    /// greatest number); nothing was appended then.
     fn write(&mut self, piece: &[u8]) -> Result<usize, Failed>
         ensures within { IfOk result (λ count. count ≤ length piece.now) }
         ensures some { IfOk result (λ count. 0 < length piece.now → 0 < count) }

@@ -5,20 +5,21 @@ ghost use Rattle.vchan_io.specs.Streams.{Takes};
 
 use crate::faults::Failed;
 
-/// What bytes are read from, with a count of the faults that it met.
+/// A place that bytes are read from, with a count of the faults that it met.
 ///
 /// As with `std::io::Read`, a read may give fewer bytes than there is room for.
 pub trait Source {
-    // The bytes left, where the source tells them.
+    // The bytes that are left, if contracts see them.
     ghost left: { Self → Option (List ℕ) };
 
     // How many faults the source met, as a `u64` that stays at its greatest number.
     ghost faults: { Self → ℕ };
 
-    /// Reads into the front of `buf` and answers how many bytes it gave.
+    /// Reads into the front of `buf` and returns how many bytes were read.
     ///
-    /// `Ok(0)` with room in `buf` is the end of input. With `Ok` the count of faults stays as it was. `Failed`
-    /// comes only where it rose, and takes nothing. What a source that doesn't tell its bytes does to the rest of `buf` is left open.
+    /// `Ok(0)` with room in `buf` is the end of input. With `Ok` the count of faults stays as it was. Returns
+    /// `Failed` only if the count rose (or stands at its greatest number); nothing was taken then. A source
+    /// whose bytes contracts don't see may change the rest of `buf`.
     fn read(&mut self, buf: &mut [u8]) -> Result<usize, Failed>
         ensures within { IfOk result (λ count. count ≤ length buf.old) }
         ensures taken { IfOk result (λ count. Takes (left self.old) (left self.new) (take count buf.new)) }

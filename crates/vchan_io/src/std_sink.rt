@@ -7,8 +7,9 @@ use crate::sink::Sink;
 use std::io::{ErrorKind, Write};
 use std::marker::Model;
 
-/// A sink into a writer of std. It is trusted to write what it is handed, and doesn't tell its bytes;
-/// contracts see its count of faults, and the writer, which took what a write took. Nothing is flushed: a writer that holds bytes back is its owner's.
+/// A sink into a writer of std, which is trusted to write what it is given. Contracts see its count of faults
+/// and the writer, which takes the bytes that a write reports, but not the bytes held. It flushes nothing: the
+/// owner of a writer that holds bytes back flushes it.
 #[derive(Debug, Drop)]
 pub struct StdSink<W> {
     inner: W,
@@ -24,7 +25,7 @@ impl<W> Model for StdSink<W> {
 }
 
 impl<W: Write> StdSink<W> {
-    /// A sink into `inner`, with no fault yet.
+    /// Makes a sink into `inner`, with no fault yet.
     pub fn new(inner: W) -> StdSink<W>
         ensures inner { result.inner ≡ inner }
         ensures faults { result.faults ≡ 0 }
@@ -38,8 +39,8 @@ impl<W: Write> Sink for StdSink<W> {
 
     ghost faults = { λ s. s.faults };
 
-    /// Each error of the writer counts as a fault, but for an interruption, after which it is asked again. A
-    /// write that takes nothing of a piece that isn't empty is a fault too.
+    /// Writes once. Each error of the writer counts as a fault, except an interruption, after which the write
+    /// is repeated. A write that takes nothing of a piece that isn't empty is a fault too.
     fn write(&mut self, piece: &[u8]) -> Result<usize, Failed>
         ensures within { IfOk result (λ count. count ≤ length piece.now) }
         ensures some { IfOk result (λ count. 0 < length piece.now → 0 < count) }
@@ -57,7 +58,7 @@ impl<W: Write> Sink for StdSink<W> {
     }
 }
 
-// One write, repeated where a signal interrupts it. `None` is an error of the writer.
+// Makes one write, and repeats it if a signal interrupts it. `None` stands for an error of the writer.
 fn write_uninterrupted<W: Write>(writer: &mut W, piece: &[u8]) -> Option<usize>
     ensures within { IfSome result (λ count. count ≤ length piece.now) }
     ensures bytes { MatchOption result (Keeps (W.contents writer.old) (W.contents writer.new))

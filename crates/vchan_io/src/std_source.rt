@@ -7,8 +7,8 @@ use crate::source::Source;
 use std::io::{ErrorKind, Read};
 use std::marker::Model;
 
-/// A source over a reader of std. It is trusted to read what the reader's stream has, and doesn't tell its
-/// bytes; contracts see its count of faults, and the reader, of which a read takes what it gives.
+/// A source over a reader of std, which is trusted to read what its stream has. Contracts see its count of
+/// faults and the reader, from which a read takes the bytes that it gives, but not the bytes left.
 #[derive(Debug, Drop)]
 pub struct StdSource<R> {
     inner: R,
@@ -24,7 +24,7 @@ impl<R> Model for StdSource<R> {
 }
 
 impl<R: Read> StdSource<R> {
-    /// A source of what `inner` reads, with no fault yet.
+    /// Makes a source of what `inner` reads, with no fault yet.
     pub fn new(inner: R) -> StdSource<R>
         ensures inner { result.inner ≡ inner }
         ensures faults { result.faults ≡ 0 }
@@ -38,7 +38,8 @@ impl<R: Read> Source for StdSource<R> {
 
     ghost faults = { λ s. s.faults };
 
-    /// Each error of the reader counts as a fault, but for an interruption, after which it is asked again.
+    /// Reads once. Each error of the reader counts as a fault, except an interruption, after which the read is
+    /// repeated.
     fn read(&mut self, buf: &mut [u8]) -> Result<usize, Failed>
         ensures within { IfOk result (λ count. count ≤ length buf.old) }
         ensures bytes { ReadConsumes (R.remaining self.old.inner) (R.remaining self.new.inner) result buf.new }
@@ -55,7 +56,7 @@ impl<R: Read> Source for StdSource<R> {
     }
 }
 
-// One read, repeated where a signal interrupts it. `None` is an error of the reader.
+// Makes one read, and repeats it if a signal interrupts it. `None` stands for an error of the reader.
 fn read_uninterrupted<R: Read>(reader: &mut R, buf: &mut [u8]) -> Option<usize>
     ensures within { IfSome result (λ count. count ≤ length buf.old) }
     ensures bytes { MatchOption result (Keeps (R.remaining reader.old) (R.remaining reader.new))

@@ -1,5 +1,5 @@
 //! Each public call once, through the bounds that generic callers use, and the trusted edge over real
-//! streams. Contracts say all that memory streams do, so these tests look for calls that never succeed.
+//! streams. Contracts state all that memory streams do, so these tests look for calls that never succeed.
 ghost use Rattle.std.specs.Prelude.{◌≡◌, ◌≤◌, IfOk};
 
 use crate::{

@@ -10,10 +10,10 @@ use thiserror::Error;
 #[error("write fault")]
 pub struct WriteFault;
 
-/// Writes all of `bytes`, in as many writes as the sink wants.
+/// Writes all of `bytes`, in as many writes as the sink needs. It takes no memory.
 ///
-/// `WriteFault` comes only where the sink's count of faults rose in this call, and then some of the bytes
-/// were appended, from the first on, and not all. Else that count stays as it was. It takes no memory.
+/// Returns `WriteFault` only if the sink's count of faults rose during this call; then a proper prefix of the
+/// bytes was appended. After `Ok` that count is as it was.
 pub fn write_all<K: Sink>(sink: &mut K, bytes: &[u8]) -> Result<(), WriteFault>
     ensures ok { OnOk result (Appends (K.held sink.old) (K.held sink.new) bytes.now) }
     ensures unfaulted { OnOk result (K.faults sink.new ≡ K.faults sink.old) }

@@ -1,4 +1,4 @@
--- The next event of an end, what a trail says, and whole calls event by event.
+-- The next event of an end, what a trail tells, and whole calls event by event.
 pub mod EventLaws
 pub mod SummaryLaws
 pub mod WholeCallLaws

@@ -1,4 +1,4 @@
--- The own part of an honest end, step by step, whatever its peer does.
+-- An honest end's own part, step by step, whatever its peer does.
 pub mod EachEvent
 pub mod IndexLaws
 pub mod EndingSteps

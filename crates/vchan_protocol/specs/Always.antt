@@ -1,2 +1,2 @@
--- What holds of a page whatever comes.
+-- What holds of a page whatever happens to it.
 pub mod Invariant

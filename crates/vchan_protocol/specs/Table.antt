@@ -1,4 +1,4 @@
--- The table of calls: a call as a plan of events, which words are whose, one row a call, and what an event does to its word.
+-- The table of calls: a call as a plan of events, which words are whose, one row for each call, and what an event does to its word.
 pub mod Plan
 pub mod Ends
 pub mod Calls

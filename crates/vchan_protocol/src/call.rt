@@ -1,4 +1,4 @@
-/// Where an end stands in its life.
+/// The state of an end in its life.
 #[derive(Clone, Copy, Debug, PartialEq, Eq)]
 pub enum EndState {
     /// A client that hasn't connected yet. A server is never fresh.
@@ -9,25 +9,25 @@ pub enum EndState {
     Shut,
 }
 
-/// A call on one end, as libxenvchan.h offers them in non-blocking mode, with `Drain`, `PeerGone`
-/// and `Retire` beside them. Lengths are in bytes.
+/// A call on one end: those of libxenvchan.h in non-blocking mode, and `Drain`, `PeerGone` and `Retire`
+/// besides. Lengths are in bytes.
 #[derive(Clone, Copy, Debug, PartialEq, Eq)]
 pub enum Call {
-    /// Writes up to `len` bytes of the payload, as many as have room.
+    /// Writes as many of the first `len` bytes of the payload as there is room for.
     Write { len: u32 },
     /// Writes all `len` bytes of the payload, or none.
     Send { len: u32 },
-    /// Reads up to `most` bytes, as many as wait.
+    /// Reads as many bytes as wait, at most `most`.
     Read { most: u32 },
     /// Reads exactly `len` bytes, or none.
     Recv { len: u32 },
-    /// Reads up to `most` bytes, at least 1, and tells the end of the stream apart from a pause.
+    /// Reads as many bytes as wait, at most `most`, which is at least 1, and tells an end from a pause.
     Drain { most: u32 },
-    /// Asks to be signalled when bytes come, and tells how many wait.
+    /// Asks for a signal when bytes come, and tells how many wait.
     DataReady,
-    /// Asks to be signalled when bytes are consumed, and tells how many have room.
+    /// Asks for a signal when bytes are consumed, and tells how much room there is.
     BufferSpace,
-    /// Opens a fresh client, where the page says the orders that it was laid with.
+    /// Opens a fresh client, if the page's order fields hold the orders that the page was made with.
     Connect,
     /// Shuts the end.
     Close,
@@ -35,14 +35,14 @@ pub enum Call {
     TakeEvent,
     /// Asks whether the peer has retired.
     PeerGone,
-    /// Shuts the end where it isn't shut yet, and says that it is gone.
+    /// Shuts the end if it isn't shut yet, and marks it as gone.
     Retire,
 }
 
-/// What a call answers. Counts are in bytes.
+/// The answer to a call. Counts are in bytes.
 ///
-/// In a pair of indices the peer's index is the value that the call's last look loaded, and the
-/// other is the end's own count at that event, both modulo 2^32.
+/// In a pair of indices the peer's index is the value that the call's last look loaded. The other one is
+/// the end's own count at that event. Both are modulo 2^32.
 #[derive(Clone, Copy, Debug, PartialEq, Eq)]
 pub enum Answer {
     /// A write moved this many bytes.
@@ -63,11 +63,11 @@ pub enum Answer {
     PeerClosed,
     /// This many bytes wait.
     Ready { count: u32 },
-    /// This many bytes have room.
+    /// There is room for this many bytes.
     Space { count: u32 },
     /// The client is open.
     Connected,
-    /// The page's two order fields are refused, or aren't the orders of the page.
+    /// The page's two order fields are refused, or don't hold the orders of the page.
     BadOrders { left: u16, right: u16 },
     /// A close or a retire was carried out.
     Done,
@@ -83,12 +83,12 @@ pub enum Answer {
     Gone { is: bool },
 }
 
-/// What an end asks to be signalled of: the two bits of a notify byte (`VCHAN_NOTIFY_WRITE` and
+/// What an end asks a signal for: the two bits of a notify byte (`VCHAN_NOTIFY_WRITE` and
 /// `VCHAN_NOTIFY_READ` of libxenvchan.h).
 #[derive(Clone, Copy, Debug, PartialEq, Eq)]
 pub enum Bit {
-    /// Bytes were written: the bit 1.
+    /// Bytes were written: bit 1.
     Written,
-    /// Bytes were consumed: the bit 2.
+    /// Bytes were consumed: bit 2.
     Consumed,
 }

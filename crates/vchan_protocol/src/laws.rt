@@ -14,8 +14,8 @@ ghost use Rattle.vchan_protocol.specs.Rows.WorkedRow.{RowIsAsWorked};
 ghost use Rattle.vchan_protocol.specs.Table.CallLaws.{EachCallEnds, EachCallFits, EachCallMovesAtMost};
 ghost use Rattle.vchan_protocol.specs.Honest.HonestLaws.{OpeningIsLawful, BeginIsLawful, EventIsLawful, CallIsLawful, ReachedIsLawful, CallIsReached};
 
-/// A call of `n` bytes ends within `7 + min(n, size)` events, and a drain within
-/// `10 + min(n, size)`, `size` being that of the ring which it moves bytes through.
+/// A call of `n` bytes ends within `7 + min(n, size)` events, and a drain within `10 + min(n, size)`.
+/// Here `size` is that of the ring through which the call moves bytes.
 pub fn each_call_ends()
     ensures { EachCallEnds }
 {}
@@ -51,8 +51,8 @@ pub fn lawful_call()
     ensures { CallIsLawful }
 {}
 
-/// Whatever two honest ends do, in any order of their events, the page is lawful: so the reader of
-/// each ring has got the beginning of what its writer sent.
+/// In whatever order two honest ends make their events, the page is lawful. So the reader of each ring
+/// has got a prefix of what its writer sent.
 pub fn honest_ends_are_lawful()
     ensures { ReachedIsLawful }
 {}

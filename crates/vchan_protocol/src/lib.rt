@@ -1,12 +1,12 @@
-//! The protocol of a channel: its calls, their events and answers, all that an end does, and the
-//! laws of it. It has no code beside small types; a machine of one end is a crate of its own.
+//! The protocol of a channel: its calls, their events and answers, all that an end does, and the laws of
+//! these. It has no code besides small types; the machine of one end is a crate of its own.
 //!
 //! The events of each call, and their order, are those of libxenvchan's io.c in non-blocking mode
 //! on the fields of Xen's public/io/libxenvchan.h. An end keeps its own counts in place of loading
 //! its own indices, and the calls `Drain`, `PeerGone` and `Retire` are this project's.
 //!
-//! It serves whoever runs an end of a channel: the machine, whose contracts cite these definitions,
-//! and a table of words that several threads share.
+//! Everything that runs an end of a channel rests on it: the machine, whose contracts cite these
+//! definitions, and a table of words that several threads share.
 #![tactic(auto)]
 
 mod call;

@@ -24,8 +24,8 @@ pub enum Op {
     Nothing,
 }
 
-/// An event that was made, with the value that it took: the word as it was, but 0 for a plain
-/// store. Contracts speak of lists of these; a running program makes none.
+/// An event that was made, with the value that it took: the word as it was, except 0 for a plain store.
+/// Contracts use lists of these; a running program makes none.
 #[derive(Clone, Copy, Debug, PartialEq, Eq)]
 pub struct PastEvent {
     /// What was done, and to which word.

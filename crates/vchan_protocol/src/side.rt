@@ -3,16 +3,16 @@ use crate::op::PastEvent;
 use ring_words::{Orders, Role};
 use std::collections::LinkedList;
 
-/// How a drain ended a stream.
+/// The answer by which a drain ended a stream.
 #[derive(Clone, Copy, Debug, PartialEq, Eq)]
 pub enum EndedBy {
-    /// It answered that all was read.
+    /// A drain answered that all was read.
     AllRead,
-    /// It answered that the peer is gone.
+    /// A drain answered that the peer is gone.
     PeerGone,
 }
 
-/// A call under way, with the state and the counts in which it was begun.
+/// A call under way, with the state and the counts that its end had when it began.
 #[derive(Clone, Copy, Debug, PartialEq, Eq)]
 pub struct Begun {
     pub call: Call,
@@ -21,16 +21,16 @@ pub struct Begun {
     pub cons: u32,
 }
 
-/// What an end remembers of one bit that it asks with.
+/// What an end remembers of one of the bits with which it asks for signals.
 #[derive(Clone, Copy, Debug, PartialEq, Eq)]
 pub struct Asked {
-    /// It asked since it took an event last.
+    /// The end has asked since it took an event last.
     pub since: bool,
-    /// The peer's index that it loaded last since it asked.
+    /// The peer's index that the end loaded last since it asked.
     pub seen: Option<u32>,
 }
 
-/// What an end may rely on to be woken: for each bit what it asked, the peer's live byte and its gone word.
+/// What an end may rely on to be woken: what it asked by each bit, the peer's live byte and its gone word.
 #[derive(Clone, Copy, Debug, PartialEq, Eq)]
 pub struct Notes {
     /// The bit for bytes that are written.
@@ -43,8 +43,8 @@ pub struct Notes {
     pub gone: Option<u64>,
 }
 
-/// One end's part of a core state: all that it has done, for contracts to speak of. No running
-/// program makes one.
+/// One end's part of a core state: all that it has done. Only contracts use it; no running program makes
+/// one.
 pub struct Side {
     pub role: Role,
     pub orders: Orders,
@@ -55,28 +55,28 @@ pub struct Side {
     pub cons: u32,
     /// The call under way; none between two calls.
     pub call: Option<Begun>,
-    /// The events so far of the call that was begun last.
+    /// The events of the call that was begun last, so far.
     pub trail: LinkedList<PastEvent>,
-    /// The caller's bytes of that call.
+    /// The bytes that the caller gave to that call.
     pub payload: LinkedList<u8>,
-    /// All bytes that it has shown to its peer by an index.
+    /// All bytes that the end has shown to its peer by an index.
     pub sent: LinkedList<u8>,
-    /// All bytes that it has taken and released the places of by an index.
+    /// All bytes that the end has taken and whose places it has released by an index.
     pub got: LinkedList<u8>,
-    /// While not shut, it has loaded its peer's live byte as 0 or its gone word as not 0.
+    /// The end loaded its peer's live byte as 0, or its gone word as not 0, while it wasn't shut itself.
     pub saw: bool,
-    /// How a drain of it first ended its stream.
+    /// How a drain of this end first ended its stream.
     pub ended: Option<EndedBy>,
-    /// A connect of it answered that the orders are bad.
+    /// A connect of this end answered that the orders are bad.
     pub misled: bool,
-    /// A drain of it answered that nothing is left, and its peer writes no more.
+    /// A drain of this end answered that nothing is left, and its peer writes no more.
     pub drained: bool,
-    /// It has stored to its gone word, and is done with the page.
+    /// The end has stored to its gone word, and is done with the page.
     pub retired: bool,
-    /// It was turned over to a hostile user.
+    /// The end was turned over to a hostile user.
     pub turned: bool,
-    /// For a turned end, how much its reader had got when it was turned.
+    /// How much the reader of a turned end's ring had got when the end was turned.
     pub consumed: u64,
-    /// What it may rely on to be woken.
+    /// What the end may rely on to be woken.
     pub notes: Notes,
 }

@@ -1,4 +1,4 @@
--- Each step of a page, by honest ends and by hostile users, keeps what holds of it, and what stands at its end.
+-- Each step of a page, by honest ends and by hostile users, keeps what holds of it, and what holds at its end.
 use Rattle.std.proofs.Common.{◌≡◌, ◌≢◌, ℕ, ◌^◌, ◌<◌, Bool, true, false, cond, List, length, refl, subst, sym, ap, ◌∙◌, arith}
 use Rattle.std.proofs.lemmas.Bool.{false≢true}
 use Rattle.ring_words.specs.declared.order.Orders.{Orders}
@@ -24,7 +24,7 @@ use Rattle.vchan_protocol.proofs.Hostile.TurnedSteps.{turned_event, turned_begin
 
 -- ---- the opening
 
--- a lawful page with honest ends is lawful too where one asks for its turned ends
+-- a lawful page with honest ends has what holds of a page whose ends may be turned
 lawful_turned : (core : Core) → Lawful core → Honest core → TurnedLawful core
 lawful_turned core h honest = record {
   sized = h.sized;

@@ -19,7 +19,7 @@ use Rattle.vchan_protocol.proofs.Answering.AnswerTrails.{Deeds, Comes, comes_ans
 
 -- ---- what an answer owes
 
--- an answer that tells the peer's end comes where the end has noticed it
+-- an answer that tells of the peer's end comes only if the end has noticed it
 abbrev pub NoticesEnd : EndState → Bool → Answer → Type 0
 NoticesEnd state noticed PeerClosed = is_shut state ≡ false → noticed ≡ true
 NoticesEnd state noticed AllRead = is_shut state ≡ false → noticed ≡ true

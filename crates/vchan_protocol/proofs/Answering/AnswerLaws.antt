@@ -1,4 +1,4 @@
--- An answer tells what its call moved, and comes exactly where its cause is.
+-- An answer tells what its call moved, and comes if and only if its cause is there.
 use Rattle.std.proofs.Common.{◌≡◌, ◌≢◌, ℕ, ◌==◌, ◌<◌, ◌≤◌, min, not, Bool, Option, Some, None, IsSomeAnd, List, ◌∷◌, length, subst, sym, ap, ◌∙◌, arith, zero-add}
 use Rattle.std.specs.Prelude.{◌↔◌}
 use Rattle.vchan_protocol.specs.declared.op.Op.{Op}
@@ -45,7 +45,7 @@ pub has_cause : (e : Standing) (call : Call) (events : List PastEvent) (answer :
 has_cause e call events answer led =
     subst (λ (l : Loads). Cause e call l answer) (loads-deeds e nothing_done events) (comes_to e call events answer led).cause
 
--- an answer that ends a stream comes where the end has noticed its peer's end
+-- an answer that ends a stream comes only if the end has noticed its peer's end
 pub notices_end : (e : Standing) (call : Call) (events : List PastEvent) (answer : Answer) → Trace e call events answer → NoticesEnd e.state (has_noticed e events) answer
 notices_end e call events answer led =
     subst (λ (b : Bool). NoticesEnd e.state b answer) (noticed-deeds e nothing_done events) (comes_to e call events answer led).notices
@@ -64,7 +64,7 @@ same_pair word one two p q = cc
 same_number : (word : Option ℕ) (one two : ℕ) → word ≡ Some one → word ≡ Some two → one ≡ two
 same_number word one two p q = cc
 
--- what is said of the last pair is said of each that is it
+-- what holds of the last pair holds of each pair that is it
 at_pair : (P : Pair → Type 0) (word : Option Pair) (one two : Pair) → word ≡ Some one → word ≡ Some two → P two → P one
 at_pair P word one two p q h = subst P (sym (same_pair word one two p q)) h
 
@@ -153,7 +153,7 @@ module _ (e : Standing) (n : ℕ) (l : Loads) (a b : Answer) where
   recv_one (recv_short last at less alive is) (recv_short last' at' less' alive' is') =
       one_told (λ (pair : Pair). Short pair.prod pair.cons) (last_pair l) last last' a b at at' is is'
 
-  -- where the last look found a byte, some look did
+  -- if the last look found a byte, some look did
   found_some : (pairs : List Pair) (last : Pair) (older : List Pair) → pairs ≡ last ∷ older → 0 < waiting_at e last → FoundNone e pairs → ⊥
   found_some pairs last older is some none = let nothing = (subst (λ (ps : List Pair). FoundNone e ps) is none).0 in omega (arith, some, nothing)
 
@@ -189,7 +189,7 @@ module _ (e : Standing) (l : Loads) (a b : Answer) where
   connect_one (connect_refused left right p q differ is) (connect_refused left' right' p' q' differ' is') =
       is ∙ ap (λ (x : ℕ). BadOrders x right) (same_number l.left_order left left' p p') ∙ ap (λ (y : ℕ). BadOrders left' y) (same_number l.right_order right right' q q') ∙ sym is'
 
-  -- what was loaded is the cause of one answer alone
+  -- what was loaded is the cause of only one answer
   one_answer : (call : Call) → Cause e call l a → Cause e call l b → a ≡ b
   one_answer (Write n) h k = write_one e n l a b h k
   one_answer (Send n) h k = send_one e n l a b h k

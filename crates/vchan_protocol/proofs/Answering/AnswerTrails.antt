@@ -1,4 +1,4 @@
--- What each row of the table of calls has loaded and moved where it answers.
+-- What each row of the table of calls has loaded and moved when it answers.
 use Rattle.std.proofs.Common.{◌≡◌, ◌≢◌, ℕ, suc, zero, ◌+◌, ◌%◌, ◌^◌, ◌==◌, Bool, true, false, not, ◌||◌, ◌&&◌, cond, Some, List, [], ◌∷◌, ◌++◌, length, refl, subst, sym, ap, ◌∙◌, arith, zero-add, append-nil, append_assoc, length-append}
 use Rattle.std.proofs.lemmas.Bool.{eqb-true, eqb-false}
 use Rattle.ring_words.specs.declared.page.Role.{Role}
@@ -30,7 +30,7 @@ pub record Deeds : Type 0 where
   pub others : List Op
   pub noticed : Bool
 
--- after one more event of an end that stands so
+-- after one more event of an end in this standing
 abbrev pub deeds_after : Standing → Deeds → Op → ℕ → Deeds
 deeds_after now n (Load word) taken = record n { loads = word_loaded word now.role now.prod now.cons taken n.loads; noticed = n.noticed || notices now (Load word) taken }
 deeds_after now n (LoadByte word at) taken = record n { loaded = n.loaded + 1 }
@@ -230,7 +230,7 @@ module _ (Fit : Deeds → Answer → Type 0) (e : Standing) where
   comes_if now n true p q first second = first refl
   comes_if now n false p q first second = second refl
 
-  -- the end stands as it began until it stores
+  -- the end stands as it began, until it stores
   comes_load : (n : Deeds) (word : WordName) (next : ℕ → Plan) →
       ((taken : ℕ) → Comes Fit e (record n { loads = word_loaded word e.role e.prod e.cons taken n.loads; noticed = n.noticed || notices e (Load word) taken }) (next taken)) → Comes Fit e n (does (Load word) next)
   unfolding Comes standing_after

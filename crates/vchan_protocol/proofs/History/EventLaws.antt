@@ -58,7 +58,7 @@ most_small e TakeEvent = (omega arith, omega arith)
 most_small e PeerGone = (omega arith, omega arith)
 most_small e Retire = (omega arith, omega arith)
 
--- what the next event owes, with the end's own standing now and what its trail has moved
+-- what the next event owes, by the end's own standing now and by what its trail has moved
 abbrev pub OwesNext : (s : Side) (b : Begun) → Op → Type 0
 OwesNext s b op =
     Owes (begun_standing s b) (stored_most (begun_standing s b) b.call) (loaded_most (begun_standing s b) b.call) (standing_of s) (count_stored s.trail) (length (bytes_loaded s.trail)) op

@@ -101,7 +101,7 @@ loaded-is role trail = loaded-along role empty_summary trail
 
 -- ---- how the end stands
 
--- it stands as it began, but for what it closed, showed and released
+-- it stands as it began, except for what it closed, showed and released
 pub record StandsSoFar (e : Standing) (n : TrailSummary) (now : Standing) : Type 0 where
   pub state : now.state ≡ cond n.closed Shut e.state
   pub prod : now.prod ≡ cond n.shown ((e.prod + n.stored) % 2 ^ 32) e.prod

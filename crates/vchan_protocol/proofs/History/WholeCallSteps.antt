@@ -19,7 +19,7 @@ use Rattle.vchan_protocol.proofs.Hostile.TurnedSteps.{event_grows}
 use Rattle.vchan_protocol.proofs.Always.InvariantSteps.{invariant_begun, invariant_event}
 use Rattle.vchan_protocol.proofs.Honest.LawfulSteps.{lawful_opened, lawful_begun, lawful_event}
 
--- what stands of a core state where so much is left of the end's call: of the state with the answer, or of the one before the next event
+-- what holds of a core state when this much is left of the end's call: of the state with the answer, or of the one before the next event
 abbrev Until : (Core → Type 0) → Core → Role → Plan → Type 0
 Until P core who (answers answer) = P (with_side core who (answered (side_of core who) answer))
 Until P core who (does op next) = P core × (plan_left (side_of core who) ≡ does op next)

@@ -27,7 +27,7 @@ prefix_next xs ys h more = go h.0 h.1
         let next : slice_index ys (length xs) ≡ x = ap (λ (l : List ℕ). slice_index l (length xs)) (sym e) ∙ get_or-append_right xs (x ∷ rest) (length xs) (length xs) 0 refl (omega arith) ∙ ap (λ (k : ℕ). get_or (x ∷ rest) k 0) none in
         (rest, ap (λ (b : ℕ). (xs ++ b ∷ []) ++ rest) next ∙ append_assoc xs (x ∷ []) rest ∙ e)
 
--- more may be sent behind
+-- more may be sent after it
 pub prefix_more : (xs ys more : List ℕ) → IsPrefixOf xs ys → IsPrefixOf xs (ys ++ more)
 prefix_more xs ys more h = (h.0 ++ more, sym (append_assoc xs h.0 more) ∙ ap (λ (l : List ℕ). l ++ more) h.1)
 
@@ -116,7 +116,7 @@ lawful-look_write r w = record {
 put_place : (r : Channel) → IsLawful r → place (r.own_prod + r.stored) r.order ≡ place (r.start + length r.sent + r.stored) r.order
 put_place r w = ap (λ (n : ℕ). place (n + r.stored) r.order) w.own_prod ∙ place_counts r.start (length r.sent) r.stored r.order
 
--- that is behind what waits, and within the ring
+-- that is after what waits, and within the ring
 put_fits : (r : Channel) (index : ℕ) → IsLawful r → r.cons_seen ≡ Some index → r.stored < room r.own_prod index r.order → length r.sent + r.stored < length r.got + size r.order
 put_fits r index w seen h =
     let g = leaves_room r index (r.stored + 1) w seen (omega (arith, h)) in

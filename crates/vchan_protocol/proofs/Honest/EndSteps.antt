@@ -139,7 +139,7 @@ call_goes_on s taken c more = go (after (plan_left s) taken) (Leads-more (plan_o
 
 -- ---- inside a PUT and a TAKE
 
--- what a PUT or a TAKE of so many bytes relies on
+-- what a PUT or a TAKE of this many bytes relies on
 record PutsWithin (e : Standing) (n : TrailSummary) (total : ℕ) : Type 0 where
   index : ℕ
   seen : n.cons_seen ≡ Some index

@@ -235,7 +235,7 @@ OrdersGive-push : (said : ℕ × ℕ) (events : List PastEvent) (event : PastEve
 OrdersGive-push said [] event looks last = (last, tt)
 OrdersGive-push said (first ∷ events) event looks last = (looks.0, OrdersGive-push said events event looks.1 last)
 
--- where nothing was seen, nothing is said of later looks
+-- if nothing was seen, nothing is claimed of later looks
 or_none : (a b : Bool) → (a || b) ≡ false → (a ≡ false) × (b ≡ false)
 or_none true b is = absurd (false≢true (sym is))
 or_none false b is = (refl, is)
@@ -258,7 +258,7 @@ sent_stays (Store word value) s owes shut = go word s.role owes
     go _ role owes = refl
 sent_stays _ s owes shut = refl
 
--- what was got stays, and more comes behind it
+-- what was got stays, and more comes after it
 pub got_grows : (op : Op) (s : Side) → IsPrefixOf s.got (got_after op s)
 got_grows (Store word value) s = go word s.role
   where
@@ -294,13 +294,13 @@ module _ (start : ℕ) (order : Order) (got sent : List ℕ) (begins : IsPrefixO
   ahead : diff (index_at start (length sent)) (index_at start (length got)) ≡ length sent - length got
   ahead = diff_counts start (length sent) (length got) (prefix_length got sent begins) (omega (arith, fits, (size-within order).1))
 
-  -- where the two indices are one, all that was sent is got
+  -- if the two indices are equal, all that was sent is got
   caught_up : index_at start (length sent) ≡ index_at start (length got) → got ≡ sent
   caught_up same =
       let apart : length sent - length got ≡ 0 = sym ahead ∙ ap (λ (n : ℕ). diff n (index_at start (length got))) same ∙ diff_same (index_at start (length got)) in
       prefix_all got sent begins (omega (arith, apart))
 
-  -- where nothing is ready, the two indices are one
+  -- if nothing is ready, the two indices are equal
   none_ready : ready (index_at start (length sent)) (index_at start (length got)) order ≡ 0 → index_at start (length sent) ≡ index_at start (length got)
   none_ready none =
       let small : diff (index_at start (length sent)) (index_at start (length got)) ≤ size order = omega (arith, ahead, fits) in
@@ -323,7 +323,7 @@ or_cases : (a b : Bool) → (a || b) ≡ true → (a ≡ true) ⊎ (b ≡ true)
 or_cases true b is = inl refl
 or_cases false b is = inr is
 
--- what an end comes to have seen, its peer's words show
+-- an end comes to see only what its peer's words show
 saw_shut : (op : Op) (value : ℕ) (s : Side) (shut : Type 0) → (s.saw ≡ true → shut) → (shows_end op s.role value ≡ true → shut) → saw_after op value s ≡ true → shut
 saw_shut (Load word) value s shut before shows is = go (or_cases s.saw (not (is_shut s.state) && sees_end word s.role value) is)
   where
@@ -411,13 +411,13 @@ module _ (start : ℕ) (said : ℕ × ℕ) (orders : Orders) (words : List ℕ) 
 
 -- ---- an answer
 
--- an answer that says that all was read comes where the end of the peer was seen, and where the own count is the last index
+-- an answer that tells that all was read comes only after the peer's end was seen, and if the own count is the last index
 drains_owes : (said : ℕ × ℕ) (final : ℕ) (role : Role) (orders : Orders) (cons : ℕ) (seen : Bool) (answer : Answer) → OwesAnswer said final role orders cons seen answer → drains answer ≡ true → (seen ≡ true) × (final ≡ cons)
 drains_owes said final role orders cons seen AllRead owes is = owes
 drains_owes said final role orders cons seen (IsGone p q) owes is = (owes.0, sym owes.1 ∙ eqb-true p q is ∙ owes.2)
 drains_owes said final role orders cons seen _ owes is = absurd (false≢true is)
 
--- an answer that ends a stream says that all was read
+-- an answer that ends a stream tells that all was read
 ends_drains : (said : ℕ × ℕ) (final : ℕ) (role : Role) (orders : Orders) (cons : ℕ) (seen : Bool) (answer : Answer) → OwesAnswer said final role orders cons seen answer → (ready final cons (order_of orders (read_ring role)) ≡ 0 → final ≡ cons) → IsSome (ending answer) → drains answer ≡ true
 ends_drains said final role orders cons seen AllRead owes none is = refl
 ends_drains said final role orders cons seen (IsGone p q) owes none is = eq-eqb p q (owes.1 ∙ none owes.3 ∙ sym owes.2)
@@ -579,7 +579,7 @@ gone_set core Client Client h more = gone_own core Client core.client.payload h 
 gone_set core Server Client h more = gone_peer core Server core.server.payload h more
 gone_set core Client Server h more = gone_peer core Client core.client.payload h more
 
--- it is 1 exactly where its end is retired
+-- it is 1 if and only if its end is retired
 pub gone_tells_retired : (core : Core) (who : Role) → LifeLawful core → TellsGone (held core (own_gone who)) (side_of core who).retired (side_of core who).state
 gone_tells_retired core Server h = h.server_words.gone
 gone_tells_retired core Client h = h.client_words.gone

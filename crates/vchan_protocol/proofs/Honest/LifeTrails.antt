@@ -27,7 +27,7 @@ use Rattle.vchan_protocol.specs.Honest.LifeLaw.{shows_end, has_seen, LoadGives, 
 
 -- ---- what is owed
 
--- an end stores its own words alone; it shows bytes, opens and is never shut then; it is shut where it sets its gone word
+-- an end stores its own words alone; it shows bytes, opens and is never shut then; it is shut when it sets its gone word
 abbrev pub OwesStore : WordName → Role → EndState → ℕ → Type 0
 OwesStore LeftProd Client state value = state ≢ Shut
 OwesStore RightProd Server state value = state ≢ Shut
@@ -54,7 +54,7 @@ abbrev pub IsRingByte : WordName → Type 0
 IsRingByte (RingByte ring at) = Unit {0}
 IsRingByte _ = ⊥
 
--- what an event owes where its end is in this state
+-- what an event owes if its end is in this state
 abbrev pub OwesLife : Op → Role → EndState → Type 0
 OwesLife (Load word) role state = Unit {0}
 OwesLife (LoadByte word at) role state = Unit {0}
@@ -66,7 +66,7 @@ OwesLife (Swap word value) role state = IsFlag word
 OwesLife Nothing role state = ⊥
 
 -- an answer that ends a stream comes after the peer's end was seen, and after a look at the last index, at which nothing waits.
--- A connect is refused only where the order words of the start are not those of the page
+-- A connect is refused only if the order words of the start are not those of the page
 abbrev pub OwesAnswer : ℕ × ℕ → ℕ → Role → Orders → ℕ → Bool → Answer → Type 0
 OwesAnswer said final role orders cons seen AllRead = (seen ≡ true) × (final ≡ cons)
 OwesAnswer said final role orders cons seen (IsGone p c) = (seen ≡ true) × (p ≡ final) × (c ≡ cons) × (ready final cons (order_of orders (read_ring role)) ≡ 0)
@@ -367,7 +367,7 @@ fresh_shut is = cc
 open_shut : Open ≢ Shut
 open_shut is = cc
 
--- a connect refuses the order words of the start only where they are not the page's
+-- a connect refuses the order words of the start only if they are not the page's
 refuses : (said : ℕ × ℕ) (orders : Orders) (left right : ℕ) → left ≡ said.0 → right ≡ said.1 → ((low16 left == number_of orders.left) && (low16 right == number_of orders.right)) ≡ false → ¬ SaysOrders said orders
 refuses said orders left right l r differ says =
     let first : low16 left ≡ number_of orders.left = omega (arith, l, says.0, orders.left.in_range) in

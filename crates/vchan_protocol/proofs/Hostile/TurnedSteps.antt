@@ -1,4 +1,4 @@
--- What holds of a page once an end was turned: turning makes it so, and each event of either end keeps it.
+-- What holds of a page after an end was turned: it holds after the turning, and each event of either end keeps it.
 use Rattle.std.proofs.Common.{◌≡◌, ℕ, ◌+◌, ◌%◌, ◌^◌, ◌≤◌, Bool, true, false, cond, None, List, [], ◌++◌, length, take, slice_index, refl, subst, sym, ap, ◌∙◌, arith, append-nil, length-append}
 use Rattle.std.proofs.lemmas.Bool.{false≢true}
 use Rattle.std.proofs.lemmas.List.{length-set, length-take, take_all, take-append-le}
@@ -34,7 +34,7 @@ use Rattle.vchan_protocol.proofs.OneEnd.IndexLaws.{stores_own}
 
 -- ---- the own counts of an end
 
--- an index moves on by what comes behind a list
+-- an index moves on by what comes after a list
 index_on : (start count value : ℕ) (list more : List ℕ) → count ≡ index_at start (length list) → value ≡ (count + length more) % 2 ^ 32 → value % 2 ^ 32 ≡ index_at start (length (list ++ more))
 index_on start count value list more is stored = omega (arith, is, stored, length-append list more)
 

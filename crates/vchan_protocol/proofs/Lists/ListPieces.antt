@@ -169,7 +169,7 @@ module _ (who : Role) (channel : ChannelLists) (theirs : Told) (payload : List �
     pub stored : count_stored mine.trail ≡ 0
     pub loaded : bytes_loaded mine.trail ≡ []
 
-  -- inside a put, so many bytes stand in their places
+  -- inside a put, this many bytes stand in their places
   pub record Putting (i : ℕ) (words : List ℕ) (mine : Side) : Type 0 where
     pub tells : Tells who channel (end_of channel who) words (told mine) theirs
     pub pays : mine.payload ≡ payload
@@ -178,12 +178,12 @@ module _ (who : Role) (channel : ChannelLists) (theirs : Told) (payload : List �
     pub placed : (j : ℕ) → j < i →
         at channel.orders words (RingByte (written_ring who) (place (channel.start + length (end_of channel who).sent + j) (order_of channel.orders (written_ring who)))) ≡ slice_index payload j
 
-  -- inside a take, so many bytes are loaded
+  -- inside a take, this many bytes are loaded
   pub record Taking (i : ℕ) (words : List ℕ) (mine : Side) : Type 0 where
     pub tells : Tells who channel (end_of channel who) words (told mine) theirs
     pub loaded : bytes_loaded mine.trail ≡ take i (waiting channel who)
 
-  -- the lists are as the call leaves them, and so many bytes are loaded
+  -- the lists are as the call leaves them, and this many bytes are loaded
   pub record After (it : ListEnd) (count : ℕ) (words : List ℕ) (mine : Side) : Type 0 where
     pub tells : Tells who channel it words (told mine) theirs
     pub loaded : bytes_loaded mine.trail ≡ take count (waiting channel who)
@@ -326,7 +326,7 @@ module _ (who : Role) (channel : ChannelLists) (theirs : Told) (payload : List �
       ends_load (cons_word (written_ring who)) (index channel.start (end_of channel (peer who)).got) (λ value. next (low32 value)) outcome (λ words mine c. c.tells.written.cons_is)
       (subst (λ (n : ℕ). Ends (next n) outcome) (sym (low32-index channel.start (end_of channel (peer who)).got)) on)
 
-  -- the peer's live byte says whether it is shut
+  -- the peer's live byte tells whether it is shut
   shut_is : (state : EndState) → (low8 (live_word state) == 0) ≡ is_shut state
   shut_is Fresh = refl
   shut_is Open = refl

@@ -1,4 +1,4 @@
--- Rows of whole calls on lists, computed: what the table says of small pages.
+-- Rows of whole calls on lists, computed: what the table gives for small pages.
 use Rattle.std.proofs.Common.{◌≡◌, ℕ, true, Option, Some, List, [], ◌∷◌, ◌++◌, length, map, replicate, refl, arith}
 use Rattle.ring_words.specs.declared.order.Orders.{Orders}
 use Rattle.ring_words.specs.Rings.{size}
@@ -65,7 +65,7 @@ over_the_wrap : tells (page 4294967290) (by Client (Write 10) (replicate 10 48) 
 unfolding page small by tells answers size
 over_the_wrap = refl
 
--- a fresh client, where the order words said so
+-- a fresh client, if the order words held these numbers
 connects : ℕ × ℕ → List (Option Answer) × List ℕ
 connects said = tells (lists_of (opened small 0 said Fresh)) (by Client Connect [] ∷ [])
 

@@ -23,7 +23,7 @@ use Rattle.vchan_protocol.specs.Lists.ListCall.{ListEnd, ChannelLists, end_of, i
 
 -- ---- what is told
 
--- of an end, what the lists and the words speak of
+-- the part of an end that the lists and the words tell
 pub record Told : Type 0 where
   pub role : Role
   pub orders : Orders
@@ -40,7 +40,7 @@ told s = record { role = s.role; orders = s.orders; state = s.state; prod = s.pr
 abbrev pub at : Orders → List ℕ → WordName → ℕ
 at orders words name = slice_index words (index_of orders name)
 
--- an end is as the lists say
+-- an end is as the lists tell
 pub record EndIs (role : Role) (orders : Orders) (it : ListEnd) (s : Told) : Type 0 where
   pub role_is : s.role ≡ role
   pub orders_are : s.orders ≡ orders
@@ -49,7 +49,7 @@ pub record EndIs (role : Role) (orders : Orders) (it : ListEnd) (s : Told) : Typ
   pub got_is : s.got ≡ it.got
   pub retired_is : s.retired ≡ it.retired
 
--- a ring's indices, its two counts and its bytes are as the lists say
+-- a ring's indices, its two counts and its bytes are as the lists tell
 pub record RingTells (order : Order) (start : ℕ) (sent got : List ℕ) (prod cons own_prod own_cons : ℕ) (bytes : ℕ → ℕ) : Type 0 where
   pub prod_is : prod ≡ index start sent
   pub cons_is : cons ≡ index start got
@@ -60,7 +60,7 @@ pub record RingTells (order : Order) (start : ℕ) (sent got : List ℕ) (prod c
   pub bytes_sent : AreBytes sent
   pub waits : (i : ℕ) → length got ≤ i → i < length sent → bytes (place (start + i) order) ≡ slice_index sent i
 
--- a live byte and a gone word are as the lists say
+-- a live byte and a gone word are as the lists tell
 pub record EndTells (live gone : ℕ) (it : ListEnd) : Type 0 where
   pub live_is : live ≡ live_word it.state
   pub gone_is : gone ≡ (if it.retired then 1 else 0)
@@ -104,7 +104,7 @@ end_same live gone live' gone' it l g t = record { live_is = l ∙ t.live_is; go
 pub prefix_fits : (got sent : List ℕ) → IsPrefixOf got sent → length got ≤ length sent
 prefix_fits got sent p = omega (arith, ap length p.1, length-append got p.0)
 
--- more was sent: it stands in the places behind
+-- more was sent: it stands in the places after
 pub ring_sent : (order : Order) (start : ℕ) (sent got more : List ℕ) (prod cons prod' own_prod own_prod' own_cons : ℕ) (bytes bytes' : ℕ → ℕ) → RingTells order start sent got prod cons own_prod own_cons bytes →
     prod' ≡ index start (sent ++ more) → own_prod' ≡ index start (sent ++ more) → length sent + length more ≤ length got + size order → AreBytes more →
     ((i : ℕ) → i < length more → bytes (place (start + length sent + i) order) ≡ slice_index more i) → ((place : ℕ) → place < size order → bytes' place ≡ bytes place) →
@@ -252,7 +252,7 @@ more_got role orders it s more cons h = record { role_is = h.role_is; orders_are
 other_lists : (live gone : ℕ) (it : ListEnd) (sent got : List ℕ) → EndTells live gone it → EndTells live gone (record it { sent = sent; got = got })
 other_lists live gone it sent got h = record { live_is = h.live_is; gone_is = h.gone_is; retired_shut = h.retired_shut }
 
--- an end shows the bytes that stand behind those that it sent
+-- an end shows the bytes that stand after those that it sent
 pub tells_sent : (who : Role) (channel : ChannelLists) (it : ListEnd) (words : List ℕ) (mine theirs : Told) (more : List ℕ) (v prod : ℕ) → v ≡ index channel.start (it.sent ++ more) → prod ≡ index channel.start (it.sent ++ more) →
     length it.sent + length more ≤ length (end_of channel (peer who)).got + size (order_of channel.orders (written_ring who)) → AreBytes more →
     ((i : ℕ) → i < length more → at channel.orders words (RingByte (written_ring who) (place (channel.start + length it.sent + i) (order_of channel.orders (written_ring who)))) ≡ slice_index more i) →

@@ -1,4 +1,4 @@
--- What an end has noted of its peer's end hangs together, by each of its events and answers and whatever its peer does.
+-- What an end has noted of its peer's end agrees after each of its events and answers, whatever its peer does.
 use Rattle.std.proofs.Common.{◌≡◌, ℕ, Bool, true, false, not, ◌||◌, Option, Some, None, IsSome, List, [], ◌∷◌, ◌++◌, refl, subst, sym, ap, ◌∙◌}
 use Rattle.std.proofs.lemmas.Bool.{eq-eqb, false≢true}
 use Rattle.ring_words.specs.declared.page.Role.{Role}
@@ -84,7 +84,7 @@ shut_retires role Close allowed = absurd allowed
 shut_retires role TakeEvent allowed = absurd allowed
 shut_retires role PeerGone allowed = absurd allowed
 
--- no answer of a shut end tells its peer's end
+-- no answer of a shut end tells of its peer's end
 unshut_ends : (e : Standing) (call : Call) (events : List PastEvent) (answer : Answer) → IsAllowed e.role e.state call → Trace e call events answer → tells_end answer ≡ true → is_shut e.state ≡ false
 unshut_ends e call events answer allowed led tells = go e.state refl
   where
@@ -129,7 +129,7 @@ saw_end s i taken answer lawful more h is tells =
 
 -- ---- an event of the end
 
--- the first of two endings is there where one is
+-- the first of two endings is there if one is
 first_some : (first second : Option EndedBy) (P : Type 0) → IsSome (first_ended first second) → (IsSome first → P) → (IsSome second → P) → P
 first_some None second P ends one two = two ends
 first_some (Some ended) second P ends one two = one refl

@@ -1,4 +1,4 @@
--- What an answer says of the bytes that its call sent and got, whatever values its events took.
+-- What an answer tells of the bytes that its call sent and got, whatever values its events took.
 use Rattle.std.proofs.Common.{◌≡◌, ℕ, suc, zero, ◌+◌, ◌==◌, ◌≤◌, min, nat_lt, Bool, true, false, cond, List, [], ◌∷◌, ◌++◌, length, take, refl, subst, sym, ap, ◌∙◌, arith, append_assoc, append-nil, length-append, add-zero, zero-add}
 use Rattle.std.proofs.lemmas.List.{take_all, take-append-le}
 use Rattle.ring_words.specs.declared.page.Role.{Role}
@@ -26,7 +26,7 @@ use Rattle.vchan_protocol.proofs.History.EventLaws.{stored_most-payload}
 use Rattle.vchan_protocol.proofs.History.WholeCallLaws.{bytes_loaded-push}
 use Rattle.vchan_protocol.specs.OneEnd.OneCall.{side_along, bytes_out, bytes_in, MovesAsAnswered}
 
--- ---- what is shown and turned, by the events
+-- ---- what is shown and released, by the events
 
 -- an own index is stored only once
 abbrev pub OnceStored : WordName → Role → ℕ → ℕ → Type 0
@@ -40,7 +40,7 @@ abbrev pub Once : Role → ℕ → ℕ → Op → Type 0
 Once role o g (Store word value) = OnceStored word role o g
 Once role o g _ = Unit {0}
 
--- how many bytes are shown after a store where s are stored, and turned where l are loaded
+-- how many bytes are shown after a store if s are stored, and how many are released if l are loaded
 abbrev pub shown_stored : WordName → Role → ℕ → ℕ → ℕ
 shown_stored LeftProd Client s o = s
 shown_stored RightProd Server s o = s
@@ -59,8 +59,8 @@ abbrev pub released_then : Role → Op → ℕ → ℕ → ℕ
 released_then role (Store word value) l g = released_stored word role l g
 released_then role _ l g = g
 
--- whatever the values are, the answer says how many bytes were shown, which are all that were stored, and how many places were turned, which are those of all
--- that were loaded; s are stored, o shown, l loaded, g turned so far
+-- whatever the values are, the answer tells how many bytes were shown, which are all that were stored, and how many places were released, which are those of all
+-- that were loaded; s are stored, o shown, l loaded, g released so far
 unfoldable pub Moves : Role → ℕ → ℕ → ℕ → ℕ → Plan → Type 0
 Moves role s o l g (answers answer) = (bytes_out answer ≡ o) × (bytes_in answer ≡ g) × (l ≡ g) × (s ≡ o)
 Moves role s o l g (does op next) = Once role o g op × ((value : ℕ) → Moves role (stored_then op s) (shown_then role op s o) (loaded_then op l) (released_then role op l g) (next value))
@@ -290,7 +290,7 @@ loaded-push xs (And word bits) taken = ap (λ (z : List ℕ). length z) (append-
 loaded-push xs (Swap word value) taken = ap (λ (z : List ℕ). length z) (append-nil xs)
 loaded-push xs Nothing taken = ap (λ (z : List ℕ). length z) (append-nil xs)
 
--- what an end has shown and turned on the way of its call
+-- what an end has shown and released on the way of its call
 record Shows (sent got : List ℕ) (s o l g : ℕ) (side : Side) : Type 0 where
   stored : count_stored side.trail ≡ s
   loaded : length (bytes_loaded side.trail) ≡ l
@@ -371,7 +371,7 @@ module _ (sent got : List ℕ) (s o l g : ℕ) (side : Side) (taken : ℕ) (h : 
             (sym (take-append-le (released_then side.role op l g) (bytes_loaded side.trail) (loaded_by op taken) few) ∙ ap (λ (z : List ℕ). take (released_then side.role op l g) z) (sym (bytes_loaded-push side.trail op taken)));
       }
 
--- what stands of an end after the last event of its call
+-- what holds of an end after the last event of its call
 record Tells (sent got : List ℕ) (side : Side) (answer : Answer) : Type 0 where
   sent_is : side.sent ≡ sent ++ take (bytes_out answer) side.payload
   got_is : side.got ≡ got ++ bytes_loaded side.trail

@@ -37,7 +37,7 @@ use Rattle.vchan_protocol.proofs.OneEnd.EachEvent.{KindsHave, each_event}
 
 -- ---- the state of an end along its call
 
--- an event sets the gone word only where its end is shut, and leaves a shut end shut
+-- an event sets the gone word only if its end is shut, and leaves a shut end shut
 abbrev pub OwesState : Role → EndState → Op → Type 0
 OwesState role state op = (sets_gone op role ≡ true → state ≡ Shut) × (state ≡ Shut → state_after op role state ≡ Shut)
 

@@ -71,7 +71,7 @@ steps_are_own setup words who mine theirs = record {
   stray = strayed_is setup words who mine theirs;
 }
 
--- ---- what holds of a page, by one end
+-- ---- what holds of a page, for one end
 
 pub enters_kept : (setup : Setup) (words : List ℕ) (who : Role) (mine now theirs : Side) → mine.turned ≡ false → Enters mine now → Invariant (between setup words who mine theirs) → Invariant (between setup words who now theirs)
 enters_kept setup words who mine now theirs honest e k = ⊎_elim
@@ -127,7 +127,7 @@ turned_side-got s consumed = go s.turned
     go true = refl
     go false = refl
 
--- of one end, whose peer's reader had got so many bytes
+-- for one end, when the reader of its ring had got this many bytes
 record Stands (s : Side) (consumed : ℕ) : Type 0 where
   turned : (turned_side s consumed).turned ≡ true
   sent : (turned_side s consumed).sent ≡ s.sent

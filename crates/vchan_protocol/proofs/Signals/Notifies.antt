@@ -28,7 +28,7 @@ pub data Deed (role : Role) (op : Op) (next : ℕ → Plan) : Type 0 where
   stores_byte : (ring : Ring) (at i : ℕ) → op ≡ StoreByte (RingByte ring at) i → Deed role op next
   asks : (bit : Bit) → op ≡ Or (ask_word role) (mask bit) → Deed role op next
   takes_event : op ≡ Swap (own_pending role) 0 → Deed role op next
-  -- where the peer had asked, the signal follows
+  -- if the peer had asked, the signal follows
   tests : (bit : Bit) → op ≡ test_of role bit → ((old : ℕ) → bit_and old (mask bit) ≢ 0 → next_op (next old) ≡ signal_of role) → Deed role op next
   -- the test follows the store of an index, and the signal that of the live byte, and that of the gone word
   stores_index : (bit : Bit) (index : ℕ) → op ≡ Store (own_index role bit) index → ((old : ℕ) → next_op (next old) ≡ test_of role bit) → Deed role op next

@@ -72,14 +72,14 @@ pub record Step (old new : Core) (who other : Role) (op : Op) (next : ℕ → Pl
   pub does_next : op_next (side_of new who) ≡ next_op (next (value_taken old.orders old.words op))
   pub other_is : side_of new other ≡ side_of old other
 
--- what is said of one end
+-- what holds of one end's signals
 pub record Told (core : Core) (who : Role) : Type 0 where
   pub asks_stand : (bit : Bit) → AskStands core who bit
   pub indices_told : (bit : Bit) → IndexIsTold core who bit
   pub closes_told : CloseIsTold core who
   pub gone_told : GoneIsTold core who
 
--- ---- what stays said, where little changes
+-- ---- what still holds when little changes
 
 woken_kept : (old new : Core) (who : Role) → held new (own_pending who) ≡ held old (own_pending who) → IsWoken old who → IsWoken new who
 woken_kept old new who same woken = λ none. woken (sym same ∙ none)
@@ -91,7 +91,7 @@ tests_kept : (old new : Core) (who : Role) (bit : Bit) → side_of new who ≡ s
 tests_kept old new who bit same owes =
     subst (λ (s : Side). (index : ℕ) × HasJust s (Store (own_index who bit) index) × (op_next s ≡ test_of who bit)) (sym same) owes
 
--- the end whose notes these are makes the event, and its peer stands
+-- the end whose notes these are makes the event, and its peer makes none
 module _ (old new : Core) (who : Role) (peer_same : side_of new (peer who) ≡ side_of old (peer who)) (pending : held new (own_pending who) ≡ held old (own_pending who)) where
   own_ask : (bit : Bit) → ((asked_of (side_of new who).notes bit).since ≡ true → (asked_of (side_of old who).notes bit).since ≡ true) →
       (bit_and (held old (ask_word who)) (mask bit) ≢ 0 → bit_and (held new (ask_word who)) (mask bit) ≢ 0) → AskStands old who bit → AskStands new who bit
@@ -118,7 +118,7 @@ module _ (old new : Core) (who : Role) (peer_same : side_of new (peer who) ≡ s
       go (inr (inl owes)) = inr (inl (owes_kept old new (peer who) (test_of (peer who) bit) peer_same owes))
       go (inr (inr woken)) = inr (inr (woken_kept old new who pending woken))
 
-  -- the signal that is owed behind a store of the peer stays owed
+  -- the signal that is owed after a store of the peer stays owed
   own_owed : (op : Op) → OwesSignal old (peer who) op ⊎ IsWoken old who → OwesSignal new (peer who) op ⊎ IsWoken new who
   own_owed op (inl owes) = inl (owes_kept old new (peer who) op peer_same owes)
   own_owed op (inr woken) = inr (woken_kept old new who pending woken)
@@ -135,7 +135,7 @@ module _ (old new : Core) (who : Role) (peer_same : side_of new (peer who) ≡ s
       let was_gone : held old (peer_gone who) ≢ 0 = λ none. gone (same ∙ none) in
       own_owed (Store (own_gone (peer who)) 1) (old_told (noted seen was_gone) was_gone)
 
--- an event that the end notes nothing of, on a word that it doesn't watch
+-- an event of which the end notes nothing, on a word that it doesn't watch
 own_same : (old new : Core) (who : Role) → side_of new (peer who) ≡ side_of old (peer who) → WatchedKept old new who → (side_of new who).notes ≡ (side_of old who).notes → Told old who → Told new who
 own_same old new who peer_same kept notes told = record {
   asks_stand = λ bit. own_ask old new who peer_same kept.pending bit (λ since. ap (λ (n : Notes). (asked_of n bit).since) (sym notes) ∙ since)
@@ -167,7 +167,7 @@ since-load SrvGone Client taken n Written = refl
 since-load SrvGone Client taken n Consumed = refl
 since-load _ _ taken n bit = refl
 
--- it notes the peer's index, or leaves what is noted of it
+-- it notes the peer's index, or leaves what is noted of that
 abbrev pub SeesIndex : WordName → Role → ℕ → Notes → Bit → Type 0
 SeesIndex word who taken n bit =
     ((asked_of (noted_load word who taken n) bit).seen ≡ (asked_of n bit).seen) ⊎
@@ -337,7 +337,7 @@ own_asks old new who set header peer_same orders words notes told = record {
 
 -- ---- an event taken
 
--- an end that has noted nothing is told nothing
+-- of an end that has noted nothing, nothing is claimed
 told_nothing : (core : Core) (who : Role) → (side_of core who).notes ≡ nothing_noted → Told core who
 told_nothing core who notes = record {
   asks_stand = λ bit asked. absurd (false≢true (sym (unasked bit) ∙ ap (λ (m : Notes). (asked_of m bit).since) (sym notes) ∙ asked));
@@ -384,7 +384,7 @@ bits_of _ = 0
 other_test : (who : Role) (bit : Bit) → test_of who bit ≢ test_of who (other_bit bit)
 other_test who bit is = masks_apart bit (ap bits_of is)
 
--- the peer makes the event, and the end whose notes these are stands
+-- the peer makes the event, and the end whose notes these are makes none
 module _ (old new : Core) (who : Role) (op : Op) (same : side_of new who ≡ side_of old who) (did : op_next (side_of old (peer who)) ≡ op) (silent : op ≢ signal_of (peer who))
     (pending : held new (own_pending who) ≡ held old (own_pending who)) where
   other_ask : (bit : Bit) → (bit_and (held old (ask_word who)) (mask bit) ≢ 0 → bit_and (held new (ask_word who)) (mask bit) ≢ 0 ⊎ OwesSignal new (peer who) (test_of (peer who) bit)) →
@@ -412,7 +412,7 @@ module _ (old new : Core) (who : Role) (op : Op) (same : side_of new who ≡ sid
       go (inr (inl owes)) = absurd (silent (sym did ∙ owes.1))
       go (inr (inr woken)) = inr (inr (woken_kept old new who pending woken))
 
-  -- the peer that owes the signal behind a store makes it next
+  -- the peer that owes the signal after a store makes it next
   other_owed : (owed : Op) → OwesSignal old (peer who) owed ⊎ IsWoken old who → IsWoken new who
   other_owed owed (inl owes) = absurd (silent (sym did ∙ owes.1))
   other_owed owed (inr woken) = woken_kept old new who pending woken
@@ -468,7 +468,7 @@ other_tests old new who bit header same orders words did just told_if told = rec
     pending : held new (own_pending who) ≡ held old (own_pending who)
     pending = held_other old new _ _ (own_pending who) orders words (ask-pending old.orders who)
 
-    -- where the bit is clear, the end is woken already, since it asked and its peer owes no signal
+    -- if the bit is clear, the end is woken already, since it asked and its peer owes no signal
     told_or_woken : AskStands old who bit → (asked_of (side_of old who).notes bit).since ≡ true → OwesSignal new (peer who) (test_of (peer who) bit) ⊎ IsWoken new who
     told_or_woken stands asked = go (stands asked)
       where
@@ -548,7 +548,7 @@ other_retires old new who same orders words op is did owes told = record {
     pending : held new (own_pending who) ≡ held old (own_pending who)
     pending = held_other old new _ _ (own_pending who) orders words (gone-pending old.orders who)
 
--- ---- each deed, for the end that makes it and for the other
+-- ---- each deed, for the end that makes it and for the other one
 
 -- a client that opens gives no signal
 connect-pending : (orders : Orders) (who : Role) → (index_of orders (own_pending who) == index_of orders CliLive) ≡ false
@@ -710,7 +710,7 @@ carried_keeps core Client op next ends left h =
     both_told (carried_out core Client op) (told_other core (carried_out core Client op) Server op next ends.header step deed (told_of core Server h))
     (told_own core (carried_out core Client op) Client op next ends.header step deed (told_of core Client h))
 
--- an end that is between two events of which none is a test or the signal may stand otherwise, with the same notes
+-- an end that is between two events, of which none is a test or the signal, may be replaced by one with the same notes
 renewed : (core : Core) (who : Role) (s : Side) → s.notes ≡ (side_of core who).notes → op_next (side_of core who) ≡ Nothing → NoLostSignal core → NoLostSignal (with_side core who s)
 renewed core Server s notes idle h =
     let new = with_side core Server s in
@@ -721,7 +721,7 @@ renewed core Client s notes idle h =
     both_told new (other_same core new Server Nothing refl idle (no_signal Nothing Client refl) refl (λ bit. no_test Nothing Client bit refl) (record { asks = refl; pending = refl; index = λ bit. refl; live = λ _. refl; gone = refl }) (told_of core Server h))
     (own_same core new Client refl (record { asks = refl; pending = refl; index = λ bit. refl; live = λ _. refl; gone = refl }) notes (told_of core Client h))
 
--- the answer, where nothing is left
+-- the answer, if nothing is left
 settled_keeps : (core : Core) (who : Role) (rest : Plan) → plan_left (side_of core who) ≡ rest → NoLostSignal core → NoLostSignal (with_side core who (settled (side_of core who) rest))
 settled_keeps core who (answers answer) left h = renewed core who (answered (side_of core who) answer) refl (ap next_op left) h
 settled_keeps core Server (does op next) left h = h

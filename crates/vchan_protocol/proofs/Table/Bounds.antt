@@ -230,7 +230,7 @@ length-Leads (does op next) (event ∷ events) rest zero w led = absurd w
 length-Leads (does op next) (event ∷ events) rest (suc most) w led =
     omega (arith, length-Leads (next event.taken) events rest most (w event.taken) led.1)
 
--- where an event is left, the trail is shorter than the bound
+-- if an event is left, the trail is shorter than the bound
 pub length-Leads-more : (plan : Plan) (events : List PastEvent) (rest : Plan) (most : ℕ) → EndsWithin most plan → Leads plan events rest → GoesOn rest → length events < most
 length-Leads-more plan events rest most w led more =
     omega (arith, length-Leads plan (events ++ past (next_op rest) 0 ∷ []) (after rest 0) most w (Leads-more plan events rest 0 more led), length_push events (past (next_op rest) 0))

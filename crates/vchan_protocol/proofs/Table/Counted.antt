@@ -44,7 +44,7 @@ OwesIndex LeftCons Server now s l value = value ≡ (now.cons + l) % 2 ^ 32
 OwesIndex RightCons Client now s l value = value ≡ (now.cons + l) % 2 ^ 32
 OwesIndex _ _ now s l value = Unit {0}
 
--- what an event owes where the end stands so now, and the call has stored s bytes and loaded l so far, of at most `out` and `into`
+-- what an event owes if the end has this standing now, and the call has stored s bytes and loaded l so far, of at most `out` and `into`
 abbrev pub Owes : Standing → ℕ → ℕ → Standing → ℕ → ℕ → Op → Type 0
 Owes e out into now s l (Load word) = Has e.orders word
 Owes e out into now s l (LoadByte word at) = (at ≡ l) × (at < into) × Has e.orders word
@@ -350,7 +350,7 @@ Counted-Leads e out into now s l (does op next) (event ∷ events) rest w led =
     moved_on e out into now s l (Swap word value) taken events rest w = rw (zero-add (count_stored events)) w
     moved_on e out into now s l Nothing taken events rest w = rw (zero-add (count_stored events)) w
 
--- no more is stored, and no more is loaded, than the bounds say
+-- no more is stored, and no more is loaded, than the bounds allow
 within : (e : Standing) (out into : ℕ) (now : Standing) (s l : ℕ) (plan : Plan) (events : List PastEvent) (rest : Plan) → Counted e out into now s l plan → Leads plan events rest →
     s ≤ out → l ≤ into → (s + count_stored events ≤ out) × (l + length (bytes_loaded events) ≤ into)
 unfolding Counted

@@ -1,4 +1,4 @@
--- Each event of a call gives what it owes to the events before it: bytes only where a look found room or bytes, an index only once.
+-- Each event of a call gives what it owes to the events before it: bytes only if a look found room or bytes, an index only once.
 use Rattle.std.proofs.Common.{◌≡◌, ℕ, suc, zero, ◌+◌, ◌%◌, ◌^◌, ◌==◌, ◌&&◌, ◌<◌, ◌≤◌, min, nat_lt, Bool, true, false, cond, Some, List, [], ◌∷◌, ◌++◌, length, refl, subst, sym, ap, ◌∙◌, arith, length-append}
 use Rattle.std.proofs.lemmas.Bool.Decides.{nat_tests}
 use Rattle.ring_words.specs.Rings.{place}
@@ -90,7 +90,7 @@ OwesSound e n (And word bits) = IsFlag word
 OwesSound e n (Swap word value) = IsFlag word
 OwesSound e n Nothing = ⊥
 
--- an end stores nothing but 0 in its live byte where its call goes on
+-- an end stores nothing but 0 in its live byte while its call goes on
 abbrev pub StaysStored : WordName → Role → ℕ → Type 0
 StaysStored CliLive Client (suc value) = ⊥
 StaysStored SrvLive Server (suc value) = ⊥
@@ -176,7 +176,7 @@ module _ (e : Standing) where
   sound_if n true p q first second = first refl
   sound_if n false p q first second = second refl
 
-  -- a load that says nothing of the two rings
+  -- a load that tells nothing of the two rings
   sound_load : (n : TrailSummary) (word : WordName) (next : ℕ → Plan) → ((value : ℕ) → summary_after e.role n (Load word) value ≡ n) → ((value : ℕ) → Sound e n (next value)) → Sound e n (does (Load word) next)
   unfolding Sound
   sound_load n word next same s = (tt, λ value more. (tt, subst (λ (m : TrailSummary). Sound e m (next value)) (sym (same value)) (s value)))

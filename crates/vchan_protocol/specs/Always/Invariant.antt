@@ -22,7 +22,7 @@ use Rattle.vchan_protocol.specs.Honest.Reached.{MayBegin}
 use Rattle.vchan_protocol.specs.Signals.SignalLaw.{NoLostSignal}
 use Rattle.vchan_protocol.specs.Hostile.TurnedLaw.{TurnedLawful, ConsumedLawful, turned_core}
 
--- what holds of a page at each moment: while both ends are honest it is lawful and no signal is lost
+-- what holds of a page at each moment: while both ends are honest, it is lawful and no signal is lost
 pub record Invariant (core : Core) : Type 0 where
   pub lawful : Honest core → Lawful core
   pub signals : Honest core → NoLostSignal core
@@ -73,12 +73,12 @@ GoneIsSetOnce =
     (core : Core) (who whose : Role) → Invariant core → Honest core → GoesOn (plan_left (side_of core who)) →
     held (event core who) (own_gone whose) ≡ (if sets_gone (op_next (side_of core who)) whose then 1 else held core (own_gone whose))
 
--- between honest ends a gone word is 1 exactly where its end is retired, and else 0; a retired end is shut
+-- between honest ends a gone word is 1 if and only if its end is retired, and otherwise 0; a retired end is shut
 abbrev pub GoneTellsRetired : Type 0
 GoneTellsRetired = (core : Core) (who : Role) → Invariant core → Honest core → TellsGone (held core (own_gone who)) (side_of core who).retired (side_of core who).state
 
--- an end is retired by its own store to its gone word, and by nothing else that may come: a begin of a call, its being turned and a hostile user's
--- events leave it retired or not
+-- an end is retired by its own store to its gone word, and by nothing else that may happen: a begin of a call, a turning and a hostile user's events
+-- don't change whether it is retired
 pub record RetiredIsSetOnce (core : Core) (who : Role) : Type 0 where
   pub event : (side_of (event core who) who).retired ≡ retired_after (op_next (side_of core who)) (side_of core who)
   pub begin : (call : Call) (payload : List ℕ) → (side_of (begun core who call payload) who).retired ≡ (side_of core who).retired
@@ -94,8 +94,8 @@ EachHasInvariant = (core : Core) → MayCome core → Invariant core
 
 -- ---- the end of a page
 
--- what stands of a ring. Between two honest ends what was got begins what was sent; where the ring is drained all is got and its writer is shut,
--- and it is drained where its reader has ended. Of a writer that was turned its honest reader has what it had then.
+-- what holds of a ring. Between two honest ends what was got begins what was sent; if the ring is drained, all is got and its writer is shut,
+-- and it is drained if its reader has ended. If the writer was turned, its honest reader keeps what it had then.
 pub record StreamSettled (size : ℕ) (writer reader : Side) : Type 0 where
   pub prefix : writer.turned ≡ false → reader.turned ≡ false → IsPrefixOf reader.got writer.sent
   pub all : writer.turned ≡ false → reader.turned ≡ false → reader.drained ≡ true → reader.got ≡ writer.sent
@@ -103,7 +103,7 @@ pub record StreamSettled (size : ℕ) (writer reader : Side) : Type 0 where
   pub ended : writer.turned ≡ false → reader.turned ≡ false → IsSome reader.ended → reader.drained ≡ true
   pub consumed : writer.turned ≡ true → reader.turned ≡ false → ConsumedLawful size writer reader
 
--- what stands of a page: of its rings, and of two honest ends that not each saw the other shut, and that none was misled where the order words
+-- what holds of a page: what holds of its rings; and if both ends are honest, not each saw the other shut, and none was misled if the order words
 -- of the start were the page's orders
 pub record PageSettled (orders : Orders) (said : ℕ × ℕ) (server client : Side) : Type 0 where
   pub left : StreamSettled (size orders.left) client server
@@ -111,6 +111,6 @@ pub record PageSettled (orders : Orders) (said : ℕ × ℕ) (server client : Si
   pub not_both_saw : server.turned ≡ false → client.turned ≡ false → ¬ ((server.saw ≡ true) × (client.saw ≡ true))
   pub none_misled : server.turned ≡ false → client.turned ≡ false → SaysOrders said orders → (server.misled ≡ false) × (client.misled ≡ false)
 
--- it stands at each moment, and so at the end of a page, when both ends are retired
+-- it holds at each moment, and so at the end of a page, when both ends are retired
 abbrev pub InvariantSettles : Type 0
 InvariantSettles = (core : Core) → Invariant core → PageSettled core.orders core.said core.server core.client

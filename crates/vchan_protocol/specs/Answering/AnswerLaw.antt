@@ -1,4 +1,4 @@
--- What an answer says of its call: what the call moved, and why it ended so.
+-- What an answer tells of its call: what the call moved, and why it ended so.
 -- The statements are this project's own.
 use Rattle.std.specs.Prelude.{◌≡◌, ℕ, ◌+◌, ◌%◌, ◌^◌, ◌↔◌, suc, zero, Some, List, [], ◌∷◌, ◌++◌, length}
 use Rattle.ring_words.specs.declared.page.WordName.{WordName}
@@ -21,7 +21,7 @@ use Rattle.vchan_protocol.specs.Answering.Causes.{Cause}
 
 -- ---- what a call moves
 
--- What the events of a call do to the two rings: how many bytes they store and how many they load, and which events write to a ring beside those
+-- What the events of a call do to the two rings: how many bytes they store and how many they load, and which events write to a ring besides those
 -- that store a byte of the payload.
 pub record Transfer : Type 0 where
   pub stored : ℕ
@@ -37,7 +37,7 @@ written_to RightCons op = op ∷ []
 written_to (RingByte ring at) op = op ∷ []
 written_to _ op = []
 
--- the event, where it writes to a ring other than by a byte of the payload
+-- the event, if it writes to a ring in another way than by a byte of the payload
 abbrev pub ring_write : Op → List Op
 ring_write (Store word value) = written_to word (Store word value)
 ring_write (Or word bits) = written_to word (Or word bits)
@@ -54,11 +54,11 @@ ring_writes (event ∷ events) = ring_write event.op ++ ring_writes events
 abbrev pub transfer_of : List PastEvent → Transfer
 transfer_of trail = record { stored = count_stored trail; loaded = length (bytes_loaded trail); others = ring_writes trail }
 
--- so many bytes are stored, and the own producer index once: the own count moved on by so many
+-- this many bytes are stored, and the own producer index once: the own count moved on by that number
 abbrev pub sends_bytes : Standing → ℕ → Transfer
 sends_bytes e count = record { stored = count; loaded = 0; others = Store (prod_word (written_ring e.role)) ((e.prod + count) % 2 ^ 32) ∷ [] }
 
--- so many bytes are loaded, and the own consumer index is stored once: the own count moved on by so many
+-- this many bytes are loaded, and the own consumer index is stored once: the own count moved on by that number
 abbrev pub gets_bytes : Standing → ℕ → Transfer
 gets_bytes e count = record { stored = 0; loaded = count; others = Store (cons_word (read_ring e.role)) ((e.cons + count) % 2 ^ 32) ∷ [] }
 
@@ -66,7 +66,7 @@ gets_bytes e count = record { stored = 0; loaded = count; others = Store (cons_w
 abbrev pub no_transfer : Transfer
 no_transfer = record { stored = 0; loaded = 0; others = [] }
 
--- what a call that was begun so has moved where it answers so
+-- what a call that began in this standing has moved if it gives this answer
 abbrev pub transfer_told : Standing → Answer → Transfer
 transfer_told e (Wrote zero) = no_transfer
 transfer_told e (Wrote (suc count)) = sends_bytes e (suc count)
@@ -76,17 +76,17 @@ transfer_told e _ = no_transfer
 
 -- ---- the laws
 
--- each call has moved what its answer says, and nothing else
+-- each call has moved what its answer tells, and nothing else
 abbrev pub EachAnswerTellsItsTransfer : Type 0
 EachAnswerTellsItsTransfer = (e : Standing) (call : Call) (events : List PastEvent) (answer : Answer) → Trace e call events answer → transfer_of events ≡ transfer_told e answer
 
--- each answer comes exactly where its cause is in what the call loaded
+-- each answer comes if and only if its cause is in what the call loaded
 abbrev pub EachAnswerHasItsCause : Type 0
 EachAnswerHasItsCause =
     (e : Standing) (call : Call) (events : List PastEvent) (answer : Answer) → Trace e call events answer →
     (other : Answer) → (answer ≡ other) ↔ Cause e call (loads_of e events) other
 
--- where an end has its answer, its trail is the whole call
+-- when an end has its answer, its trail is the whole call
 abbrev pub EachAnswerHasItsTrace : Type 0
 EachAnswerHasItsTrace =
     (s : Side) (b : Begun) (taken : ℕ) (answer : Answer) → CallLawful s → s.call ≡ Some b → GoesOn (plan_left s) → after (plan_left s) taken ≡ answers answer →

@@ -1,4 +1,4 @@
--- Why a call answers as it does, by what it loaded: for each call one line an answer.
+-- Why a call answers as it does, by what it loaded: for each call, one line for each answer.
 -- Source: libxenvchan's io.c, non-blocking mode, and init.c for the order words. The causes of Drain and PeerGone are this project's.
 use Rattle.std.specs.Prelude.{◌≡◌, ◌≢◌, ℕ, ◌<◌, ◌≤◌, ◌==◌, min, not, Option, Some, IsSomeAnd, List, [], ◌∷◌}
 use Rattle.ring_words.specs.Rings.{ready, room, number_of}
@@ -11,11 +11,11 @@ use Rattle.vchan_protocol.specs.Answering.Loads.{Pair, Loads, last_pair}
 
 -- ---- what was found
 
--- the bytes that have room in the ring that the end writes
+-- how many bytes have room in the ring that the end writes
 abbrev pub room_at : Standing → Pair → ℕ
 room_at e pair = room pair.prod pair.cons (write_order e)
 
--- the bytes that wait in the ring that it reads
+-- how many bytes wait in the ring that it reads
 abbrev pub waiting_at : Standing → Pair → ℕ
 waiting_at e pair = ready pair.prod pair.cons (read_order e)
 
@@ -44,7 +44,7 @@ FoundNone e (pair ∷ older) = (waiting_at e pair ≡ 0) × FoundNone e older
 abbrev pub FoundAllRead : Loads → Type 0
 FoundAllRead loads = FoundShut loads × IsSomeAnd loads.next_pair (λ pair. pair.prod ≡ pair.cons)
 
--- two order words say the orders of the page
+-- two order words hold the orders of the page
 abbrev pub SayOrders : Standing → ℕ → ℕ → Type 0
 SayOrders e left right = (left ≡ number_of e.orders.left) × (right ≡ number_of e.orders.right)
 
@@ -87,15 +87,15 @@ pub data ConnectCause (e : Standing) (loads : Loads) (answer : Answer) : Type 0 
   connect_agrees : (left right : ℕ) → loads.left_order ≡ Some left → loads.right_order ≡ Some right → SayOrders e left right → answer ≡ Connected → ConnectCause e loads answer
   connect_refused : (left right : ℕ) → loads.left_order ≡ Some left → loads.right_order ≡ Some right → ¬ SayOrders e left right → answer ≡ BadOrders left right → ConnectCause e loads answer
 
--- the answer is what is told of the last pair
+-- the answer tells the last pair
 abbrev pub TellsPair : Loads → (Pair → Answer) → Answer → Type 0
 TellsPair loads told answer = IsSomeAnd (last_pair loads) (λ last. answer ≡ told last)
 
--- the answer is what is told of the one word that was loaded
+-- the answer tells the one word that was loaded
 abbrev pub TellsWord : Option ℕ → (ℕ → Answer) → Answer → Type 0
 TellsWord word told answer = IsSomeAnd word (λ value. answer ≡ told value)
 
--- the cause of an answer of a call that was begun so
+-- the cause of an answer to a call that began in this standing
 abbrev pub Cause : Standing → Call → Loads → Answer → Type 0
 Cause e (Write n) loads answer = WriteCause e n loads answer
 Cause e (Send n) loads answer = SendCause e n loads answer

@@ -19,7 +19,7 @@ pub record Pair : Type 0 where
 pub record Loads : Type 0 where
   -- the pairs of all looks, the last one first
   pub pairs : List Pair
-  -- the next pair: that of the first look behind the load of the live byte
+  -- the next pair: that of the first look after the load of the live byte
   pub next_pair : Option Pair
   -- the peer's live byte, and its gone word
   pub live : Option ℕ
@@ -43,7 +43,7 @@ first_of (pair ∷ older) = Some pair
 abbrev pub last_pair : Loads → Option Pair
 last_pair loads = first_of loads.pairs
 
--- a pair is the next one where the live byte was loaded before it, and no pair since
+-- a pair is the next one if the live byte was loaded before it, and no pair since
 abbrev pub next_after : Option ℕ → Option Pair → Pair → Option Pair
 next_after None next pair = next
 next_after (Some live) None pair = Some pair
@@ -67,7 +67,7 @@ word_loaded LeftOrder role prod cons taken loads = record loads { left_order = S
 word_loaded RightOrder role prod cons taken loads = record loads { right_order = Some (low16 taken) }
 word_loaded _ role prod cons taken loads = loads
 
--- after one more event of an end that stands so: it swaps no word but its pending word
+-- after one more event of an end in this standing: it swaps no word but its pending word
 abbrev pub loads_after : Standing → Op → ℕ → Loads → Loads
 loads_after now (Load word) taken loads = word_loaded word now.role now.prod now.cons taken loads
 loads_after now (Swap word value) taken loads = record loads { pending = Some taken }
@@ -78,6 +78,6 @@ abbrev pub loads_along : Standing → Loads → List PastEvent → Loads
 loads_along now loads [] = loads
 loads_along now loads (event ∷ events) = loads_along (standing_after now event.op) (loads_after now event.op event.taken loads) events
 
--- what a whole trail has loaded, of a call that was begun so
+-- what the whole trail of a call that began in this standing has loaded
 abbrev pub loads_of : Standing → List PastEvent → Loads
 loads_of begun trail = loads_along begun nothing_loaded trail

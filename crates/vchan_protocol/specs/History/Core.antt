@@ -29,7 +29,7 @@ use Rattle.vchan_protocol.specs.Table.Apply.{words_after, value_taken}
 use Rattle.vchan_protocol.specs.History.Page.{start_words}
 
 pub record Core : Type 0 where
-  -- at which number all indices began, and what the order words said then
+  -- the number at which all indices began, and what the order words held then
   pub start : ℕ
   pub said : ℕ × ℕ
   pub orders : Orders
@@ -121,7 +121,7 @@ plan_left s = elim s.call [ None ↦ answers Done | Some b ↦ rest_after (plan_
 abbrev pub op_next : Side → Op
 op_next s = next_op (plan_left s)
 
--- the end once it begins a call, with this payload
+-- the end after it begins a call with this payload
 abbrev pub begins : Side → Call → List ℕ → Side
 begins s call payload = record s {
   call = Some (record { call = call; state = s.state; prod = s.prod; cons = s.cons });
@@ -149,7 +149,7 @@ abbrev pub bytes_loaded : List PastEvent → List ℕ
 bytes_loaded [] = []
 bytes_loaded (event ∷ events) = loaded_by event.op event.taken ++ bytes_loaded events
 
--- `sent` grows where the end stores the producer index of the ring that it writes
+-- `sent` grows when the end stores the producer index of the ring that it writes
 abbrev pub sent_stored : WordName → Role → List PastEvent → List ℕ → List ℕ → List ℕ
 sent_stored LeftProd Client trail payload sent = sent ++ take (count_stored trail) payload
 sent_stored RightProd Server trail payload sent = sent ++ take (count_stored trail) payload
@@ -159,7 +159,7 @@ abbrev pub sent_after : Op → Side → List ℕ
 sent_after (Store word value) s = sent_stored word s.role s.trail s.payload s.sent
 sent_after _ s = s.sent
 
--- `got` grows where the end stores the consumer index of the ring that it reads
+-- `got` grows when the end stores the consumer index of the ring that it reads
 abbrev pub got_stored : WordName → Role → List PastEvent → List ℕ → List ℕ
 got_stored LeftCons Server trail got = got ++ bytes_loaded trail
 got_stored RightCons Client trail got = got ++ bytes_loaded trail
@@ -201,7 +201,7 @@ retired_after op s = sets_gone op s.role || s.retired
 
 -- ---- what an event adds to the notes of its end
 
--- the peer's index is loaded: it counts where the end has asked
+-- the peer's index is loaded: it counts if the end has asked
 abbrev pub index_seen : ℕ → Asked → Asked
 index_seen index a = record a { seen = if a.since then Some index else None }
 
@@ -247,7 +247,7 @@ ending AllRead = Some ByAllRead
 ending (PeerGone prod cons) = Some ByPeerGone
 ending _ = None
 
--- the answer says that all was read, and that nothing more is written
+-- the answer tells that all was read, and that nothing more is written
 abbrev pub drains : Answer → Bool
 drains AllRead = true
 drains (PeerGone prod cons) = prod == cons
@@ -281,17 +281,17 @@ carried_out core who op =
     with_side (record core { words = words_after core.orders core.words (side_of core who).payload op }) who
     (made (side_of core who) op (value_taken core.orders core.words op))
 
--- the answer, where nothing else is left
+-- the answer, if nothing else is left
 abbrev pub answer_in : Plan → Option Answer
 answer_in (answers answer) = Some answer
 answer_in (does op next) = None
 
--- where nothing is left of its call, the end has its answer
+-- if nothing is left of its call, the end has its answer
 abbrev pub settled : Side → Plan → Side
 settled s (answers answer) = answered s answer
 settled s (does op next) = s
 
--- an end after the next event of its call, which took this value, and after its answer where that was the last event
+-- an end after the next event of its call, which took this value, and after its answer if that was the last event
 abbrev pub side_after : Side → ℕ → Side
 side_after s taken = settled (made s (op_next s) taken) (after (plan_left s) taken)
 
@@ -302,7 +302,7 @@ taken_next core who = value_taken core.orders core.words (op_next (side_of core 
 abbrev pub plan_next : Core → Role → Plan
 plan_next core who = after (plan_left (side_of core who)) (taken_next core who)
 
--- the next event of an end, and its answer where that was the last event of the call
+-- the next event of an end, and its answer if that was the last event of the call
 unfoldable pub event : Core → Role → Core
 event core who =
     with_side (record core { words = words_after core.orders core.words (side_of core who).payload (op_next (side_of core who)) }) who

@@ -28,7 +28,7 @@ pub record TrailSummary : Type 0 where
 abbrev pub empty_summary : TrailSummary
 empty_summary = record { cons_seen = None; prods_seen = []; stored = 0; loaded = []; shown = false; released = false; closed = false }
 
--- an index is loaded: it counts where it is the peer's
+-- an index is loaded: it counts if it is the peer's
 abbrev pub summary_loaded : WordName → Role → ℕ → TrailSummary → TrailSummary
 summary_loaded LeftCons Client index n = record n { cons_seen = Some index }
 summary_loaded RightCons Server index n = record n { cons_seen = Some index }
@@ -36,7 +36,7 @@ summary_loaded LeftProd Server index n = record n { prods_seen = index ∷ n.pro
 summary_loaded RightProd Client index n = record n { prods_seen = index ∷ n.prods_seen }
 summary_loaded _ _ index n = n
 
--- a value is stored: it counts where it is an index of its own, or 0 in its live byte
+-- a value is stored: it counts if it is an index of the end's own, or 0 in its live byte
 abbrev pub summary_stored : WordName → Role → ℕ → TrailSummary → TrailSummary
 summary_stored LeftProd Client value n = record n { shown = true }
 summary_stored RightProd Server value n = record n { shown = true }
@@ -63,7 +63,7 @@ summary_along role n (event ∷ events) = summary_along role (summary_after role
 abbrev pub summary : Role → List PastEvent → TrailSummary
 summary role trail = summary_along role empty_summary trail
 
--- how many bytes are stored that no index shows yet
+-- how many stored bytes no index shows yet
 abbrev pub unshown : TrailSummary → ℕ
 unshown n = if n.shown then 0 else n.stored
 

@@ -8,12 +8,12 @@ use Rattle.vchan_protocol.specs.Table.Apply.{value_taken}
 use Rattle.vchan_protocol.specs.Table.Calls.{plan_of}
 use Rattle.vchan_protocol.specs.History.Core.{Core, side_of, with_side, standing_of, begun, carried_out, answered}
 
--- the core state once this end has made all events of the plan, and the plan's answer
+-- the core state after this end has made all events of the plan, and the plan's answer
 unfoldable pub alone : Core → Role → Plan → Core × Answer
 alone core who (answers answer) = (with_side core who (answered (side_of core who) answer), answer)
 alone core who (does op next) = alone (carried_out core who op) who (next (value_taken core.orders core.words op))
 
--- the same of a whole call, from its begin on
+-- the same for a whole call, from its begin on
 abbrev pub whole_call : Core → Role → Call → List ℕ → Core × Answer
 whole_call core who call payload = alone (begun core who call payload) who (plan_of (standing_of (side_of core who)) call)
 

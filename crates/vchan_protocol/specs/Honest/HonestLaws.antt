@@ -35,7 +35,7 @@ CallIsLawful =
 abbrev pub ReachedIsLawful : Type 0
 ReachedIsLawful = (core : Core) → IsReached core → Lawful core
 
--- and a whole call is one way to go on
+-- a whole call is one way to go on
 abbrev pub CallIsReached : Type 0
 CallIsReached =
     (core : Core) (who : Role) (call : Call) (payload : List ℕ) → IsReached core → MayBegin who (side_of core who) call payload → IsReached (called core who call payload)

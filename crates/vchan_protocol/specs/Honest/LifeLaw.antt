@@ -1,4 +1,4 @@
--- What stands between two honest ends about their lives: the live bytes, the gone words, the order words, and the end of a stream.
+-- What holds of the lives of two honest ends: the live bytes, the gone words, the order words, and the end of a stream.
 -- Source: libxenvchan's io.c for the live bytes and init.c for the order words. The gone words and a drain's later looks are this project's.
 use Rattle.std.specs.Prelude.{◌≡◌, ◌≢◌, ℕ, Bool, true, false, ◌||◌, IsSome, List, [], ◌∷◌, length, if◌then◌else◌}
 use Rattle.ring_words.specs.declared.order.Orders.{Orders}
@@ -20,7 +20,7 @@ use Rattle.vchan_protocol.specs.Honest.RingLaw.{index_at, word_at}
 
 -- ---- the words of a page
 
--- a gone word is 1 where its end is retired and 0 where it isn't; a retired end is shut
+-- a gone word is 1 if its end is retired and 0 if it isn't; a retired end is shut
 pub record TellsGone (gone : ℕ) (retired : Bool) (state : EndState) : Type 0 where
   pub word : gone ≡ (if retired then 1 else 0)
   pub shut : retired ≡ true → state ≡ Shut
@@ -42,7 +42,7 @@ abbrev pub has_seen : Role → List PastEvent → Bool
 has_seen role [] = false
 has_seen role (event ∷ events) = shows_end event.op role event.taken || has_seen role events
 
--- where the end loads the producer index of the ring that it reads, it takes this one
+-- if the end loads the producer index of the ring that it reads, it takes this one
 abbrev pub LoadGives : ℕ → WordName → Role → ℕ → Type 0
 LoadGives index LeftProd Server taken = low32 taken ≡ index
 LoadGives index RightProd Client taken = low32 taken ≡ index
@@ -52,13 +52,13 @@ abbrev pub LookGives : ℕ → Op → Role → ℕ → Type 0
 LookGives index (Load word) role taken = LoadGives index word role taken
 LookGives index _ role taken = Unit {0}
 
--- where the end has seen its peer's end, before these events or in one of them, each producer index that it loads later is this one
+-- if the end has seen its peer's end, before these events or in one of them, each producer index that it loads later is this one
 abbrev pub LooksGive : ℕ → Role → Bool → List PastEvent → Type 0
 LooksGive index role seen [] = Unit {0}
 LooksGive index role seen (event ∷ events) =
     (seen ≡ true → LookGives index event.op role event.taken) × LooksGive index role (seen || shows_end event.op role event.taken) events
 
--- where an order word is loaded, it is that of the start
+-- if an order word is loaded, it is that of the start
 abbrev pub SaidGives : ℕ × ℕ → WordName → ℕ → Type 0
 SaidGives said LeftOrder taken = taken ≡ said.0
 SaidGives said RightOrder taken = taken ≡ said.1
@@ -75,7 +75,7 @@ OrdersGive said (event ∷ events) = OrderGives said event.op event.taken × Ord
 
 -- ---- the laws
 
--- what an end has seen of its peer: once it has seen it shut, in its last call or ever while it wasn't shut itself, the peer is shut,
+-- what an end has seen of its peer: once it has seen it shut, in its last call or at any time while it wasn't shut itself, the peer is shut,
 -- and a producer index that it loaded later in that call counts all that the peer sent
 pub record SightLawful (start : ℕ) (mine theirs : Side) : Type 0 where
   pub saw : mine.saw ≡ true → theirs.state ≡ Shut
@@ -92,23 +92,23 @@ pub record StreamLawful (writer reader : Side) : Type 0 where
 abbrev pub SaysOrders : ℕ × ℕ → Orders → Type 0
 SaysOrders said orders = (said.0 ≡ number_of orders.left) × (said.1 ≡ number_of orders.right)
 
--- the laws on lives, while both ends are honest
+-- the laws of lives, while both ends are honest
 pub record LifeLawful (core : Core) : Type 0 where
-  -- the words tell the states, and a server is never fresh
+  -- the words agree with the states, and a server is never fresh
   pub server_words : WordsTell core Server
   pub client_words : WordsTell core Client
   pub server_opened : core.server.state ≢ Fresh
   -- the order words stay as they were at the start
   pub left_order : word_at core.orders core.words LeftOrder ≡ core.said.0
   pub right_order : word_at core.orders core.words RightOrder ≡ core.said.1
-  -- an end has seen its peer shut only where it is, and not each has seen the other so
+  -- an end has seen its peer shut only if it is, and not both have seen the other shut
   pub server_sight : SightLawful core.start core.server core.client
   pub client_sight : SightLawful core.start core.client core.server
   pub not_both_saw : ¬ ((core.server.saw ≡ true) × (core.client.saw ≡ true))
   -- the end of each stream
   pub left : StreamLawful core.client core.server
   pub right : StreamLawful core.server core.client
-  -- a connect finds the order words of the start, so none is misled where these are the page's orders
+  -- a connect finds the order words of the start, so none is misled if these are the page's orders
   pub server_orders : OrdersGive core.said core.server.trail
   pub client_orders : OrdersGive core.said core.client.trail
   pub none_misled : SaysOrders core.said core.orders → (core.server.misled ≡ false) × (core.client.misled ≡ false)

@@ -11,7 +11,7 @@ use Rattle.vchan_protocol.specs.Table.Plan.{GoesOn}
 use Rattle.vchan_protocol.specs.Table.Calls.{payload_of, IsAllowed}
 use Rattle.vchan_protocol.specs.History.Core.{Core, side_of, plan_left, opened, begun, event}
 
--- an end between two calls begins one that its state allows, with as many bytes of payload as the call sends
+-- an end between two calls begins one that its state allows, with a payload of the call's length
 pub record MayBegin (who : Role) (s : Side) (call : Call) (payload : List ℕ) : Type 0 where
   pub idle : s.call ≡ None
   pub allowed : IsAllowed who s.state call

@@ -1,4 +1,4 @@
--- What holds of one ring of a page between two honest ends, and of a call that an honest end is in.
+-- What holds of one ring of a page between two honest ends, and of the call that an honest end is in.
 -- Source: libxenvchan's io.c for what an index shows and releases; the statements are this project's own.
 use Rattle.std.specs.Prelude.{◌≡◌, ℕ, ◌+◌, ◌-◌, ◌%◌, ◌^◌, ◌<◌, ◌≤◌, Option, Some, None, IfSome, List, ◌∷◌, ◌++◌, length, slice_index, if◌then◌else◌}
 use Rattle.std.specs.List.{All}
@@ -26,11 +26,11 @@ IsPrefixOf xs ys = (rest : List ℕ) × (xs ++ rest ≡ ys)
 abbrev pub AreBytes : List ℕ → Type 0
 AreBytes = All (λ byte. byte < 256)
 
--- an index after so many bytes
+-- an index after this many bytes
 abbrev pub index_at : ℕ → ℕ → ℕ
 index_at start count = (start + count) % 2 ^ 32
 
--- the word of a page by its name
+-- what the word of this name holds
 abbrev pub word_at : Orders → List ℕ → WordName → ℕ
 word_at orders words name = slice_index words (index_of orders name)
 
@@ -85,14 +85,14 @@ channel_between start orders words ring writer reader = record {
 abbrev pub channel_of : Core → Ring → Channel
 channel_of core ring = channel_between core.start core.orders core.words ring (writer_of core ring) (reader_of core ring)
 
--- the consumer index is that of a moment at which no more was got than now, and leaves room for so many bytes behind those sent
+-- the consumer index is that of a moment at which no more was got than now, and leaves room for this many bytes after those sent
 pub record LeavesRoom (start size sent got more index : ℕ) : Type 0 where
   pub count : ℕ
   pub is : index ≡ index_at start count
   pub within : count ≤ got
   pub room : sent + more ≤ count + size
 
--- the producer index is that of a moment at which no more was sent than now, and so many bytes behind those got
+-- the producer index is that of a moment at which no more was sent than now, and shows this many bytes after those got
 pub record ShowsBytes (start sent got more index : ℕ) : Type 0 where
   pub count : ℕ
   pub is : index ≡ index_at start count
@@ -112,10 +112,10 @@ pub record IsLawful (r : Channel) : Type 0 where
   pub bytes_sent : AreBytes r.sent
   -- what waits stands in the ring
   pub waiting : (i : ℕ) → length r.got ≤ i → i < length r.sent → r.bytes (place (r.start + i) r.order) ≡ slice_index r.sent i
-  -- the writer may rely on the consumer index that it loaded last, and what it stored stands behind what was sent
+  -- the writer may rely on the consumer index that it loaded last, and what it stored stands after what was sent
   pub writer_looked : IfSome r.cons_seen (LeavesRoom r.start (size r.order) (length r.sent) (length r.got) 0)
   pub writer_stored : (i : ℕ) → i < r.stored → r.bytes (place (r.start + length r.sent + i) r.order) ≡ slice_index r.payload i
-  -- the reader may rely on each producer index that it loaded, and what it loaded comes in `sent` behind what was got
+  -- the reader may rely on each producer index that it loaded, and what it loaded comes in `sent` after what was got
   pub reader_looked : All (ShowsBytes r.start (length r.sent) r.got_before 0) r.prods_seen
   pub reader_loaded : IsPrefixOf (r.got ++ r.loaded) r.sent
 
@@ -133,20 +133,20 @@ pub record IsTaking (s : Side) (k : ℕ) : Type 0 where
   pub then_does : Plan
   pub rest_is : plan_left s ≡ take_bytes (begun_standing s begun) (length (summary s.role s.trail).loaded) (k - length (summary s.role s.trail).loaded) (take_index (begun_standing s begun) k then_does)
 
--- the index that a writer loaded last leaves room for so many bytes
+-- the index that a writer loaded last leaves room for this many bytes
 pub record HasRoom (r : Channel) (more : ℕ) : Type 0 where
   pub index : ℕ
   pub seen : r.cons_seen ≡ Some index
   pub leaves : LeavesRoom r.start (size r.order) (length r.sent) (length r.got) more index
 
--- the index that a reader loaded last shows so many bytes
+-- the index that a reader loaded last shows this many bytes
 pub record HasBytes (r : Channel) (more : ℕ) : Type 0 where
   pub index : ℕ
   pub older : List ℕ
   pub seen : r.prods_seen ≡ index ∷ older
   pub shows : ShowsBytes r.start (length r.sent) (length r.got) more index
 
--- a ring is lawful, its writer puts no more than has room, and its reader takes no more than waits
+-- a ring is lawful, its writer puts no more than there is room for, and its reader takes no more than waits
 pub record RingLawful (core : Core) (ring : Ring) : Type 0 where
   pub lawful : IsLawful (channel_of core ring)
   pub puts : (k : ℕ) → IsPutting (writer_of core ring) k → HasRoom (channel_of core ring) k
@@ -154,7 +154,7 @@ pub record RingLawful (core : Core) (ring : Ring) : Type 0 where
 
 -- ---- a call
 
--- the call that an end is in: it was allowed, its events are those of its plan, and the end stands as they made it stand
+-- the call that an end is in: it was allowed, its events are those of its plan, and the end stands as they left it
 pub record IsLawfulCall (s : Side) (b : Begun) : Type 0 where
   pub allowed : IsAllowed s.role b.state b.call
   pub led : Leads (plan_of (begun_standing s b) b.call) s.trail (rest_after (plan_of (begun_standing s b) b.call) s.trail)

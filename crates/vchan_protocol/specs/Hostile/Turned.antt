@@ -23,7 +23,7 @@ MayPoke orders SrvGone = ⊥
 MayPoke orders CliGone = ⊥
 MayPoke orders _ = Unit {0}
 
--- the end once it is turned, its reader having got so many bytes: its call is dropped, and its lists stand as they are
+-- the end after it is turned, when its reader has got this many bytes: its call is dropped, and its lists stay as they are
 abbrev pub turns : Side → ℕ → Side
 turns s consumed = record s { call = None; trail = []; payload = []; turned = true; consumed = consumed }
 
@@ -31,7 +31,7 @@ turns s consumed = record s { call = None; trail = []; payload = []; turned = tr
 abbrev pub turned_side : Side → ℕ → Side
 turned_side s consumed = if s.turned then s else turns s consumed
 
--- the end after an event of its hostile user, which is none of its calls
+-- the end after an event of its hostile user, which belongs to no call
 abbrev pub strays : Side → Op → ℕ → Side
 strays s op taken = record s { call = None; trail = s.trail ++ past op taken ∷ [] }
 

@@ -1,4 +1,4 @@
--- What holds of a page once an end was turned over to a hostile user, who may store any number anywhere.
+-- What holds of a page after an end was turned over to a hostile user, who may store any number anywhere.
 -- The statements are this project's own.
 use Rattle.std.specs.Prelude.{◌≡◌, ℕ, ◌+◌, ◌≤◌, true, false, length, take}
 use Rattle.ring_words.specs.Rings.{size, place}
@@ -16,7 +16,7 @@ use Rattle.vchan_protocol.specs.Honest.RingLaw.{IsPrefixOf, index_at, CallLawful
 use Rattle.vchan_protocol.specs.Honest.Lawful.{IsEnd}
 use Rattle.vchan_protocol.specs.OneEnd.IndexLaw.{StoresIndex}
 
--- the core state once this end is turned, and before its hostile user did anything
+-- the core state after this end is turned, and before its hostile user did anything
 abbrev pub turned_core : Core → Role → Core
 turned_core core who = with_side core who (turned_side (side_of core who) (length (reader_of core (written_ring who)).got))
 
@@ -43,7 +43,7 @@ pub record TurnedLawful (core : Core) : Type 0 where
   pub left : core.client.turned ≡ true → core.server.turned ≡ false → ConsumedLawful (size core.orders.left) core.client core.server
   pub right : core.server.turned ≡ true → core.client.turned ≡ false → ConsumedLawful (size core.orders.right) core.server core.client
 
--- the lists of an end stand
+-- the lists of an end stay as they are
 pub record ListsStand (before after : Side) : Type 0 where
   pub turned : after.turned ≡ before.turned
   pub sent : after.sent ≡ before.sent

@@ -26,14 +26,14 @@ EventGrowsLists =
     (core : Core) (who : Role) →
     (side_of (event core who) (peer who) ≡ side_of core (peer who)) × ListsGrow (side_of core who) (side_of (event core who) who)
 
--- an event of a hostile user leaves the peer as it is; its own end is turned, and if it was before, its lists stand
+-- an event of a hostile user leaves the peer as it is; its own end is turned, and if it was before, its lists stay as they are
 abbrev pub StrayKeepsLists : Type 0
 StrayKeepsLists =
     (core : Core) (who : Role) (op : Op) →
     (side_of (strayed core who op) (peer who) ≡ side_of core (peer who)) × ((side_of (strayed core who op) who).turned ≡ true) ×
     ((side_of core who).turned ≡ true → ListsStand (side_of core who) (side_of (strayed core who op) who))
 
--- whatever its peer has stored, an honest end touches its ring at the places of its own counts, and stores these
+-- whatever its peer has stored, an honest end touches its rings only at the places of its own counts, and stores these counts
 abbrev pub BytesLieAtCounts : Type 0
 BytesLieAtCounts = (s : Side) → CallLawful s → GoesOn (plan_left s) → LiesAtCount s (op_next s)
 

@@ -24,7 +24,7 @@ pub record ListEnd : Type 0 where
   pub sent : List ℕ
   pub got : List ℕ
 
--- a channel: where all indices began, what the order words said then, the orders of the page, and its two ends
+-- a channel: where all indices began, what the order words held then, the orders of the page, and its two ends
 pub record ChannelLists : Type 0 where
   pub start : ℕ
   pub said : ℕ × ℕ
@@ -86,7 +86,7 @@ retires channel who = with_end channel who (record (end_of channel who) { state 
 
 -- ---- the calls
 
--- the channel after a call, and the call's answer where the lists tell it
+-- the channel after a call, and the call's answer if the lists tell it
 abbrev pub Outcome : Type 0
 Outcome = ChannelLists × Option Answer
 
@@ -100,7 +100,7 @@ sent_out channel who payload count answer = (sends channel who payload count, So
 abbrev pub got_in : ChannelLists → Role → ℕ → Outcome
 got_in channel who count = (gets channel who count, Some (Got count))
 
--- a whole call of an end: one row a call. Order words that a check refuses differ from a page's orders; whether a signal was pending the lists don't tell.
+-- a whole call of an end: one row for each call. Order words that a check refuses differ from a page's orders; the lists don't tell whether a signal was pending.
 abbrev pub list_call : ChannelLists → Role → Call → List ℕ → Outcome
 list_call channel who (Write n) payload =
     if peer_is_shut channel who then only channel PeerClosed

@@ -15,12 +15,12 @@ use Rattle.vchan_protocol.specs.Honest.Lawful.{Lawful}
 use Rattle.vchan_protocol.specs.Honest.Reached.{MayBegin}
 use Rattle.vchan_protocol.specs.Lists.ListCall.{ChannelLists, EndCall, end_of, lists_of, list_call, list_calls, waiting}
 
--- the answer is the one that the lists tell, where they tell one
+-- the answer is the one that the lists tell, if they tell one
 abbrev pub IsTold : Option Answer → Answer → Type 0
 IsTold None answer = Unit {0}
 IsTold (Some told) answer = answer ≡ told
 
--- how many bytes an answer says that its call got
+-- how many bytes a call got, by its answer
 abbrev pub count_got : Answer → ℕ
 count_got (Got count) = count
 count_got _ = 0
@@ -31,7 +31,7 @@ pub record FollowsLists (core : Core) (who : Role) (call : Call) (payload : List
   pub answer : IsTold (list_call (lists_of core) who call payload).1 (call_answer core who call payload)
   pub bytes : bytes_loaded (side_of (called core who call payload) who).trail ≡ take (count_got (call_answer core who call payload)) (waiting (lists_of core) who)
 
--- in a lawful core state each whole call is the call on lists; meanwhile the peer makes no event, wherever in a call of its own it stands
+-- in a lawful core state each whole call is the call on lists; meanwhile the peer makes no event, wherever it stands in a call of its own
 abbrev pub WholeCallsFollowLists : Type 0
 WholeCallsFollowLists =
     (core : Core) (who : Role) (call : Call) (payload : List ℕ) → Lawful core → MayBegin who (side_of core who) call payload → FollowsLists core who call payload
@@ -69,7 +69,7 @@ pub record AllFollowLists (core : Core) (calls : List EndCall) : Type 0 where
 abbrev pub CallsInARowFollowLists : Type 0
 CallsInARowFollowLists = (core : Core) (calls : List EndCall) → Lawful core → MayCallAll (lists_of core) calls → AllFollowLists core calls
 
--- so from the opening of a page on
+-- the same from the opening of a page on
 abbrev pub CallsFromTheOpeningFollowLists : Type 0
 CallsFromTheOpeningFollowLists =
     (orders : Orders) (start : ℕ) (said : ℕ × ℕ) (state : EndState) (calls : List EndCall) → start < 2 ^ 32 → said.0 < 2 ^ 16 → said.1 < 2 ^ 16 → state ≢ Shut →

@@ -1,4 +1,4 @@
--- What an end has noted of its peer's end: `saw`, `ended` and `drained` hang together, whatever its peer stores.
+-- What an end has noted of its peer's end: `saw`, `ended` and `drained` agree, whatever its peer stores.
 -- The statements are this project's own.
 use Rattle.std.specs.Prelude.{◌≡◌, ℕ, Bool, true, false, not, ◌&&◌, ◌||◌, Some, IsSome, List, [], ◌∷◌}
 use Rattle.vchan_protocol.specs.declared.op.Op.{Op}
@@ -12,7 +12,7 @@ use Rattle.vchan_protocol.specs.Table.Ends.{Standing, standing_after}
 use Rattle.vchan_protocol.specs.History.Core.{is_shut, begun_standing}
 use Rattle.vchan_protocol.specs.Honest.LifeLaw.{shows_end}
 
--- an event shows an end that stands so, and isn't shut, that its peer is
+-- an event shows an end in this standing that its peer is shut, while it isn't shut itself
 abbrev pub notices : Standing → Op → ℕ → Bool
 notices now op taken = not (is_shut now.state) && shows_end op now.role taken
 
@@ -21,7 +21,7 @@ abbrev pub has_noticed : Standing → List PastEvent → Bool
 has_noticed now [] = false
 has_noticed now (event ∷ events) = notices now event.op event.taken || has_noticed (standing_after now event.op) events
 
--- an answer says that the peer is shut, or gone
+-- an answer tells that the peer is shut, or gone
 abbrev pub tells_end : Answer → Bool
 tells_end PeerClosed = true
 tells_end AnswerAllRead = true
@@ -33,9 +33,9 @@ tells_end _ = false
 pub record EndingNoted (s : Side) : Type 0 where
   -- an end that noticed it in the call under way has seen it
   pub noticed : (b : Begun) → s.call ≡ Some b → has_noticed (begun_standing s b) s.trail ≡ true → s.saw ≡ true
-  -- who has ended has seen it, and is drained where it ended by having read all
+  -- an end that has ended has seen it, and is drained if it ended by having read all
   pub ended_saw : IsSome s.ended → s.saw ≡ true
   pub ended_drained : s.ended ≡ Some AllRead → s.drained ≡ true
-  -- who is drained has seen it, and has ended
+  -- an end that is drained has seen it, and has ended
   pub drained_saw : s.drained ≡ true → s.saw ≡ true
   pub drained_ended : s.drained ≡ true → IsSome s.ended

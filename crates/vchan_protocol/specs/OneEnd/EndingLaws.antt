@@ -13,7 +13,7 @@ use Rattle.vchan_protocol.specs.Always.Invariant.{MayCome}
 use Rattle.vchan_protocol.specs.OneEnd.IndexLaw.{StoresTakeNothing}
 use Rattle.vchan_protocol.specs.OneEnd.EndingLaw.{EndingNoted, tells_end}
 
--- an end keeps its notes together by its next event, whatever value that takes
+-- the notes of an end still agree after its next event, whatever value that takes
 abbrev pub StepKeepsNotes : Type 0
 StepKeepsNotes = (s : Side) (taken : ℕ) → CallLawful s → GoesOn (plan_left s) → EndingNoted s → EndingNoted (side_after s taken)
 
@@ -21,7 +21,7 @@ StepKeepsNotes = (s : Side) (taken : ℕ) → CallLawful s → GoesOn (plan_left
 pub record EndingAnswered (before now : Side) (answer : Answer) : Type 0 where
   -- the end has seen what the answer tells of its peer's end
   pub seen : tells_end answer ≡ true → now.saw ≡ true
-  -- the stream has ended, and is drained where nothing is left
+  -- the stream has ended, and is drained if nothing is left
   pub all_read : answer ≡ AllRead → (now.drained ≡ true) × (before.ended ≡ None → now.ended ≡ Some ByAllRead)
   pub gone : (prod cons : ℕ) → answer ≡ PeerGone prod cons → before.ended ≡ None → now.ended ≡ Some ByPeerGone
   pub gone_drained : (prod cons : ℕ) → answer ≡ PeerGone prod cons → prod ≡ cons → now.drained ≡ true
@@ -30,13 +30,13 @@ pub record EndingAnswered (before now : Side) (answer : Answer) : Type 0 where
   pub drained : before.drained ≡ true → now.drained ≡ true
   pub ended : IsSome before.ended → now.ended ≡ before.ended
 
--- each answer is noted so
+-- each answer is noted in this way
 abbrev pub AnswerIsNoted : Type 0
 AnswerIsNoted =
     (s : Side) (taken : ℕ) (answer : Answer) → CallLawful s → GoesOn (plan_left s) → EndingNoted s → after (plan_left s) taken ≡ answers answer →
     EndingAnswered s (answered (made s (op_next s) taken) answer) answer
 
--- whatever happens on a page, each of its ends has its notes together
+-- whatever happens on a page, the notes of each of its ends agree
 abbrev pub EachEndingIsNoted : Type 0
 EachEndingIsNoted = (core : Core) → MayCome core → (who : Role) → EndingNoted (side_of core who)
 

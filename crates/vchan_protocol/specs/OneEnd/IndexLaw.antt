@@ -1,5 +1,5 @@
--- What an end stores in an index: its own count, moved on by the bytes of its call, and nothing in its peer's. And what a plain store takes.
--- Source: libxenvchan's io.c for which end stores which index. That an end keeps its own counts is this project's.
+-- What an end stores in an index: its own count, moved on by the bytes of its call, and nothing in its peer's. Also what a plain store takes.
+-- Source: libxenvchan's io.c for which end stores which index. That an end keeps its own counts is this project's choice.
 use Rattle.std.specs.Prelude.{◌≡◌, ℕ, ◌+◌, ◌%◌, ◌^◌, List, [], ◌∷◌, length}
 use Rattle.ring_words.specs.declared.page.Role.{Role}
 use Rattle.ring_words.specs.declared.page.Role.TheVariants.{Server, Client}

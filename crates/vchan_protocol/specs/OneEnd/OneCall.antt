@@ -1,4 +1,4 @@
--- A call of one end by its own events, whatever values these took, so whatever its peer does between them.
+-- A call of one end by its own events, whatever values these took, and so whatever its peer does between them.
 -- Source: libxenvchan's io.c for what a call's answer counts; the statements are this project's own.
 use Rattle.std.specs.Prelude.{◌≡◌, ◌≤◌, ◌||◌, ℕ, ◌+◌, Option, Some, None, List, [], ◌∷◌, ◌++◌, length, take, slice_set, ◌%◌}
 use Rattle.vchan_protocol.specs.declared.op.Op.{Op}
@@ -22,9 +22,9 @@ side_along s (event ∷ events) = side_along (made s event.op event.taken) event
 abbrev pub side_called : Side → Call → List ℕ → List PastEvent → Answer → Side
 side_called s call payload events answer = answered (side_along (begins s call payload) events) answer
 
--- ---- what an answer says of the bytes
+-- ---- what an answer tells of the bytes
 
--- how many bytes an answer says that its call sent, and how many that it got
+-- how many bytes a call sent, and how many it got, by its answer
 abbrev pub bytes_out : Answer → ℕ
 bytes_out (Wrote count) = count
 bytes_out (Sent count) = count
@@ -34,8 +34,8 @@ abbrev pub bytes_in : Answer → ℕ
 bytes_in (Got count) = count
 bytes_in _ = 0
 
--- A whole call sends as many of the first bytes of its payload as its answer says, and these are all that it stored. It gets all that it loaded, which are as
--- many as its answer says.
+-- A whole call sends as many of the first bytes of its payload as its answer tells, and these are all that it stored. It gets all that it loaded, which are as
+-- many as its answer tells.
 pub record MovesAsAnswered (was : Side) (call : Call) (payload : List ℕ) (events : List PastEvent) (answer : Answer) : Type 0 where
   pub sent : (side_called was call payload events answer).sent ≡ was.sent ++ take (bytes_out answer) payload
   pub got : (side_called was call payload events answer).got ≡ was.got ++ bytes_loaded events
@@ -50,12 +50,12 @@ AnswersTellBytes =
 
 -- ---- one event after the other
 
--- a buffer once the byte of a load has landed in it, by its low 8 bits
+-- a buffer after the byte of a load, the low 8 bits of its word, has landed in it
 abbrev pub landed : Op → ℕ → List ℕ → List ℕ
 landed (LoadByte word at) value buffer = slice_set buffer at (value % 256)
 landed _ value buffer = buffer
 
--- An end that began a call as it `was` stands so after the events of its trail. These lead to what is left of the call, and the buffer has the bytes
+-- An end that was as `was` when it began a call is this end after the events of its trail. They lead to what is left of the call, and the buffer has the bytes
 -- that they loaded.
 pub record OnWay (was : Side) (call : Call) (payload start : List ℕ) (s : Side) (buffer : List ℕ) : Type 0 where
   pub is : s ≡ side_along (begins was call payload) s.trail
@@ -77,7 +77,7 @@ IsThen was call payload start s buffer (Some answer) = IsOver was call payload s
 abbrev pub WayBegins : Type 0
 WayBegins = (was : Side) (call : Call) (payload start : List ℕ) → OnWay was call payload start (begins was call payload) start
 
--- whatever value its next event takes, it is on its way or over then; and it has fewer events behind it than it may have in all
+-- whatever value its next event takes, it is on its way or over then; and it has made fewer events than it may make in all
 pub record WayGoesOn (was : Side) (call : Call) (payload start : List ℕ) (s : Side) (buffer : List ℕ) : Type 0 where
   pub few : length s.trail + 1 ≤ most_events (standing_of was) call
   pub next : (taken : ℕ) → IsThen was call payload start (side_after s taken) (landed (op_next s) taken buffer) (answer_in (after (plan_left s) taken))
@@ -87,7 +87,7 @@ EachWayGoesOn =
     (was : Side) (call : Call) (payload start : List ℕ) (s : Side) (buffer : List ℕ) → loaded_most (standing_of was) call ≤ length start → OnWay was call payload start s buffer → GoesOn (plan_left s) →
     WayGoesOn was call payload start s buffer
 
--- what a call that is over has made of its end, by its answer
+-- what a call that is over has made of its end, as its answer tells
 pub record OverTells (was : Side) (payload : List ℕ) (s : Side) (buffer : List ℕ) (answer : Answer) : Type 0 where
   pub sent : s.sent ≡ was.sent ++ take (bytes_out answer) payload
   pub got : s.got ≡ was.got ++ take (bytes_in answer) buffer

@@ -1,4 +1,4 @@
--- A page as one of its ends can know it while others write the words: what stands from the opening on, and its own part, which each step changes by that part and one value taken.
+-- A page as one of its ends can know it while others write the words: what stays from the opening on, and its own part, which each step changes by that part and one value.
 -- The statements are this project's own.
 use Rattle.std.specs.Prelude.{◌≡◌, ◌⊎◌, ℕ, true, false, List, [], length}
 use Rattle.ring_words.specs.declared.order.Orders.{Orders}
@@ -16,7 +16,7 @@ use Rattle.vchan_protocol.specs.Hostile.Turned.{turns, turned_side, strays, stra
 use Rattle.vchan_protocol.specs.Hostile.TurnedLaw.{turned_core}
 use Rattle.vchan_protocol.specs.Always.Invariant.{Invariant}
 
--- what stands of a page from its opening on: at which number all indices began, what the order words said then, and its orders
+-- what stays of a page from its opening on: the number at which all indices began, what the order words held then, and its orders
 pub record Setup : Type 0 where
   pub start : ℕ
   pub said : ℕ × ℕ
@@ -36,7 +36,7 @@ EachCoreIsBetween = (core : Core) (who : Role) → between (setup_of core) core.
 
 -- ---- an end's own steps
 
--- What each step makes of a core state between an end and its peer. The peer stays as it is. The end's own part becomes what its part and one value make of it:
+-- What each step makes of a core state between an end and its peer. The peer stays as it is. The end's own part follows from that part before and one value:
 -- for an event the word that it is on, and for a turn how much the peer has got.
 pub record StepsAreOwn (setup : Setup) (words : List ℕ) (who : Role) (mine theirs : Side) : Type 0 where
   pub mine_is : side_of (between setup words who mine theirs) who ≡ mine
@@ -50,9 +50,9 @@ pub record StepsAreOwn (setup : Setup) (words : List ℕ) (who : Role) (mine the
 abbrev pub EachStepIsOwn : Type 0
 EachStepIsOwn = (setup : Setup) (words : List ℕ) (who : Role) (mine theirs : Side) → StepsAreOwn setup words who mine theirs
 
--- ---- what holds of a page, by one end
+-- ---- what holds of a page, for one end
 
--- an end as it was, or as it is once it begins a call that it may begin
+-- an end as it was, or as it is after it begins a call that it may begin
 abbrev pub Enters : Side → Side → Type 0
 Enters before now = (now ≡ before) ⊎ ((call : Call) × (payload : List ℕ) × (now ≡ begins before call payload) × MayBegin before.role before call payload)
 

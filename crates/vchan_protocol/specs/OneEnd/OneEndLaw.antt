@@ -17,7 +17,7 @@ use Rattle.vchan_protocol.specs.Honest.Reached.{MayBegin}
 use Rattle.vchan_protocol.specs.Always.Invariant.{MayCome}
 use Rattle.vchan_protocol.specs.OneEnd.EndingLaw.{EndingNoted}
 
--- its trail is the whole of a call that it began and has the answer of, and stands as that left it
+-- its trail is a whole call that it began and has the answer to, and the end is as that call left it
 pub record HasCalled (s : Side) : Type 0 where
   pub begun : Begun
   pub answer : Answer
@@ -32,10 +32,10 @@ pub record OwnLawful (start : ℕ) (s : Side) : Type 0 where
   -- its counts are the start and the lengths of its lists
   pub prod : s.prod ≡ index_at start (length s.sent)
   pub cons : s.cons ≡ index_at start (length s.got)
-  -- in a call its trail is a beginning of that call; between two its trail is the whole of the last one, and empty before the first
+  -- within a call its trail is a beginning of that call; between two calls its trail is the whole last one, and before the first it is empty
   pub call : CallLawful s
   pub called : s.call ≡ None → (s.trail ≡ []) ⊎ HasCalled s
-  -- what it has noted of its peer's end hangs together
+  -- what it has noted of its peer's end agrees
   pub noted : EndingNoted s
   -- a retired end is shut
   pub retired : s.retired ≡ true → s.state ≡ Shut

@@ -1,4 +1,4 @@
--- A worked row of what calls load and move, on the events of the other rows: a write, a read with an asking between two looks, and two drains around a close.
+-- A worked row of what calls load and move, on the events of the other rows: a write, a read that asks between two looks, and two drains around a close.
 -- Then a drain and a write beside a hostile peer.
 use Rattle.std.specs.Prelude.{◌≡◌, true, Some, [], ◌∷◌}
 use Rattle.ring_words.specs.Rings.{number_of}
@@ -17,15 +17,15 @@ use Rattle.vchan_protocol.specs.Answering.AnswerLaw.{transfer_of, no_transfer}
 use Rattle.vchan_protocol.specs.Rows.WorkedRow.{writing_three, reading_five}
 use Rattle.vchan_protocol.specs.Rows.WorkedEnd.{looked_twice, found_more, drained_again}
 
--- A hostile client shows an index that lies further ahead than its ring is large, and says that it is closed.
+-- a hostile client shows an index that lies further ahead than its ring is large, and shows itself closed
 abbrev pub far_ahead : Orders → Core
 far_ahead orders = poked (poked (opened orders 0 (10, 11) Open) Client LeftProd 5000) Client CliLive 0
 
--- a hostile server gives up places of bytes that were never written
+-- a hostile server releases the places of bytes that were never written
 abbrev pub never_written : Orders → Core
 never_written orders = poked (opened orders 0 (10, 11) Open) Server LeftCons 5
 
--- what each call has loaded and moved, of an end that stands so before it
+-- what each call has loaded and moved, and how its end stood before it
 pub record IsWorkedAnswer (orders : Orders) : Type 0 where
   pub left : number_of orders.left ≡ 10
   pub right : number_of orders.right ≡ 11

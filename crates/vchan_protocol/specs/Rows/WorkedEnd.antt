@@ -1,5 +1,5 @@
 -- A worked row of how a stream ends: a client writes a byte and closes after a server's drain has looked twice. The drain still finds the byte,
--- and the next one says that all was read. Then the client retires.
+-- and the next one tells that all was read. Then the client retires.
 use Rattle.std.specs.Prelude.{◌≡◌, false, true, Some, None, [], ◌∷◌}
 use Rattle.ring_words.specs.Rings.{number_of}
 use Rattle.ring_words.specs.declared.order.Orders.{Orders}

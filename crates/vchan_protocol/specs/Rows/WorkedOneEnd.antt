@@ -25,7 +25,7 @@ three = 104 ∷ 101 ∷ 108 ∷ []
 pub record IsWorkedOneEnd (orders : Orders) : Type 0 where
   pub left : number_of orders.left ≡ 10
   pub right : number_of orders.right ≡ 11
-  -- the client on its way, after its looks and two bytes, and with one more byte, whose store takes 0
+  -- the client within its write, after its looks and two bytes, and after one more byte, whose store takes 0
   pub writes : side_along (begins (new_client orders) (Write 3) three) (writing_three orders 4).client.trail ≡ (writing_three orders 4).client
   pub goes_on : side_after (writing_three orders 4).client 0 ≡ (writing_three orders 5).client
   -- the whole write, and what the whole read got

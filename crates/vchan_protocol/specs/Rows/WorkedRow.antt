@@ -11,16 +11,16 @@ use Rattle.vchan_protocol.specs.History.Core.{Core, opened, begun, event}
 use Rattle.vchan_protocol.specs.History.TrailSummary.{summary, empty_summary}
 use Rattle.vchan_protocol.specs.Honest.RingLaw.{channel_of, IsPutting, IsTaking}
 
--- so many events of an end
+-- this many events of an end
 abbrev pub events_of : Role → ℕ → Core → Core
 events_of who zero core = core
 events_of who (suc count) core = event (events_of who count core) who
 
--- an open page whose indices begin at 2 ^ 32 - 1, and on it a write of three bytes of which so many events are made
+-- an open page whose indices begin at 2 ^ 32 - 1, and on it a write of three bytes of which this many events are made
 abbrev pub writing_three : Orders → ℕ → Core
 writing_three orders count = events_of Client count (begun (opened orders 4294967295 (10, 11) Open) Client (Write 3) (104 ∷ 101 ∷ 108 ∷ []))
 
--- the whole write, and then a read of at most five bytes of which so many events are made
+-- the whole write, and then a read of at most five bytes of which this many events are made
 abbrev pub reading_five : Orders → ℕ → Core
 reading_five orders count = events_of Server count (begun (writing_three orders 8) Server (Read 5) [])
 
@@ -42,7 +42,7 @@ pub record IsWritten (core : Core) : Type 0 where
   pub sent : core.client.sent ≡ 104 ∷ 101 ∷ 108 ∷ []
   pub unshown : (channel_of core Left).stored ≡ 0
 
--- After two looks, an asking between them, and the loads of two bytes: the end is inside a TAKE of three, and has got nothing yet.
+-- After two looks, a request for a signal between them, and the loads of two bytes: the end is inside a TAKE of three, and has got nothing yet.
 pub record IsHalfRead (core : Core) : Type 0 where
   pub did : summary Server core.server.trail ≡ record empty_summary { prods_seen = 2 ∷ 2 ∷ []; loaded = 104 ∷ 101 ∷ [] }
   pub takes : IsTaking core.server 3

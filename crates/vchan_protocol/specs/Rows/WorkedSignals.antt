@@ -1,4 +1,4 @@
--- A worked row of signals, in which an asking stands, and a test and a signal are owed: a server's read finds nothing and asks, then a client writes a byte, event by event.
+-- A worked row of signals, in which a request stands, and a test and a signal are owed: a server's read finds nothing and asks, then a client writes a byte, event by event.
 -- In the second row the client closes instead. In the third it has closed, the server has taken that event and loaded the gone word, and the client retires.
 use Rattle.std.specs.Prelude.{◌≡◌, true, false, Some, [], ◌∷◌, bit_and}
 use Rattle.ring_words.specs.Rings.{number_of}
@@ -30,18 +30,18 @@ bit_tested orders = events_of Client 1 (index_stored orders)
 abbrev pub signal_stored : Orders → Core
 signal_stored orders = events_of Client 1 (bit_tested orders)
 
--- or the client closes, of which the first event is made
+-- or the client closes, and has made the first event of that
 abbrev pub live_cleared : Orders → Core
 live_cleared orders = events_of Client 1 (begun (asked orders) Client Close [])
 
--- or it has closed already and the server has taken that event; then the server looks whether it is gone
+-- or it has closed already and the server has taken that event; then the server checks whether it is gone
 abbrev pub close_taken : Orders → Core
 close_taken orders = called (called (asked orders) Client Close []) Server TakeEvent []
 
 abbrev pub gone_loaded : Orders → Core
 gone_loaded orders = called (close_taken orders) Server PeerGone []
 
--- the client retires, of which the first event is made
+-- the client retires, and has made the first event of that
 abbrev pub gone_stored : Orders → Core
 gone_stored orders = events_of Client 1 (begun (gone_loaded orders) Client Retire [])
 

@@ -34,7 +34,7 @@ pub record IsWorkedTurn (orders : Orders) : Type 0 where
   pub right : number_of orders.right ≡ 11
   pub sent : (two_of_three orders).client.sent ≡ 104 ∷ 101 ∷ 108 ∷ []
   pub got : (two_of_three orders).server.got ≡ 104 ∷ 101 ∷ []
-  -- the turned end's lists stand, and `consumed` is what its reader had got
+  -- the turned end's lists stay as they are, and `consumed` is how much its reader had got
   pub turned : (client_turned orders).client.turned ≡ true
   pub consumed : (client_turned orders).client.consumed ≡ 2
   pub stands : (client_turned orders).client.sent ≡ 104 ∷ 101 ∷ 108 ∷ []
@@ -45,7 +45,7 @@ pub record IsWorkedTurn (orders : Orders) : Type 0 where
   pub own : (read_on orders).server.cons ≡ 5
   pub restored : held (read_on orders) LeftCons ≡ 5
   pub all_got : (read_on orders).server.got ≡ 104 ∷ 101 ∷ 108 ∷ 0 ∷ 0 ∷ []
-  -- what it had got by the turned_core is the beginning of what was sent
+  -- what it had got when the client was turned is the beginning of what was sent
   pub stays : (read_on orders).client.consumed ≡ 2
   pub begins : ConsumedLawful (size (read_on orders).orders.left) (read_on orders).client (read_on orders).server
 

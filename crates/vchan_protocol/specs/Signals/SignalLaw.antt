@@ -1,5 +1,5 @@
--- No signal is lost between two honest ends: whoever asked to be woken, and saw nothing new since, is woken once there is something new.
--- Source: libxenvchan's io.c: an index is stored before the peer's notify bit is tested, and asked for before it is looked at again.
+-- No signal is lost between two honest ends: an end that asked to be woken, and saw nothing new since, is woken once there is something new.
+-- Source: libxenvchan's io.c. An end stores its index before it tests its peer's notify bit, and asks for a signal before it looks at an index again.
 use Rattle.std.specs.Prelude.{◌≡◌, ◌≢◌, ◌⊎◌, ℕ, ◌-◌, ◌≤◌, true, Some, None, List, [], ◌∷◌, ◌++◌, length, bit_and}
 use Rattle.ring_words.specs.declared.order.Orders.{Orders}
 use Rattle.ring_words.specs.declared.page.Role.{Role}
@@ -22,9 +22,9 @@ use Rattle.vchan_protocol.specs.History.WholeCall.{called}
 use Rattle.vchan_protocol.specs.History.Peer.{peer, held}
 use Rattle.vchan_protocol.specs.Honest.Reached.{IsReached}
 
--- ---- the words and the events that are spoken of
+-- ---- the words and the events of signals
 
--- the index of an end by whose store it does what its peer's bit asks for: it shows bytes, or it releases their places
+-- the index by whose store an end does what its peer's bit asks about: it shows bytes, or it releases their places
 abbrev pub own_index : Role → Bit → WordName
 own_index role Written = prod_word (written_ring role)
 own_index role Consumed = cons_word (read_ring role)
@@ -67,28 +67,28 @@ OwesTest core who bit = (index : ℕ) × HasJust (side_of core who) (Store (own_
 abbrev pub IsWoken : Core → Role → Type 0
 IsWoken core who = held core (own_pending who) ≢ 0
 
--- Where an end has asked and taken no event since, its bit is set, or its peer has cleared it and owes the signal, or the end is woken.
+-- If an end has asked and taken no event since, its bit is set, or its peer has cleared it and owes the signal, or the end is woken.
 abbrev pub AskStands : Core → Role → Bit → Type 0
 AskStands core who bit =
     (asked_of (side_of core who).notes bit).since ≡ true →
     (bit_and (held core (ask_word who)) (mask bit) ≢ 0) ⊎ (OwesSignal core (peer who) (test_of (peer who) bit) ⊎ IsWoken core who)
 
--- Where an end has asked and taken no event since, and its peer's index isn't the one that it loaded last since it asked,
--- its peer is still before the test of the bit after its store of the index, or owes the signal, or the end is woken.
+-- If an end has asked and taken no event since, and its peer's index isn't the one that it loaded last since it asked,
+-- its peer has stored the index and not yet tested the bit, or owes the signal, or the end is woken.
 abbrev pub IndexIsTold : Core → Role → Bit → Type 0
 IndexIsTold core who bit =
     (index : ℕ) → (asked_of (side_of core who).notes bit).since ≡ true → (asked_of (side_of core who).notes bit).seen ≡ Some index →
     low32 (held core (peer_index who bit)) ≢ index →
     OwesTest core (peer who) bit ⊎ (OwesSignal core (peer who) (test_of (peer who) bit) ⊎ IsWoken core who)
 
--- Where an end loaded its peer's live byte as not 0 and has taken no event since, and the byte is 0 now,
+-- If an end loaded its peer's live byte as not 0 and has taken no event since, and the byte is 0 now,
 -- its peer has just stored that and owes the signal, or the end is woken.
 abbrev pub CloseIsTold : Core → Role → Type 0
 CloseIsTold core who =
     (live : ℕ) → (side_of core who).notes.live ≡ Some live → live ≢ 0 → low8 (held core (peer_live who)) ≡ 0 →
     OwesSignal core (peer who) (Store (own_live (peer who)) 0) ⊎ IsWoken core who
 
--- Where an end loaded its peer's gone word as 0 and has taken no event since, and the word isn't 0 now,
+-- If an end loaded its peer's gone word as 0 and has taken no event since, and the word isn't 0 now,
 -- its peer has just stored that and owes the signal, or the end is woken.
 abbrev pub GoneIsTold : Core → Role → Type 0
 GoneIsTold core who =
@@ -139,7 +139,7 @@ pub record IsWaiting (core : Core) (who : Role) (bit : Bit) : Type 0 where
   pub unwoken : held core (own_pending who) ≡ 0
   pub peer_idle : (side_of core (peer who)).call ≡ None
 
--- its bit stands, so the peer's next bytes are signalled; the peer's index is the one that it loaded last since it asked, the peer has not closed since it loaded the live byte, and has not gone since it loaded the gone word
+-- its bit is set, so the peer's next bytes are signalled; the peer's index is the one that it loaded last since it asked, the peer has not closed since it loaded the live byte, and has not gone since it loaded the gone word
 pub record MissesNothing (core : Core) (who : Role) (bit : Bit) : Type 0 where
   pub bit_stands : bit_and (held core (ask_word who)) (mask bit) ≢ 0
   pub index_stands : (index : ℕ) → (asked_of (side_of core who).notes bit).seen ≡ Some index → low32 (held core (peer_index who bit)) ≡ index

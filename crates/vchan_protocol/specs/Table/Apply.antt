@@ -16,7 +16,7 @@ word_of orders (And word bits) = index_of orders word
 word_of orders (Swap word value) = index_of orders word
 word_of orders Nothing = 0
 
--- what an event leaves in its word, which held `old`, where the call has this payload
+-- what an event leaves in its word, which held `old`, if the call has this payload
 abbrev pub leaves : List ℕ → Op → ℕ → ℕ
 leaves payload (Load word) old = old
 leaves payload (LoadByte word at) old = old
@@ -38,7 +38,7 @@ takes _ old = old
 abbrev pub words_after : Orders → List ℕ → List ℕ → Op → List ℕ
 words_after orders words payload op = slice_set words (word_of orders op) (leaves payload op (slice_index words (word_of orders op)))
 
--- the value that an event takes: the word as it was, but 0 for a plain store
+-- the value that an event takes: the word as it was, except 0 for a plain store
 abbrev pub value_taken : Orders → List ℕ → Op → ℕ
 value_taken orders words op = takes op (slice_index words (word_of orders op))
 

@@ -1,5 +1,5 @@
--- The events of each call, one row a call, as plans.
--- Source: libxenvchan's io.c, non-blocking mode. Own counts in the place of own indices, and Drain, PeerGone and Retire, are this project's.
+-- The events of each call as plans, one row for each call.
+-- Source: libxenvchan's io.c, non-blocking mode. Own counts in place of own indices, and Drain, PeerGone and Retire, are this project's.
 use Rattle.std.specs.Prelude.{ℕ, ◌+◌, ◌-◌, ◌%◌, ◌^◌, ◌≤◌, ◌==◌, nat_lt, min, not, ◌&&◌, bit_and, suc, zero, if◌then◌else◌, List}
 use Rattle.ring_words.specs.Rings.{place}
 use Rattle.ring_words.specs.declared.page.WordName.TheVariants.{LeftOrder, RightOrder, CliLive, RingByte}
@@ -62,7 +62,7 @@ take e k next = take_bytes e 0 k (take_index e k next)
 
 -- ---- the rows
 
--- a write once it has looked for the last time
+-- a write after its last look
 unfoldable pub write_looked : Standing → ℕ → ℕ → Plan
 write_looked e n cons =
     if n == 0 then answers (Wrote 0)
@@ -109,7 +109,7 @@ unfoldable pub recv : Standing → ℕ → Plan
 recv e n =
     look_read e (λ prod. if nat_lt (ready_at e prod) n then ask e Written (look_read e (recv_looked e n)) else recv_looked e n prod)
 
--- the first look that finds bytes ends the looking; with none the drain goes on
+-- the first look that finds bytes is the last one; if it finds none, the drain goes on
 abbrev pub drain_found : Standing → ℕ → ℕ → Plan → Plan
 drain_found e n prod next =
     if ready_at e prod == 0 then next else take e (min n (ready_at e prod)) (answers (Got (min n (ready_at e prod))))
@@ -152,7 +152,7 @@ connect e = does (Load LeftOrder) (λ value. connect_right e (low16 value))
 abbrev pub close : Standing → Plan → Plan
 close e next = does (Store (own_live e.role) 0) (λ _. signal e next)
 
--- a retire once the end is shut
+-- a retire after the end is shut
 abbrev pub retire_shut : Standing → Plan
 retire_shut e = does (Store (own_gone e.role) 1) (λ _. signal e (answers Done))
 
@@ -186,7 +186,7 @@ Trace begun call events answer = Leads (plan_of begun call) events (answers answ
 abbrev pub IsTrail : Standing → Call → List PastEvent → Type 0
 IsTrail begun call events = (rest : Plan) × Leads (plan_of begun call) events rest
 
--- the bytes of payload that a call asks to send
+-- how many bytes of payload a call asks to send
 abbrev pub payload_of : Call → ℕ
 payload_of (Write n) = n
 payload_of (Send n) = n
@@ -204,7 +204,7 @@ loaded_most e (Recv n) = min n (read_size e)
 loaded_most e (Drain n) = min n (read_size e)
 loaded_most e _ = 0
 
--- the most events of a call, for every content of the page
+-- the most events of a call, whatever the page holds
 abbrev pub most_events : Standing → Call → ℕ
 most_events e (Write n) = 7 + min n (write_size e)
 most_events e (Send n) = 7 + min n (write_size e)

@@ -122,7 +122,7 @@ abbrev pub state_after : Op → Role → EndState → EndState
 state_after (Store word value) role state = live_stored word role value state
 state_after _ role state = state
 
--- how an end stands after an event of its own
+-- the standing of an end after an event of its own
 unfoldable pub standing_after : Standing → Op → Standing
 standing_after e op = record {
   role = e.role;
@@ -146,7 +146,7 @@ write_size e = size (write_order e)
 abbrev pub read_size : Standing → ℕ
 read_size e = size (read_order e)
 
--- the bytes that have room where the consumer index is this, and those that wait where the producer index is this
+-- how many bytes have room if the consumer index is this, and how many wait if the producer index is this
 abbrev pub free_at : Standing → ℕ → ℕ
 free_at e cons = room e.prod cons (write_order e)
 

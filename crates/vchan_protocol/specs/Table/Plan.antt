@@ -5,7 +5,7 @@ use Rattle.vchan_protocol.specs.declared.op.Op.TheVariants.{Nothing}
 use Rattle.vchan_protocol.specs.declared.op.PastEvent.{PastEvent}
 use Rattle.vchan_protocol.specs.declared.call.Answer.{Answer}
 
--- a call, from here on: its answer, or one event and a way on for each value that it may take
+-- what is left of a call: its answer, or one event and how it goes on for each value that the event may take
 pub data Plan : Type 0 where
   answers : Answer → Plan
   does : Op → (ℕ → Plan) → Plan
@@ -15,7 +15,7 @@ abbrev pub next_op : Plan → Op
 next_op (answers answer) = Nothing
 next_op (does op next) = op
 
--- what is left once the next event took this value
+-- what is left after the next event took this value
 abbrev pub after : Plan → ℕ → Plan
 after (answers answer) value = answers answer
 after (does op next) value = next value
@@ -36,13 +36,13 @@ Leads plan [] rest = plan ≡ rest
 Leads (answers answer) (event ∷ events) rest = ⊥
 Leads (does op next) (event ∷ events) rest = (event.op ≡ op) × Leads (next event.taken) events rest
 
--- whatever the values are, the plan ends within so many events
+-- whatever the values are, the plan ends within this many events
 unfoldable pub EndsWithin : ℕ → Plan → Type 0
 EndsWithin most (answers answer) = Unit {0}
 EndsWithin zero (does op next) = ⊥
 EndsWithin (suc most) (does op next) = (value : ℕ) → EndsWithin most (next value)
 
--- whatever the values are, each event of the plan is such
+-- whatever the values are, each event of the plan is allowed
 unfoldable pub EachDoes : (Op → Type 0) → Plan → Type 0
 EachDoes Allowed (answers answer) = Unit {0}
 EachDoes Allowed (does op next) = Allowed op × ((value : ℕ) → EachDoes Allowed (next value))

@@ -2,32 +2,32 @@
 ghost use Rattle.vchan_protocol.specs.Rows.WorkedEnd.{EndIsAsWorked};
 ghost use Rattle.vchan_protocol.specs.Always.Invariant.{OpeningHasInvariant, BeginKeepsInvariant, EventKeepsInvariant, CallKeepsInvariant, TurnKeepsInvariant, StrayKeepsInvariant, GoneIsSetOnce, GoneTellsRetired, EachRetiresOnce, EachHasInvariant, InvariantSettles};
 
-/// What holds of a page holds when it is opened.
+/// The invariant of a page holds when the page is opened.
 pub fn opening_has_invariant()
     ensures { OpeningHasInvariant }
 {}
 
-/// It holds on when an honest end begins a call that it may begin.
+/// The invariant still holds when an honest end begins a call that it may begin.
 pub fn begin_keeps_invariant()
     ensures { BeginKeepsInvariant }
 {}
 
-/// It holds on when an honest end makes the next event of its call.
+/// The invariant still holds after the next event of an honest end's call.
 pub fn event_keeps_invariant()
     ensures { EventKeepsInvariant }
 {}
 
-/// It holds on when an honest end makes a whole call, and the other end no event.
+/// The invariant still holds after a whole call of an honest end, during which the other end makes no event.
 pub fn call_keeps_invariant()
     ensures { CallKeepsInvariant }
 {}
 
-/// It holds on when an end is turned over to a hostile user.
+/// The invariant still holds when an end is turned over to a hostile user.
 pub fn turn_keeps_invariant()
     ensures { TurnKeepsInvariant }
 {}
 
-/// It holds on whatever event a hostile user makes.
+/// The invariant still holds after any event of a hostile user.
 pub fn stray_keeps_invariant()
     ensures { StrayKeepsInvariant }
 {}
@@ -38,30 +38,30 @@ pub fn gone_is_set_once()
     ensures { GoneIsSetOnce }
 {}
 
-/// Between honest ends a gone word is 1 exactly where its end is retired, and else 0; a retired end
+/// Between honest ends a gone word is 1 if and only if its end is retired, and otherwise 0; a retired end
 /// is shut.
 pub fn gone_tells_retired()
     ensures { GoneTellsRetired }
 {}
 
-/// An end is retired by its own store to its gone word, and stays so: it may begin to retire again,
-/// and no begin, no turning and no event of a hostile user changes it.
+/// An end is retired by its own store to its gone word, and stays retired. It may begin to retire again;
+/// no begin, no turning and no event of a hostile user changes whether it is retired.
 pub fn each_retires_once()
     ensures { EachRetiresOnce }
 {}
 
-/// What holds of a page holds whatever happens to a page, in whatever order the events of its ends come.
+/// The invariant holds whatever happens to a page, in whatever order the events of its ends come.
 pub fn each_has_invariant()
     ensures { EachHasInvariant }
 {}
 
-/// What stands at the end of a page, and at each moment before.
+/// The invariant implies what holds at the end of a page, and at each moment before.
 pub fn invariant_settles()
     ensures { InvariantSettles }
 {}
 
-/// A worked row of how a stream ends: a byte that was written before the peer closed is still read,
-/// and then all was read.
+/// A worked row of how a stream ends: a byte that was written before the peer closed is still read, and
+/// only then is all read.
 pub fn worked_end()
     ensures { EndIsAsWorked }
 {}

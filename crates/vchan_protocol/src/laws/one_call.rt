@@ -1,9 +1,9 @@
-//! Laws of a call of one end by its own events, whatever values these took: so whatever its peer,
+//! Laws of one end's call by its own events, whatever values these took, and so whatever its peer,
 //! honest or hostile, does between them.
 ghost use Rattle.vchan_protocol.specs.OneEnd.OneCall.{AnswersTellBytes, WayBegins, EachWayGoesOn, EachOverTells};
 
-/// A whole call sends as many of the first bytes of its payload as its answer says, which are all
-/// that it stored, and gets all the bytes that it loaded, which are as many as its answer says.
+/// A whole call sends as many of the first bytes of its payload as its answer tells; these are all that
+/// it stored. It gets all the bytes that it loaded; these are as many as its answer tells.
 pub fn answers_tell_bytes()
     ensures { AnswersTellBytes }
 {}
@@ -13,12 +13,12 @@ pub fn way_begins()
     ensures { WayBegins }
 {}
 
-/// Whatever value the next event of a call takes, the call is on its way or over after it.
+/// Whatever value the next event of a call takes, after it the call is on its way or over.
 pub fn each_way_goes_on()
     ensures { EachWayGoesOn }
 {}
 
-/// What a call that is over has made of its end, its answer and the buffer tell.
+/// The answer and the buffer tell what a call that is over has made of its end.
 pub fn each_over_tells()
     ensures { EachOverTells }
 {}

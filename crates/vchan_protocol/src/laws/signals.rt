@@ -1,8 +1,8 @@
-//! Laws of signals: between two honest ends none is lost, so an end that asked to be woken, found
-//! nothing and waits is woken once there is something.
+//! Laws of signals. Between two honest ends none is lost: an end that asked to be woken, found nothing
+//! and waits is woken as soon as there is something.
 ghost use Rattle.vchan_protocol.specs.Signals.SignalLaw.{SignalsAtOpening, BeginKeepsSignals, EventKeepsSignals, CallKeepsSignals, NoSignalIsLost, WaitMissesNothing};
 
-/// On a page on which nothing has happened yet no signal is lost.
+/// On a page on which nothing has happened yet, no signal is lost.
 pub fn no_signal_lost_at_opening()
     ensures { SignalsAtOpening }
 {}
@@ -27,8 +27,8 @@ pub fn no_signal_is_lost()
     ensures { NoSignalIsLost }
 {}
 
-/// While an end waits, having asked and taken no event since, with none there to take and its peer
-/// between two calls, its bit stands, and its peer's index and live byte are as it loaded them last.
+/// An end waits if it has asked and taken no event since, none is there to take, and its peer is between
+/// two calls. While it waits its bit is set, and its peer's index and live byte are as it loaded them last.
 pub fn wait_misses_nothing()
     ensures { WaitMissesNothing }
 {}

@@ -1,13 +1,13 @@
 //! Laws of a page whose ends may be turned over to a hostile user, who may make any event.
 ghost use Rattle.vchan_protocol.specs.Hostile.TurnedLaws.{TurnedEventIsLawful, StrayIsLawful, EventGrowsLists, StrayKeepsLists, BytesLieAtCounts, EachTurnStands};
 
-/// What holds of a page with turned ends holds on when an honest end makes its next event,
-/// whatever its peer has stored.
+/// What holds of a page with turned ends still holds after the next event of an honest end, whatever its
+/// peer has stored.
 pub fn turned_event()
     ensures { TurnedEventIsLawful }
 {}
 
-/// It holds on whatever event the hostile user of a turned end makes.
+/// It still holds after any event of a turned end's hostile user.
 pub fn stray_event()
     ensures { StrayIsLawful }
 {}
@@ -17,20 +17,19 @@ pub fn event_grows_lists()
     ensures { EventGrowsLists }
 {}
 
-/// An event of a hostile user leaves the peer as it is, and the lists of a turned end stand.
+/// An event of a hostile user leaves the peer as it is, and the lists of a turned end stay the same.
 pub fn stray_keeps_lists()
     ensures { StrayKeepsLists }
 {}
 
-/// Whatever its peer has stored, an honest end stores and loads ring bytes at the places of its own
-/// counts alone, and the indices that it stores are its own counts, moved on by the bytes of its
-/// call.
+/// Whatever its peer has stored, an honest end stores and loads ring bytes only at the places of its own
+/// counts. The indices that it stores are its own counts, moved on by the bytes of its call.
 pub fn bytes_lie_at_counts()
     ensures { BytesLieAtCounts }
 {}
 
-/// An end that is turned keeps what it sent and got, and `consumed` is then what the reader of its
-/// ring had got. Its hostile user's events leave both as they are.
+/// An end that is turned keeps what it sent and got, and `consumed` is then how much the reader of its
+/// ring had got. Its hostile user's events change neither.
 pub fn each_turn_stands()
     ensures { EachTurnStands }
 {}

@@ -1,4 +1,4 @@
-//! Worked rows, by which the definitions that the laws stand on can be checked.
+//! Worked rows, which check the definitions that the laws rest on.
 ghost use Rattle.vchan_protocol.specs.Rows.WorkedAnswers.{AnswerIsAsWorked};
 ghost use Rattle.vchan_protocol.specs.Rows.WorkedOneEnd.{OneEndIsAsWorked};
 ghost use Rattle.vchan_protocol.specs.Rows.WorkedSignals.{SignalIsAsWorked};
@@ -9,17 +9,17 @@ pub fn worked_answer()
     ensures { AnswerIsAsWorked }
 {}
 
-/// An asking stands, a test of its bit is owed, and then the signal; and a close owes a signal too.
+/// An end's request stands, then a test of its bit is owed, and then the signal. A close owes a signal too.
 pub fn worked_signal()
     ensures { SignalIsAsWorked }
 {}
 
-/// An end is turned when its reader has got two of three bytes, and the reader reads on.
+/// An end is turned after its reader got two of three bytes, and the reader reads on.
 pub fn worked_turn()
     ensures { TurnIsAsWorked }
 {}
 
-/// A write and a read make of their ends what their own events and answers make of them alone.
+/// What a write and a read make of their ends follows from each end's own events and answers alone.
 pub fn worked_one_end()
     ensures { OneEndIsAsWorked }
 {}
