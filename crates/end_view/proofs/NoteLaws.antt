@@ -1,4 +1,4 @@
--- What an end has noted after a whole call: its state, whether it has seen its peer's end, whether it is retired. By one walk of each row.
+-- What an end has noted after a whole call: its state, whether it has seen its peer's end, and whether it is retired. Each row is walked once.
 use Rattle.std.proofs.Common.{◌≡◌, ℕ, suc, zero, ◌+◌, ◌==◌, min, nat_lt, Bool, true, false, not, ◌&&◌, ◌||◌, cond, List, [], ◌∷◌, refl, subst, sym, ap, ◌∙◌}
 use Rattle.ring_words.specs.declared.page.Role.{Role}
 use Rattle.ring_words.specs.declared.page.Role.TheVariants.{Server, Client}
@@ -157,7 +157,7 @@ module _ (P : Noted) where
   n_gone Server saw retired next on = on
   n_gone Client saw retired next on = on
 
-  -- with what they show the call goes on
+  -- the call goes on by what they show
   n_if_shut : (role : Role) (saw retired b : Bool) (closed going : Plan) → Notes role P Open (saw || true) retired closed → Notes role P Open saw retired going → Notes role P Open (saw || b) retired (cond b closed going)
   n_if_shut role saw retired true closed going one two = one
   n_if_shut role saw retired false closed going one two = subst (λ (b : Bool). Notes role P Open b retired going) (sym (none_more saw)) two
@@ -288,7 +288,7 @@ module _ (e : Standing) (saw retired : Bool) where
       let P = Told Open saw retired (Recv n) in
       n_look_read P e.role Open saw retired _ (λ v. n_if P e.role Open saw retired (nat_lt (ready_at e (low32 v)) n) _ _ (n_ask P e Open saw retired Written _ (n_look_read P e.role Open saw retired _ (λ w. r_recv_looked n (low32 w)))) (r_recv_looked n (low32 v)))
 
-  -- ---- a drain, which has seen the end of its peer or not so far
+  -- ---- a drain, which may have seen the end of its peer already
 
   after_all : (now : Bool) → (saw ≡ true → now ≡ true) → saw ≡ true → (now || true) ≡ true
   after_all true known was = refl
@@ -426,7 +426,7 @@ module _ (e : Standing) (saw retired : Bool) where
   n_call call Fresh is may = n_fresh call is may
   n_call call Shut is may = n_shut call is may
 
--- what a whole call of an end has noted where it answers
+-- what a whole call of an end has noted when it answers
 pub notes_told : (was : Side) (call : Call) (payload : List ℕ) (events : List PastEvent) (answer : Answer) → IsAllowed was.role was.state call → Trace (standing_of was) call events answer →
     Told was.state was.saw was.retired call (side_along (begins was call payload) events).state (side_along (begins was call payload) events).saw (side_along (begins was call payload) events).retired answer
 notes_told was call payload events answer may trace =

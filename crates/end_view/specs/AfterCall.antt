@@ -31,7 +31,7 @@ abbrev pub retires : Call → Bool
 retires Retire = true
 retires call = false
 
--- the view of an end after a whole call with this answer, where it has then seen its peer's end or not
+-- the view of an end after a whole call with this answer, when it has seen its peer's end or not
 abbrev pub answered_view : EndView → Call → List ℕ → List ℕ → Answer → Bool → EndView
 answered_view e call payload buffer answer saw = record e {
   state = state_told call answer e.state;
@@ -44,17 +44,18 @@ answered_view e call payload buffer answer saw = record e {
   retired = e.retired || retires call;
 }
 
--- A drain may see an end that its answer doesn't tell of: it finds the live byte 0, and then bytes that were written before. It knows what the answer tells, and what it knew.
+-- A drain may see an end that its answer doesn't tell of: it finds the live byte 0, and then bytes that were written before. It has seen what
+-- the answer tells, and what it had seen before.
 pub record DrainSees (answer : Answer) (before now : Bool) : Type 0 where
   pub told : tells_end answer ≡ true → now ≡ true
   pub known : before ≡ true → now ≡ true
 
--- every other call sees its peer's end exactly where its answer tells of it
+-- every other call sees its peer's end if and only if its answer tells of it
 abbrev pub SeesAsTold : Call → Answer → Bool → Bool → Type 0
 SeesAsTold (Drain most) answer before now = DrainSees answer before now
 SeesAsTold call answer before now = now ≡ (before || tells_end answer)
 
--- each whole call of an honest end changes its view so, whatever its peer does
+-- each whole call of an honest end changes its view in this way, whatever its peer does
 pub record ViewAfterCall (page : TableId) (was : Side) (call : Call) (payload : List ℕ) (s : Side) (buffer : List ℕ) (answer : Answer) : Type 0 where
   pub view : view_of page true s ≡ answered_view (view_of page true was) call payload buffer answer s.saw
   pub saw : SeesAsTold call answer was.saw s.saw

@@ -17,10 +17,10 @@ pub record EndView : Type 0 where
   pub state : EndState
   -- it is between two calls
   pub idle : Bool
-  -- all bytes that it has shown to its peer, and all that it has taken and given up the places of
+  -- all bytes that it has shown to its peer, and all that it has taken and whose places it has released
   pub sent : List ℕ
   pub got : List ℕ
-  -- while not shut it found its peer shut or gone
+  -- it found its peer shut or gone while it wasn't shut itself
   pub saw : Bool
   -- how a drain of it first ended its stream, and that nothing is left to drain
   pub ended : Option EndedBy
@@ -29,17 +29,17 @@ pub record EndView : Type 0 where
   pub misled : Bool
   -- it has set its gone word
   pub retired : Bool
-  -- it was given up to a hostile user; for a writer, how much its reader had got then
+  -- it was turned over to a hostile user; for a writer, how much its reader had got then
   pub turned : Bool
   pub consumed : ℕ
-  -- what that user did since; of an honest end nothing
+  -- what that user did since; for an honest end nothing
   pub trail : List PastEvent
 
 -- the events of a hostile user; those of an honest end's call are no part of its view
 abbrev pub hostile_trail : Bool → List PastEvent → List PastEvent
 hostile_trail turned trail = if turned then trail else []
 
--- the view of an end of this page that has done so much, between two calls or not
+-- the view of this side of this page, between two calls or not
 abbrev pub view_of : TableId → Bool → Side → EndView
 view_of page idle s = record {
   page = page;
@@ -58,7 +58,7 @@ view_of page idle s = record {
   trail = hostile_trail s.turned s.trail;
 }
 
--- an end that was handed out: a server's is open, a client's is fresh
+-- the state of an end when it is made: a server is open, a client is fresh
 abbrev pub state_at_first : Role → EndState
 state_at_first Server = Open
 state_at_first Client = Fresh
@@ -82,7 +82,7 @@ untouched_view page role state = record {
   trail = [];
 }
 
--- what stands where there is no end: one of no page, and gone
+-- what stands for no end: one of no page, and gone
 unfoldable pub no_end : EndView
 no_end = record (untouched_view (record { words = 0; slots = 0; views_name = 0; atom = 0; block = 0; offset = 0; slot_names = [] }) Server Shut) { retired = true }
 

@@ -1,4 +1,4 @@
--- What stands of a page once both its ends are retired.
+-- What holds of a page after both its ends are retired.
 -- The statements are this project's own.
 use Rattle.std.specs.Prelude.{◌≡◌, ℕ, ◌+◌, ◌≤◌, List, length, take, Bool, true, false, IsSome}
 use Rattle.atomic_table.specs.Seated.{TableId}
@@ -12,13 +12,13 @@ use Rattle.vchan_protocol.specs.Honest.LifeLaw.{SaysOrders}
 use Rattle.vchan_protocol.specs.Always.Invariant.{PageSettled}
 use Rattle.end_view.specs.EndView.{EndView, view_of}
 
--- a ring between two honest ends: what was got begins what was sent, and is all of it where the ring is drained, as it is where its reader has ended
+-- a ring between two honest ends: what was got begins what was sent, and is all of it if the ring is drained, as it is if its reader has ended
 pub record IsHonestRing (writer reader : EndView) : Type 0 where
   pub in_order : IsPrefixOf reader.got writer.sent
   pub whole : reader.drained ≡ true → reader.got ≡ writer.sent
   pub over : IsSome reader.ended → reader.drained ≡ true
 
--- a page of two honest ends: not each found the other's end before its own, and none was refused
+-- a page of two honest ends: not both found the other's end before their own, and none was refused
 pub record IsHonestPage (server client : EndView) : Type 0 where
   pub left : IsHonestRing client server
   pub right : IsHonestRing server client
@@ -26,19 +26,19 @@ pub record IsHonestPage (server client : EndView) : Type 0 where
   pub server_found : server.misled ≡ false
   pub client_found : client.misled ≡ false
 
--- a ring of a turned writer and an honest reader: what the reader had got at the turned_core is still as it was sent
+-- a ring of a turned writer and an honest reader: what the reader had got when the writer was turned is still as it was sent
 pub record IsTurnedRing (size : ℕ) (writer reader : EndView) : Type 0 where
   pub within : writer.consumed ≤ length reader.got
   pub bound : length writer.sent ≤ writer.consumed + size
   pub begins : IsPrefixOf (take writer.consumed reader.got) writer.sent
 
--- an end that is done with its page: one that is honest has shut its side and has told so
+-- an end that is done with its page: if it is honest, it has shut its side and has set its gone word
 pub record IsDone (e : EndView) : Type 0 where
   pub idle : e.idle ≡ true
   pub shut : e.turned ≡ false → e.state ≡ Shut
   pub told : e.turned ≡ false → e.retired ≡ true
 
--- a page that is done with: its orders, at which number all its indices began, and its two ends
+-- a page that is done with: its orders, the number at which all its indices began, and its two ends
 pub record Settled : Type 0 where
   pub orders : Orders
   pub start : ℕ
@@ -62,7 +62,7 @@ pub record IsSettled (s : Settled) : Type 0 where
 abbrev pub settled_view : Orders → ℕ → TableId → Side → Side → Settled
 settled_view orders start page server client = record { orders = orders; start = start; server = view_of page true server; client = view_of page true client }
 
--- what the two ends are, beside what the protocol settles of them
+-- what the two ends are, besides what the protocol settles of them
 pub record AreDone (server client : Side) : Type 0 where
   pub is_server : server.role ≡ Server
   pub is_client : client.role ≡ Client
@@ -71,7 +71,7 @@ pub record AreDone (server client : Side) : Type 0 where
   pub server_told : server.turned ≡ false → server.retired ≡ true
   pub client_told : client.turned ≡ false → client.retired ≡ true
 
--- what the protocol settles of two ends that are done is what a settled page promises, where the order words of the start said the page's orders
+-- what the protocol settles of two ends that are done is what a settled page promises, if the order words of the start held the page's orders
 abbrev pub SettlesViews : Type 0
 SettlesViews =
     (orders : Orders) (start : ℕ) (said : ℕ × ℕ) (page : TableId) (server client : Side) → SaysOrders said orders → PageSettled orders said server client → AreDone server client →

@@ -1,8 +1,8 @@
-//! What the layers above a shared page see of its two ends: the lists of an end and what it has
-//! noted, with no word of the page and no event, and what stands of a page once both are done.
+//! What the layers above a shared page see of its two ends: each end's lists and what it has noted, with no
+//! word of the page and no event, and what holds of a page after both are done.
 //!
-//! It serves the shared page, whose contracts speak of these views, and every crate above it. The
-//! views are this project's own, over the protocol of Xen's libxenvchan.
+//! The shared page, whose contracts use these views, rests on it, and so does every crate above. The views
+//! are this project's own, over the protocol of Xen's libxenvchan.
 #![tactic(auto)]
 
 ghost use Rattle.end_view.specs.AfterCall.{EachViewAfterCall};
@@ -14,8 +14,8 @@ pub fn each_view_after_call()
     ensures { EachViewAfterCall }
 {}
 
-/// What the protocol settles of two ends that are done with their page is what a settled page
-/// promises of their views.
+/// What the protocol settles of two ends that are done with their page is what a settled page promises of
+/// their views.
 pub fn settles_views()
     ensures { SettlesViews }
 {}

@@ -1,4 +1,4 @@
--- What a machine still does of its call.
+-- What a machine still has to do of its call.
 pub mod Phases
 pub mod Ahead
 pub mod Refusals

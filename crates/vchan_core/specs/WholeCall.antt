@@ -1,4 +1,4 @@
--- A whole call on a plain page, whose phase lies beside the page.
+-- A whole call on a plain page, whose phase is kept outside the page.
 pub mod AtPhase
 pub mod Beside
 pub mod EventAt

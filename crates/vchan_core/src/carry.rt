@@ -4,7 +4,7 @@ ghost use Rattle.vchan_protocol.specs.Table.Apply.{words_after, value_taken, buf
 use ring_words::Words;
 use vchan_protocol::Op;
 
-/// Carries an event out, and answers the value that it took.
+/// Carries an event out, and returns the value that it took.
 #[inline(always)]
 pub(crate) fn carry_out(words: &mut Words, op: Op, payload: &[u8], buf: &mut [u8]) -> u64
     requires { Fits words.old.orders (length payload.now) (length buf.old) op }

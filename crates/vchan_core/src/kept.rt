@@ -1,4 +1,4 @@
-//! A machine as plain numbers and back, for a caller whose language has no enum of ours, as C.
+//! A machine as plain numbers and back, for a caller whose language has no such enums, as C.
 ghost use Rattle.std.specs.Prelude.{◌≡◌, IfSome, Some};
 ghost use Rattle.vchan_core.specs.declared.machine.Machine.{Machine};
 ghost use Rattle.vchan_core.specs.OneMachine.Keeping.{kept_of, IsShort, role_number as role_number_of, state_number as state_number_of, role_told, state_told};
@@ -13,26 +13,26 @@ mod phases;
 pub use answers::AnswerNumbers;
 use phases::{PhaseNumbers, phase_of};
 
-/// A machine as 32 bytes of plain numbers. Whatever stands in them is a value of this type;
-/// [`Kept::machine`] refuses what no machine is kept as.
+/// A machine as 32 bytes of plain numbers. Any numbers are a value of this type; [`Kept::machine`] refuses
+/// those that stand for no machine.
 #[repr(C)]
 #[derive(Clone, Copy, Debug, PartialEq, Eq)]
 pub struct Kept {
-    /// 0 a server, 1 a client.
+    /// 0 for a server, 1 for a client.
     pub role: u8,
-    /// 0 fresh, 1 open, 2 shut.
+    /// 0 for fresh, 1 for open, 2 for shut.
     pub state: u8,
     /// The order of the ring that the client writes, from 10 to 20.
     pub left_order: u16,
     /// The order of the ring that the server writes, from 10 to 20.
     pub right_order: u16,
-    /// Where it is inside its call: 0 between two calls.
+    /// Where the end is inside its call; 0 between two calls.
     pub phase: u8,
-    /// The kind of the answer that the call will give, where it is known: 0 where it isn't.
+    /// The kind of the answer that the call will give, if it is known; else 0.
     pub answer: u8,
-    /// Its own count of the ring that it writes, in bytes modulo 2^32.
+    /// The end's own count of the ring that it writes, in bytes modulo 2^32.
     pub prod: u32,
-    /// Its own count of the ring that it reads, in bytes modulo 2^32.
+    /// The end's own count of the ring that it reads, in bytes modulo 2^32.
     pub cons: u32,
     /// The first part of the phase.
     pub first: u32,
@@ -44,7 +44,7 @@ pub struct Kept {
     pub answer_second: u32,
 }
 
-/// The role of that number: 0 is a server and 1 a client. It is `None` for every other one.
+/// Returns the role of that number: 0 is a server and 1 a client. Returns `None` for every other number.
 pub fn role_of(number: u8) -> Option<Role>
     ensures { result ≡ role_told number }
 {
@@ -55,7 +55,7 @@ pub fn role_of(number: u8) -> Option<Role>
     }
 }
 
-/// The state of that number: 0 is fresh, 1 open and 2 shut. It is `None` for every other one.
+/// Returns the state of that number: 0 is fresh, 1 open and 2 shut. Returns `None` for every other number.
 pub fn state_of(number: u8) -> Option<EndState>
     ensures { result ≡ state_told number }
 {
@@ -87,7 +87,7 @@ fn state_number(state: EndState) -> u8
 }
 
 impl Machine {
-    /// This machine as numbers, which are those of no other one.
+    /// Returns this machine as numbers, which are those of no other machine.
     pub fn kept(&self) -> Kept
         ensures kept { result ≡ kept_of self.now }
         ensures short { IsShort self.now }
@@ -112,7 +112,7 @@ impl Machine {
 }
 
 impl Kept {
-    /// The machine that is kept as these numbers. It is `None` exactly where there is none.
+    /// Returns the machine that has these numbers, or `None` if and only if there is none.
     pub fn machine(&self) -> Option<Machine>
         ensures kept { IfSome result (λ machine. kept_of machine ≡ self.now) }
         ensures again { (machine : Machine) → IsShort machine → kept_of machine ≡ self.now → result ≡ Some machine }
@@ -124,7 +124,7 @@ impl Kept {
         None
     }
 
-    /// The machine of these numbers, of which some may be those of another one.
+    /// Returns the machine that these numbers tell; some of them may be those of another machine.
     fn read(&self) -> Option<Machine>
         ensures again { (machine : Machine) → IsShort machine → kept_of machine ≡ self.now → result ≡ Some machine }
     {

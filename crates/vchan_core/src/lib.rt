@@ -1,10 +1,10 @@
 //! One end of a channel as a pure machine, and a page in memory with its two ends.
 //!
-//! What each call does, event by event, is the protocol's (`vchan_protocol`), whose types and laws
-//! it hands on.
+//! The crate `vchan_protocol` defines what each call does, event by event; this crate exports its types
+//! and laws too.
 //!
-//! It serves the step player, which drives a page in memory, and the shared page, which drives the
-//! same machine over a table of words.
+//! The step player, which drives a page in memory, rests on this crate, and so does the shared page,
+//! which drives the same machine over a table of words.
 #![tactic(auto)]
 
 mod carry;

@@ -12,11 +12,11 @@ pub(crate) mod outcomes;
 
 pub use ahead::{Ahead, Span};
 
-/// One end of a channel, as a pure machine: it says which event comes next, and takes the value
-/// that the event took. It holds no page, so the same machine drives a plain page and a shared one.
+/// One end of a channel, as a pure machine: it tells which event comes next, and takes the value that the
+/// event took. It holds no page, so the same machine drives a plain page and a shared one.
 ///
-/// Its own counts are the end's only account of its own indices: it never loads them, so a peer
-/// that overwrites them changes nothing.
+/// The end knows its own indices only by its own counts: it never loads them, so a peer that overwrites
+/// them changes nothing.
 #[derive(Clone, Copy, Debug)]
 pub struct Machine {
     pub(crate) role: Role,
@@ -41,8 +41,8 @@ impl Machine {
     ghost use Rattle.vchan_protocol.specs.declared.call.Answer.{Answer};
     ghost use Rattle.vchan_protocol.specs.declared.op.PastEvent.{PastEvent};
 
-    /// An end between two calls, in this state, both of whose counts are `start`. A server is
-    /// never fresh.
+    /// Makes an end between two calls, in this state, both of whose counts are `start`. A server is never
+    /// fresh.
     pub fn new(role: Role, orders: Orders, state: EndState, start: u32) -> Machine
         requires { role ≡ Role.Server → state ≢ EndState.Fresh }
         ensures idle { IsIdle result }
@@ -58,8 +58,8 @@ impl Machine {
         }
     }
 
-    /// An end between two calls, in this state, with these two counts: of one that joins a page that
-    /// was used before. A server is never fresh.
+    /// Makes an end between two calls, in this state, with these two counts, to join a page that was used
+    /// before. A server is never fresh.
     pub fn resumed(role: Role, orders: Orders, state: EndState, prod: u32, cons: u32) -> Machine
         requires { role ≡ Role.Server → state ≢ EndState.Fresh }
         ensures idle { IsIdle result }
@@ -75,35 +75,35 @@ impl Machine {
         }
     }
 
-    /// Which end it is.
+    /// Returns which end it is.
     pub fn role(&self) -> Role
         ensures { result ≡ (standing self.now).role }
     {
         self.role
     }
 
-    /// The orders of the page's rings.
+    /// Returns the orders of the page's rings.
     pub fn orders(&self) -> Orders
         ensures { result ≡ (standing self.now).orders }
     {
         self.orders
     }
 
-    /// Whether the end is between two calls.
+    /// Returns whether the end is between two calls.
     pub fn idle(&self) -> bool
         ensures { IsTrue result ↔ IsIdle self.now }
     {
         self.phase.is_none()
     }
 
-    /// Where the end stands in its life.
+    /// Returns where the end stands in its life.
     pub fn state(&self) -> EndState
         ensures { result ≡ (standing self.now).state }
     {
         self.state
     }
 
-    /// Its own counts: of the ring that it writes, and of the ring that it reads.
+    /// Returns its own counts: of the ring that it writes, and of the ring that it reads.
     pub(crate) fn counts(&self) -> (u32, u32)
         ensures prod { result.0 ≡ (standing self.now).prod }
         ensures cons { result.1 ≡ (standing self.now).cons }
@@ -111,17 +111,16 @@ impl Machine {
         (self.prod, self.cons)
     }
 
-    /// Whether this call may be begun now: [`Machine::refusal`] names no reason against it.
+    /// Returns whether this call may begin now: [`Machine::refusal`] gives no reason against it.
     pub fn allows(&self, call: Call) -> bool
         ensures { IsTrue result ↔ Allows self.now call }
     {
         self.refusal(call).is_none()
     }
 
-    /// Why this call can't be begun now: the first reason that applies, and none exactly where it may
-    /// be begun. Between two calls a fresh client may connect, an end that isn't shut may close, an end
-    /// in any state may retire, and an open end may begin every other call; a drain asks for at least
-    /// one byte.
+    /// Returns the first reason why this call can't begin now, or `None` if and only if it may. Between
+    /// two calls a fresh client may connect, an end that isn't shut may close, an end in any state may retire,
+    /// and an open end may begin every other call; a drain must ask for at least one byte.
     #[inline(always)]
     pub fn refusal(&self, call: Call) -> Option<Refusal>
         ensures refusal { result ≡ refusal_of self.now call }
@@ -141,7 +140,7 @@ impl Machine {
         }
     }
 
-    /// The most bytes that a call takes from the ring that the end reads.
+    /// Returns the most bytes that a call takes from the ring that the end reads.
     pub fn most_taken(&self, call: Call) -> u32
         ensures { result ≡ loaded_most (standing self.now) call }
     {
@@ -165,7 +164,7 @@ impl Machine {
         self.phase = Some(self.first(call));
     }
 
-    /// The phase with which a call begins.
+    /// Returns the phase with which a call begins.
     #[tactic(auto, unfolding(crate::specs::OneMachine::Phases::rest_at))]
     #[inline(always)]
     pub(crate) fn first(&self, call: Call) -> Phase
@@ -192,7 +191,7 @@ impl Machine {
         }
     }
 
-    /// The event that comes next. It is `Nothing` exactly where the end is between two calls.
+    /// Returns the event that comes next. It is `Nothing` if and only if the end is between two calls.
     #[inline(always)]
     pub fn next(&self) -> Op
         ensures op { result ≡ next_op (rest self.now) }
@@ -216,8 +215,8 @@ impl Machine {
         }
     }
 
-    /// Takes the value that the event took: the word as it was, or 0 for a plain store. The answer
-    /// comes with the last event of the call, and then the end is between two calls.
+    /// Takes the value that the event took: the word as it was, or 0 for a plain store. Returns the call's
+    /// answer after its last event, and then the end is between two calls.
     #[inline(always)]
     pub fn took(&mut self, value: u64) -> Option<Answer>
         requires { ¬ IsIdle self.old }
@@ -267,7 +266,7 @@ impl Machine {
         }
     }
 
-    /// What comes of the event of a phase, which is taken into its own counts and its state.
+    /// Returns what comes of the event of a phase, and counts that event in the own counts and the state.
     #[inline(always)]
     pub(crate) fn advanced(&mut self, phase: Phase, value: u64) -> Next
         ensures rest { plan_at (standing self.new) result ≡ after (rest_at (standing self.old) phase) value }
@@ -281,8 +280,8 @@ impl Machine {
         next
     }
 
-    /// Takes the phase out of a machine that is inside a call: the machine is then as one between two
-    /// calls, and its caller has the phase.
+    /// Takes the phase out of a machine that is inside a call. The machine is then as if between two calls, and
+    /// its caller holds the phase.
     #[inline(always)]
     pub(crate) fn take_phase(&mut self) -> Phase
         requires { ¬ IsIdle self.old }
@@ -305,7 +304,7 @@ impl Machine {
         self.phase = Some(phase);
     }
 
-    /// Drops the call under way, as where the end is turned over to a hostile user.
+    /// Drops the call under way, for an end that is turned over to a hostile user.
     pub(crate) fn drop_call(&mut self)
         ensures idle { IsIdle self.new }
         ensures standing { standing self.new ≡ standing self.old }
@@ -331,7 +330,7 @@ impl Machine {
         }
     }
 
-    /// The event of a put of `count` bytes once `stored` of them are: the bytes come first, and
+    /// Returns the event of a put of `count` bytes, of which `stored` are stored: the bytes come first, and
     /// then the index shows them all at once.
     #[tactic(auto, using(vchan_protocol::proofs::Table::PlanLaws::bytes_laws), unfolding(crate::specs::OneMachine::Phases::rest_at))]
     #[inline(always)]
@@ -353,7 +352,7 @@ impl Machine {
         }
     }
 
-    /// The event of a take of `count` bytes once `loaded` of them are: the index releases their
+    /// Returns the event of a take of `count` bytes, of which `loaded` are loaded: the index releases their
     /// places only after all bytes were loaded.
     #[tactic(auto, using(vchan_protocol::proofs::Table::PlanLaws::bytes_laws), unfolding(crate::specs::OneMachine::Phases::rest_at))]
     #[inline(always)]
@@ -375,7 +374,7 @@ impl Machine {
         }
     }
 
-    /// Where byte number `at` of a put lies.
+    /// Returns where byte number `at` of a put lies.
     #[tactic(auto, using(ring_words::proofs::RingLaws::place_wraps))]
     fn put_word(&self, at: u32) -> WordName
         ensures has { Has self.now.orders result }
@@ -388,7 +387,7 @@ impl Machine {
         }
     }
 
-    /// Where byte number `at` of a take lies.
+    /// Returns where byte number `at` of a take lies.
     #[tactic(auto, using(ring_words::proofs::RingLaws::place_wraps))]
     fn take_word(&self, at: u32) -> WordName
         ensures has { Has self.now.orders result }

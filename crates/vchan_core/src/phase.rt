@@ -1,6 +1,6 @@
 use vchan_protocol::{Answer, Bit};
 
-/// Where an end is inside its call.
+/// The place of an end inside its call.
 #[derive(Clone, Copy, Debug)]
 pub enum Phase {
     WriteLive { len: u32 },
@@ -46,8 +46,8 @@ pub enum Phase {
 }
 
 impl Phase {
-    /// Whether the next events of this phase may be some that are made at once: looks, or events on
-    /// bytes. It saves the other phases the search for them; no promise rests on it.
+    /// Returns whether the next events of this phase may be ones that can be made at once: looks, or events on
+    /// bytes. The other phases need not search for them then; no promise rests on it.
     #[inline(always)]
     pub(crate) fn may_go_ahead(self) -> bool {
         matches!(
@@ -61,7 +61,7 @@ impl Phase {
     }
 }
 
-/// What comes of an event: a phase, or the answer of the call.
+/// What comes of an event: a phase, or the call's answer.
 #[derive(Clone, Copy, Debug)]
 pub enum Next {
     To(Phase),

@@ -12,10 +12,10 @@ use std::sync::ledger::Ledger;
 use vchan_io::Memory;
 use vchan_protocol::{Answer, Call, EndState};
 
-/// One page in memory, with its two ends, for a single thread to step as it likes.
+/// One page in memory, with its two ends, for a single thread that steps them as it likes.
 ///
-/// It stores no lists of what was sent and got. Contracts say for which core states it stands: a
-/// core state has the page's words and all that each end has done.
+/// It keeps no lists of what was sent and got. Its contracts state for which core states it stands: a core
+/// state has the page's words and all that each end has done.
 #[derive(Drop)]
 pub struct Plain {
     pub(crate) words: Words,
@@ -54,8 +54,9 @@ impl Plain {
     ghost use Rattle.vchan_protocol.specs.declared.call.Call.{Call};
     ghost use Rattle.vchan_protocol.specs.declared.op.PastEvent.{PastEvent};
 
-    /// A page on which nothing has happened yet: all indices at `start`, the order words as `said`
-    /// (the left ring's first), the client in this state, fresh or open.
+    /// Makes a page on which nothing has happened yet: all indices are `start`, the order words hold `said`
+    /// (the left ring's first), and the client is in this state, fresh or open. Returns `Memory` if memory
+    /// runs out.
     pub fn open(
         alloc: Global,
         orders: Orders,
@@ -78,7 +79,7 @@ impl Plain {
         })
     }
 
-    /// The words of the page.
+    /// Returns the words of the page.
     pub fn words(&self) -> &Words
         ensures orders { result.now.orders ≡ orders_of self.now }
         ensures list { result.now.list ≡ words_of self.now }
@@ -86,7 +87,7 @@ impl Plain {
         &self.words
     }
 
-    /// The machine of an end, which says whether it is idle and what it allows.
+    /// Returns the machine of an end, which tells whether it is idle and what it allows.
     pub fn machine(&self, who: Role) -> &Machine
         ensures { result.now ≡ machine_of self.now who }
     {
@@ -96,7 +97,7 @@ impl Plain {
         }
     }
 
-    /// Whether an end was turned over to a hostile user.
+    /// Returns whether an end was turned over to a hostile user.
     pub fn turned(&self, who: Role) -> bool
         ensures { result ≡ turned_of self.now who }
     {
@@ -106,15 +107,15 @@ impl Plain {
         }
     }
 
-    /// Whether an end has retired: its own gone word is set.
+    /// Returns whether an end's own gone word is set, as it is after an honest end has retired.
     pub fn has_retired(&self, who: Role) -> bool
         ensures { result ≡ not (slice_index (words_of self.now) (index_of (orders_of self.now) (own_gone_of who)) == 0) }
     {
         self.words.load(own_gone(who)) != 0
     }
 
-    /// How many bytes the writer of a ring has sent. It stays at 18446744073709551615 once it
-    /// reaches it.
+    /// Returns how many bytes the writer of a ring has sent. The count stays at 18446744073709551615 once it
+    /// gets there.
     pub fn sent_len(&self, ring: Ring) -> u64
         ensures { (core : Core) → StandsFor core self.now → result ≡ capped (length (writer_of core ring).sent) }
     {
@@ -124,8 +125,8 @@ impl Plain {
         }
     }
 
-    /// How many bytes the reader of a ring has got. It stays at 18446744073709551615 once it
-    /// reaches it.
+    /// Returns how many bytes the reader of a ring has got. The count stays at 18446744073709551615 once it
+    /// gets there.
     pub fn got_len(&self, ring: Ring) -> u64
         ensures { (core : Core) → StandsFor core self.now → result ≡ capped (length (reader_of core ring).got) }
     {
@@ -135,8 +136,8 @@ impl Plain {
         }
     }
 
-    /// A hostile store of an end: it is turned over to a hostile user where it wasn't yet, and a call
-    /// under way is dropped. The word is a header field or a ring byte that the page has, which
+    /// Makes a hostile store of an end. The end is turned over to a hostile user if it wasn't yet, and a call
+    /// under way is dropped. The word must be a header field or a ring byte that the page has, which
     /// `may_poke` tests.
     pub fn poke(&mut self, who: Role, word: WordName, value: u64)
         requires { MayPoke (orders_of self.old) word }
@@ -151,7 +152,7 @@ impl Plain {
         self.words.store(word, value);
     }
 
-    /// Whether a hostile user may store to a word: it is a header field or a ring byte of the page.
+    /// Returns whether a hostile user may store to a word: it is a header field or a ring byte of the page.
     pub fn may_poke(&self, word: WordName) -> bool
         ensures { IsTrue result ↔ MayPoke (orders_of self.now) word }
     {
@@ -162,7 +163,7 @@ impl Plain {
         }
     }
 
-    /// A hostile signal of an end: it is turned where it wasn't yet, and its peer's pending word is
+    /// Makes a hostile signal of an end. The end is turned if it wasn't yet, and its peer's pending word is
     /// set.
     pub fn signal(&mut self, who: Role)
         ensures stands { (core : Core) → StandsFor core self.old → StandsFor (signalled core who) self.new }
@@ -176,7 +177,7 @@ impl Plain {
         self.words.store(peer_pending(who), 1);
     }
 
-    /// Gives an end up to a hostile user: its call is dropped.
+    /// Turns an end over to a hostile user: its call is dropped.
     fn turn(&mut self, who: Role)
         ensures idle { IsIdle (machine_of self.new who) }
         ensures standing { standing (machine_of self.new who) ≡ standing (machine_of self.old who) }
@@ -200,7 +201,7 @@ impl Plain {
         }
     }
 
-    /// Begins a call of an end, and makes no event. The end isn't turned, and allows the call.
+    /// Begins a call of an end, and makes no event. The end must not be turned, and must allow the call.
     pub fn begin(&mut self, who: Role, call: Call)
         requires honest { turned_of self.old who ≡ false }
         requires allowed { Allows (machine_of self.old who) call }
@@ -220,11 +221,12 @@ impl Plain {
         }
     }
 
-    /// One event of an end that is inside a call. For a write or a send `payload` has the call's
-    /// bytes, the same at each step of the call; for a read, recv or drain `buf` has at least the
-    /// smaller of the call's request and the ring's size. A ring byte that is loaded goes to its
-    /// place in `buf`, and nothing else of `buf` changes.
-    // This and the parts of an event are inlined always, so that each phase is followed straight
+    /// Makes one event of an end that is inside a call. Returns the call's answer after its last event.
+    ///
+    /// For a write or a send `payload` has the call's bytes, the same at each step of the call. For a read,
+    /// recv or drain `buf` has at least as many bytes as the smaller of the call's request and the ring's size.
+    /// A ring byte that is loaded goes to its place in `buf`, and nothing else of `buf` changes.
+    // This and the parts of an event are always inlined, so that each phase is followed straight
     // through, with no `Op` or `Next` in memory.
     #[inline(always)]
     pub fn step(&mut self, who: Role, payload: &[u8], buf: &mut [u8]) -> Option<Answer>
@@ -254,8 +256,8 @@ impl Plain {
         }
     }
 
-    /// Hands the value of an event to the end that made it, and counts what the event moved: an own
-    /// index that moves on shows that many bytes, or releases the places of that many.
+    /// Gives the value of an event to the end that made it, and counts what the event moved: an own index that
+    /// moves on by some bytes shows that many, or releases the places of that many.
     #[inline(always)]
     fn took(
         machine: &mut Machine,

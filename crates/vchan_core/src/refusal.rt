@@ -1,14 +1,14 @@
-/// Why an end can't begin a call now.
+/// The reasons why an end can't begin a call now.
 #[derive(Clone, Copy, Debug, PartialEq, Eq)]
 pub enum Refusal {
-    /// It is inside another call.
+    /// The end is inside another call.
     Busy,
-    /// It is shut.
+    /// The end is shut.
     Shut,
     /// The client hasn't connected yet.
     Unconnected,
-    /// It is connected already.
+    /// The end is connected already.
     Connected,
-    /// A drain that asks for no byte.
+    /// The drain asks for no byte.
     NoBytes,
 }

@@ -8,12 +8,12 @@ use std::alloc::Global;
 use vchan_io::Memory;
 use vchan_protocol::EndState;
 
-/// The words of a page on which nothing has happened yet: all indices at `start`, the order words as
-/// `said` (the left ring's first), the client in this state, fresh or open.
+/// Makes the words of a page on which nothing has happened yet: all indices are `start`, the order words
+/// hold `said` (the left ring's first), and the client is in this state, fresh or open.
 ///
 /// # Errors
 ///
-/// [`Memory`], and no other.
+/// Returns [`Memory`] if memory runs out, and no other error.
 pub fn start_words(
     alloc: Global,
     orders: Orders,

@@ -1,7 +1,6 @@
 ghost use Rattle.std.specs.Prelude.{◌≡◌, ◌<◌, ◌≤◌, ◌^◌, ℕ, ◌+◌, ◌∷◌, ◌++◌, [], List, ◌↔◌, IsSome};
 
-/// How many bytes a ring's two ends have moved. Each count stays at its greatest number once it
-/// reaches it.
+/// How many bytes a ring's two ends have moved. Each count stays at its greatest number once it gets there.
 #[derive(Clone, Copy, Debug)]
 pub struct Totals {
     sent: u64,
@@ -26,7 +25,7 @@ impl Totals {
         self.got
     }
 
-    /// Counts what an end's own count of the ring that it writes has moved on.
+    /// Counts how far an end's own count of the ring that it writes has moved on.
     #[inline(always)]
     pub(crate) fn count_sent(&mut self, before: u32, now: u32)
         ensures { self.new ≡ record self.old { sent = capped (self.old.sent + diff now before) } }
@@ -35,7 +34,7 @@ impl Totals {
         self.sent = self.sent.saturating_add(u64::from(shown));
     }
 
-    /// Counts what an end's own count of the ring that it reads has moved on.
+    /// Counts how far an end's own count of the ring that it reads has moved on.
     #[inline(always)]
     pub(crate) fn count_got(&mut self, before: u32, now: u32)
         ensures { self.new ≡ record self.old { got = capped (self.old.got + diff now before) } }
@@ -44,8 +43,8 @@ impl Totals {
         self.got = self.got.saturating_add(u64::from(got));
     }
 
-    /// Where an own count doesn't move, what was moved stays. It only says so, for a caller whose
-    /// event moves none.
+    /// Tells that the counts stay if an own count doesn't move, for a caller whose event moves none. It does
+    /// nothing else.
     #[inline(always)]
     pub(crate) fn stays(&self)
         ensures sent { (prod : ℕ) → self.now ≡ record self.now { sent = capped (self.now.sent + diff prod prod) } }
@@ -55,8 +54,8 @@ impl Totals {
         let _got = self.got();
     }
 
-    /// Counts what an end's own counts, of the ring that it writes and of the one that it reads,
-    /// have moved on.
+    /// Counts how far an end's own counts, of the ring that it writes and of the one that it reads, have moved
+    /// on.
     #[inline(always)]
     pub(crate) fn count(
         before: (u32, u32),

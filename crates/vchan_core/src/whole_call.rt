@@ -1,10 +1,9 @@
 //! A whole call of an end of a plain page, made as quickly as its events allow.
 //!
 //! A page in memory, which no other thread sees, can't tell whether events are made one by one. So a
-//! whole call keeps its phase in a local variable, makes the looks with which a write or a read
-//! begins and the bytes of one piece of a ring at once, and has code of its own for the frequent
-//! events. The machine of the end stays between two calls meanwhile: it has the end's own counts and
-//! its state alone.
+//! whole call keeps its phase in a local variable, makes at once the looks with which a write or a read
+//! begins and the bytes of one piece of a ring, and has code of its own for the frequent events. Meanwhile
+//! the machine of the end is as if between two calls: it holds only the end's own counts and its state.
 ghost use Rattle.std.specs.Prelude.{◌≡◌, ◌≢◌, ℕ, ◌<◌, ◌≤◌, ◌+◌, ◌^◌, ◌∷◌, ◌++◌, [], List, length, take, ◌↔◌, IsSome, IfOk, IsTrue, true, false, slice_set};
 ghost use Rattle.ring_words.specs.declared.page.Role.TheVariants.{Server, Client};
 
@@ -45,7 +44,7 @@ impl Plain {
     ghost use Rattle.vchan_protocol.specs.declared.call.Call.{Call};
     ghost use Rattle.vchan_protocol.specs.declared.op.PastEvent.{PastEvent};
 
-    /// The phase with which a call of an end begins.
+    /// Returns the phase with which a call of an end begins.
     #[inline(always)]
     fn first(&self, who: Role, call: Call) -> Phase
         requires { IsIdle (machine_of self.now who) }
@@ -60,8 +59,8 @@ impl Plain {
         }
     }
 
-    /// The looks of an end that come next in a write or a read, and that give no answer. It answers
-    /// how many they were, and the phase then.
+    /// Makes the looks of an end that come next in a write or a read, and that give no answer. Returns how many
+    /// they were, and the phase after them.
     #[inline(always)]
     fn look_ahead(&self, who: Role, phase: Phase) -> (u32, Phase)
         ensures most { result.0 ≤ MOST_LOOKS }
@@ -75,8 +74,8 @@ impl Plain {
         }
     }
 
-    /// The events of an end that come next as long as they are all on bytes of one piece of a ring.
-    /// It answers how many they were, and the phase then; none gives an answer.
+    /// Makes the events of an end that come next as long as they are all on bytes of one piece of a ring.
+    /// Returns how many they were, and the phase after them; none gives an answer.
     #[inline(always)]
     fn move_piece(
         &mut self,
@@ -102,7 +101,7 @@ impl Plain {
         }
     }
 
-    /// [`Plain::look_ahead`] where it makes at most so many events, and else no look.
+    /// Makes [`Plain::look_ahead`] if that makes at most `most` events, and else no look.
     #[inline(always)]
     fn look_few(&self, who: Role, phase: Phase, most: u32) -> (u32, Phase)
         ensures within { result.0 ≤ most }
@@ -117,7 +116,7 @@ impl Plain {
         self.look_ahead(who, phase)
     }
 
-    /// [`Plain::move_piece`] of at most so many events.
+    /// Makes [`Plain::move_piece`] with at most `most` events.
     #[inline(always)]
     fn move_few(
         &mut self,
@@ -145,8 +144,8 @@ impl Plain {
         }
     }
 
-    /// The events of an end that come next as long as they are looks that give no answer, and then on
-    /// bytes of one piece of a ring; at most so many. It answers how many they were, and the phase then.
+    /// Makes the next events of an end as long as they are looks that give no answer, and then on bytes of one
+    /// piece of a ring, but at most `most` events. Returns how many they were, and the phase after them.
     #[inline(always)]
     fn go_ahead(
         &mut self,
@@ -203,8 +202,8 @@ impl Plain {
         }
     }
 
-    /// One event of an end at a phase of its call. Its machine knows of no call, and takes only its
-    /// own counts and its state from the event.
+    /// Makes one event of an end at a phase of its call. Its machine doesn't know of the call; only its own
+    /// counts and its state change with the event.
     #[inline(always)]
     fn event(&mut self, who: Role, phase: Phase, payload: &[u8], buf: &mut [u8]) -> Next
         requires idle { IsIdle (machine_of self.old who) }
@@ -241,10 +240,11 @@ impl Plain {
         }
     }
 
-    /// A whole call of an end; `steps` counts its events. The conditions are those of `begin` and
-    /// `step`. It makes at most `7 + min(n, size)` events for a request of n bytes, and a drain at
-    /// most `10 + min(n, size)`, whatever the page holds. Between two honest ends it is a call on
-    /// lists, of what was sent and got.
+    /// Makes a whole call of an end; `steps` counts its events. The conditions are those of `begin` and `step`.
+    /// Between two honest ends it is a call on the lists of what was sent and got.
+    ///
+    /// It makes at most `7 + min(n, size)` events for a request of n bytes, and a drain at most
+    /// `10 + min(n, size)`, whatever the page holds; `size` is that of the ring through which bytes move.
     pub fn run_call<L: Ledger>(
         &mut self,
         who: Role,
@@ -277,7 +277,7 @@ impl Plain {
             steps.add(moved);
             steps.tick();
             match self.event(who, at, payload, buf) {
-                // An index is stored: the event that looks whether the peer asked follows at once.
+                // An index is stored: the test of the peer's bit follows at once.
                 Next::To(Phase::Notify { bit, answer }) => {
                     steps.tick();
                     match self.event(who, Phase::Notify { bit, answer }, payload, buf) {
@@ -291,8 +291,8 @@ impl Plain {
         }
     }
 
-    /// At most so many events of an end that is inside a call, up to its answer: fewer only where the
-    /// answer came. The conditions are those of `step`.
+    /// Makes at most `most` events of an end that is inside a call, up to its answer: fewer only if the answer
+    /// came. The conditions are those of `step`.
     pub fn advance(
         &mut self,
         who: Role,

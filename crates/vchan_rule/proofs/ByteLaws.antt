@@ -33,7 +33,7 @@ use Rattle.vchan_rule.specs.Along.{GoesAlong}
 use Rattle.vchan_rule.proofs.EndLaws.{Inside, inside, plan_is, goes_on, stores_own, after_step, keeps_payload, Stepped}
 use Rattle.vchan_rule.proofs.CallLaws.{way_on}
 
--- the event of a machine that makes this one next, whatever it takes, and is not over then
+-- this event is the machine's next one, and its call goes on after it, whatever value it takes
 pub record MakesNext (m m' : Machine) (op : Op) : Type 0 where
   pub plan : rest m ≡ does op (λ _. rest m')
   pub stands : standing m' ≡ standing_after (standing m) op
@@ -57,7 +57,7 @@ along_more i j k s buffer s' buffer' s2 buffer2 all one two =
       retired = two.retired ∙ one.retired;
     }
 
--- so many bytes were moved: the machine stands for the end, which went along from how it was
+-- this many bytes were moved: the machine stands for the end, which went on from how it was
 pub record Moving (start : ℕ) (m : Machine) (payload : List ℕ) (was : Side) (first : List ℕ) (count : ℕ) (s : Side) (buffer : List ℕ) : Type 0 where
   pub agrees : Agrees start None m s
   pub pays : HasPayload s payload

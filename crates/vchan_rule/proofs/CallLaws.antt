@@ -36,7 +36,7 @@ use Rattle.vchan_rule.specs.Called.{HasCalled}
 
 -- ---- one event of a call
 
--- an event that took this value, with what it answers, what it leaves of the end and of the buffer
+-- an event that took this value: its answer, and what it leaves of the end and of the buffer
 pub way_on : (was : Side) (call : Call) (payload start : List ℕ) (s : Side) (buffer : List ℕ) (taken : ℕ) → loaded_most (standing_of was) call ≤ length start → OnWay was call payload start s buffer → GoesOn (plan_left s) →
     (result : Option Answer) (now : Side) (buffer' : List ℕ) → result ≡ answer_in (after (plan_left s) taken) → now ≡ side_after s taken → buffer' ≡ landed (op_next s) taken buffer → IsThen was call payload start now buffer' result
 way_on was call payload start s buffer taken long w more result now buffer' answers_it stands lands =
@@ -153,7 +153,7 @@ along_saw s (event ∷ events) =
     ∙ ap (λ (b : Bool). b || has_noticed (standing_after (standing_of s) event.op) events) (event_saw s event.op event.taken)
     ∙ or_assoc s.saw (notices (standing_of s) event.op event.taken) (has_noticed (standing_after (standing_of s) event.op) events)
 
--- a call that is over, with all that its contract says
+-- a call that is over, with all that its contract states
 pub has_called : (was e : SeatedEnd) (call : Call) (payload start buffer : List ℕ) (answer : Answer) → was.side.turned ≡ false → MayCall (view was) call → IsSameEnd was e → IsIdle e.machine → e.begun ≡ None → length buffer ≡ length start →
     IsOver was.side call (take (payload_of call) payload) start e.side buffer answer → HasCalled was call payload start e buffer answer
 has_called was e call payload start buffer answer honest may same idle none long over =

@@ -1,4 +1,4 @@
--- What may come of a page, by the steps of one end: it enters a call, makes the next event of its call, is given up, and its hostile user makes any event.
+-- What may come of a page, by the steps of one end: it enters a call, makes the next event of its call, is turned, and its hostile user makes any event.
 use Rattle.std.proofs.Common.{◌≡◌, ℕ, true, false, List, [], length, sym, ap, ◌∙◌, subst, ⊎_elim}
 use Rattle.ring_words.specs.declared.page.Role.{Role}
 use Rattle.vchan_protocol.specs.declared.op.Op.{Op}

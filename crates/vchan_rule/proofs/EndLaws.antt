@@ -56,7 +56,7 @@ settled-retired : (s : Side) (plan : Plan) → (settled s plan).retired ≡ s.re
 settled-retired s (answers answer) = refl
 settled-retired s (does op next) = refl
 
--- the machine stands for the end once the call is written into it
+-- the machine stands for the end after that has begun the call
 begins_stands : (call : Call) (m : Machine) (s : Side) (payload : List ℕ) → IsPending call m s → length payload ≡ payload_of call → IsMachineOf (begins s call payload) m
 begins_stands call m s payload p pays =
     let plan : plan_of (standing_of s) call ≡ rest m = sym (p.plan ∙ ap (λ (e : Standing). plan_of e call) p.standing_is) in

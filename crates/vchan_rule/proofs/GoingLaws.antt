@@ -81,7 +81,7 @@ goes_then e payload buffer e1 buffer1 result e2 buffer2 one two =
       over = two.over;
     }
 
--- where the first events gave no answer, more may follow
+-- if the first events gave no answer, more may follow
 pub goes_on_then : (e : SeatedEnd) (payload buffer : List ℕ) (first : Option Answer) (e1 : SeatedEnd) (buffer1 : List ℕ) → first ≡ None → Goes e payload buffer first e1 buffer1 → Goes e payload buffer None e1 buffer1
 goes_on_then e payload buffer first e1 buffer1 none one = subst (λ (r : Option Answer). Goes e payload buffer r e1 buffer1) none one
 

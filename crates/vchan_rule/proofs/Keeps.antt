@@ -74,7 +74,7 @@ sits key words views id v (parted key2 words2 views2 server client is k) at =
     subst (λ (z : List View). Sits key words z id v) (sym is) (sits_parted key words id v server client k (subst (λ (z : List View). get_elem? z id ≡ some (One v)) is at))
 sits key words views id v (done key2 words2 views2 server client is k) at = absurd (no_one_done id v server client (subst (λ (z : List View). get_elem? z id ≡ some (One v)) is at))
 
--- the end of this seat is another now
+-- the end of this seat has changed
 shows : (key : Opening) (words : List ℕ) (who : Role) (v w theirs : Side) → MayCome (between (setup_at key) words who w theirs) → Shown key words (set (views_of who v theirs) (seat_of who) (One w))
 shows key words Server v w theirs k = parted key words _ w theirs refl k
 shows key words Client v w theirs k = parted key words _ theirs w refl k
@@ -85,7 +85,7 @@ shows_at key words words' views id v w at k =
 
 -- ---- which word a step is on
 
--- a step tells also what holds wherever the rule does
+-- a step also tells what holds whenever the rule does
 also : (key : Opening) (slots id i : ℕ) (me : Me (Unit {0}) View) (f : ℕ → ℕ) (X : Type 0) (then : ℕ → Me (Unit {0}) View → Type 0) →
     ((st : State (Unit {0}) View) → Ruled key st → get_elem? st.views id ≡ some me.0 → X) → Allows (Ruled key) slots id me i f then → Allows (Ruled key) slots id me i f (λ n m'. X × then n m')
 also key slots id i me f X then holds may st l deep at small = let t = may st l deep at small in (t.0, t.1, t.2, t.3, (holds st l at, t.4))
@@ -112,7 +112,7 @@ is_step_of key slots id i first me v orders payload op is same here given st l a
 
 -- ---- the next event of an honest end
 
--- an end that enters a call is no other than it was
+-- an end that enters a call was honest before
 was_honest : (v s : Side) → Enters v s → s.turned ≡ false → v.turned ≡ false
 was_honest v s e fair = ⊎_elim
     (λ (t : s ≡ v). ap (λ (z : Side). z.turned) (sym t) ∙ fair)
@@ -141,7 +141,7 @@ allows_at key slots id me s op i f g at fair more is here leaves_it takes_it =
     subst (λ (z : ℕ × ((ℕ → ℕ) × (ℕ → ℕ))). Allows (Ruled key) slots id me z.0 z.1.0 (λ n m'. m' ≡ (One (side_after s (z.1.1 n)), []))) (λ k. (sym here k, (λ n. sym (leaves_it n) k, λ n. sym (takes_it n) k))) two in
     subst (λ (o : Op). Allows (Ruled key) slots id me i f (λ n m'. m' ≡ (One (side_after s (takes o (g n))), []))) is three
 
--- and the step is on the word of the event, with its operand
+-- the step is on the word of the event, with its operand
 pub makes_at : (key : Opening) (slots id : ℕ) (me : Me (Unit {0}) View) (s : Side) (op : Op) (i first : ℕ) (f g : ℕ → ℕ) → ((v : Side) × (me ≡ (One v, [])) × Enters v s) → s.turned ≡ false → GoesOn (plan_left s) →
     op ≡ op_next s → i ≡ word_of key.orders op → first ≡ operand s.payload op → ((n : ℕ) → f n ≡ leaves s.payload op n) → ((n : ℕ) → takes op (g n) ≡ takes op n) →
     Allows (Ruled key) slots id me i f (λ n. makes s (step slots i first 0 none) me (g n))
@@ -192,9 +192,9 @@ opens_at orders start a b words one two is k =
     let same : words ≡ start_words orders start (said_of orders) Fresh = is ∙ ap (λ (z : ℕ × ℕ). start_words orders start z Fresh) (λ i. (one i, two i)) in
     record { shown = whole (record { orders = orders; start = start }) _ _ refl (subst (λ (z : List ℕ). MayCome (core (record { orders = orders; start = start }) z (new_server orders start) (new_client orders start))) (sym same) said) }
 
--- ---- an end that is given up
+-- ---- an end that is turned
 
--- the step at which an end is given up, a load of the word i
+-- the step at which an end is turned, a load of the word i
 turns_on : (key : Opening) (slots id i : ℕ) (me : Me (Unit {0}) View) (v : Side) → me ≡ (One v, []) → v.turned ≡ false →
     Allows (Ruled key) slots id me i (λ n. n) (λ n m'. (consumed : ℕ) × (m' ≡ (One (turns v consumed), [])))
 turns_on key slots id i me v is fair =
@@ -293,7 +293,7 @@ settles key id a b v words slots f is =
 pub view_stays : (key : Opening) (id : ℕ) (v : View) (st : State (Unit {0}) View) → Ruled key st → get_elem? st.views id ≡ some v → Shown key st.words (set st.views id v)
 view_stays key id v st l at = subst (λ (z : List View). Shown key st.words z) (sym (set_again st.views id v at)) l.shown
 
--- a load by the seat that knows both ends shows what stands of them
+-- a load by the seat that knows both ends shows what holds of them
 pub settled_at : (key told : Opening) (slots id : ℕ) (me : Me (Unit {0}) View) (a b : Side) → me ≡ (Both a b, []) → told ≡ key →
     Allows (Ruled key) slots id me 0 (λ n. n) (λ n m'. (m' ≡ me) × Settles told me.0)
 settled_at key told slots id me a b is same =

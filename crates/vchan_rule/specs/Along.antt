@@ -6,7 +6,7 @@ use Rattle.vchan_protocol.specs.Table.Calls.{loaded_most}
 use Rattle.vchan_protocol.specs.History.Core.{standing_of}
 use Rattle.vchan_protocol.specs.OneEnd.OneCall.{OnWay}
 
--- so many events of an end that give no answer: whatever call it is on the way of, it is so after them
+-- this many events of an end that give no answer: whatever call it is on the way of, it still is after them
 pub record GoesAlong (count : ℕ) (s : Side) (buffer : List ℕ) (s' : Side) (buffer' : List ℕ) : Type 0 where
   pub way : (was : Side) (call : Call) (payload start : List ℕ) → loaded_most (standing_of was) call ≤ length start → OnWay was call payload start s buffer → OnWay was call payload start s' buffer'
   pub longer : length s'.trail ≡ length s.trail + count

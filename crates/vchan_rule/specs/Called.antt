@@ -18,10 +18,10 @@ pub record MayMake (e : SeatedEnd) (call : Call) (payload buffer : List ℕ) : T
   pub pays : payload_of call ≤ length payload
   pub room : loaded_most (standing_of e.side) call ≤ length buffer
 
--- A whole call of the end `was`, with these bytes and this buffer, gave this answer, and left the end and the buffer so. Its events are the end's trail,
--- and the lists grow as its answer says. It stores and loads at most as many ring bytes as the ring holds, leaves the
--- buffer as it was where it got none, and the end has seen its peer's end where it had,
--- or where an event of this call showed it.
+-- A whole call of the end `was`, with these bytes and this buffer, gave this answer, and left this end and this buffer. Its events are the end's trail,
+-- and the lists grow as its answer tells. It stores and loads at most as many ring bytes as the ring holds, leaves the
+-- buffer as it was if it got none, and the end has seen its peer's end if it had before,
+-- or if an event of this call showed it.
 pub record HasCalled (was : SeatedEnd) (call : Call) (payload start : List ℕ) (e : SeatedEnd) (buffer : List ℕ) (answer : Answer) : Type 0 where
   pub same : IsSameEnd was e
   pub idle : IsIdle e.machine × (e.begun ≡ None)

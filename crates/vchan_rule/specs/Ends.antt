@@ -18,11 +18,11 @@ abbrev pub end_in : View → Side
 end_in (One a) = a
 end_in _ = nobody
 
--- the end once it is inside the call that it has begun
+-- the end as it is inside the call that it has begun
 abbrev pub seen_by : Option Call → Side → List ℕ → Side
 seen_by begun s payload = elim begun [ None ↦ s | Some call ↦ begins s call (take (payload_of call) payload) ]
 
--- what a machine and its end agree on where a call was begun and no event made yet
+-- what a machine and its end agree on when a call was begun and no event made yet
 pub record IsPending (call : Call) (m : Machine) (s : Side) : Type 0 where
   pub busy : ¬ IsIdle m
   pub idle : s.call ≡ None
@@ -38,7 +38,7 @@ pub record Agrees (start : ℕ) (begun : Option Call) (m : Machine) (s : Side) :
   pub own : OwnLawful start s
   pub stands : StandsAs begun m s
 
--- the bytes handed in are those of the call under way
+-- the given bytes are those of the call under way
 abbrev pub Pays : Option Call → Side → List ℕ → Type 0
 Pays begun s payload = elim begun [ None ↦ HasPayload s payload | Some call ↦ payload_of call ≤ length payload ]
 

@@ -1,4 +1,4 @@
--- Events of an end inside its call, whichever call that is.
+-- Events of an end inside its call, whatever call that is.
 use Rattle.std.specs.Prelude.{◌≡◌, ℕ, ◌≤◌, Option, Some, None, IsSome, List, length, take}
 use Rattle.vchan_protocol.specs.declared.call.Answer.{Answer}
 use Rattle.vchan_protocol.specs.declared.call.Call.{Call}
@@ -10,7 +10,7 @@ use Rattle.vchan_core.specs.OneMachine.Phases.{IsIdle, payload_needed, buffer_ne
 use Rattle.vchan_rule.specs.Seated.{SeatedEnd}
 use Rattle.vchan_rule.specs.Ends.{Agrees, Pays, IsSameEnd, seen}
 
--- the end is inside a call, with the bytes and the room that what is left of it wants
+-- the end is inside a call, with the bytes and the room that the rest of it needs
 pub record IsReady (e : SeatedEnd) (payload buffer : List ℕ) : Type 0 where
   pub agrees : Agrees e.start e.begun e.machine e.side
   pub busy : ¬ IsIdle e.machine
@@ -18,7 +18,7 @@ pub record IsReady (e : SeatedEnd) (payload buffer : List ℕ) : Type 0 where
   pub into : buffer_needed e.machine ≤ length buffer
   pub pays : Pays e.begun e.side payload
 
--- Some events of an end: whatever call it was on the way of, it still is where they gave no answer, and that call is over where they gave one.
+-- Some events of an end: whatever call it was on the way of, it still is if they gave no answer, and that call is over if they gave one.
 pub record Goes (e : SeatedEnd) (payload buffer : List ℕ) (result : Option Answer) (e' : SeatedEnd) (buffer' : List ℕ) : Type 0 where
   pub same : IsSameEnd e e'
   pub agrees : Agrees e'.start e'.begun e'.machine e'.side
@@ -27,7 +27,7 @@ pub record Goes (e : SeatedEnd) (payload buffer : List ℕ) (result : Option Ans
   pub ready : result ≡ None → IsReady e' payload buffer'
   pub over : IsSome result → IsIdle e'.machine × (e'.begun ≡ None)
 
--- An end that began this call as it `was`, with these bytes and this buffer, is on its way.
+-- An end that was as `was` when it began this call, with these bytes and this buffer, is on its way.
 pub record InCalls (was : SeatedEnd) (call : Call) (payload start : List ℕ) (e : SeatedEnd) (buffer : List ℕ) : Type 0 where
   pub same : IsSameEnd was e
   pub busy : ¬ IsIdle e.machine

@@ -1,4 +1,4 @@
--- The rule of a page's table: the words and the views make up a core state of which holds what holds of a page at each moment.
+-- The rule of a page's table: the words and the views make up a core state that has the invariant of a page.
 use Rattle.std.specs.Prelude.{◌≡◌, ℕ, List, [], ◌∷◌, slice_index}
 use lib.Dec.{lit≤}
 use Rattle.atomic_table.specs.Table.{State, Me, Step}
@@ -20,7 +20,7 @@ use Rattle.vchan_rule.specs.declared.rule.View.{View}
 use Rattle.vchan_rule.specs.declared.rule.View.TheVariants.{Whole, One, Both, Spent}
 use Rattle.vchan_rule.specs.declared.rule.Opening.{Opening}
 
--- the order words of the start say the page's orders
+-- the order words of the start hold the page's orders
 abbrev pub said_of : Orders → ℕ × ℕ
 said_of orders = (number_of orders.left, number_of orders.right)
 
@@ -30,7 +30,7 @@ new_server orders start = new_side Server orders start Open
 abbrev pub new_client : Orders → ℕ → Side
 new_client orders start = new_side Client orders start Fresh
 
--- what stands of a page from its opening on
+-- what stays of a page from its opening on
 abbrev pub setup_at : Opening → Setup
 setup_at key = record { start = key.start; said = said_of key.orders; orders = key.orders }
 
@@ -50,7 +50,7 @@ pub record Ruled (key : Opening) (s : State (Unit {0}) View) : Type 0 where
 
 -- ---- what each step tells its seat
 
--- the operand of an event, where the call has this payload: the value of a store or a swap, the byte of the payload, the bits of an or or an and, and 0 of a load
+-- the operand of an event, if the call has this payload: the value of a store or a swap, the byte of the payload, the bits of an or or an and, and 0 for a load
 abbrev pub operand : List ℕ → Op → ℕ
 operand payload (Load word) = 0
 operand payload (LoadByte word at) = 0
@@ -70,19 +70,19 @@ pub record IsStepOf (orders : Orders) (payload : List ℕ) (op : Op) (st : Step 
 abbrev pub makes : Side → Step (Unit {0}) → Me (Unit {0}) View → ℕ → Me (Unit {0}) View → Type 0
 makes s st m n m' = IsStepOf s.orders s.payload (op_next s) st × (m' ≡ (One (side_after s (takes (op_next s) n)), []))
 
--- the event at which an end is given up: a load of the consumer index of the ring that it writes
+-- the event at which an end is turned: a load of the consumer index of the ring that it writes
 abbrev pub last_look : Side → Op
 last_look s = Load (cons_word (written_ring s.role))
 
--- the end is given up, where its reader has got some number of bytes
+-- the end is turned, when its reader has got some number of bytes
 abbrev pub gives_up : Side → Step (Unit {0}) → Me (Unit {0}) View → ℕ → Me (Unit {0}) View → Type 0
 gives_up s st m n m' = IsStepOf s.orders s.payload (last_look s) st × ((consumed : ℕ) × (m' ≡ (One (turns s consumed), [])))
 
--- an event of a hostile user, whose stores are of any number and of no payload
+-- an event of a hostile user, which stores any number and no payload
 abbrev pub wanders : Side → Op → Step (Unit {0}) → Me (Unit {0}) View → ℕ → Me (Unit {0}) View → Type 0
 wanders s op st m n m' = IsStepOf s.orders [] op st × (m' ≡ (One (strays s op (takes op n)), []))
 
--- an end that is shown only where no other is there
+-- an end that is shown only if there is no other
 abbrev pub least : Order
 least = record { number = 12; in_range = (lit≤ tt, lit≤ tt) }
 

@@ -13,12 +13,12 @@ use Rattle.end_view.specs.EndView.{EndView, view_of}
 use Rattle.end_view.specs.Settled.{Settled}
 use Rattle.vchan_rule.specs.declared.rule.Opening.{Opening}
 
--- the words with which pages begin: the orders of the pages, and at which number all their indices begin
+-- the words with which pages begin: the orders of the pages, and the number at which all their indices begin
 pub record PageStart : Type 0 where
   pub orders : Orders
   pub start : ℕ
 
--- a page: its table, its orders, and at which number all its indices began
+-- a page: its table, its orders, and the number at which all its indices began
 pub record PageView : Type 0 where
   pub table : TableId
   pub orders : Orders
@@ -29,7 +29,7 @@ pub record SeatView : Type 0 where
   pub page : PageView
   pub role : Role
 
--- an end: its page, where its indices began, what its seat shows, its machine, and the call that it has begun and made no event of yet
+-- an end: its page, where its indices began, what its seat shows, its machine, and a call that it has begun without an event yet
 pub record SeatedEnd : Type 0 where
   pub page : TableId
   pub start : ℕ
@@ -53,7 +53,7 @@ last_view e = view_of e.page true e.side
 abbrev pub IsOpen : SeatedEnd → Type 0
 IsOpen e = ((view e).idle ≡ true) × ((view e).state ≡ Open)
 
--- the seat of an honest end, which has no machine and no words: its page, what it shows, and the call that it has begun and made no event of yet
+-- the seat of an honest end, which has no machine and no words: its page, what it shows, and a call that it has begun without an event yet
 pub record SeatedCall : Type 0 where
   pub page : TableId
   pub side : Side
@@ -77,6 +77,6 @@ words_of page = record { orders = page.orders; start = page.start }
 abbrev pub began_with : Settled → PageStart
 began_with page = record { orders = page.orders; start = page.start }
 
--- what stands of a page of these two ends
+-- what holds of a page of these two ends
 abbrev pub settled_page : PageView → SeatedSide → SeatedSide → Settled
 settled_page page server client = record { orders = page.orders; start = page.start; server = last_view server; client = last_view client }

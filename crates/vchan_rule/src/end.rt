@@ -29,8 +29,8 @@ use std::marker::{Brand, Model};
 use std::sync::ledger::{Blank, Ledger};
 use vchan_core::{Answer, Call, EndState, Machine, Steps};
 
-/// An honest end of a page. Between two calls it is idle; a call is begun, and then made event by
-/// event, each of which is one atomic step on one word of the page.
+/// An honest end of a page. Between two calls it is idle. A call is begun, and then made event by event;
+/// each event is one atomic step on one word of the page.
 #[derive(Drop)]
 pub struct End<'p> {
     words: EndWords<'p>,
@@ -50,7 +50,7 @@ impl<'p> Model for End<'p> {
 }
 
 impl<'p> End<'p> {
-    /// The end of a seat that has done nothing.
+    /// Makes the end of a seat that has done nothing.
     pub(crate) fn new(
         words: EndWords<'p>,
         seat: Place,
@@ -73,53 +73,53 @@ impl<'p> End<'p> {
         }
     }
 
-    /// Which end it is.
+    /// Returns which end it is.
     pub fn role(&self) -> Role
         ensures { result ≡ self.now.side.role }
     {
         self.seat.role()
     }
 
-    /// The orders of the page.
+    /// Returns the orders of the page.
     pub fn orders(&self) -> Orders
         ensures { result ≡ self.now.side.orders }
     {
         self.seat.orders()
     }
 
-    /// Where the end stands in its life.
+    /// Returns where the end stands in its life.
     pub fn state(&self) -> EndState
         ensures { result ≡ self.now.side.state }
     {
         self.machine.state()
     }
 
-    /// Whether the end is between two calls.
+    /// Returns whether the end is between two calls.
     pub fn idle(&self) -> bool
         ensures { result ≡ (view self.now).idle }
     {
         self.machine.idle()
     }
 
-    /// Whether it has told its peer that it is done, by its gone word.
+    /// Returns whether it has set its gone word, which tells its peer that it is done.
     pub fn retired(&self) -> bool
         ensures { result ≡ self.now.side.retired }
     {
         self.seat.retired()
     }
 
-    /// Whether this call may be begun now: between two calls, a connect on a fresh client, a close
-    /// on an end that isn't shut, a retire in any state, and every other call on an open end. A
-    /// drain asks for at least one byte.
+    /// Returns whether this call may begin now: between two calls, a connect on a fresh client, a close on an
+    /// end that isn't shut, a retire in any state, and every other call on an open end. A drain must ask for at
+    /// least one byte.
     pub fn allows(&self, call: Call) -> bool
         ensures { IsTrue result ↔ MayCall (view self.now) call }
     {
         self.machine.allows(call)
     }
 
-    /// What an honest end can say of itself, whatever its peer stores: its own counts are the
-    /// lengths of its lists, in a call its trail begins that call, and between two it is the whole
-    /// of the last one.
+    /// Gives the facts that hold of an honest end, whatever its peer stores: its own counts are the lengths of
+    /// its lists, within a call its trail begins that call, and between two calls its trail is the whole last
+    /// one.
     pub fn vouch(&self)
         ensures { OwnLawful self.now.start self.now.side }
     {
@@ -140,9 +140,11 @@ impl<'p> End<'p> {
         self.seat.begin(call);
     }
 
-    /// The next event of the call under way, as one step of the table. The answer comes with the
-    /// last event of the call. A byte that was loaded lands in `buf`, and nothing else of it
-    /// changes. `payload` holds the bytes of a write or a send, the same at each step of a call.
+    /// Makes the next event of the call under way, as one step of the table. Returns the answer after the last
+    /// event of the call.
+    ///
+    /// A byte that was loaded lands in `buf`, and nothing else of `buf` changes. `payload` holds the bytes of a
+    /// write or a send, the same at each step of a call.
     #[inline(always)]
     pub fn step(&mut self, payload: &[u8], buf: &mut [u8]) -> Option<Answer>
         requires busy { ¬ IsIdle self.old.machine }
@@ -164,8 +166,7 @@ impl<'p> End<'p> {
         self.seat.event(words, &mut self.machine, payload, buf)
     }
 
-    /// The events that come next as long as they are on bytes of a ring. It answers how many they
-    /// were.
+    /// Makes the events that come next as long as they are on bytes of a ring. Returns how many they were.
     #[inline(always)]
     fn move_bytes(&mut self, payload: &[u8], buf: &mut [u8]) -> u32
         requires busy { ¬ IsIdle self.old.machine }
@@ -185,8 +186,8 @@ impl<'p> End<'p> {
         self.seat.move_bytes(words, &mut self.machine, payload, buf)
     }
 
-    /// Begins a call, and makes the first events of a write, a read or a drain, on a machine of its
-    /// own, as long as the compiler can see their order. `steps` counts them.
+    /// Begins a call, and makes the first events of a write, a read or a drain on a machine of its own, as long
+    /// as the compiler can see their order. `steps` counts them.
     #[inline(always)]
     fn start<L: Ledger, const WAY: u8>(
         &mut self,
@@ -214,7 +215,7 @@ impl<'p> End<'p> {
         None
     }
 
-    /// A whole call of this way; `steps` counts its events.
+    /// Makes a whole call of this way; `steps` counts its events.
     fn whole_call<L: Ledger, const WAY: u8>(
         &mut self,
         call: Call,
@@ -239,7 +240,7 @@ impl<'p> End<'p> {
         }
     }
 
-    /// A whole call; `steps` counts its events.
+    /// Makes a whole call; `steps` counts its events.
     #[inline(always)]
     pub fn counted_call<L: Ledger>(
         &mut self,
@@ -266,7 +267,7 @@ impl<'p> End<'p> {
         }
     }
 
-    /// A whole call. Its events are left as the end's trail, and the lists grow as its answer says.
+    /// Makes a whole call. Its events become the end's trail, and the lists grow as its answer tells.
     #[inline(always)]
     pub fn do_call(&mut self, call: Call, payload: &[u8], buf: &mut [u8]) -> Answer
         requires { MayMake self.old call payload.now buf.old }
@@ -275,7 +276,7 @@ impl<'p> End<'p> {
         self.uncounted::<Brand>(call, payload, buf, Blank::new(1))
     }
 
-    /// A whole call, with a counter of its own.
+    /// Makes a whole call, with a counter of its own.
     #[inline(always)]
     fn uncounted<L: Ledger>(
         &mut self,
@@ -294,8 +295,8 @@ impl<'p> End<'p> {
         self.counted_call(call, payload, buf, &mut steps)
     }
 
-    /// Gives the end up to a hostile user, with one event: a load of the consumer index of the ring
-    /// that it writes. A call under way is dropped.
+    /// Turns the end over to a hostile user, with one event: a load of the consumer index of the ring that it
+    /// writes. A call under way is dropped.
     pub fn turn(self) -> TurnedEnd<'p>
         ensures page { result.page ≡ self.entry.page }
         ensures side { (consumed : ℕ) × (result.side ≡ turns self.entry.side consumed) }
@@ -308,7 +309,7 @@ impl<'p> End<'p> {
         seat.turn(words)
     }
 
-    /// The end makes no event any more. It has retired, and so it is shut.
+    /// Ends the end's work on the page: it makes no event any more. It must have retired, and so it is shut.
     pub fn rest(self) -> Retired
         requires idle { (view self).idle ≡ true }
         requires retired { self.side.retired ≡ true }

@@ -1,8 +1,7 @@
 //! The seat of an honest end, and the events that it makes on the words of its page.
 //!
-//! The machine that says which event comes next stands apart, and so do the words, so that a whole
-//! call can keep both in local variables: after an atomic step all that lies in memory is loaded
-//! again.
+//! The machine, which tells which event comes next, is kept apart, and so are the words. So a whole call
+//! can keep both in local variables: after an atomic step everything that lies in memory is loaded again.
 ghost use Rattle.std.specs.Prelude.{◌≡◌, ◌≤◌, ◌+◌, ◌||◌, ℕ, [], ◌∷◌, length, IsSome, None, Some, ◌↔◌, false, true};
 ghost use Rattle.vchan_protocol.specs.declared.call.EndState.TheVariants.{Shut};
 ghost use Rattle.vchan_protocol.specs.Table.Plan.{after, GoesOn};
@@ -31,8 +30,8 @@ use std::sync::ledger::Ledger;
 use vchan_core::words::{cons_word, written_ring};
 use vchan_core::{Ahead, Answer, Call, Machine, Op, Steps};
 
-/// The ways of a whole call: a write, a read and a drain make most of their events in an order that
-/// the compiler can see.
+/// The ways of a whole call: a write, a read and a drain make most of their events in an order that the
+/// compiler can see.
 pub(crate) const WRITES: u8 = 0;
 
 pub(crate) const READS: u8 = 1;
@@ -44,7 +43,7 @@ pub(crate) const OTHERWISE: u8 = 3;
 /// The stretch in which a drain that found nothing asks for a signal.
 const ASKS: u8 = 4;
 
-/// An end's seat at the table of its page, and all of the end but the words and its machine.
+/// An end's seat at the table of its page: all of the end except the words and its machine.
 #[derive(Drop)]
 pub(crate) struct EndSeat {
     seat: Place,
@@ -67,7 +66,7 @@ impl Model for EndSeat {
     ghost invariant = { λ e. (e.seat.me ≡ (One (end_in e.seat.me.0), [])) × ((end_in e.seat.me.0).orders ≡ e.layout.orders) × ((end_in e.seat.me.0).role ≡ e.role) × ((end_in e.seat.me.0).retired ≡ e.retired) };
 }
 
-/// A ring byte that was loaded goes to its place in the buffer.
+/// Puts a ring byte that was loaded at its place in the buffer.
 #[inline(always)]
 fn land(op: Op, value: u64, buf: &mut [u8])
     requires { (orders : _) × (out : ℕ) × Fits orders out (length buf.old) op }
@@ -78,7 +77,7 @@ fn land(op: Op, value: u64, buf: &mut [u8])
     }
 }
 
-/// Whether an end is retired after an event: it is from its store to its own gone word on.
+/// Returns whether an end is retired after an event: it is from its store to its own gone word on.
 #[inline(always)]
 fn retired_after(op: Op, role: Role, retired: bool) -> bool
     ensures { result ≡ (sets_gone op role || retired) }
@@ -94,7 +93,7 @@ fn retired_after(op: Op, role: Role, retired: bool) -> bool
 }
 
 impl EndSeat {
-    /// The seat of an end that has not retired and is in no call.
+    /// Makes the seat of an end that has not retired and is in no call.
     pub(crate) fn new(seat: Place, role: Role, orders: Orders) -> EndSeat
         requires one { seat.me ≡ (One (end_in seat.me.0), []) }
         requires side { ((end_in seat.me.0).orders ≡ orders) × ((end_in seat.me.0).role ≡ role) × ((end_in seat.me.0).retired ≡ false) }
@@ -137,7 +136,7 @@ impl EndSeat {
         self.begun = Snapshot::of(&Some(call));
     }
 
-    /// The next event of the call under way, as one step of the table.
+    /// Makes the next event of the call under way, as one step of the table.
     #[inline(always)]
     pub(crate) fn event(
         &mut self,
@@ -175,8 +174,7 @@ impl EndSeat {
         machine.took(value)
     }
 
-    /// The events that come next as long as they are on bytes of a ring. It answers how many they
-    /// were.
+    /// Makes the events that come next as long as they are on bytes of a ring. Returns how many they were.
     #[inline(always)]
     pub(crate) fn move_bytes(
         &mut self,
@@ -221,7 +219,7 @@ impl EndSeat {
         }
     }
 
-    /// The next event of the call under way; `steps` counts it.
+    /// Makes the next event of the call under way; `steps` counts it.
     #[inline(always)]
     fn counted_event<L: Ledger>(
         &mut self,
@@ -242,7 +240,7 @@ impl EndSeat {
         self.event(words, machine, payload, buf)
     }
 
-    /// The events on bytes of a ring that come next; `steps` counts them.
+    /// Makes the next events as long as they are on bytes of a ring; `steps` counts them.
     #[inline(always)]
     fn counted_bytes<L: Ledger>(
         &mut self,
@@ -264,8 +262,8 @@ impl EndSeat {
         steps.add(moved);
     }
 
-    /// A look at the peer's index, the bytes, the index that shows or releases them, and the look
-    /// whether the peer asked for a signal: the events of most calls that move bytes.
+    /// Makes a look at the peer's index, then moves the bytes, stores the index that shows or releases them,
+    /// and tests whether the peer asked for a signal: the events of most calls that move bytes.
     #[inline(always)]
     fn look_and_move<L: Ledger, const WAY: u8>(
         &mut self,
@@ -309,8 +307,8 @@ impl EndSeat {
         self.counted_event(words, machine, payload, buf, steps)
     }
 
-    /// A drain that has begun: a look, and then as in `look_and_move` where it found bytes, and else the
-    /// events of a drain that finds none.
+    /// Goes on with a drain that has begun: a look, then the events of `look_and_move` if it found bytes, and
+    /// else those of a drain that finds none.
     #[inline(always)]
     fn look_and_drain<L: Ledger>(
         &mut self,
@@ -336,8 +334,8 @@ impl EndSeat {
         self.two_events::<L, DRAINS>(words, machine, payload, buf, steps)
     }
 
-    /// A drain that found nothing: it asks for a signal and looks again, and where nothing came it
-    /// looks whether the peer is live, and whether it is gone.
+    /// Goes on with a drain that found nothing: it asks for a signal and looks again, and if nothing came it
+    /// checks whether the peer is live, and whether it is gone.
     #[inline(always)]
     fn find_none<L: Ledger>(
         &mut self,
@@ -359,7 +357,7 @@ impl EndSeat {
         self.two_events::<L, OTHERWISE>(words, machine, payload, buf, steps)
     }
 
-    /// A write that has begun: a look whether the peer is live, and then as in `look_and_move`.
+    /// Goes on with a write that has begun: it checks whether the peer is live, and then as `look_and_move`.
     #[inline(always)]
     fn live_and_move<L: Ledger>(
         &mut self,
@@ -381,8 +379,8 @@ impl EndSeat {
         self.look_and_move::<L, WRITES>(words, machine, payload, buf, steps)
     }
 
-    /// The first events of a call of this way that was just begun; most writes, reads and drains are
-    /// over then. A call of no such way makes no event here.
+    /// Makes the first events of a call of this way that was just begun; most writes, reads and drains are over
+    /// then. It makes no event of any other call.
     #[inline(always)]
     pub(crate) fn quickly<L: Ledger, const WAY: u8>(
         &mut self,
@@ -406,7 +404,7 @@ impl EndSeat {
         }
     }
 
-    /// Gives the end up, with one event: a load of the consumer index of the ring that it writes.
+    /// Turns the end over to a hostile user, with one event: a load of the consumer index of its own ring.
     pub(crate) fn turn<'p>(self, words: EndWords<'p>) -> TurnedEnd<'p>
         requires words { AreWordsOf words.table words.key self }
         requires honest { self.side.turned ≡ false }
@@ -430,7 +428,7 @@ impl EndSeat {
         }
     }
 
-    /// The end makes no event any more.
+    /// Ends the end's work on the page: it makes no event any more.
     pub(crate) fn rest(self) -> Retired
         requires honest { self.side.turned ≡ false }
         requires retired { self.side.retired ≡ true }

@@ -21,8 +21,8 @@ use std::snapshot::Snapshot;
 use std::sync::Arc;
 use vchan_io::Memory;
 
-/// A page that lives as long as someone holds it, as memory does that two domains have mapped. Each of
-/// its ends holds it too.
+/// A page that lives as long as someone holds it, as memory does that two domains have mapped. Each of its
+/// ends holds it too.
 #[derive(Drop)]
 pub struct HeldPage {
     table: Arc<PageTable, Global>,
@@ -44,8 +44,8 @@ impl Model for HeldPage {
 }
 
 impl HeldPage {
-    /// A page of these start words and its two seats: the server's and the client's. Its error is want
-    /// of memory.
+    /// Makes a page of these start words and its two seats: the server's and the client's. Returns `Memory` if
+    /// memory runs out.
     pub fn lay(alloc: Global, start: &StartWords) -> Result<(HeldPage, IdleSeat, IdleSeat), Memory>
         ensures { IfOk result (λ p. (p.0.orders ≡ start.now.orders) × (p.0.start ≡ start.now.start) × (p.1 ≡ record { page = p.0; role = Server }) × (p.2 ≡ record { page = p.0; role = Client })) }
     {
@@ -54,7 +54,7 @@ impl HeldPage {
         Ok((page, server, client))
     }
 
-    // The same page, held.
+    // Returns the same page, reference-counted.
     fn keep(alloc: Global, page: Page) -> Result<HeldPage, AllocError>
         ensures { IfOk result (λ p. p ≡ page) }
     {
@@ -67,7 +67,7 @@ impl HeldPage {
         })
     }
 
-    /// The same page, for one more who holds it. Its error is want of memory.
+    /// Returns one more handle on the same page. Returns `Memory` if memory runs out.
     pub fn hold(&self) -> Result<HeldPage, Memory>
         ensures { IfOk result (λ p. p ≡ self.now) }
     {
@@ -78,15 +78,15 @@ impl HeldPage {
         })
     }
 
-    /// Whether it has these orders, and its indices began at `start`.
+    /// Returns whether the page has these orders, and its indices began at `start`.
     pub fn begins_with(&self, orders: Orders, start: u32) -> bool
         ensures { IsTrue result ↔ ((self.now.orders ≡ orders) × (self.now.start ≡ start)) }
     {
         self.orders == orders && self.start == start
     }
 
-    /// The end of a seat, which is one of the two that `lay` gave with this page. It holds the page
-    /// until it is done. A server is open and a client fresh.
+    /// Makes the end of a seat, which must be one of the two that `lay` gave with this page. The end holds the
+    /// page until it is done. A server is open and a client fresh.
     pub fn attach<'p>(self, seat: IdleSeat) -> End<'p>
         requires { seat.page ≡ self }
         ensures page { (result.page ≡ self.table) × (result.start ≡ self.start) }
@@ -101,8 +101,8 @@ impl HeldPage {
         seat.attach(EndWords::held(table), orders, start)
     }
 
-    /// What stands of the page, once both its ends are done. Both come from the two seats of this page.
-    /// What is settled has the page's orders, its start and the two ends as they were.
+    /// Returns what holds of the page after both its ends are done. The two must come from the two seats of
+    /// this page. The result has the page's orders, its start and the two ends as they were.
     pub fn settle(&self, server: Retired, client: Retired) -> Settled
         requires server { (server.page ≡ self.now.table) × (server.side.role ≡ Server) }
         requires client { (client.page ≡ self.now.table) × (client.side.role ≡ Client) }
@@ -131,7 +131,7 @@ impl HeldPage {
     }
 }
 
-// One step by the seat that knows both ends, which shows what stands of them.
+// Makes one step by the seat that knows both ends, which shows what holds of them.
 fn show_settled<T: Told>(words: &PageWords, seat: &mut Place)
     requires seat { (seat.old.table_id ≡ words.now.table_id) × (0 < words.now.table_id.words) }
     requires both { (server : _) × (client : _) × (seat.old.me ≡ (Both server client, [])) }

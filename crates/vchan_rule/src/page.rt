@@ -19,8 +19,8 @@ use std::snapshot::Snapshot;
 use vchan_core::{EndState, start_words};
 use vchan_io::Memory;
 
-/// The words with which pages of these orders begin, made once for any number of pages: all
-/// indices at this start, the order words saying these orders, and the client fresh.
+/// The words with which pages of these orders begin, made once for any number of pages: all indices are at
+/// this start, the order words hold these orders, and the client is fresh.
 #[derive(Drop)]
 pub struct StartWords {
     words: Words,
@@ -43,8 +43,8 @@ impl Model for StartWords {
 }
 
 impl StartWords {
-    /// The words for pages of these orders whose indices begin at `start`. Its error is want of
-    /// memory.
+    /// Makes the words for pages of these orders whose indices begin at `start`. Returns `Memory` if memory
+    /// runs out.
     pub fn new(alloc: Global, orders: Orders, start: u32) -> Result<StartWords, Memory>
         ensures { IfOk result (λ w. (w.orders ≡ orders) × (w.start ≡ start)) }
     {
@@ -103,7 +103,7 @@ impl Model for IdleSeat {
 }
 
 impl IdleSeat {
-    /// The end of this seat, by the words of its page.
+    /// Makes the end of this seat, with the words of its page.
     pub(crate) fn attach<'p>(self, words: EndWords<'p>, orders: Orders, start: u32) -> End<'p>
         requires page { (self.page.table ≡ words.table) × (self.page.orders ≡ orders) × (self.page.start ≡ start) }
         requires words { (words.table.words ≡ word_count orders) × (words.key.orders ≡ orders) × (words.key.start ≡ start) }
@@ -126,9 +126,11 @@ impl IdleSeat {
 }
 
 impl Page {
-    /// A page with the start values, whose order words say its orders, and its two seats: the
-    /// server's and the client's. Its error is want of memory. Whoever opens many pages of the same
-    /// orders makes their start words once, and lays each page from these.
+    /// Makes a page with the start values, whose order words hold its orders, and its two seats: the server's
+    /// and the client's. Returns `Memory` if memory runs out.
+    ///
+    /// To make many pages of the same orders, make their start words once, and make each page from these with
+    /// [`Page::lay`].
     pub fn open(
         alloc: Global,
         orders: Orders,
@@ -140,8 +142,8 @@ impl Page {
         Page::lay(alloc, &words)
     }
 
-    /// A page of these start words and its two seats, as `open` gives them. Its error is want of
-    /// memory.
+    /// Makes a page of these start words and its two seats, as `open` gives them. Returns `Memory` if memory
+    /// runs out.
     pub fn lay(alloc: Global, start: &StartWords) -> Result<(Page, IdleSeat, IdleSeat), Memory>
         ensures { IfOk result (λ p. (p.0.orders ≡ start.now.orders) × (p.0.start ≡ start.now.start) × (p.1 ≡ record { page = p.0; role = Server }) × (p.2 ≡ record { page = p.0; role = Client })) }
     {
@@ -171,8 +173,8 @@ impl Page {
         Ok((page, server, client))
     }
 
-    /// The end of a seat, which is one of the two that `open` gave with this page. A server is open
-    /// and a client fresh.
+    /// Makes the end of a seat, which must be one of the two that `open` or `lay` gave with this page. A server
+    /// is open and a client fresh.
     pub fn attach(&self, seat: IdleSeat) -> End<'_>
         requires { seat.page ≡ self.now }
         ensures page { (result.page ≡ self.now.table) × (result.start ≡ self.now.start) }
@@ -182,7 +184,7 @@ impl Page {
         seat.attach(EndWords::lent(&self.table.shared), self.orders, self.start)
     }
 
-    /// Its table, its orders and its first index.
+    /// Returns its table, its orders and its first index.
     pub(crate) fn into_parts(self) -> (PageTable, Orders, u32)
         ensures parts { (result.0.shared.table_id ≡ self.table) × (result.1 ≡ self.orders) × (result.2 ≡ self.start) }
         ensures words { (result.0.shared.table_id.words ≡ word_count self.orders) × (result.0.shared.key.orders ≡ self.orders) × (result.0.shared.key.start ≡ self.start) }
@@ -195,8 +197,8 @@ impl Page {
         (table, orders, start)
     }
 
-    /// Closes the page, once both its ends are done. Both come from the two seats of this page. What is
-    /// settled has the page's orders, its start and the two ends as they were.
+    /// Closes the page, after both its ends are done. The two must come from the two seats of this page. The
+    /// result has the page's orders, its start and the two ends as they were.
     pub fn finish(self, server: Retired, client: Retired) -> Settled
         requires server { (server.page ≡ self.table) × (server.side.role ≡ Server) }
         requires client { (client.page ≡ self.table) × (client.side.role ≡ Client) }
@@ -230,8 +232,7 @@ impl Page {
     }
 }
 
-/// A page that is done with, and what stands of it. Only `Page::finish` and `HeldPage::settle`
-/// make one.
+/// A page that is done with, and what holds of it. Only `Page::finish` and `HeldPage::settle` make one.
 #[derive(Drop)]
 pub struct Settled {
     pub(crate) seen: Snapshot<Place>,
@@ -254,23 +255,22 @@ impl Model for Settled {
 }
 
 impl Settled {
-    /// What stands of the page. Between honest ends what was got begins what was sent, and is all of
-    /// it where the ring is drained; of a writer that was given up its honest reader has what was
-    /// sent before.
+    /// Gives what holds of the page. Between honest ends what was got begins what was sent, and is all of it if
+    /// the ring is drained. If a writer was turned, its honest reader has what was sent before.
     pub fn promise(&self)
         ensures { IsSettled self.now }
     {
         let _ = &self.seen;
     }
 
-    /// Whether the server was given up.
+    /// Returns whether the server was turned over to a hostile user.
     pub fn server_turned(&self) -> bool
         ensures { result ≡ self.now.server.turned }
     {
         self.server_turned
     }
 
-    /// Whether the client was given up.
+    /// Returns whether the client was turned over to a hostile user.
     pub fn client_turned(&self) -> bool
         ensures { result ≡ self.now.client.turned }
     {

@@ -5,18 +5,18 @@ use std::alloc::Global;
 use std::marker::{Brand, PhantomData};
 use vchan_core::Side;
 
-/// What a seat at the table knows. It exists in proofs alone: no value of it is made.
+/// What a seat at the table knows. It exists only in proofs: no value of it is made.
 pub enum View {
     /// Both ends, at the opening.
     Whole {
         /// The orders of the rings.
         orders: Orders,
-        /// Where all indices begin.
+        /// The number at which all indices begin.
         start: u32,
     },
     /// One end.
     One(Side),
-    /// Both ends, once the page is done with.
+    /// Both ends, after the page is done with.
     Both {
         /// The server.
         server: Side,
@@ -27,17 +27,17 @@ pub enum View {
     Spent,
 }
 
-/// What the table is told once, when it is made.
+/// What the table is told when it is made.
 #[derive(Drop)]
 pub struct Opening {
     /// The orders of the rings.
     pub orders: Orders,
-    /// Where all indices begin.
+    /// The number at which all indices begin.
     pub start: u32,
 }
 
-/// The rule of a page: its words and the views make up a core state that may come, so that all
-/// holds of it that holds of a page at each moment.
+/// The rule of a page: its words and the views make up a core state that may come, and so all holds of
+/// it that holds of a page at each moment.
 pub struct PageRule;
 
 impl TableRule<(), View, Opening> for PageRule {
@@ -55,8 +55,8 @@ pub type PageTable = Table<(), View, Opening, PageRule, Global>;
 
 pub type Place = Seat<(), View>;
 
-/// Which event a step is, for the proof alone: the end before it, inside its call. A call at
-/// `Brand` picks it.
+/// Which event a step is, for the proof only: the end before it, within its call. A call at `Brand`
+/// picks it.
 pub trait Event {
     ghost use Rattle.vchan_protocol.specs.declared.side.Side.{Side};
     ghost use Rattle.vchan_protocol.specs.declared.op.Op.{Op};
@@ -97,7 +97,7 @@ impl<E: Event> Play<(), View> for GivesUp<E> {
     ghost then = { gives_up E.before };
 }
 
-/// The step is an event of an end that was given up.
+/// The step is an event of an end that was turned.
 pub struct Strays<E> {
     event: PhantomData<E>,
 }
@@ -108,7 +108,7 @@ impl<E: Event> Play<(), View> for Strays<E> {
     ghost then = { wanders E.before E.op };
 }
 
-/// What the table was told, for the proof alone. A call at `Brand` picks it.
+/// What the table was told, for the proof only. A call at `Brand` picks it.
 pub trait Told {
     ghost use Rattle.vchan_rule.specs.declared.rule.Opening.{Opening};
 
@@ -121,7 +121,7 @@ impl Told for Brand {
     ghost key = { nothing_told };
 }
 
-/// The step shows what stands of a page whose ends are both done.
+/// The step shows what holds of a page whose ends are both done.
 pub struct Settling<T> {
     told: PhantomData<T>,
 }

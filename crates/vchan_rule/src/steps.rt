@@ -19,7 +19,7 @@ use std::marker::Brand;
 use std::snapshot::Snapshot;
 use vchan_core::{Call, Machine, Op, Span};
 
-/// The event `op` of the end that `E` names, on the table.
+/// Makes the event `op` of the end that `E` names, on the table.
 #[inline(always)]
 pub(crate) fn perform<E: Event>(
     words: &PageWords,
@@ -56,7 +56,7 @@ pub(crate) fn perform<E: Event>(
     }
 }
 
-/// One byte of a put: the next event of the end that `E` names, on the word of this number.
+/// Makes one byte of a put: the next event of the end that `E` names, on the word of this number.
 #[inline(always)]
 fn put_byte<E: Event>(
     words: &PageWords,
@@ -81,7 +81,7 @@ fn put_byte<E: Event>(
     words.store::<Makes<E>>(seat, number, u64::from(payload[at as usize]));
 }
 
-/// One byte of a take: the next event of the end that `E` names, on the word of this number.
+/// Makes one byte of a take: the next event of the end that `E` names, on the word of this number.
 #[inline(always)]
 fn take_byte<E: Event>(
     words: &PageWords,
@@ -104,7 +104,7 @@ fn take_byte<E: Event>(
     words.load::<Makes<E>>(seat, number)
 }
 
-/// Stores the bytes of a put, each as one step of the table, and no other event lies between them.
+/// Stores the bytes of a put, each as one step of the table; the end makes no other event between them.
 #[inline(always)]
 pub(crate) fn put_bytes(
     words: &PageWords,
@@ -144,7 +144,7 @@ pub(crate) fn put_bytes(
     }
 }
 
-/// Loads the bytes of a take, each as one step of the table, and no other event lies between them.
+/// Loads the bytes of a take, each as one step of the table; the end makes no other event between them.
 #[inline(always)]
 pub(crate) fn take_bytes(
     words: &PageWords,
@@ -187,7 +187,7 @@ pub(crate) fn take_bytes(
     }
 }
 
-/// The end that `E` names is given up: a load.
+/// Turns the end that `E` names over to a hostile user, by a load.
 pub(crate) fn give_up<E: Event>(
     words: &PageWords,
     seat: &mut Place,
@@ -203,7 +203,7 @@ pub(crate) fn give_up<E: Event>(
     words.load::<GivesUp<E>>(seat, layout.word(word));
 }
 
-/// A load by an end that was given up.
+/// Makes a load by an end that was turned.
 pub(crate) fn stray_load<E: Event>(
     words: &PageWords,
     seat: &mut Place,
@@ -219,7 +219,7 @@ pub(crate) fn stray_load<E: Event>(
     words.load::<Strays<E>>(seat, layout.word(word))
 }
 
-/// A store by an end that was given up.
+/// Makes a store by an end that was turned.
 pub(crate) fn stray_store<E: Event>(
     words: &PageWords,
     seat: &mut Place,

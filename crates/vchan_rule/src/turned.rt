@@ -1,4 +1,4 @@
-//! An end that was given up to a hostile user, and an end that makes no event any more.
+//! An end that was turned over to a hostile user, and an end that makes no event any more.
 ghost use Rattle.std.specs.Prelude.{◌≡◌, true};
 ghost use Rattle.vchan_protocol.specs.Table.Ends.{peer_pending as peer_pending_of, own_gone as own_gone_of};
 ghost use Rattle.vchan_protocol.specs.Hostile.Turned.{strays, MayPoke};
@@ -11,8 +11,8 @@ use std::marker::{Brand, Model};
 use vchan_core::Op;
 use vchan_core::words::{own_gone, peer_pending};
 
-/// An end that was given up to a hostile user, who may load and store any word that lies on the
-/// shared page or in its rings, and may signal the peer. It stays given up.
+/// An end that was turned over to a hostile user, which may load and store any word that lies on the
+/// shared page or in its rings, and may signal the peer. It stays turned.
 #[derive(Drop)]
 pub struct TurnedEnd<'p> {
     pub(crate) words: EndWords<'p>,
@@ -36,21 +36,21 @@ impl<'p> Model for TurnedEnd<'p> {
 }
 
 impl<'p> TurnedEnd<'p> {
-    /// Which end it is.
+    /// Returns which end it is.
     pub fn role(&self) -> Role
         ensures { result ≡ self.now.side.role }
     {
         self.role
     }
 
-    /// The orders of the page.
+    /// Returns the orders of the page.
     pub fn orders(&self) -> Orders
         ensures { result ≡ self.now.side.orders }
     {
         self.layout.orders
     }
 
-    /// A load of a word: a field of the header that lies on the shared page, or a ring byte.
+    /// Loads a word: a field of the header that lies on the shared page, or a ring byte.
     pub fn load(&mut self, word: WordName) -> u64
         requires { MayPoke self.old.side.orders word }
         ensures same { self.new.page ≡ self.old.page }
@@ -59,7 +59,7 @@ impl<'p> TurnedEnd<'p> {
         stray_load::<Brand>(self.words.get(), &mut self.seat, &self.layout, word)
     }
 
-    /// A store to such a word.
+    /// Stores a value in such a word.
     pub fn store(&mut self, word: WordName, value: u64)
         requires { MayPoke self.old.side.orders word }
         ensures same { self.new.page ≡ self.old.page }
@@ -99,7 +99,7 @@ impl<'p> TurnedEnd<'p> {
     }
 }
 
-/// An end that makes no event any more: one that has retired, or that was given up and is done.
+/// An end that makes no event any more: one that has retired, or that was turned and is done.
 #[derive(Drop)]
 pub struct Retired {
     pub(crate) seat: Place,
@@ -122,14 +122,14 @@ impl Model for Retired {
 }
 
 impl Retired {
-    /// Which end it was.
+    /// Returns which end it was.
     pub fn role(&self) -> Role
         ensures { result ≡ self.now.side.role }
     {
         self.role
     }
 
-    /// Whether it was given up to a hostile user.
+    /// Returns whether it was turned over to a hostile user.
     pub fn turned(&self) -> bool
         ensures { result ≡ self.now.side.turned }
     {

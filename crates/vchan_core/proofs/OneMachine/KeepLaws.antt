@@ -116,7 +116,7 @@ same_order a b same = moved a.number a.in_range same
         let P : ℕ → Type 0 = λ n. (p : (10 ≤ n) × (n ≤ 20)) → (let whole : Order = record { number = n; in_range = p } in whole) ≡ b in
         subst P (sym is) here p
 
--- and the orders of a page by those of its rings
+-- the orders of a page are told by those of its rings
 same_rings : (a b : Orders) → a.left ≡ b.left → a.right ≡ b.right → a ≡ b
 same_rings a b left right = on_left a.left left a.right right a.distinct
   where
@@ -142,7 +142,7 @@ pub same_machine : (m : Machine) (role : Role) (orders : Orders) (state : EndSta
     → (let whole : Machine = record { role = role; orders = orders; state = state; prod = prod; cons = cons; phase = phase } in whole) ≡ m
 same_machine m role orders state prod cons phase r o s p c f = rw r (rw o (rw s (rw p (rw c (rw f refl)))))
 
--- no two machines are kept as the same numbers
+-- no two machines have the same numbers
 pub same_kept : (a b : Machine) → IsShort a → IsShort b → kept_of a ≡ kept_of b → a ≡ b
 same_kept a b short other is =
     let role_is : Some a.role ≡ Some b.role = sym (role_back a.role) ∙ (ap (λ (k : Kept). role_told k.role) is ∙ role_back b.role) in

@@ -1,4 +1,4 @@
--- What holds of a core state for which a page stands holds on after each call on the page.
+-- What holds of a core state for which a page stands still holds after each call on the page.
 use Rattle.std.proofs.Common.{◌≡◌, ℕ, ◌<◌, ◌≤◌, false, Option, Some, None, List, length, take, slice_index, refl, subst, sym, ◌∙◌}
 use Rattle.std.proofs.lemmas.List.{get_or_default}
 use Rattle.std.proofs.lemmas.List.Elements.{All-take}
@@ -38,7 +38,7 @@ use Rattle.vchan_protocol.specs.Honest.Lawful.{Lawful, IsEnd}
 use Rattle.vchan_protocol.specs.Lists.ListLaw.{FollowsLists}
 use Rattle.vchan_protocol.proofs.Lists.ListWhole.{tells_lists, follows_lists}
 
--- the end was turned exactly where the page says so
+-- if the page tells that an end isn't turned, it isn't
 turned_stands : (core : Core) (page : Plain) (who : Role) → StandsFor core page → turned_of page who ≡ false → (side_of core who).turned ≡ false
 turned_stands core page Server h honest = sym h.server_turned ∙ honest
 turned_stands core page Client h honest = sym h.client_turned ∙ honest
@@ -47,7 +47,7 @@ role_stands : (core : Core) (who : Role) → TurnedLawful core → (side_of core
 role_stands core Server h = h.server_end.role_is
 role_stands core Client h = h.client_end.role_is
 
--- where the machine is idle the end is between two calls
+-- if the machine is idle, the end is between two calls
 idle_stands : (s : Side) (m : Machine) → IsMachineOf s m → IsIdle m → s.call ≡ None
 idle_stands s m h idle = go s.call refl h.in_call
   where

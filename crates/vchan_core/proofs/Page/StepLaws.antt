@@ -125,7 +125,7 @@ made_stands s m m' result taken h busy leads idle stands = go result leads idle
 capped_twice : (count more : ℕ) → capped (capped count + more) ≡ capped (count + more)
 capped_twice count more = omega arith
 
--- an own index that moves on by so many bytes
+-- an own index that moves on by this many bytes
 moves_on : (start count value : ℕ) → start < 2 ^ 32 → count < 2 ^ 32 → value ≡ (start + count) % 2 ^ 32 → diff (value % 2 ^ 32) start ≡ count
 unfolding diff
 moves_on start count value low few is = rw is (grind (arith, nat_tests))
@@ -138,7 +138,7 @@ grows : (list more : List ℕ) (start value : ℕ) → start < 2 ^ 32 → length
 grows list more start value low few is =
     ap (λ (d : ℕ). capped (capped (length list) + d)) (moves_on start (length more) value low few is) ∙ omega (arith, length-append list more)
 
--- where the end stores a word, its counts and its lists grow alike
+-- when the end stores a word, its counts and its lists grow alike
 sent_grows : (word : WordName) (role : Role) (now : Standing) (trail : List PastEvent) (payload sent : List ℕ) (l value : ℕ) → now.prod < 2 ^ 32 → count_stored trail ≤ length payload → count_stored trail < 2 ^ 32 →
     OwesIndex word role now (count_stored trail) l value →
     capped (capped (length sent) + diff (prod_stored word role value now.prod) now.prod) ≡ capped (length (sent_stored word role trail payload sent))
@@ -170,7 +170,7 @@ pub record DoesEvent (orders : Orders) (words source : List ℕ) (m m' : Machine
   pub reads_are : reads' ≡ record reads { got = capped (reads.got + diff (standing m').cons (standing m).cons) }
   pub low : ((standing m).prod < 2 ^ 32) × ((standing m).cons < 2 ^ 32)
 
--- what is moved is few, and within the payload
+-- fewer than 2 ^ 32 bytes are moved, and no more than the payload has
 few_moved : (s : Side) (m : Machine) (c : InCall s m) → (count_stored s.trail ≤ length s.payload) × (count_stored s.trail < 2 ^ 32) × (length (bytes_loaded s.trail) < 2 ^ 32)
 few_moved s m c =
     let e = begun_standing s c.begun in
@@ -320,7 +320,7 @@ answer_is core who orders words m m' result h same_orders same_words busy leads 
 
 -- ---- the machine of one end, whatever its peer is
 
--- a machine that was begun on a call, and has made no event of it yet, stands for its end once the call is written into that
+-- a machine that began a call and has made no event of it yet stands for its end after that has begun the call
 pub begins_stands : (call : Call) (m : Machine) (s : Side) (payload : List ℕ) → ¬ IsIdle m → standing m ≡ standing_of s → rest m ≡ plan_of (standing m) call → length payload ≡ payload_of call →
     IsMachineOf (begins s call payload) m
 begins_stands call m s payload busy stands plan pays =

@@ -15,7 +15,7 @@ use Rattle.vchan_protocol.specs.History.Core.{Core, standing_of}
 use Rattle.vchan_core.specs.Page.StandsFor.{IsMachineOf, StandsFor, machine_of, other_of, turned_of, other_turned_of, words_of, orders_of}
 use Rattle.vchan_protocol.specs.Hostile.Turned.{turns, turned_side, strays, strayed}
 
--- what the code of a hostile event does: it gives the end up, and then stores to the words
+-- what the code of a hostile event does: it turns the end, and then stores to the words
 pub record DoesStray (who : Role) (op : Op) (page given page' : Plain) : Type 0 where
   pub idle : IsIdle (machine_of given who)
   pub stands : standing (machine_of given who) ≡ standing (machine_of page who)

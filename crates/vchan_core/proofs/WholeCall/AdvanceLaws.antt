@@ -58,7 +58,7 @@ settled-call : (s : Side) (plan : Plan) (m : Machine) → IsMachineOf (settled s
 settled-call s (answers answer) m h busy = absurd (busy h.in_call)
 settled-call s (does op next) m h busy = refl
 
--- where an end has its begun call, it stood there as it stood at its begin
+-- if an end has a call that it began, it stood at its begin as this other one did
 begun_as : (s s' : Side) (b : Begun) → Keeps s s' → begun_standing s' b ≡ begun_standing s b
 begun_as s s' b k i = record { role = k.role i; orders = k.orders i; state = b.state; prod = b.prod; cons = b.cons }
 
@@ -73,7 +73,7 @@ stepped-none : (n : ℕ) (core : Core) (who : Role) → n ≡ 0 → stepped n co
 unfolding stepped
 stepped-none n core who is = ap (λ (k : ℕ). stepped k core who) is
 
--- the page stands where the events made so far came to; so many of those in all are left
+-- the page stands where the events made so far came to; this many of all events are left
 pub record IsAdvancing (core : Core) (who : Role) (all left : ℕ) (page : Plain) (source start buffer : List ℕ) : Type 0 where
   pub now : Core
   pub stands : StandsFor now page
@@ -196,7 +196,7 @@ advance_over core who all left page source start buffer none a =
       invariant = λ honest kept. subst (λ (p : Core × Option Answer). Invariant p.0) over (a.invariant honest kept);
     }
 
--- ---- so many events on ring bytes at once
+-- ---- several events on ring bytes at once
 
 advance_along : (core : Core) (who : Role) (all : ℕ) (source start : List ℕ) (n left : ℕ) (page page' : Plain) (buffer buffer' : List ℕ) → n ≤ left → length buffer ≡ length start →
     IsAdvancing core who all left page source start buffer → IsLow (machine_of page who) → IsBeside who page page' →
@@ -211,7 +211,7 @@ advance_along core who all source start (suc n) left page page' buffer buffer' f
     (advance_along core who all source start n (left - 1) f.mid page' f.filled buffer' (omega (arith, few)) long'
     (advance_on core who all left source start buffer f.filled page f.mid None (omega (arith, few)) long a step refl) f.low f.then_beside f.more)
 
--- ---- the loop, whose phase lies beside the page
+-- ---- the loop, whose phase is kept outside the page
 
 pub record InAdvance (first : Plain) (who : Role) (all : ℕ) (source start : List ℕ) (left : ℕ) (page : Plain) (phase : Phase) (buffer : List ℕ) : Type 0 where
   pub idle : IsIdle (machine_of page who)
@@ -221,7 +221,7 @@ pub record InAdvance (first : Plain) (who : Role) (all : ℕ) (source start : Li
   pub long : length buffer ≡ length start
   pub on : (core : Core) → StandsFor core first → HasPayload (side_of core who) source → IsAdvancing core who all left (page_at page who phase) source start buffer
 
--- the page at its phase, where the machine took it out
+-- the page at its phase, which was taken out of the machine
 page_taken : (first : Plain) (who : Role) (page : Plain) (phase : Phase) → IsBeside who first page → machine_of first who ≡ at_phase (machine_of page who) phase → IsBeside who first (page_at page who phase) × (machine_of (page_at page who phase) who ≡ machine_of first who) × (words_of (page_at page who phase) ≡ words_of page)
 page_taken first Server page phase b is = (record { same = b.same; orders = b.orders; other = b.other; turned = b.turned; other_turned = b.other_turned; left = b.left; right = b.right }, sym is, refl)
 page_taken first Client page phase b is = (record { same = b.same; orders = b.orders; other = b.other; turned = b.turned; other_turned = b.other_turned; left = b.left; right = b.right }, sym is, refl)
@@ -307,7 +307,7 @@ pub advance_done : (first : Plain) (who : Role) (all : ℕ) (source start : List
 advance_done first who all source start left page page' phase answer buffer buffer' some d l core h has =
     advance_out core who all left source start buffer buffer' (page_at page who phase) page' (Some answer) some l.long (l.on core h has) (step_done who source page page' phase answer buffer buffer' d) answer refl
 
--- the phase is put back where no event is left
+-- the phase is put back when no event is left
 pub advance_stop : (first : Plain) (who : Role) (all : ℕ) (source start : List ℕ) (left : ℕ) (page page' : Plain) (phase : Phase) (buffer : List ℕ) → left ≡ 0 → IsBeside who page page' → words_of page' ≡ words_of page →
     machine_of page' who ≡ at_phase (machine_of page who) phase → InAdvance first who all source start left page phase buffer →
     (core : Core) → StandsFor core first → HasPayload (side_of core who) source → Advances core who all page' start buffer None

@@ -1,4 +1,4 @@
--- The loop of a whole call, where it makes several events at once.
+-- The loop of a whole call, when it makes several events at once.
 use Rattle.std.proofs.Common.{◌≡◌, ℕ, suc, zero, ◌+◌, ◌^◌, ◌<◌, ◌≤◌, Some, None, List, [], ◌∷◌, ◌++◌, length, take, refl, subst, sym, ap, ◌∙◌, arith}
 use Rattle.std.proofs.lemmas.List.{length_push, length-set}
 use Rattle.std.proofs.lemmas.Bool.{false≢true}
@@ -101,7 +101,7 @@ length-buffer_after orders words buffer (And word bits) = refl
 length-buffer_after orders words buffer (Swap word value) = refl
 length-buffer_after orders words buffer Nothing = refl
 
--- after so many events of a call that began on this page with this buffer
+-- after this many events of a call that began on this page with this buffer
 pub record InLoop (first : Plain) (who : Role) (call : Call) (source start : List ℕ) (page : Plain) (buffer : List ℕ) (count : ℕ) : Type 0 where
   pub busy : ¬ IsIdle (machine_of page who)
   pub payload_left : payload_needed (machine_of page who) ≤ length source
@@ -297,7 +297,7 @@ first_event who source n page page' buffer buffer' low beside d =
           (subst (λ (x : Machine). MakesEvents n (orders_of page) source x list filled (machine_of page' who) (words_of page') buffer') (sym has.machine) more));
     }
 
--- so many events on ring bytes at once
+-- this many events on ring bytes at once
 pub loop_along : (first : Plain) (who : Role) (call : Call) (source start : List ℕ) → payload_of call ≤ length source → (n : ℕ) (page page' : Plain) (buffer buffer' : List ℕ) (count : ℕ) →
     InLoop first who call source start page buffer count → IsLow (machine_of page who) → IsBeside who page page' →
     MakesEvents n (orders_of page) source (machine_of page who) (words_of page) buffer (machine_of page' who) (words_of page') buffer' → InLoop first who call source start page' buffer' (count + n)
@@ -358,7 +358,7 @@ loop_first first Client call source start phase enough room stands plan out into
   running = λ core h. runs_begun core Client call (take (payload_of call) source) start first (page_at first Client phase) h (stands core (take (payload_of call) source) h (length-payload call source enough)) plan;
 }
 
--- so many events at once, from one phase to another
+-- this many events at once, from one phase to another
 pub loop_moved : (first : Plain) (who : Role) (call : Call) (source start : List ℕ) → payload_of call ≤ length source → (n : ℕ) (page page' : Plain) (phase phase' : Phase) (buffer buffer' : List ℕ) (count : ℕ) →
     InLoop first who call source start (page_at page who phase) buffer count → IsLow (machine_of page who) → IsBeside who page page' → machine_of page' who ≡ machine_of page who →
     MakesEvents n (orders_of page) source (at_phase (machine_of page who) phase) (words_of page) buffer (at_phase (machine_of page who) phase') (words_of page') buffer' →
@@ -372,7 +372,7 @@ loop_moved first Client call source start enough n page page' phase phase' buffe
     (record { same = b.same; orders = b.orders; other = b.other; turned = b.turned; other_turned = b.other_turned; left = b.left; right = b.right })
     (subst (λ (m : Machine). MakesEvents n (orders_of page) source (at_phase page.client phase) (words_of page) buffer (at_phase m phase') (words_of page') buffer') (sym same) d)
 
--- so many looks at once
+-- this many looks at once
 pub loop_seen : (first : Plain) (who : Role) (call : Call) (source start : List ℕ) → payload_of call ≤ length source → (n : ℕ) (page : Plain) (phase phase' : Phase) (buffer : List ℕ) (count : ℕ) →
     InLoop first who call source start (page_at page who phase) buffer count → IsLow (machine_of page who) →
     MakesEvents n (orders_of page) source (at_phase (machine_of page who) phase) (words_of page) buffer (at_phase (machine_of page who) phase') (words_of page) buffer →
@@ -439,7 +439,7 @@ loop_to first Server call source start enough page page' phase next buffer buffe
 loop_to first Client call source start enough page page' phase next buffer buffer' count l d =
     loop_step first Client call source start enough (page_at page Client phase) (page_at page' Client next) buffer buffer' count l (step_to Client source page page' phase next buffer buffer' d) d.payload_left d.buffer_left d.other
 
--- a call that has made so many events, the last of which gave this answer
+-- a call that has made this many events, the last of which gave this answer
 pub record IsEnded (first : Plain) (who : Role) (call : Call) (source start : List ℕ) (page : Plain) (buffer : List ℕ) (count : ℕ) (answer : Answer) : Type 0 where
   pub trace : (events : List PastEvent) × Trace (standing (machine_of first who)) call events answer × (count ≡ length events) × ((core : Core) → StandsFor core first → events ≡ (side_of (called core who call (take (payload_of call) source)) who).trail)
   pub short : count ≤ most_events (standing (machine_of first who)) call

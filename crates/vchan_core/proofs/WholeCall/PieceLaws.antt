@@ -78,7 +78,7 @@ drop_on source i n h =
     let more : suc i ≡ i + 1 = omega arith in
     ap (λ (l : List ℕ). take (suc n) l) (drop-cons source i 0 h) ∙ ap (λ (x : ℕ). slice_index source i ∷ take n (drop x source)) more
 
--- so many bytes at places that go on one after another
+-- this many bytes at places that follow one another
 pub put_piece : (m : Machine) (list source buffer : List ℕ) (i k n at : ℕ) (answer : Answer) → i + n ≤ k → k ≤ length source →
     ((j : ℕ) → j < n → put_place m (i + j) ≡ at + j) →
     MakesEvents n m.orders source (at_put m i k answer) list buffer (at_put m (i + n) k answer)

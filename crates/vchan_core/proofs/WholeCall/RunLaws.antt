@@ -115,7 +115,7 @@ module _ (now : Core) (who : Role) (source start buffer buffer' : List ℕ) (pag
       ∙ fills_on now.orders now.words start (side_of now who).trail next fits
       ∙ sym (ap (λ (s : Side). filled start (bytes_loaded s.trail)) event_side ∙ ap (λ (t : List PastEvent). filled start (bytes_loaded t)) (settled-trail (made (side_of now who) next value) (after (rest (machine_of page who)) value)))
 
-  -- the event of the page, with the value that it took there, stands behind the events before
+  -- the event of the page, with the value that it took there, comes after the events before
   pub event_trail : (side_of (event now who) who).trail ≡ (side_of now who).trail ++ past next (value_taken (orders_of page) (words_of page) next) ∷ []
   event_trail =
       ap (λ (s : Side). s.trail) event_side ∙ settled-trail (made (side_of now who) next value) (after (rest (machine_of page who)) value)

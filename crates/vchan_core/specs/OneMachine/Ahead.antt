@@ -8,7 +8,7 @@ use Rattle.vchan_core.specs.declared.phase.Phase.TheVariants.{Put, Take}
 use Rattle.vchan_protocol.specs.Table.Ends.{written_ring, read_ring, write_order, read_order}
 use Rattle.vchan_core.specs.OneMachine.Phases.{standing, at_phase}
 
--- the machine, where it puts or takes byte number `at` next
+-- the machine, if it puts or takes byte number `at` next
 abbrev pub put_at : Machine → Span → ℕ → Machine
 put_at m span at = at_phase m (Put at span.count span.answer)
 

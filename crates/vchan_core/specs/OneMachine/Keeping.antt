@@ -207,7 +207,7 @@ kept_of m = record {
   answer_second = (answer_at m.phase).2;
 }
 
--- An order that a page says is a number of 16 bits: so is each that a machine of the program holds.
+-- An order that a page shows is a number of 16 bits, and so is each that a machine of the program holds.
 abbrev pub IsShortAnswer : Answer → Type 0
 IsShortAnswer (BadOrders left right) = (left < 2 ^ 16) × (right < 2 ^ 16)
 IsShortAnswer answer = Unit {0}

@@ -1,4 +1,4 @@
--- What a machine still does of its call, and the pasts that it stands for.
+-- What a machine still has to do of its call, and the pasts that it stands for.
 use Rattle.std.specs.Prelude.{ℕ, ◌-◌, min, IsNone, Option, Some, None, List}
 use Rattle.vchan_protocol.specs.declared.op.Op.TheVariants.{Store}
 use Rattle.ring_words.specs.declared.page.WordName.TheVariants.{CliLive}
@@ -66,12 +66,12 @@ standing m = record { role = m.role; orders = m.orders; state = m.state; prod = 
 abbrev pub rest : Machine → Plan
 rest m = elim m.phase [ None ↦ answers PeerClosed | Some phase ↦ rest_at (standing m) phase ]
 
--- what is left with what comes of an event: a phase, or the answer
+-- what is left after an event, by what came of it: a phase, or the answer
 abbrev pub plan_at : Standing → Next → Plan
 plan_at e (To phase) = rest_at e phase
 plan_at e (Done answer) = answers answer
 
--- what is left where the machine gave this answer or none
+-- what is left if the machine gave this answer or none
 abbrev pub rest_or_answer : Option Answer → Machine → Plan
 rest_or_answer None m = rest m
 rest_or_answer (Some answer) m = answers answer
@@ -88,7 +88,7 @@ IsIdle m = IsNone m.phase
 abbrev pub Stands : Standing → Call → List PastEvent → Machine → Type 0
 Stands begun call events m = Leads (plan_of begun call) events (rest m)
 
--- Here the answer was given as the last event came.
+-- The same, if the answer came with the last event.
 abbrev pub StandsOrAnswered : Standing → Call → List PastEvent → Option Answer → Machine → Type 0
 StandsOrAnswered begun call events answer m = Leads (plan_of begun call) events (rest_or_answer answer m)
 

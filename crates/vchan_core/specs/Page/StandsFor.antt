@@ -47,7 +47,7 @@ op_of page who = next_op (rest (machine_of page who))
 
 -- ---- what they stand for
 
--- Both are between two calls. Or the machine is in the call that this end has begun, after the events of its trail, and these made the end stand as it does
+-- Both are between two calls. Or the machine is in the call that this end has begun, after the events of its trail, and the end stands as these left it
 abbrev pub IsInCall : Side → Option Begun → Machine → Type 0
 IsInCall s None m = IsIdle m
 IsInCall s (Some b) m = (¬ IsIdle m) × Leads (plan_of (begun_standing s b) b.call) s.trail (rest m) ×
@@ -74,6 +74,6 @@ pub record StandsFor (core : Core) (page : Plain) : Type 0 where
   pub server_turned : page.server_turned ≡ core.server.turned
   pub client_turned : page.client_turned ≡ core.client.turned
 
--- the bytes handed in begin with the payload of the end's call
+-- the given bytes begin with the payload of the end's call
 abbrev pub HasPayload : Side → List ℕ → Type 0
 HasPayload s source = take (length s.payload) source ≡ s.payload

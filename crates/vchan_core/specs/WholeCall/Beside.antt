@@ -5,7 +5,7 @@ use Rattle.vchan_core.specs.declared.plain.Plain.{Plain}
 use Rattle.vchan_core.specs.OneMachine.Phases.{standing}
 use Rattle.vchan_core.specs.Page.StandsFor.{machine_of, other_of, orders_of, turned_of, other_turned_of}
 
--- all of the page but its list of words, and where this end is inside its call, is the same
+-- all of the page is the same, except its list of words and where this end is inside its call
 pub record IsBeside (who : Role) (page page' : Plain) : Type 0 where
   pub same : standing (machine_of page' who) ≡ standing (machine_of page who)
   pub orders : orders_of page' ≡ orders_of page

@@ -17,7 +17,7 @@ use Rattle.vchan_core.specs.Page.Counts.{capped}
 abbrev pub op_of_phase : Machine → Phase → Op
 op_of_phase m phase = next_op (rest_at (standing m) phase)
 
--- the machine makes the event of a phase on these words, with these bytes to send and this buffer, and this comes of it. Its own phase stays, since the caller has the phase
+-- the machine makes the event of a phase on these words, with these bytes to send and this buffer, and this comes of it. Its own phase stays: the caller holds the phase
 pub record MakesEventAt (orders : Orders) (m : Machine) (phase : Phase) (list source buffer : List ℕ) (m' : Machine) (next : Next) (list' buffer' : List ℕ) : Type 0 where
   pub footprint : Fits orders (length source) (length buffer) (op_of_phase m phase)
   pub words : list' ≡ words_after orders list source (op_of_phase m phase)
@@ -29,7 +29,7 @@ pub record MakesEventAt (orders : Orders) (m : Machine) (phase : Phase) (list so
   pub buffer_left : buffer_next (read_size (standing m')) next ≤ buffer_at (read_size (standing m)) phase
   pub low : ((standing m).prod < 2 ^ 32) × ((standing m).cons < 2 ^ 32)
 
--- the counts of the ring that an end writes, once its own count of it has gone on
+-- the counts of the ring that an end writes, after its own count of it has moved on
 abbrev pub with_sent : Totals → Machine → Machine → Totals
 with_sent writes m m' = record writes { sent = capped (writes.sent + diff (standing m').prod (standing m).prod) }
 

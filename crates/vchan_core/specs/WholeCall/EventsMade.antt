@@ -20,7 +20,7 @@ pub record MakesEvent (orders : Orders) (source : List ℕ) (m : Machine) (list 
   pub payload_left : payload_needed m' ≤ payload_needed m
   pub buffer_left : buffer_needed m' ≤ buffer_needed m
 
--- so many such events
+-- this many such events
 abbrev pub MakesEvents : ℕ → Orders → List ℕ → Machine → List ℕ → List ℕ → Machine → List ℕ → List ℕ → Type 0
 MakesEvents zero orders source m list buffer m' list' buffer' = (m' ≡ m) × (list' ≡ list) × (buffer' ≡ buffer)
 MakesEvents (suc count) orders source m list buffer m' list' buffer' =

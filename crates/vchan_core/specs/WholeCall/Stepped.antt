@@ -10,18 +10,18 @@ use Rattle.vchan_protocol.specs.Always.Invariant.{Invariant}
 use Rattle.vchan_core.specs.declared.plain.Plain.{Plain}
 use Rattle.vchan_core.specs.Page.StandsFor.{StandsFor}
 
--- where the answer came, the call ends in this core state; else it goes on
+-- if the answer came, the call ends in this core state; else it goes on
 abbrev pub unless_answered : Option Answer → Core → Core × Option Answer → Core × Option Answer
 unless_answered None core later = later
 unless_answered (Some answer) core later = (core, Some answer)
 
--- at most so many events of the call under way, up to its answer
+-- at most this many events of the call under way, up to its answer
 unfoldable pub stepped : ℕ → Core → Role → Core × Option Answer
 stepped zero core who = (core, None)
 stepped (suc more) core who =
     unless_answered (answer_in (plan_next core who)) (event core who) (stepped more (event core who) who)
 
--- a page, a buffer and an answer are those that at most so many events came to. The end is still inside its call, or its trail is that whole call
+-- a page, a buffer and an answer are those that at most this many events came to. The end is still inside its call, or its trail is that whole call
 pub record Advances (core : Core) (who : Role) (most : ℕ) (page' : Plain) (buffer buffer' : List ℕ) (result : Option Answer) : Type 0 where
   pub stands : StandsFor (stepped most core who).0 page'
   pub answer : result ≡ (stepped most core who).1

@@ -8,11 +8,11 @@ use vchan_protocol::Answer;
 #[repr(C)]
 #[derive(Clone, Copy, Debug, PartialEq, Eq)]
 pub struct AnswerNumbers {
-    /// Its kind, from 1 to 18 in the order in which [`Answer`] has them; 0 is none.
+    /// Its kind, from 1 to 18 in the order in which [`Answer`] declares them; 0 for none.
     pub number: u8,
-    /// Its first part: a count of bytes, an index, an order, or 1 for true; 0 where it has none.
+    /// Its first part: a count of bytes, an index, an order, or 1 for true; 0 if it has none.
     pub first: u32,
-    /// Its second part: an index or an order; 0 where it has none.
+    /// Its second part: an index or an order; 0 if it has none.
     pub second: u32,
 }
 
@@ -23,7 +23,7 @@ impl AnswerNumbers {
         second: 0,
     };
 
-    /// The numbers of an answer.
+    /// Returns the numbers of an answer.
     pub fn of(answer: Answer) -> AnswerNumbers
         ensures number { result.number ≡ (numbers_of_answer answer).0 }
         ensures first { result.first ≡ (numbers_of_answer answer).1 }
@@ -57,8 +57,8 @@ impl AnswerNumbers {
         }
     }
 
-    /// The answer of these numbers, of which some may be those of another one. It is `None` where
-    /// there is no such kind.
+    /// Returns the answer of this kind with these parts, or `None` if there is no such kind. A part that the
+    /// kind doesn't have is ignored.
     pub fn answer(self) -> Option<Answer>
         ensures { result ≡ answer_told self.number self.first self.second }
     {

@@ -42,7 +42,7 @@ impl PhaseNumbers {
         answer: AnswerNumbers::NONE,
     };
 
-    /// The numbers of where a machine is; each is 0 between two calls.
+    /// Returns the numbers of where a machine is; each is 0 between two calls.
     pub(crate) fn at(phase: Option<Phase>) -> PhaseNumbers
         ensures numbers { (result.number ≡ (numbers_at phase).0) × (result.first ≡ (numbers_at phase).1) × (result.second ≡ (numbers_at phase).2) }
         ensures answer { (result.answer.number ≡ (answer_at phase).0) × (result.answer.first ≡ (answer_at phase).1) × (result.answer.second ≡ (answer_at phase).2) }
@@ -111,8 +111,8 @@ impl PhaseNumbers {
     }
 }
 
-/// Where a machine of these numbers is, of which some may be those of another one. It is `None`
-/// where there is no such kind.
+/// Returns where a machine with these numbers is, or `None` if there is no such kind. Some of the numbers may
+/// be those of another machine.
 pub(crate) fn phase_of(
     number: u8,
     first: u32,

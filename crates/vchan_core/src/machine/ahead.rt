@@ -1,4 +1,4 @@
-//! The bytes that come next in a put or a take, for a caller that moves them all by itself.
+//! The bytes that come next in a put or a take, for a caller that moves them all itself.
 ghost use Rattle.std.specs.Prelude.{◌≡◌, ◌≤◌};
 ghost use Rattle.vchan_protocol.specs.Table.Calls.{plan_of, payload_of, loaded_most};
 ghost use Rattle.vchan_core.specs.OneMachine.Phases.{standing, rest, IsIdle, Allows, payload_needed, buffer_needed};
@@ -9,8 +9,8 @@ use crate::phase::Phase;
 use ring_words::{Order, Ring};
 use vchan_protocol::{Answer, Call};
 
-/// Bytes of a put or a take that are still to be moved: those from `at` on, up to `count`. Byte
-/// number `k` lies where the ring has the byte of the index `index + k`.
+/// The bytes of a put or a take that are still to be moved: those from `at` on, up to `count`. Byte
+/// number `k` lies where the ring holds the byte of the index `index + k`.
 #[derive(Clone, Copy)]
 pub struct Span {
     /// The ring that they lie in.
@@ -23,23 +23,23 @@ pub struct Span {
     pub at: u32,
     /// How many bytes the call moves.
     pub count: u32,
-    /// What the call answers once they are moved.
+    /// What the call answers after they are moved.
     pub answer: Answer,
 }
 
-/// Which bytes come next.
+/// The bytes that come next.
 #[derive(Clone, Copy)]
 pub enum Ahead {
-    /// The next events store these.
+    /// The next events store these bytes.
     Puts(Span),
-    /// The next events load these.
+    /// The next events load these bytes.
     Takes(Span),
     /// The next event is on no byte of a ring.
     Elsewhere,
 }
 
 impl Machine {
-    /// The bytes that come next.
+    /// Returns the bytes that come next.
     #[inline(always)]
     pub fn ahead(&self) -> Ahead
         ensures { IsAhead self.now result }
@@ -71,7 +71,7 @@ impl Machine {
         }
     }
 
-    /// All bytes of a put are stored.
+    /// Marks all bytes of a put as stored.
     #[inline(always)]
     pub fn put_all(&mut self, span: Span)
         ensures { self.new ≡ put_at self.old span span.count }
@@ -83,7 +83,7 @@ impl Machine {
         });
     }
 
-    /// All bytes of a take are loaded.
+    /// Marks all bytes of a take as loaded.
     #[inline(always)]
     pub fn take_all(&mut self, span: Span)
         ensures { self.new ≡ take_at self.old span span.count }
@@ -95,7 +95,7 @@ impl Machine {
         });
     }
 
-    /// The bytes of a put before number `at` are stored.
+    /// Marks the bytes of a put before number `at` as stored.
     #[inline(always)]
     pub fn put_to(&mut self, span: Span, at: u32)
         ensures { self.new ≡ put_at self.old span at }
@@ -107,7 +107,7 @@ impl Machine {
         });
     }
 
-    /// The bytes of a take before number `at` are loaded.
+    /// Marks the bytes of a take before number `at` as loaded.
     #[inline(always)]
     pub fn take_to(&mut self, span: Span, at: u32)
         ensures { self.new ≡ take_at self.old span at }
@@ -119,7 +119,7 @@ impl Machine {
         });
     }
 
-    /// A copy that is inside this call, which begins now.
+    /// Returns a copy that is inside this call, which begins now.
     #[inline(always)]
     pub fn inside(&self, call: Call) -> Machine
         requires { Allows self.now call }

@@ -1,5 +1,5 @@
 //! The events of a call, phase by phase: which event it is, what comes of the value that it took, and
-//! what it makes of the own counts and the state.
+//! what it does to the own counts and the state.
 ghost use Rattle.std.specs.Prelude.{◌≡◌, ◌≢◌, ◌<◌, ◌≤◌, ◌+◌, ◌==◌, min, nat_lt, bit_and, if◌then◌else◌};
 ghost use Rattle.vchan_protocol.specs.Table.Apply.{Fits};
 ghost use Rattle.vchan_protocol.specs.Table.Plan.{answers, next_op, after};
@@ -18,7 +18,7 @@ use vchan_protocol::{Answer, Bit, EndState, Op};
 
 #[tactic(auto, using(vchan_protocol::proofs::Table::PlanLaws::bytes_laws), unfolding(vchan_protocol::specs::Table::Ends::standing_after, crate::specs::OneMachine::Phases::rest_at, vchan_protocol::specs::Table::Calls::write, vchan_protocol::specs::Table::Calls::write_open, vchan_protocol::specs::Table::Calls::read, vchan_protocol::specs::Table::Calls::read_live, vchan_protocol::specs::Table::Calls::send, vchan_protocol::specs::Table::Calls::send_open, vchan_protocol::specs::Table::Calls::recv, vchan_protocol::specs::Table::Calls::recv_live, vchan_protocol::specs::Table::Calls::drain, vchan_protocol::specs::Table::Calls::drain_second, vchan_protocol::specs::Table::Calls::drain_live, vchan_protocol::specs::Table::Calls::drain_further, vchan_protocol::specs::Table::Calls::drain_gone, vchan_protocol::specs::Table::Calls::drain_last, vchan_protocol::specs::Table::Calls::connect, vchan_protocol::specs::Table::Calls::connect_right))]
 impl Machine {
-    /// What comes of the next event where it takes this value.
+    /// Returns what comes of the next event if it takes this value.
     #[inline(always)]
     pub(crate) fn next_of(&self, phase: Phase, value: u64) -> Next
         ensures plan { let e = standing self.now in plan_at (standing_after e (next_op (rest_at e phase))) result ≡ after (rest_at e phase) value }
@@ -82,7 +82,7 @@ impl Machine {
         }
     }
 
-    /// The event of a phase.
+    /// Returns the event of a phase.
     #[inline(always)]
     pub(crate) fn op_at(&self, phase: Phase) -> Op
         ensures op { result ≡ next_op (rest_at (standing self.now) phase) }
@@ -138,8 +138,8 @@ impl Machine {
         }
     }
 
-    /// Takes the event of a phase into its own counts and its state: an own index that it stores is
-    /// its count, and its own live byte makes its state.
+    /// Counts the event of a phase in the own counts and the state: an own index that it stores becomes the
+    /// own count, and a store to its own live byte makes its state.
     #[inline(always)]
     pub(crate) fn count(&mut self, phase: Phase)
         ensures standing { standing self.new ≡ standing_after (standing self.old) (next_op (rest_at (standing self.old) phase)) }
@@ -166,7 +166,7 @@ impl Machine {
 }
 
 impl Machine {
-    /// A write that has looked once: where there is too little room it asks, and looks again.
+    /// A write that has looked once: if there is too little room it asks, and looks again.
     #[tactic(auto, unfolding(crate::specs::OneMachine::Phases::rest_at))]
     #[inline(always)]
     pub(crate) fn write_found(&self, len: u32, cons: u32) -> Next
@@ -193,7 +193,7 @@ impl Machine {
         self.send_looked(len, cons)
     }
 
-    /// A read that has looked once: where too few bytes wait it asks, and looks again.
+    /// A read that has looked once: if too few bytes wait it asks, and looks again.
     #[tactic(auto, unfolding(crate::specs::OneMachine::Phases::rest_at))]
     #[inline(always)]
     pub(crate) fn read_found(&self, most: u32, prod: u32) -> Next
@@ -220,7 +220,7 @@ impl Machine {
         self.recv_looked(len, prod)
     }
 
-    /// A write that has looked for the last time.
+    /// A write after its last look.
     #[tactic(auto, unfolding(crate::specs::OneMachine::Phases::rest_at, vchan_protocol::specs::Table::Calls::write_looked))]
     #[inline(always)]
     fn write_looked(&self, len: u32, cons: u32) -> Next
@@ -329,7 +329,7 @@ impl Machine {
         Next::Done(Answer::BadOrders { left, right })
     }
 
-    /// A drain's second look: where still nothing waits, the live byte is next.
+    /// A drain's second look: if still nothing waits, the live byte is next.
     #[tactic(auto, unfolding(crate::specs::OneMachine::Phases::rest_at, vchan_protocol::specs::Table::Calls::drain_second))]
     fn drain_second(&self, most: u32, prod: u32) -> Next
         ensures plan { plan_at (standing self.now) result ≡ drain_second_plan (standing self.now) most prod }
@@ -339,7 +339,7 @@ impl Machine {
         self.drain_found(most, prod, Next::To(Phase::DrainLive { most, prod }))
     }
 
-    /// A drain's look after it saw its peer closed: only now an equal index says that all was read.
+    /// A drain's look after it saw its peer closed: only now do equal indices mean that all was read.
     #[tactic(auto, unfolding(crate::specs::OneMachine::Phases::rest_at, vchan_protocol::specs::Table::Calls::drain_further))]
     #[inline(always)]
     fn drain_further(&self, most: u32, prod: u32) -> Next
@@ -384,7 +384,7 @@ impl Machine {
     }
 }
 
-/// A load of the peer's live byte: closed, or what comes of a live one.
+/// A load of the peer's live byte: the peer has closed, or the call goes on as `alive`.
 pub(crate) fn if_alive(value: u64, alive: Next) -> Next
     ensures plan { (e : Standing) → plan_at e result ≡ (if low8_of value == 0 then answers Answer.PeerClosed else plan_at e alive) }
     ensures payload_left { payload_next result ≤ payload_next alive }
@@ -409,7 +409,7 @@ fn drain_live(most: u32, prod: u32, value: u64) -> Next
     Next::To(Phase::DrainGone { most, prod })
 }
 
-/// A put once another byte, or the index, is stored.
+/// A put after another byte, or the index, is stored.
 #[inline(always)]
 pub(crate) fn put_on(at: u32, count: u32, answer: Answer) -> Next
     ensures byte { at < count → result ≡ Next.To (Phase.Put (at + 1) count answer) }
@@ -428,7 +428,7 @@ pub(crate) fn put_on(at: u32, count: u32, answer: Answer) -> Next
     })
 }
 
-/// A take once another byte is loaded, or the index is stored.
+/// A take after another byte is loaded, or the index is stored.
 #[inline(always)]
 pub(crate) fn take_on(at: u32, count: u32, answer: Answer) -> Next
     ensures byte { at < count → result ≡ Next.To (Phase.Take (at + 1) count answer) }
@@ -447,7 +447,7 @@ pub(crate) fn take_on(at: u32, count: u32, answer: Answer) -> Next
     })
 }
 
-/// A peer that had asked is signalled.
+/// The test of the peer's bit: a peer that had asked is signalled.
 #[tactic(auto, unfolding(crate::specs::OneMachine::Phases::rest_at))]
 #[inline(always)]
 pub(crate) fn notified(bit: Bit, answer: Answer, value: u64) -> Next

@@ -1,8 +1,8 @@
 //! An event of a machine on words in memory, from its choice to what comes of it.
 //!
-//! A whole call makes its events here. The frequent phases stand apart from the others, so that
-//! their code is small enough to be inlined. The phase is the caller's: the machine has its own
-//! counts and its state alone, and its own phase stays as it is.
+//! A whole call makes its events here. The frequent phases have functions of their own, so that their code
+//! is small enough to be inlined. The caller holds the phase: the machine holds only its own counts and its
+//! state, and its own phase stays as it is.
 ghost use Rattle.std.specs.Prelude.{◌≡◌, ◌≤◌, ℕ, List, length};
 ghost use Rattle.vchan_protocol.specs.Table.Ends.{read_size};
 ghost use Rattle.vchan_core.specs.OneMachine.Phases.{standing, payload_at, buffer_at};
@@ -18,7 +18,7 @@ use ring_words::{Role, Words};
 use vchan_protocol::{Answer, Bit};
 
 impl Machine {
-    /// The event of a phase, on these words, with what it shows or releases counted.
+    /// Makes the event of a phase on these words, and counts what it shows or releases.
     #[inline(always)]
     pub(crate) fn event(
         &mut self,
@@ -73,7 +73,7 @@ impl Machine {
                 reads.stays();
                 self.look_again_for_bytes(role, most, words)
             }
-            // Copies of their own, so that the phase and what comes of it lie in memory here alone.
+            // Copies, so that the phase and what comes of it lie in memory only in this arm.
             _ => {
                 let rare = phase;
                 let next = self.seldom(rare, words, payload, buf, writes, reads);
@@ -82,7 +82,7 @@ impl Machine {
         }
     }
 
-    /// The event of a put once all its bytes are stored: the index that shows them all.
+    /// Makes the event of a put after all its bytes are stored: the index shows them all.
     #[tactic(auto, using(vchan_protocol::proofs::Table::PlanLaws::bytes_laws), unfolding(vchan_protocol::specs::Table::Ends::standing_after, crate::specs::OneMachine::Phases::rest_at))]
     #[inline(always)]
     fn show_bytes(
@@ -110,7 +110,7 @@ impl Machine {
         put_on(at, count, answer)
     }
 
-    /// The event of a take once all its bytes are loaded: the index that releases their places.
+    /// Makes the event of a take after all its bytes are loaded: the index releases their places.
     #[tactic(auto, using(vchan_protocol::proofs::Table::PlanLaws::bytes_laws), unfolding(vchan_protocol::specs::Table::Ends::standing_after, crate::specs::OneMachine::Phases::rest_at))]
     #[inline(always)]
     fn release_places(
@@ -138,7 +138,7 @@ impl Machine {
         take_on(at, count, answer)
     }
 
-    /// The event after an index: the peer's bit is taken, and where it was set the peer is signalled.
+    /// Makes the event after an index: it clears the peer's bit, and if that was set the signal is next.
     #[tactic(auto, using(vchan_protocol::proofs::Table::PlanLaws::bytes_laws), unfolding(vchan_protocol::specs::Table::Ends::standing_after, crate::specs::OneMachine::Phases::rest_at))]
     #[inline(always)]
     fn notify_peer(&self, role: Role, bit: Bit, answer: Answer, words: &mut Words) -> Next
@@ -154,7 +154,7 @@ impl Machine {
         notified(bit, answer, asked)
     }
 
-    /// The signal of a peer that had asked for it, with which a call ends.
+    /// Makes the signal for a peer that had asked for it, with which a call ends.
     #[tactic(auto, unfolding(vchan_protocol::specs::Table::Ends::standing_after, crate::specs::OneMachine::Phases::rest_at))]
     #[inline(always)]
     fn signal_peer(&self, role: Role, answer: Answer, words: &mut Words) -> Next
@@ -168,7 +168,7 @@ impl Machine {
         Next::Done(answer)
     }
 
-    /// The first look of a read at how many bytes wait, where it is made alone.
+    /// Makes the first look of a read at how many bytes wait, when it is made alone.
     #[tactic(auto, unfolding(vchan_protocol::specs::Table::Ends::standing_after, crate::specs::OneMachine::Phases::rest_at, vchan_protocol::specs::Table::Calls::read))]
     #[inline(always)]
     fn look_for_bytes(&self, role: Role, most: u32, words: &Words) -> Next
@@ -181,7 +181,7 @@ impl Machine {
         self.read_found(most, low32(prod))
     }
 
-    /// A read that found too few bytes asks its peer for a signal.
+    /// Makes the request for a signal of a read that found too few bytes.
     #[tactic(auto, unfolding(vchan_protocol::specs::Table::Ends::standing_after, crate::specs::OneMachine::Phases::rest_at))]
     #[inline(always)]
     fn ask_for_bytes(&self, role: Role, most: u32, words: &mut Words) -> Next
@@ -197,7 +197,7 @@ impl Machine {
         Next::To(Phase::ReadLookAgain { most })
     }
 
-    /// The last look of a read, behind its question.
+    /// Makes the last look of a read, after its request for a signal.
     #[tactic(auto, unfolding(vchan_protocol::specs::Table::Ends::standing_after, crate::specs::OneMachine::Phases::rest_at))]
     #[inline(always)]
     fn look_again_for_bytes(&self, role: Role, most: u32, words: &Words) -> Next
@@ -210,7 +210,7 @@ impl Machine {
         self.read_looked(most, low32(prod))
     }
 
-    /// [`Machine::event`] for the phases that are seldom, as one function that is called.
+    /// Makes [`Machine::event`] for the rare phases, as one function that isn't inlined.
     #[inline(never)]
     fn seldom(
         &mut self,

@@ -19,8 +19,8 @@ use crate::words::{cons_word, low32, prod_word};
 use ring_words::{Role, Words};
 
 impl Machine {
-    /// Makes the looks that come next in a write or a read, up to the one that gives an answer. It
-    /// answers how many they were, and the phase then. Elsewhere in a call it makes none.
+    /// Makes the looks that come next in a write or a read, up to the one that gives an answer. Returns how
+    /// many they were, and the phase after them. At any other place of a call it makes none.
     #[inline(always)]
     pub(crate) fn look_ahead(&self, role: Role, phase: Phase, words: &Words) -> (u32, Phase)
         requires role { self.now.role ≡ role }
@@ -35,7 +35,7 @@ impl Machine {
         (live + index, looked)
     }
 
-    /// The look at the peer's live byte with which a write begins.
+    /// Makes the look at the peer's live byte with which a write begins.
     #[inline(always)]
     fn look_live(&self, role: Role, phase: Phase, words: &Words) -> (u32, Phase)
         requires role { self.now.role ≡ role }
@@ -49,7 +49,7 @@ impl Machine {
         }
     }
 
-    /// The first look at the peer's index in a write or a read.
+    /// Makes the first look at the peer's index in a write or a read.
     #[inline(always)]
     fn look_index(&self, role: Role, phase: Phase, words: &Words) -> (u32, Phase)
         requires role { self.now.role ≡ role }
@@ -64,7 +64,7 @@ impl Machine {
         }
     }
 
-    /// A write finds its peer's live byte.
+    /// Makes a write's look at its peer's live byte.
     #[inline(always)]
     fn write_live(&self, role: Role, len: u32, words: &Words) -> (u32, Phase)
         requires role { self.now.role ≡ role }
@@ -77,7 +77,7 @@ impl Machine {
         self.seen(Phase::WriteLive { len }, next)
     }
 
-    /// A write's first look at how much room there is.
+    /// Makes a write's first look at how much room there is.
     #[inline(always)]
     fn write_look(&self, role: Role, len: u32, words: &Words) -> (u32, Phase)
         requires role { self.now.role ≡ role }
@@ -90,7 +90,7 @@ impl Machine {
         self.seen(Phase::WriteLook { len }, next)
     }
 
-    /// A read's first look at how many bytes wait.
+    /// Makes a read's first look at how many bytes wait.
     #[inline(always)]
     fn read_look(&self, role: Role, most: u32, words: &Words) -> (u32, Phase)
         requires role { self.now.role ≡ role }
@@ -103,8 +103,8 @@ impl Machine {
         self.seen(Phase::ReadLook { most }, next)
     }
 
-    /// Moves on after a load, unless it gives the call's answer: then the phase stays, and the event
-    /// is still to come. It answers how many events it made, 1 or 0, and the phase then.
+    /// Moves on after a load, unless it gives the call's answer: then the phase stays, and the event is still
+    /// to come. Returns how many events were made, 1 or 0, and the phase after them.
     #[inline(always)]
     fn seen(&self, at: Phase, next: Next) -> (u32, Phase)
         ensures most { result.0 ≤ 1 }

@@ -14,8 +14,8 @@ use crate::phase::Phase;
 use ring_words::{Role, Words, place};
 
 impl Machine {
-    /// Moves the bytes that come next in a put or a take, up to the last one or to the ring's end.
-    /// It answers how many they were, and the phase then. Elsewhere in a call it moves none.
+    /// Moves the bytes that come next in a put or a take, up to the last one or to the ring's end. Returns how
+    /// many they were, and the phase after them. At any other place of a call it moves none.
     #[inline(always)]
     pub(crate) fn move_piece(
         &self,
@@ -49,8 +49,8 @@ impl Machine {
         }
     }
 
-    /// Stores the bytes of a put from number `at` on, up to number `end` or to the ring's end. It
-    /// answers how many they were.
+    /// Stores the bytes of a put from number `at` on, up to number `end` or to the ring's end. Returns how many
+    /// they were.
     #[inline(always)]
     fn put_piece(&self, role: Role, at: u32, end: u32, words: &mut Words, payload: &[u8]) -> u32
         requires more { at < end }
@@ -72,8 +72,8 @@ impl Machine {
         len
     }
 
-    /// Loads the bytes of a take from number `at` on, up to number `end` or to the ring's end. It
-    /// answers how many they were.
+    /// Loads the bytes of a take from number `at` on, up to number `end` or to the ring's end. Returns how many
+    /// they were.
     #[inline(always)]
     fn take_piece(&self, role: Role, at: u32, end: u32, words: &Words, buf: &mut [u8]) -> u32
         requires more { at < end }
@@ -94,7 +94,7 @@ impl Machine {
         len
     }
 
-    /// [`Machine::move_piece`] of at most so many bytes.
+    /// Makes [`Machine::move_piece`] with at most `most` bytes.
     #[inline(always)]
     pub(crate) fn move_few(
         &self,

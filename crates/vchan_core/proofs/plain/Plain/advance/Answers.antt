@@ -46,7 +46,7 @@ events-preserved c =
     advance_to c.args.self.now c.args.who c.args.most c.args.payload.now c.args.buf.now (c.events.left - c.go_ahead-made.result.0) c.go_ahead-made.new.self c.event.new.self c.go_ahead-made.result.1 c.in-To.next c.go_ahead-made.new.buf c.event.new.buf
     (omega (arith, c.if-left-eq0.false)) c.event.auto.buf made before
 
--- the loop, where no event is left
+-- the loop, when no event is left
 same_loop : (c : goal.After-set_phase) (left : ℕ) (page : Plain) (phase : Phase) (buffer : List ℕ) → c.events-test.self ≡ page → c.events-test.buf ≡ buffer → c.events-test.phase ≡ phase →
     InAdvance c.args.self.now c.args.who c.args.most c.args.payload.now c.args.buf.now left page phase buffer → InAdvance c.args.self.now c.args.who c.args.most c.args.payload.now c.args.buf.now left c.events-test.self c.events-test.phase c.events-test.buf
 same_loop c left page phase buffer page_is buffer_is phase_is l =

@@ -19,7 +19,7 @@ events-init g c = (
   omega arith,
 )
 
--- ---- the loop once the looks are made, and once a piece is moved
+-- ---- the loop after the looks are made, and after a piece is moved
 
 pub move_piece-moved-requires-clause-payload : goal.move_piece-moved-requires-clause-payload
 move_piece-moved-requires-clause-payload g c =

@@ -30,7 +30,7 @@ invariant_of-self-in-Client c = record {
   client_role = keeps_role c.args.self.now.client c.took-in-Client.new.machine (next_op (rest c.args.self.now.client)) c.took-in-Client.ensures.standing ∙ c.args.self.now.client_role;
 }
 
--- the event of the code, where the server makes it
+-- the event of the code, if the server makes it
 server_does : (c : goal.After-self-1) → DoesEvent (orders_of c.args.self.now) (words_of c.args.self.now) c.args.payload.now c.args.self.now.server c.took.new.machine c.took.result c.carry_out-value.new.words.list
     c.args.self.now.right c.args.self.now.left c.took.new.writes c.took.new.reads
 server_does c =
@@ -60,7 +60,7 @@ returns-in-Server-clause-answer c =
     λ core h. answer_is core Server (orders_of page) (words_of page) page.server c.took.new.machine c.took.result h.server h.orders h.words d.busy d.leads d.idle in
     subst (λ (who : Role). (core : Core) → StandsFor core page → c.took.result ≡ answer_in (plan_next core who)) (sym c.in-Server.is) here
 
--- the event of the code, where the client makes it
+-- the event of the code, if the client makes it
 client_does : (c : goal.After-self-in-Client-1) → DoesEvent (orders_of c.args.self.now) (words_of c.args.self.now) c.args.payload.now c.args.self.now.client c.took-in-Client.new.machine c.took-in-Client.result c.carry_out-value.new.words.list
     c.args.self.now.left c.args.self.now.right c.took-in-Client.new.writes c.took-in-Client.new.reads
 client_does c =
