@@ -19,7 +19,7 @@ use Rattle.vchan_protocol.specs.Table.Plan.{past}
 use Rattle.vchan_protocol.specs.Table.Ends.{written_ring, cons_word, prod_word}
 use Rattle.hostile_seat.specs.Hostile.{strays_along, byte_stores}
 
--- one more byte behind the others
+-- one more byte after the others
 pub byte_stores-push : (role : Role) (orders : Orders) (index : ℕ) (bytes : List ℕ) (byte : ℕ) →
     byte_stores role orders index (bytes ++ byte ∷ []) ≡ byte_stores role orders index bytes ++ past (Store (RingByte (written_ring role) (place (index + length bytes) (order_of orders (written_ring role)))) byte) 0 ∷ []
 byte_stores-push role orders index [] byte = ap (λ (n : ℕ). past (Store (RingByte (written_ring role) (place n (order_of orders (written_ring role)))) byte) 0 ∷ []) (omega arith)

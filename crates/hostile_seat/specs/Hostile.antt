@@ -1,4 +1,4 @@
--- What a hostile user of an end does to the ring that it writes, by loads and stores of its own.
+-- What a hostile user of an end does to the ring that this end writes, by loads and stores of its own.
 -- Source: libxenvchan's io.c for where a byte of the ring lies; that it is put by plain stores is this project's own.
 use Rattle.std.specs.Prelude.{ℕ, ◌+◌, List, [], ◌∷◌, ◌++◌}
 use Rattle.ring_words.specs.Rings.{place}

@@ -1,8 +1,9 @@
-//! An end of a shared page in the hands of a hostile user, who may store any number anywhere on the
-//! page that a guest reaches, at any time.
+//! An end of a shared page in the hands of a hostile user, which may store any number, at any time,
+//! anywhere on the page that a guest reaches.
 //!
-//! It serves whoever plays a hostile guest against an honest end. Which words such a guest reaches
-//! follows the layout of Xen's public/io/libxenvchan.h; the pending and gone words lie elsewhere.
+//! Everything that plays a hostile guest against an honest end rests on it. Which words such a guest
+//! reaches follows from the layout of Xen's public/io/libxenvchan.h; the pending and gone words lie
+//! elsewhere.
 #![tactic(auto)]
 
 ghost use Rattle.std.specs.Prelude.{◌≡◌, ◌++◌, ◌∷◌, [], ◌+◌, ◌%◌, ◌^◌, ◌≤◌, ◌↔◌, IsTrue, ℕ, min, length, take};
@@ -33,8 +34,8 @@ impl<'p> Model for Hostile<'p> {
     ghost view = { λ h. h.end };
 }
 
-/// Gives an end up to a hostile user, with one event: a load of the consumer index of the ring that
-/// it writes. A call under way is dropped.
+/// Turns an end over to a hostile user, with one event: a load of the consumer index of the ring that it
+/// writes. A call under way is dropped.
 pub fn turn<'p>(end: End<'p>) -> Hostile<'p>
     ensures page { result.page ≡ end.entry.page }
     ensures side { (consumed : ℕ) × (result.side ≡ turns end.entry.side consumed) }
@@ -43,7 +44,7 @@ pub fn turn<'p>(end: End<'p>) -> Hostile<'p>
 }
 
 impl<'p> Hostile<'p> {
-    /// Whether a hostile user reaches this word: a field of the header, or a ring byte in range.
+    /// Returns whether a hostile user reaches this word: a field of the header, or a ring byte in range.
     pub fn may(&self, word: WordName) -> bool
         ensures { IsTrue result ↔ MayPoke self.now.side.orders word }
     {
@@ -54,7 +55,7 @@ impl<'p> Hostile<'p> {
         }
     }
 
-    /// A load of such a word.
+    /// Loads such a word.
     pub fn load(&mut self, word: WordName) -> u64
         requires { MayPoke self.old.side.orders word }
         ensures page { self.new.page ≡ self.old.page }
@@ -63,7 +64,7 @@ impl<'p> Hostile<'p> {
         self.end.load(word)
     }
 
-    /// A store of any number to such a word.
+    /// Stores any number in such a word.
     pub fn store(&mut self, word: WordName, value: u64)
         requires { MayPoke self.old.side.orders word }
         ensures page { self.new.page ≡ self.old.page }
@@ -80,9 +81,9 @@ impl<'p> Hostile<'p> {
         self.end.signal();
     }
 
-    /// Puts bytes into the ring that the end writes: as many of the first ones as have room by the
-    /// consumer index that it loads, from the place of `own` on, which is the user's own producer
-    /// index. It is moved on and stored. It answers how many bytes they were.
+    /// Puts bytes into the ring that the end writes: as many of the first ones as have room by the consumer
+    /// index that it loads, from the place of `own` on. `own` is the user's own producer index; it is moved on
+    /// and stored. Returns how many bytes were put.
     pub fn say(&mut self, own: &mut u32, data: &[u8]) -> u32
         ensures page { self.new.page ≡ self.old.page }
         ensures moved { own.new ≡ (own.old + result) % 2 ^ 32 }
@@ -108,7 +109,7 @@ impl<'p> Hostile<'p> {
     }
 }
 
-/// The smaller of a length and a room.
+/// Returns the smaller of a length and a room.
 fn said(len: usize, room: u32) -> u32
     ensures { result ≡ min len room }
 {
@@ -137,8 +138,8 @@ fn store_bytes(end: &mut TurnedEnd<'_>, ring: Ring, order: Order, index: u32, by
     }
 }
 
-/// Stores bytes into a ring from the place of an index on, and then that index, moved on by their
-/// number, as the producer index. It answers the index.
+/// Stores bytes into a ring from the place of an index on, and then that index, moved on by their number,
+/// as the producer index. Returns that index.
 #[tactic(auto, using(crate::proofs::ByteLaws::along_push, crate::proofs::ByteLaws::along_orders, crate::proofs::ByteLaws::along_role))]
 fn put(end: &mut TurnedEnd<'_>, ring: Ring, order: Order, index: u32, bytes: &[u8]) -> u32
     requires ring { ring ≡ written_ring_of end.old.side.role }

@@ -1,4 +1,4 @@
--- An event of a call that was handed no bytes sends none.
+-- An event of a call that was given no bytes sends none.
 use Rattle.std.proofs.Common.{◌≡◌, ℕ, Option, Some, None, List, [], ◌++◌, take, refl, sym, ap, ◌∙◌, append-nil}
 use Rattle.std.proofs.Math.Seq.{take-nil}
 use Rattle.ring_words.specs.declared.page.Role.{Role}

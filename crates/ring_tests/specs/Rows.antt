@@ -1,4 +1,4 @@
--- What a worked row says of the lists of a page.
+-- What a worked row states of the lists of a page.
 use Rattle.std.specs.Prelude.{◌≡◌, ◌≤◌, ℕ, List, [], length}
 use Rattle.ring_words.specs.declared.page.Role.{Role}
 use Rattle.end_view.specs.EndView.{EndView}
@@ -19,6 +19,6 @@ HasMoved page left_sent left_got right_sent right_got = (page.client.sent ≡ le
 abbrev pub HasCounts : Settled → ℕ → ℕ → ℕ → ℕ → Type 0
 HasCounts page left_sent left_got right_sent right_got = (length page.client.sent ≡ left_sent) × (length page.server.got ≡ left_got) × (length page.server.sent ≡ right_sent) × (length page.client.got ≡ right_got)
 
--- an end in a call that sends nothing, of which this buffer has room for what is still to be loaded
+-- an end in a call that sends nothing; this buffer has room for what the call still loads
 abbrev pub IsUnderWay : SeatedEnd → List ℕ → Type 0
 IsUnderWay e buffer = (¬ IsIdle e.machine) × (payload_needed e.machine ≤ 0) × (buffer_needed e.machine ≤ length buffer) × Pays e.begun e.side []

@@ -30,7 +30,7 @@ fn small_page(alloc: Global) -> Option<(Page, IdleSeat, IdleSeat)>
     Page::open(alloc, orders, 0).ok()
 }
 
-/// The two ends, once the client has connected.
+/// Returns the two ends, after the client has connected.
 fn connected<'p>(page: &'p Page, server: IdleSeat, client: IdleSeat) -> Option<(End<'p>, End<'p>)>
     requires server { server ≡ record { page = page.now; role = Server } }
     requires client { client ≡ record { page = page.now; role = Client } }
@@ -116,7 +116,7 @@ pub fn long_packet(alloc: Global) -> Option<Settled>
     Some(page.finish(server, client))
 }
 
-/// Makes so many events of a call under way that sends nothing, or less where its answer comes before.
+/// Makes this many events of a call under way that sends nothing, or fewer if its answer comes before.
 fn make_events(end: &mut End<'_>, most: u32, buf: &mut [u8]) -> Option<Answer>
     requires { IsUnderWay end.old buf.old }
     ensures same { IsSameEnd end.old end.new }
@@ -132,8 +132,8 @@ fn make_events(end: &mut End<'_>, most: u32, buf: &mut [u8]) -> Option<Answer>
     None
 }
 
-/// A server has begun a read and found no byte, when the client writes two and closes. The read then
-/// finds the client shut, a drain still finds the bytes, and a second one all read.
+/// A server has begun a read and found no byte when the client writes two and closes. The read then finds
+/// the client shut, a drain still finds the bytes, and a second one that all was read.
 pub fn closed_race(alloc: Global) -> Option<Settled>
     ensures { IfSome result (λ page. HasMoved page (codes "ab") (codes "ab") [] []) }
 {
@@ -162,7 +162,7 @@ pub fn closed_race(alloc: Global) -> Option<Settled>
     Some(settled)
 }
 
-/// Where the left ring of two honest ends was drained, all that was sent was got.
+/// If the left ring of two honest ends was drained, all that was sent was got.
 fn all_was_got(page: &Settled)
     requires honest { (page.now.server.turned ≡ false) × (page.now.client.turned ≡ false) }
     requires drained { page.now.server.drained ≡ true }
@@ -185,7 +185,7 @@ pub fn events(alloc: Global) -> Option<(bool, bool)> {
     Some((take_event(&mut server), take_event(&mut server)))
 }
 
-/// What a server finds to read, what room a client finds, and whether the client is gone once it
+/// What a server finds to read, what room a client finds, and whether the client is gone after it
 /// retired.
 pub fn ready_space_gone(alloc: Global) -> Option<(u32, u32, bool, bool)> {
     let (page, server, client) = small_page(alloc)?;
@@ -197,8 +197,8 @@ pub fn ready_space_gone(alloc: Global) -> Option<(u32, u32, bool, bool)> {
     Some((ready, space, before, peer_gone(&mut server)))
 }
 
-/// A client writes six bytes, of which the server reads two. Then the client is given up, and its
-/// hostile user overwrites all six. It gives the four bytes that the server still drains.
+/// A client writes six bytes, of which the server reads two. Then the client is turned, and its hostile
+/// user overwrites all six. Returns the four bytes that the server still drains.
 pub fn consumed_prefix(alloc: Global) -> Option<(Settled, [u8; 4])>
     ensures { IfSome result (λ p. (p.0.client.sent ≡ codes "abcdef") × (p.0.server.got ≡ codes "ab" ++ p.1)) }
 {
@@ -226,9 +226,9 @@ pub fn consumed_prefix(alloc: Global) -> Option<(Settled, [u8; 4])>
     Some((page.finish(server, client), bytes))
 }
 
-/// A server reads two bytes of a full ring, and the client fills it again. Then the client is given
-/// up: how much the server had got is known by the contracts alone, since no more than one ring can
-/// be on its way, and no less than what was got can have been consumed.
+/// A server reads two bytes of a full ring, and the client fills it again. Then the client is turned. Only
+/// the contracts tell how much the server had got: no more than one ring can be on its way, and no more
+/// than what was got can have been consumed.
 pub fn consumed_of_full_ring(alloc: Global) -> Option<Settled>
     ensures { IfSome result (λ page. (page.client.consumed ≡ 2) × HasCounts page 1026 2 0 0) }
 {
@@ -247,8 +247,8 @@ pub fn consumed_of_full_ring(alloc: Global) -> Option<Settled>
     Some(settled)
 }
 
-/// Where the client was given up when it had sent 1,026 bytes, of which its honest server got two, it
-/// had given up the places of just these.
+/// If the client was turned when it had sent 1,026 bytes, of which its honest server got two, exactly these
+/// two had been consumed.
 fn two_consumed(page: &Settled)
     requires turned { (page.now.client.turned ≡ true) × (page.now.server.turned ≡ false) }
     requires size { size page.now.orders.left ≡ 1024 }
@@ -258,8 +258,8 @@ fn two_consumed(page: &Settled)
     page.promise();
 }
 
-/// A hostile user says 2,000 bytes on an untouched ring. It gives how many had room, the user's own
-/// producer index then, and whether the user reaches three words that it mustn't.
+/// A hostile user puts 2,000 bytes on an untouched ring. Returns how many had room, the user's own producer
+/// index then, and whether the user reaches three words that it mustn't.
 pub fn said_by_hand(alloc: Global) -> Option<(u32, u32, [bool; 3])> {
     let (page, server, client) = small_page(alloc)?;
     let (_, client) = connected(&page, server, client)?;

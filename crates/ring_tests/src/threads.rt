@@ -12,7 +12,7 @@ use vchan_stream::{ReadAnswer, WriteAnswer, read, write};
 /// How often a thread looks for its peer's bytes before it gives up.
 const MOST_TRIES: u32 = 1_000_000;
 
-/// Writes one byte, and reads until it has the peer's. None where it tried too often.
+/// Writes one byte, and reads until it has the peer's. Returns `None` if it tried too often.
 pub fn exchange(end: &mut End<'_>, byte: u8) -> Option<u8>
     requires { IsOpen end.old }
     ensures { IsOpen end.new × IsSameEnd end.old end.new }
@@ -30,8 +30,8 @@ pub fn exchange(end: &mut End<'_>, byte: u8) -> Option<u8>
     None
 }
 
-/// Sends all bytes in pieces of odd lengths, from 1 to 1,999. False where the peer shut before, or
-/// the ring stayed full too long.
+/// Sends all bytes in pieces of odd lengths, from 1 to 1,999. Returns false if the peer shut before, or the
+/// ring stayed full too long.
 pub fn send_all(end: &mut End<'_>, data: &[u8]) -> bool
     requires { IsOpen end.old }
     ensures { IsOpen end.new × IsSameEnd end.old end.new }

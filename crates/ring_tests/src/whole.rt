@@ -1,4 +1,4 @@
-//! Calls of an end that move all of their bytes, or else give `None`.
+//! Calls of an end that move all of their bytes, or else return `None`.
 ghost use Rattle.std.specs.Prelude.{◌≡◌, ◌++◌, ◌+◌, ◌<◌, ◌≤◌, true, IfSome, length, take};
 ghost use Rattle.vchan_rule.specs.Seated.{view, IsOpen};
 ghost use Rattle.vchan_rule.specs.Ends.{IsSameEnd};
@@ -11,7 +11,7 @@ use vchan_stream::{ReadAnswer, WriteAnswer, read, write};
 /// The letters of the rows that fill a ring.
 static LETTERS: [u8; 1025] = [b'a'; 1025];
 
-/// So many letters.
+/// Returns this many letters.
 pub(crate) fn letters(count: usize) -> &'static [u8]
     requires { count ≤ 1025 }
     ensures { length result.now ≡ count }
@@ -19,7 +19,7 @@ pub(crate) fn letters(count: usize) -> &'static [u8]
     &LETTERS[..count]
 }
 
-/// A write of so many of the first bytes.
+/// Writes `most` of the first bytes.
 pub(crate) fn write_some(end: &mut End<'_>, bytes: &[u8], most: u32) -> Option<()>
     requires open { IsOpen end.old }
     ensures same { IsSameEnd end.old end.new }
@@ -34,7 +34,7 @@ pub(crate) fn write_some(end: &mut End<'_>, bytes: &[u8], most: u32) -> Option<(
     }
 }
 
-/// A write of all bytes.
+/// Writes all bytes.
 pub(crate) fn write_all(end: &mut End<'_>, bytes: &[u8]) -> Option<()>
     requires open { IsOpen end.old }
     ensures same { IsSameEnd end.old end.new }
@@ -48,7 +48,7 @@ pub(crate) fn write_all(end: &mut End<'_>, bytes: &[u8]) -> Option<()>
     }
 }
 
-/// A read that fills the buffer.
+/// Reads until the buffer is full, in one read.
 pub(crate) fn read_all(end: &mut End<'_>, buf: &mut [u8]) -> Option<()>
     requires open { IsOpen end.old }
     ensures same { IsSameEnd end.old end.new }
@@ -63,7 +63,7 @@ pub(crate) fn read_all(end: &mut End<'_>, buf: &mut [u8]) -> Option<()>
     }
 }
 
-/// A drain that fills the buffer.
+/// Drains until the buffer is full, in one drain.
 pub(crate) fn drain_all(end: &mut End<'_>, buf: &mut [u8]) -> Option<()>
     requires open { IsOpen end.old }
     requires some { 0 < length buf.old }
@@ -79,7 +79,7 @@ pub(crate) fn drain_all(end: &mut End<'_>, buf: &mut [u8]) -> Option<()>
     }
 }
 
-/// A send of a packet.
+/// Sends a packet.
 pub(crate) fn send_whole(end: &mut End<'_>, bytes: &[u8]) -> Option<()>
     requires open { IsOpen end.old }
     ensures same { IsSameEnd end.old end.new }
@@ -94,7 +94,7 @@ pub(crate) fn send_whole(end: &mut End<'_>, bytes: &[u8]) -> Option<()>
     }
 }
 
-/// A recv that fills the buffer.
+/// Receives a packet that fills the buffer.
 pub(crate) fn receive_whole(end: &mut End<'_>, buf: &mut [u8]) -> Option<()>
     requires open { IsOpen end.old }
     ensures same { IsSameEnd end.old end.new }
@@ -110,7 +110,7 @@ pub(crate) fn receive_whole(end: &mut End<'_>, buf: &mut [u8]) -> Option<()>
     }
 }
 
-/// A write that finds no room, at these indices.
+/// Makes a write that finds no room, at these indices.
 pub(crate) fn write_none(end: &mut End<'_>, bytes: &[u8], prod: u32, cons: u32) -> Option<()>
     requires open { IsOpen end.old }
     ensures same { IsSameEnd end.old end.new }
@@ -124,7 +124,7 @@ pub(crate) fn write_none(end: &mut End<'_>, bytes: &[u8], prod: u32, cons: u32) 
     }
 }
 
-/// A send that finds too little room, at these indices.
+/// Makes a send that finds too little room, at these indices.
 pub(crate) fn send_none(end: &mut End<'_>, bytes: &[u8], prod: u32, cons: u32) -> Option<()>
     requires open { IsOpen end.old }
     ensures same { IsSameEnd end.old end.new }
@@ -138,7 +138,7 @@ pub(crate) fn send_none(end: &mut End<'_>, bytes: &[u8], prod: u32, cons: u32) -
     }
 }
 
-/// A recv that finds too few bytes, at these indices.
+/// Makes a recv that finds too few bytes, at these indices.
 pub(crate) fn receive_none(end: &mut End<'_>, buf: &mut [u8], prod: u32, cons: u32) -> Option<()>
     requires open { IsOpen end.old }
     ensures same { IsSameEnd end.old end.new }
@@ -152,7 +152,7 @@ pub(crate) fn receive_none(end: &mut End<'_>, buf: &mut [u8], prod: u32, cons: u
     }
 }
 
-/// A drain that finds the end of the stream.
+/// Makes a drain that finds the end of the stream.
 pub(crate) fn end_stream(end: &mut End<'_>) -> Option<()>
     requires open { IsOpen end.old }
     ensures same { IsSameEnd end.old end.new }
@@ -166,7 +166,7 @@ pub(crate) fn end_stream(end: &mut End<'_>) -> Option<()>
     }
 }
 
-/// That some bytes are the wanted ones.
+/// Checks that some bytes are the wanted ones.
 pub(crate) fn check_bytes(bytes: &[u8], wanted: &[u8]) -> Option<()>
     ensures { IfSome result (λ _. bytes.now ≡ wanted.now) }
 {

@@ -1,4 +1,4 @@
--- What a writer and a reader of a pipe have done, and what stands of their page by that.
+-- What a writer and a reader of a pipe have done, and what holds of their page by that.
 use Rattle.std.proofs.Common.{◌≡◌, ◌≤◌, ◌<◌, ◌+◌, ℕ, List, ◌++◌, length, take, Bool, true, false, refl, sym, subst, ap, ◌∙◌, arith}
 use Rattle.std.proofs.lemmas.List.{length-take-le, take-append-le, take-take, length-append}
 use Rattle.std.proofs.Math.Seq.{take-append-add}
@@ -13,7 +13,7 @@ use Rattle.ring_words.specs.declared.page.Role.TheVariants.{Server, Client}
 
 -- ---- the reader
 
--- a piece that was got into the rest of a buffer stands behind those before it
+-- a piece that was got into the rest of a buffer comes after those before it
 got_some : (got part post buf : List ℕ) (count more : ℕ) → count ≤ length buf → more ≤ length part → got ≡ take count buf ++ take more part → got ≡ take (count + more) (take count buf ++ (part ++ post))
 got_some got part post buf count more within few is =
     is ∙ ap (λ (xs : List ℕ). take count buf ++ xs) (sym (take-append-le more part post few))

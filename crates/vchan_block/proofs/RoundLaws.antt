@@ -25,7 +25,7 @@ sent_on e first now bytes left moved count is before after =
     (append_assoc first.sent (take moved bytes) (take count left)
     ∙ ap (λ (more : List ℕ). first.sent ++ more) (ap (λ (xs : List ℕ). take moved bytes ++ take count xs) is ∙ sym (take-add moved count bytes)))
 
--- where all bytes are moved, a write that answers so moved all
+-- if all bytes are moved, a write that gives this answer moved all
 pub wrote_whole : (bytes : List ℕ) (moved count : ℕ) → moved + count ≡ length bytes → (before last : ℕ) → wrote.Wrote moved count ≡ wrote.Wrote before last → before + last ≡ length bytes
 wrote_whole bytes moved count all before last is =
     let first : moved ≡ before = cc in

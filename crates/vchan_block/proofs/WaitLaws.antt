@@ -35,7 +35,7 @@ unfolding notes_along
 notes-along s [] = refl
 notes-along s (event ∷ events) = notes-along (made s event.op event.taken) events
 
--- whatever the values are, where the plan answers the notes fit
+-- whatever the values are, the notes fit when the plan answers
 unfoldable Leaves : (Notes → Answer → Type 0) → Role → Notes → Plan → Type 0
 Leaves Fit role n (answers answer) = Fit n answer
 Leaves Fit role n (does op next) = (value : ℕ) → Leaves Fit role (noted op role value n) (next value)

@@ -1,4 +1,4 @@
--- What stands of a page through whose left ring some bytes were piped.
+-- What holds of a page through whose left ring some bytes were piped.
 -- The statements are this project's own.
 use Rattle.std.specs.Prelude.{◌≡◌, ◌≤◌, ◌<◌, ℕ, List, length, true, false, IsSome}
 use Rattle.atomic_table.specs.Seated.{TableId}
@@ -21,7 +21,7 @@ pub record HasPiped (words : PageStart) (bytes : List ℕ) (page : Settled) : Ty
 
 -- ---- the two threads
 
--- this end of the page, which was never given up
+-- this end of the page, which was never turned over to a hostile user
 pub record IsEndOf (page : TableId) (role : Role) (e : SeatedSide) : Type 0 where
   pub page_is : e.page ≡ page
   pub role_is : e.side.role ≡ role
@@ -49,7 +49,7 @@ drained_count (NotYet prod cons) = 0
 drained_count AllRead = 0
 drained_count (PeerGone prod cons) = 0
 
--- what a drain's answer says of the end of the stream
+-- what a drain's answer tells of the end of the stream
 abbrev pub MayHaveEnded : DrainAnswer → EndView → Type 0
 MayHaveEnded (More count) e = Unit {0}
 MayHaveEnded (NotYet prod cons) e = Unit {0}

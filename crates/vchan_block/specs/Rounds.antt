@@ -52,7 +52,7 @@ pub record IsWriteRound (bytes : List ℕ) (answer : WriteAnswer) (old new : Sea
   pub view_is : view new ≡ stream.wrote_to (view old) answer bytes
   pub trail : Trace (standing_of old.side) (Write (stream.most_asked bytes)) new.side.trail (stream.write_told answer)
 
--- after so many bytes: a round moved so many more, and all are moved; a round found the peer closed; or it waits and goes on
+-- after this many bytes: a round moved `count` more, and all are moved; a round found the peer closed; or it waits and goes on
 pub data Writes (bytes : List ℕ) : ℕ → SeatedEnd → SeatedEnd → BlockWrite → Type 0 where
   MovesLast : {moved : ℕ} {old new : SeatedEnd} (count : ℕ) → IsWriteRound (drop moved bytes) (write.Wrote count) old new → moved + count ≡ length bytes → Writes bytes moved old new (wrote.Wrote moved count)
   FindsClosed : {moved : ℕ} {old new : SeatedEnd} → IsWriteRound (drop moved bytes) write.PeerClosed old new → Writes bytes moved old new (wrote.PeerClosed moved)
@@ -71,7 +71,7 @@ EndsInWrite e (wrote.PeerClosed before) bytes = EndsIn e (Write (stream.most_ask
 
 -- ---- a read
 
--- one round that asks for at most so many bytes, into a buffer that has these then
+-- one round that asks for at most this many bytes, and leaves these in the buffer
 pub record IsReadRound (most : ℕ) (answer : ReadAnswer) (buffer : List ℕ) (old new : SeatedEnd) : Type 0 where
   pub view_is : view new ≡ stream.read_from (view old) answer buffer
   pub trail : Trace (standing_of old.side) (Read most) new.side.trail (stream.read_told answer)
@@ -93,12 +93,12 @@ pub record IsSendRound (bytes : List ℕ) (answer : SendAnswer) (old new : Seate
   pub view_is : view new ≡ packet.sent_to (view old) answer bytes
   pub trail : Trace (standing_of old.side) (Send (packet.most_asked bytes)) new.side.trail (packet.send_told (packet.most_asked bytes) answer)
 
--- rounds that found no room, and the last one, which answered so
+-- rounds that found no room, and the last one, which gave this answer
 pub data Sends (bytes : List ℕ) (answer : SendAnswer) : SeatedEnd → SeatedEnd → Type 0 where
   SendEnds : {old new : SeatedEnd} → IsSendRound bytes answer old new → Sends bytes answer old new
   FindsNoRoom : {old new : SeatedEnd} (prod cons : ℕ) (tried waited : SeatedEnd) → IsSendRound bytes (send.NoRoom prod cons) old tried → Waits tried waited → Sends bytes answer waited new → Sends bytes answer old new
 
--- rounds, or no event at all of a packet that is too large for the ring
+-- rounds, or no event at all for a packet that is too large for the ring
 abbrev pub HasSent : List ℕ → SeatedEnd → SeatedEnd → BlockSend → Type 0
 HasSent bytes old new sent.Sent = Sends bytes send.Sent old new
 HasSent bytes old new sent.PeerClosed = Sends bytes send.PeerClosed old new
@@ -110,7 +110,7 @@ sent_to e sent.Sent bytes = record e { sent = e.sent ++ bytes }
 sent_to e sent.PeerClosed bytes = record e { saw = true }
 sent_to e (sent.TooLarge len size) bytes = e
 
--- its last round, where it made one
+-- its last round, if it made one
 abbrev pub EndsInSend : SeatedEnd → BlockSend → List ℕ → Type 0
 EndsInSend e sent.Sent bytes = EndsIn e (Send (packet.most_asked bytes)) (packet.send_told (packet.most_asked bytes) send.Sent)
 EndsInSend e sent.PeerClosed bytes = EndsIn e (Send (packet.most_asked bytes)) (packet.send_told (packet.most_asked bytes) send.PeerClosed)
@@ -122,17 +122,17 @@ IsTooLargeToSend e bytes len size = (len ≡ length bytes) × (size ≡ write_si
 
 -- ---- a recv
 
--- one round that asks for so many bytes, into a buffer that has these then
+-- one round that asks for this many bytes, and leaves these in the buffer
 pub record IsRecvRound (most : ℕ) (answer : RecvAnswer) (buffer : List ℕ) (old new : SeatedEnd) : Type 0 where
   pub view_is : view new ≡ packet.received_from (view old) answer buffer
   pub trail : Trace (standing_of old.side) (Recv most) new.side.trail (packet.recv_told most answer)
 
--- rounds that found too few bytes, and the last one, which answered so
+-- rounds that found too few bytes, and the last one, which gave this answer
 pub data Receives (most : ℕ) (answer : RecvAnswer) (buffer : List ℕ) : SeatedEnd → SeatedEnd → Type 0 where
   RecvEnds : {old new : SeatedEnd} → IsRecvRound most answer buffer old new → Receives most answer buffer old new
   FindsFew : {old new : SeatedEnd} (prod cons : ℕ) (held : List ℕ) (tried waited : SeatedEnd) → IsRecvRound most (recv.Short prod cons) held old tried → Waits tried waited → Receives most answer buffer waited new → Receives most answer buffer old new
 
--- rounds, or no event at all where the buffer is larger than the ring: it is as it was then
+-- rounds, or no event at all if the buffer is larger than the ring: it stays as it was then
 abbrev pub HasReceived : List ℕ → List ℕ → SeatedEnd → SeatedEnd → BlockRecv → Type 0
 HasReceived was buffer old new received.Got = Receives (packet.most_asked was) recv.Got buffer old new
 HasReceived was buffer old new received.PeerClosed = Receives (packet.most_asked was) recv.PeerClosed buffer old new
@@ -144,7 +144,7 @@ received_from e received.Got buffer = record e { got = e.got ++ buffer }
 received_from e received.PeerClosed buffer = record e { saw = true }
 received_from e (received.TooLarge len size) buffer = e
 
--- its last round, where it made one
+-- its last round, if it made one
 abbrev pub EndsInRecv : SeatedEnd → BlockRecv → List ℕ → Type 0
 EndsInRecv e received.Got buffer = EndsIn e (Recv (packet.most_asked buffer)) (packet.recv_told (packet.most_asked buffer) recv.Got)
 EndsInRecv e received.PeerClosed buffer = EndsIn e (Recv (packet.most_asked buffer)) (packet.recv_told (packet.most_asked buffer) recv.PeerClosed)

@@ -17,7 +17,7 @@ use Rattle.vchan_protocol.specs.History.Peer.{peer, held}
 use Rattle.vchan_protocol.specs.OneEnd.OneCall.{side_called}
 use Rattle.vchan_protocol.specs.Signals.SignalLaw.{NoLostSignal, peer_index}
 
--- the bit by which a round asks to be signalled: for room, or for bytes
+-- the bit by which a round asks for a signal: for room, or for bytes
 abbrev pub bit_of : Call → Bit
 bit_of (Write n) = Consumed
 bit_of (Send n) = Consumed
@@ -32,7 +32,7 @@ IsUnfinished (Read n) (Empty prod cons) = 0 < n
 IsUnfinished (Recv n) (Short prod cons) = Unit {0}
 IsUnfinished call answer = ⊥
 
--- the index of its peer by which an end that stood so answered: that of its last look
+-- the index of its peer by which an end in this standing answered: that of its last look
 abbrev pub IsAnsweredBy : Standing → Answer → ℕ → Type 0
 IsAnsweredBy e (Wrote count) index = free_at e index ≡ count
 IsAnsweredBy e (Full prod cons) index = index ≡ cons
@@ -41,13 +41,13 @@ IsAnsweredBy e (Empty prod cons) index = index ≡ prod
 IsAnsweredBy e (Short prod cons) index = index ≡ prod
 IsAnsweredBy e answer index = ⊥
 
--- the end's bit stands, so its peer signals when it stores its index next; that index is still the one by which the round answered; and the peer isn't shut
+-- the end's bit is set, so its peer signals when it stores its index next; that index is still the one by which the round answered; and the peer isn't shut
 pub record StillWaits (core : Core) (who : Role) (begun : Standing) (call : Call) (answer : Answer) : Type 0 where
   pub bit_stands : bit_and (held core (ask_word who)) (mask (bit_of call)) ≢ 0
   pub index_stands : IsAnsweredBy begun answer (low32 (held core (peer_index who (bit_of call))))
   pub peer_open : low8 (held core (peer_live who)) ≢ 0
 
--- Where an end made a round that was left unfinished and no event since, no signal is there for it to take and its peer is between two calls, it has missed nothing.
+-- If an end made a round that was left unfinished and no event since, no signal is there for it to take and its peer is between two calls, it has missed nothing.
 abbrev pub RoundMissesNothing : Type 0
 RoundMissesNothing =
     (core : Core) (was : Side) (call : Call) (payload : List ℕ) (events : List PastEvent) (answer : Answer) → NoLostSignal core →

@@ -2,7 +2,7 @@
 use std::time::{Clock, Duration};
 use std::{hint, thread};
 
-/// How many tries are made with the processor kept: for as long as a peer that runs takes for a round.
+/// How many tries are made without giving up the processor: as long as a running peer takes for a round.
 const SPINS: u32 = 256;
 
 /// The shortest and the longest sleep, in microseconds.
@@ -10,8 +10,8 @@ const SHORTEST: u64 = 16;
 
 const LONGEST: u64 = 1_000;
 
-/// The pauses of one wait, which grow: first none, then the thread sleeps, each time for twice as long. It
-/// never gives way, which costs a whole slice of time where others want the processor.
+/// The pauses of one wait, which grow: at first there are none, then the thread sleeps, each time twice as
+/// long. It never yields, which costs a whole slice of time if others want the processor.
 #[derive(Clone, Copy)]
 pub struct Pauses {
     tries: u32,

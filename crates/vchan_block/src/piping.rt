@@ -16,7 +16,7 @@ use vchan_io::Memory;
 use vchan_lifecycle::{DrainAnswer, connect, drain, retire};
 use vchan_rule::{End, IdleSeat, Page, Retired, Settled};
 
-/// What the reading thread hands back: its end, and the bytes that this got.
+/// What the reading thread returns: its end, and the bytes that it got.
 #[derive(Drop)]
 struct Received {
     end: Retired,
@@ -44,7 +44,7 @@ fn write_all_and_retire<R: Wait + Clock>(
     }
 }
 
-/// Drains into a buffer, behind the bytes that it has already.
+/// Drains into a buffer, after the bytes that it has already.
 fn drain_behind(end: &mut End<'_>, buf: &mut [u8], count: usize) -> DrainAnswer
     requires open { IsOpen end.old }
     requires some { count < length buf.old }
@@ -59,7 +59,7 @@ fn drain_behind(end: &mut End<'_>, buf: &mut [u8], count: usize) -> DrainAnswer
     drain(end, &mut buf[count..])
 }
 
-/// Drains until no more comes, or until the buffer is full. So many bytes were got.
+/// Drains until no more comes, or until the buffer is full. Returns how many bytes were got.
 fn drain_all<R: Wait + Clock>(rt: &R, end: &mut End<'_>, buf: &mut [u8]) -> usize
     requires open { IsOpen end.old }
     requires some { 0 < length buf.old }
@@ -109,7 +109,7 @@ fn read_all_and_retire<R: Wait + Clock>(
     }
 }
 
-/// What the writing thread promises of the end that it hands back.
+/// What the writing thread promises of the end that it returns.
 #[derive(Clone, Copy)]
 struct AllSent<'a> {
     page: &'a Page,
@@ -120,9 +120,9 @@ impl<'a> Promise<Retired> for AllSent<'a> {
     ghost kept_by = { λ p end. IsEndOf p.page.now.table Client end × SendsAll (last_view end) p.bytes.now };
 }
 
-/// Writes and reads at once, the writer on a thread of its own: the client's end, and what was
-/// received. Its error is want of memory for that thread. Without it no byte is sent: a writer and a
-/// reader one after the other would wait for ever.
+/// Writes and reads at once, with the writer on a thread of its own. Returns the client's end, and what was
+/// received. Returns `Memory` if memory runs out for that thread; no byte is sent then, since a writer and
+/// a reader one after the other would wait for ever.
 fn write_and_read<R: Threads + Wait + Clock + Sync>(
     rt: &R,
     page: &Page,
@@ -161,12 +161,12 @@ fn write_and_read<R: Threads + Wait + Clock + Sync>(
     )
 }
 
-/// Sends all bytes through the left ring of a new page, whose indices begin at `start`, and hands back
-/// what was read there, with what stands of the page, which tells its orders and its start.
+/// Sends all bytes through the left ring of a new page, whose indices begin at `start`. Returns what was
+/// read there, and what holds of the page, with its orders and its start.
 ///
 /// One thread writes as the client and retires; another reads as the server until no more comes, and
-/// retires. All memory is taken first, and the writing thread started last: `Memory` comes at want of
-/// it alone, as where no second thread can be made, and nothing was sent then.
+/// retires. All memory is taken first, and the writing thread is started last. Returns `Memory` only if
+/// memory runs out or no second thread can be made; nothing was sent then.
 pub fn pipe<R: Threads + Wait + Clock + Sync>(
     rt: &R,
     alloc: Global,

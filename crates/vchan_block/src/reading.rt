@@ -14,10 +14,10 @@ use std::time::Clock;
 use vchan_rule::End;
 use vchan_stream::{self as stream, ReadAnswer};
 
-/// What a read that waits answers.
+/// The answer of a read that waits.
 #[derive(Clone, Copy, Debug, PartialEq, Eq)]
 pub enum BlockRead {
-    /// So many bytes were got, into the front of the buffer.
+    /// This many bytes were got, into the front of the buffer.
     Got { count: u32 },
     /// The last round found the ring empty and the peer shut.
     PeerClosed,
@@ -25,8 +25,8 @@ pub enum BlockRead {
 
 ghost use Rattle.vchan_block.specs.Rounds.{EndsIn, Reads, last_read};
 
-/// Gets as many bytes as wait, up to the length of the buffer, and waits for some where there are none.
-/// It may wait for ever, if the peer never writes.
+/// Gets as many bytes as wait, up to the length of the buffer, and waits for some if there are none. It
+/// may wait for ever, if the peer never writes.
 pub fn read<R: Wait + Clock>(rt: &R, end: &mut End<'_>, buf: &mut [u8]) -> BlockRead
     requires open { IsOpen end.old }
     requires some { 0 < length buf.old }

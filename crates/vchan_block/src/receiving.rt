@@ -10,12 +10,12 @@ use std::time::Clock;
 use vchan_packet::{self as packet, RecvAnswer};
 use vchan_rule::End;
 
-/// What a recv that waits answers.
+/// The answer of a recv that waits.
 #[derive(Clone, Copy, Debug, PartialEq, Eq)]
 pub enum BlockRecv {
     /// The whole buffer was filled, by the last round.
     Got,
-    /// The buffer has room for `len` bytes, and the ring that the end reads holds `size` at most.
+    /// The buffer has room for `len` bytes, and the ring that the end reads holds at most `size`.
     TooLarge { len: usize, size: u32 },
     /// The last round found too few bytes, and then the peer shut. No byte was got.
     PeerClosed,
@@ -23,10 +23,11 @@ pub enum BlockRecv {
 
 ghost use Rattle.vchan_block.specs.Rounds.{HasReceived, EndsInRecv, IsTooLargeToReceive, received_from};
 
-/// Fills the whole buffer with one packet, and waits for its bytes where there are too few.
-/// `TooLarge` comes exactly where the buffer has room for more than the ring holds, and no event is
-/// made then; `PeerClosed` comes only where a round found the peer shut. It may wait for ever, if the
-/// peer never writes.
+/// Fills the whole buffer with one packet, and waits for its bytes if there are too few. It may wait for
+/// ever, if the peer never writes.
+///
+/// Returns `TooLarge` if and only if the buffer has room for more than the ring holds; no event is made
+/// then. Returns `PeerClosed` only if a round found the peer shut.
 pub fn recv<R: Wait + Clock>(rt: &R, end: &mut End<'_>, buf: &mut [u8]) -> BlockRecv
     requires { IsOpen end.old }
     ensures same { IsSameEnd end.old end.new }

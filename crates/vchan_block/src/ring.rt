@@ -7,14 +7,14 @@ ghost use Rattle.vchan_protocol.specs.History.Core.{standing_of};
 use ring_words::{Order, Role};
 use vchan_rule::End;
 
-/// Whether a ring of this order can hold so many bytes at once.
+/// Returns whether a ring of this order can hold `len` bytes at once.
 pub fn fits_ring(len: u32, order: Order) -> bool
     ensures { IsTrue result ↔ (len ≤ size order) }
 {
     len <= order.size()
 }
 
-/// How many bytes the ring that an end writes can hold.
+/// Returns how many bytes the ring that an end writes can hold.
 pub(crate) fn written_size(end: &End<'_>) -> u32
     ensures { result ≡ write_size (standing_of end.now.side) }
 {
@@ -25,7 +25,7 @@ pub(crate) fn written_size(end: &End<'_>) -> u32
     }
 }
 
-/// How many bytes the ring that an end reads can hold.
+/// Returns how many bytes the ring that an end reads can hold.
 pub(crate) fn read_size(end: &End<'_>) -> u32
     ensures { result ≡ read_size (standing_of end.now.side) }
 {

@@ -10,12 +10,12 @@ use std::time::Clock;
 use vchan_packet::{self as packet, SendAnswer};
 use vchan_rule::End;
 
-/// What a send that waits answers.
+/// The answer of a send that waits.
 #[derive(Clone, Copy, Debug, PartialEq, Eq)]
 pub enum BlockSend {
     /// All bytes were sent, by the last round.
     Sent,
-    /// The packet has `len` bytes, and the ring that the end writes holds `size` at most.
+    /// The packet has `len` bytes, and the ring that the end writes holds at most `size`.
     TooLarge { len: usize, size: u32 },
     /// The last round found the peer shut. No byte was sent.
     PeerClosed,
@@ -23,10 +23,11 @@ pub enum BlockSend {
 
 ghost use Rattle.vchan_block.specs.Rounds.{HasSent, EndsInSend, IsTooLargeToSend, sent_to};
 
-/// Sends all bytes as one packet, and waits for room for all of them where there is too little.
-/// `TooLarge` comes exactly where they are more than the ring holds, and no event is made then;
-/// `PeerClosed` comes only where a round found the peer shut. It may wait for ever, if the peer never
-/// reads.
+/// Sends all bytes as one packet, and waits if there is too little room for them. It may wait for ever, if
+/// the peer never reads.
+///
+/// Returns `TooLarge` if and only if the packet has more bytes than the ring holds; no event is made then.
+/// Returns `PeerClosed` only if a round found the peer shut.
 pub fn send<R: Wait + Clock>(rt: &R, end: &mut End<'_>, bytes: &[u8]) -> BlockSend
     requires { IsOpen end.old }
     ensures same { IsSameEnd end.old end.new }

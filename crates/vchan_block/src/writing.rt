@@ -9,19 +9,20 @@ use std::time::Clock;
 use vchan_rule::End;
 use vchan_stream::{self as stream, WriteAnswer};
 
-/// What a write that waits answers.
+/// The answer of a write that waits.
 #[derive(Clone, Copy, Debug, PartialEq, Eq)]
 pub enum BlockWrite {
-    /// All bytes were sent: so many before the last round, and so many by it.
+    /// All bytes were sent: `before` bytes before the last round, and `last` bytes by it.
     Wrote { before: usize, last: u32 },
-    /// The last round found the peer shut, and so many bytes were sent before.
+    /// The last round found the peer shut, and `before` bytes were sent before it.
     PeerClosed { before: usize },
 }
 
 ghost use Rattle.vchan_block.specs.Rounds.{EndsInWrite, Writes, wrote_to};
 
-/// Sends all bytes, and waits for room where there is none. `PeerClosed` comes only where a round found
-/// the peer shut. It may wait for ever, if the peer never reads.
+/// Sends all bytes, and waits for room if there is none. It may wait for ever, if the peer never reads.
+///
+/// Returns `PeerClosed` only if a round found the peer shut.
 pub fn write<R: Wait + Clock>(rt: &R, end: &mut End<'_>, bytes: &[u8]) -> BlockWrite
     requires { IsOpen end.old }
     ensures same { IsSameEnd end.old end.new }

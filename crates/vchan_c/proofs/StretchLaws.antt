@@ -34,7 +34,7 @@ use Rattle.vchan_c.specs.Stretches.{AreBytes, IsWithin, MovesWithin, IsStretch, 
 
 -- ---- the places of a span's bytes
 
--- behind the ring's end comes its front
+-- after the ring's end comes its front
 place_front : (n j : ℕ) (order : Order) → place n order + j ≡ size order → place (n + j) order ≡ 0
 unfolding place
 place_front n j order h =
@@ -117,7 +117,7 @@ takes_lead values m now span bytes take are is =
 
 -- ---- stretches
 
--- two lists of events, one behind the other
+-- two lists of events, one after the other
 pub Leads-join : (p : Plan) (xs ys : List PastEvent) (q r : Plan) → Leads p xs q → Leads q ys r → Leads p (xs ++ ys) r
 Leads-join p [] ys q r one two = subst (λ (x : Plan). Leads x ys r) (sym one) two
 Leads-join (answers answer) (x ∷ xs) ys q r one two = absurd one
@@ -151,7 +151,7 @@ signalled_as : (e f : Standing) (signals : Bool) → e.role ≡ f.role → signa
 signalled_as e f false is = refl
 signalled_as e f true is = ap (λ (role : Role). let signal : List PastEvent = past (Store (peer_pending role) 1) 0 ∷ [] in signal) is
 
--- bytes, a store and a signal, one behind the other
+-- bytes, a store and a signal, one after the other
 module _ (m mid late now : Machine) (moves : Moves) (store : Option Stored) (signals : Bool) (last : Last) (moves_lead : (values : ℕ → ℕ) → Leads (rest m) (moved values moves) (rest mid)) (moves_stand : standing mid ≡ standing m) (store_leads : Leads (rest mid) (stored store) (rest late)) (store_stands : standing late ≡ standing_stored store (standing mid)) (signal_leads : Leads (rest late) (signalled (standing late) signals) (left last now)) (signal_stays : standing now ≡ standing late) (last_is : IsLast last now) where
   late_stands : standing late ≡ standing_stored store (standing m)
   late_stands = store_stands ∙ ap (λ (e : Standing). standing_stored store e) moves_stand
@@ -180,7 +180,7 @@ store_answers m mid now moves store told answer moves_lead moves_stand store_lea
   last_is = idle;
 }
 
--- what stands behind a stretch, by the answer that its last event gave
+-- what comes after a stretch, by the answer that its last event gave
 pub left_answer : (answer : Answer) (told : Option Answer) (p : Plan) (events : List PastEvent) (now : Machine) → told ≡ Some answer → Leads p events (rest_or_answer told now) → Leads p events (answers answer)
 left_answer answer told p events now is leads = subst (λ (o : Option Answer). Leads p events (rest_or_answer o now)) is leads
 

@@ -73,11 +73,11 @@ pub record IsKept (kept : Kept) (m : Machine) : Type 0 where
   pub same : kept_of m ≡ kept
   pub alone : (other : Machine) → IsShort other → kept_of other ≡ kept → other ≡ m
 
--- no machine is kept as these bytes
+-- these are the bytes of no machine
 abbrev pub IsNoEnd : Kept → Type 0
 IsNoEnd kept = (m : Machine) → kept_of m ≢ kept
 
--- an end that was made of these numbers is between two calls
+-- an end that was made from these numbers is between two calls
 pub record Made (role state left right prod cons : ℕ) (new : Kept) : Type 0 where
   pub machine : Machine
   pub kept : IsKept new machine
@@ -85,7 +85,7 @@ pub record Made (role state left right prod cons : ℕ) (new : Kept) : Type 0 wh
   pub idle : IsIdle machine
   pub standing : IsStanding role state left right prod cons (standing machine)
 
--- The step tells what an end with this standing does next of the plan; the bytes are kept of the machine that it leaves.
+-- The step tells what an end with this standing does next of the plan; the bytes are those of the machine that it leaves.
 -- What it still needs of the caller's payload and buffer is never more than before, and its bytes lie within that.
 pub record Tells (plan : Plan) (e : Standing) (payload buffer : ℕ) (new : Kept) (step : Step) : Type 0 where
   pub now : Machine
@@ -107,7 +107,7 @@ pub record Begins (old : Kept) (number len : ℕ) (new : Kept) (step : Step) : T
   pub allows : Allows machine call
   pub tells : Tells (plan_of (standing machine) call) (standing machine) (payload_of call) (loaded_most (standing machine) call) new step
 
--- the end goes on behind what it awaited
+-- the end goes on after what it awaited
 pub record Goes (old : Kept) (value : ℕ) (new : Kept) (step : Step) : Type 0 where
   pub machine : Machine
   pub kept : IsKept old machine

@@ -46,7 +46,7 @@ abbrev pub takes_told : (ℕ → ℕ) → Bytes → ℕ → ℕ → List PastEve
 takes_told values bytes k zero = []
 takes_told values bytes k (suc n) = past (LoadByte (RingByte bytes.ring (byte_place bytes k)) (bytes.at + k)) (values k) ∷ takes_told values bytes (k + 1) n
 
--- the bytes lie within a ring of this order, in two parts at most, and within so many of the caller's
+-- the bytes lie within a ring of this order, in two parts at most, and within this many of the caller's
 pub record IsWithin (order : Order) (most : ℕ) (bytes : Bytes) : Type 0 where
   pub some : 0 < bytes.first
   pub ring : bytes.place + bytes.first ≤ size order
@@ -66,7 +66,7 @@ moved values NoBytes = []
 moved values (Puts bytes) = puts_told bytes 0 (bytes.first + bytes.second)
 moved values (Takes bytes) = takes_told values bytes 0 (bytes.first + bytes.second)
 
--- the bytes lie within the ring of an end with this standing, and within so many of its payload or its buffer
+-- the bytes lie within the ring of an end with this standing, and within this many of its payload or its buffer
 abbrev pub MovesWithin : Standing → ℕ → ℕ → Moves → Type 0
 MovesWithin e payload buffer NoBytes = Unit {0}
 MovesWithin e payload buffer (Puts bytes) = IsWithin (write_order e) payload bytes
@@ -88,11 +88,11 @@ signalled e true = past (Store (peer_pending e.role) 1) 0 ∷ []
 
 -- ---- a stretch of events
 
--- its events, where the bytes that are loaded have these values
+-- its events, if the bytes that are loaded have these values
 abbrev pub told : (ℕ → ℕ) → Standing → Stretch → List PastEvent
 told values e stretch = moved values stretch.moves ++ (stored stretch.store ++ signalled e stretch.signals)
 
--- what is left of the call behind it
+-- what is left of the call after it
 abbrev pub left : Last → Machine → Plan
 left (Answered answer) m = answers answer
 left (Event op) m = rest m
@@ -112,9 +112,9 @@ pub record IsStretch (plan : Plan) (e : Standing) (stretch : Stretch) (now : Mac
 abbrev pub answered_by : Answer → Stretch
 answered_by answer = record { moves = NoBytes; store = None; signals = false; last = Answered answer }
 
--- ---- behind the event that is awaited
+-- ---- after the event that is awaited
 
--- what is left once it took this value, and what the end knows then; where none is awaited, nothing changes
+-- what is left after it took this value, and what the end knows then; if none is awaited, nothing changes
 abbrev pub plan_behind : Machine → ℕ → Plan
 plan_behind m value = if awaits (next_op (rest m)) then after (rest m) value else rest m
 

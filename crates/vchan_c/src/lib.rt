@@ -1,10 +1,10 @@
 //! One end of a channel for a program in C or in Rust: which loads and stores come next, and what a
 //! call answers.
 //!
-//! The end is 32 bytes of the caller's, which hold plain numbers alone. It names no memory: the
-//! caller makes the loads and stores that a [`Step`] tells, on a page that it has mapped, and hands
-//! in the value that the awaited one took. Which they are, in which order, at which places, and what
-//! a call answers is that of `vchan_core::Machine`, as `specs/Ends.antt` says.
+//! The end is 32 bytes that the caller owns, which hold only plain numbers. It knows no memory: the
+//! caller makes the loads and stores that a [`Step`] tells, on a page that it has mapped, and passes the
+//! value that the awaited one took. Which loads and stores these are, in which order, at which places, and
+//! what a call answers is as in `vchan_core::Machine`, as `specs/Ends.antt` states.
 #![tactic(auto)]
 
 mod numbers;
@@ -24,11 +24,10 @@ use vchan_core::Kept;
 
 /// Makes an end between two calls, with its own two counts, in bytes modulo 2^32: `prod` of the ring
 /// that it writes, and `cons` of the one that it reads. The role is 0 for a server and 1 for a
-/// client; the state is 0 for a client that hasn't connected, 1 for an open end and 2 for a shut
-/// one.
+/// client. The state is 0 for a client that hasn't connected, 1 for an open end and 2 for a shut one.
 ///
-/// It answers false, and changes nothing, where the numbers are those of no end: an unknown role or
-/// state, a server that isn't connected, or two orders that a page can't have.
+/// Returns false, and changes nothing, if the numbers are those of no end: an unknown role or state, a
+/// server that isn't connected, or two orders that a page can't have.
 #[unsafe(no_mangle)]
 pub extern "C" fn vchan_end_init(
     end: &mut Kept,
@@ -54,9 +53,9 @@ pub extern "C" fn vchan_end_init(
 /// that moves none ignores it. The calls are 1 write, 2 send, 3 read, 4 recv, 5 drain, 6 data ready,
 /// 7 buffer space, 8 connect, 9 close, 10 take the pending signal.
 ///
-/// It answers 0; 1 where the end is inside a call, 2 where it is shut, 3 where it isn't connected
-/// yet, 4 where it is connected already, 5 for a drain of no byte; 6 where there is no such call; and
-/// 7 where the 32 bytes are those of no end. It changes nothing but where it answers 0.
+/// Returns 0 if the call began. Otherwise it changes nothing, and returns 1 if the end is inside a call, 2
+/// if it is shut, 3 if it isn't connected yet, 4 if it is connected already, 5 for a drain of no byte, 6 if
+/// there is no such call, and 7 if the 32 bytes are those of no end.
 #[unsafe(no_mangle)]
 pub extern "C" fn vchan_end_begin(end: &mut Kept, call: u8, len: u32, step: &mut Step) -> u8
     ensures begun { result ≡ 0 → Begins end.old call len end.new step.new }
@@ -76,8 +75,8 @@ pub extern "C" fn vchan_end_begin(end: &mut Kept, call: u8, len: u32, step: &mut
     }
 }
 
-/// [`vchan_end_begin`] of an end between two calls and of this call. Each frequent call has a copy of
-/// its own, in which the end is read and kept again with no case of another one.
+/// [`vchan_end_begin`] for an end between two calls and for this call. Each frequent call has a copy of its
+/// own, in which the end is read and written back with no case of another call.
 #[inline(never)]
 fn begin_in<const CALL: u8, const COPY: u8>(end: &mut Kept, len: u32, step: &mut Step) -> u8
     requires { end.old.phase ≡ 0 }
@@ -90,7 +89,7 @@ fn begin_in<const CALL: u8, const COPY: u8>(end: &mut Kept, len: u32, step: &mut
     begin::<COPY>(end, kept, CALL, len, step)
 }
 
-/// [`vchan_end_begin`] of an end that was read. Each number is a copy.
+/// [`vchan_end_begin`] for an end that was read. Each number is a copy.
 #[inline(always)]
 fn begin<const COPY: u8>(end: &mut Kept, kept: Kept, call: u8, len: u32, step: &mut Step) -> u8
     requires { kept ≡ end.old }
@@ -114,11 +113,11 @@ fn begin<const COPY: u8>(end: &mut Kept, kept: Kept, call: u8, len: u32, step: &
     0
 }
 
-/// The step was carried out, and what it awaits took this value: tells the next step. The value is
-/// the word as it was; where nothing is awaited it is ignored.
+/// Takes the value of what the last step awaits, after the step was carried out, and tells the next step.
+/// The value is the word as it was; if nothing is awaited it is ignored.
 ///
-/// It answers false, and changes nothing, where the 32 bytes are those of no end, or of one that is
-/// between two calls.
+/// Returns false, and changes nothing, if the 32 bytes are those of no end, or of one that is between two
+/// calls.
 #[unsafe(no_mangle)]
 pub extern "C" fn vchan_end_took(end: &mut Kept, value: u64, step: &mut Step) -> bool
     ensures moved { result ≡ true → Goes end.old value end.new step.new }
@@ -138,8 +137,8 @@ pub extern "C" fn vchan_end_took(end: &mut Kept, value: u64, step: &mut Step) ->
     }
 }
 
-/// [`vchan_end_took`] of an end in this phase. Each frequent phase has a copy of its own, in which the
-/// end is read, moved on and kept again with no case of another one.
+/// [`vchan_end_took`] for an end in this phase. Each frequent phase has a copy of its own, in which the end
+/// is read, moved on and written back with no case of another phase.
 #[inline(never)]
 fn took_in<const PHASE: u8>(end: &mut Kept, value: u64, step: &mut Step) -> bool
     requires { end.old.phase ≡ PHASE }
@@ -155,7 +154,7 @@ fn took_in<const PHASE: u8>(end: &mut Kept, value: u64, step: &mut Step) -> bool
     took::<PHASE>(end, kept, value, step)
 }
 
-/// [`vchan_end_took`] of an end that was read. Each number is a copy.
+/// [`vchan_end_took`] for an end that was read. Each number is a copy.
 #[inline(always)]
 fn took<const COPY: u8>(end: &mut Kept, kept: Kept, value: u64, step: &mut Step) -> bool
     requires { kept ≡ end.old }

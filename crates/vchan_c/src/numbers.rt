@@ -6,7 +6,7 @@ ghost use Rattle.vchan_c.specs.Ends.{call_told, number_of_refusal, AreEndNumbers
 use ring_words::{Role, check_orders};
 use vchan_core::{Call, EndState, Machine, Refusal, role_of, state_of};
 
-/// An end between two calls, where the numbers are those of one.
+/// Returns an end between two calls, if the numbers are those of one.
 pub(crate) fn end_of(
     role: u8,
     state: u8,
@@ -30,7 +30,7 @@ pub(crate) fn end_of(
     }
 }
 
-/// The call of that number.
+/// Returns the call of that number, if there is one.
 pub(crate) fn call_of(number: u8, len: u32) -> Option<Call>
     ensures { result ≡ call_told number len }
 {
@@ -49,7 +49,7 @@ pub(crate) fn call_of(number: u8, len: u32) -> Option<Call>
     }
 }
 
-/// The number of a refusal.
+/// Returns the number of a refusal.
 pub(crate) fn refusal_number(refusal: Refusal) -> u8
     ensures { result ≡ number_of_refusal refusal }
 {

@@ -8,55 +8,56 @@ use ring_words::{Ring, WordName};
 use vchan_core::{AnswerNumbers, Op};
 
 /// What a caller does next, in this order: it moves bytes, stores a number, signals its peer, and
-/// then makes the event whose value is awaited, or has the answer of its call. Words are told by
-/// their offset in Xen's `struct vchan_interface` and their width in bytes; a word that the page of
-/// Xen doesn't have has the width 0: nothing is done there, and a load or a swap takes what the
-/// caller knows, as whether a signal is pending, or 0.
+/// then makes the event whose value is awaited, or has the answer of its call.
+///
+/// A word is given by its offset in Xen's `struct vchan_interface` and its width in bytes. A word that
+/// Xen's page doesn't have has the width 0: nothing is done there, and a load or a swap takes what the
+/// caller knows, such as whether a signal is pending, or 0.
 #[repr(C)]
 #[derive(Clone, Copy, Debug, PartialEq, Eq)]
 pub struct Step {
-    /// What is awaited: 0 nothing, and the answer is here; 1 a load, 2 an or, 3 an and, 4 a swap; 5
+    /// What is awaited: 0 nothing, and the answer is in this step; 1 a load, 2 an or, 3 an and, 4 a swap; 5
     /// nothing, and the call goes on.
     pub kind: u8,
     /// The width of the awaited word, in bytes.
     pub width: u8,
     /// The offset of the awaited word.
     pub offset: u16,
-    /// Whether bytes are moved: 0 none, 1 they are stored, 2 they are loaded.
+    /// Whether bytes are moved: 0 no, 1 they are stored, 2 they are loaded.
     pub moves: u8,
     /// The ring that they lie in: 0 left, 1 right.
     pub ring: u8,
-    /// The width of the word to store in, in bytes; 0 where nothing is stored.
+    /// The width of the word to store in, in bytes; 0 if nothing is stored.
     pub store_width: u8,
-    /// 1 where the peer is to be signalled, else 0.
+    /// 1 if the peer is to be signalled, else 0.
     pub signals: u8,
     /// The offset of the word to store in.
     pub store_offset: u16,
     /// The kind of the answer, from 1 to 18 in the order of [`vchan_core::Answer`].
     pub answer: u8,
-    /// 0.
+    /// Always 0.
     pub spare: u8,
-    /// Where in the ring the first byte lies.
+    /// The place in the ring of the first byte.
     pub place: u32,
-    /// Its number in the caller's payload or buffer.
+    /// The number of the first byte in the caller's payload or buffer.
     pub at: u32,
     /// How many bytes lie from that place on.
     pub first: u32,
-    /// How many lie from the ring's front on, and go on behind these.
+    /// How many bytes lie from the ring's front on; they come after the first ones.
     pub second: u32,
-    /// The first part of the answer, as how many bytes were moved.
+    /// The first part of the answer, such as how many bytes were moved.
     pub answer_first: u32,
     /// The second part of the answer.
     pub answer_second: u32,
-    /// 0.
+    /// Always 0.
     pub spares: u32,
-    /// What is stored.
+    /// The number to store.
     pub stored: u64,
     /// The bits of an or or an and, or what a swap stores.
     pub bits: u64,
 }
 
-/// Where a word lies in the page, and how wide it is there.
+/// Returns where a word lies in the page, and how wide it is there.
 #[inline(always)]
 fn offset_and_width(word: WordName) -> (u16, u8)
     ensures offset { result.0 ≡ offset_of word }
@@ -92,7 +93,7 @@ fn ring_number(ring: Ring) -> u8
     }
 }
 
-/// Whether bytes are moved, and which.
+/// Returns whether bytes are moved, and which.
 #[inline(always)]
 fn moved(moves: Moves) -> (u8, Bytes)
     ensures number { result.0 ≡ moves_number moves }
@@ -114,7 +115,7 @@ fn moved(moves: Moves) -> (u8, Bytes)
     }
 }
 
-/// A store: the offset and the width of its word, and its number.
+/// Returns a store: the offset and the width of its word, and its number.
 #[inline(always)]
 fn stored(store: Option<Stored>) -> (u16, u8, u64)
     ensures offset { result.0 ≡ store_offset store }
@@ -186,7 +187,7 @@ impl Awaited {
     }
 }
 
-/// What stands behind a stretch: what is awaited, and the answer.
+/// Returns what comes after a stretch: what is awaited, and the answer.
 #[inline(always)]
 fn ended(last: Last) -> (Awaited, AnswerNumbers)
     ensures kind { result.0.kind ≡ (numbers_of_last last).0 }
@@ -208,7 +209,7 @@ fn ended(last: Last) -> (Awaited, AnswerNumbers)
 }
 
 impl Step {
-    /// A stretch of events, as numbers.
+    /// Returns a stretch of events as numbers.
     #[inline(always)]
     pub(crate) fn of(stretch: Stretch) -> Step
         ensures { result ≡ step_of stretch }

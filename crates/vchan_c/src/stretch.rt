@@ -13,28 +13,28 @@ use vchan_core::{Ahead, Answer, Machine, Op, Span};
 pub struct Bytes {
     /// The ring that they lie in.
     pub ring: Ring,
-    /// Where the first byte lies.
+    /// The place of the first byte.
     pub place: u32,
     /// The number of the first byte in the caller's payload or buffer.
     pub at: u32,
     /// How many lie from that place on.
     pub first: u32,
-    /// How many lie from the ring's front on: those that go on behind the ring's end.
+    /// How many lie from the ring's front on: those that go on after the ring's end.
     pub second: u32,
 }
 
 /// Bytes that are moved.
 #[derive(Clone, Copy)]
 pub enum Moves {
-    /// None.
+    /// No bytes.
     Nothing,
-    /// They are stored.
+    /// These bytes are stored.
     Puts(Bytes),
-    /// They are loaded.
+    /// These bytes are loaded.
     Takes(Bytes),
 }
 
-/// What is stored in a word.
+/// A number that is stored in a word.
 #[derive(Clone, Copy)]
 pub struct Stored {
     /// The word.
@@ -43,18 +43,18 @@ pub struct Stored {
     pub value: u64,
 }
 
-/// What stands behind the events whose values are known.
+/// What comes after the events whose values are known.
 #[derive(Clone, Copy)]
 pub enum Last {
     /// The answer of the call.
     Answer(Answer),
     /// An event whose value is awaited.
     Event(Op),
-    /// More of the same.
+    /// More events of this kind.
     Further,
 }
 
-/// The events that come next: bytes, then a store, then a signal, and what stands behind them.
+/// The events that come next: bytes, then a store, then a signal, and what comes after them.
 #[derive(Clone, Copy)]
 pub struct Stretch {
     /// The bytes.
@@ -63,11 +63,11 @@ pub struct Stretch {
     pub store: Option<Stored>,
     /// Whether the peer is signalled.
     pub signals: bool,
-    /// What stands behind.
+    /// What comes after these events.
     pub last: Last,
 }
 
-/// Whether the value of an event tells how the call goes on.
+/// Returns whether the value of an event decides how the call goes on.
 #[inline(always)]
 fn awaits(op: Op) -> bool
     ensures { result ≡ awaits_of op }
@@ -78,8 +78,8 @@ fn awaits(op: Op) -> bool
     )
 }
 
-/// The next bytes of a span: as many as go on up to the ring's end, and from its front up to where
-/// the first of them lies.
+/// Returns the next bytes of a span: as many as lie up to the ring's end, and from its front up to the
+/// place of the first of them.
 #[tactic(auto, using(ring_words::proofs::RingLaws::place_wraps, ring_words::proofs::RingLaws::place_within))]
 #[inline(always)]
 fn bytes_of(span: Span) -> Bytes
@@ -123,7 +123,7 @@ fn pass_bytes(machine: &mut Machine) -> Moves
     }
 }
 
-/// Goes past a store, where one comes next that is no signal.
+/// Goes past a store, if one comes next that is no signal.
 #[inline(always)]
 fn pass_store(machine: &mut Machine) -> (Option<Stored>, Option<Answer>)
     requires { ¬ IsIdle machine.old }
@@ -142,7 +142,7 @@ fn pass_store(machine: &mut Machine) -> (Option<Stored>, Option<Answer>)
     }
 }
 
-/// Goes past a signal to the peer, where one comes next.
+/// Goes past a signal to the peer, if one comes next.
 #[inline(always)]
 fn pass_signal(machine: &mut Machine) -> (bool, Option<Answer>)
     requires { ¬ IsIdle machine.old }
@@ -159,7 +159,7 @@ fn pass_signal(machine: &mut Machine) -> (bool, Option<Answer>)
     }
 }
 
-/// Takes the value of the event that is awaited, where one is.
+/// Takes the value of the event that is awaited, if one is.
 #[inline(always)]
 fn pass_awaited(machine: &mut Machine, value: u64) -> Option<Answer>
     requires { ¬ IsIdle machine.old }
@@ -175,7 +175,7 @@ fn pass_awaited(machine: &mut Machine, value: u64) -> Option<Answer>
     None
 }
 
-/// What stands behind the events whose values are known.
+/// Returns what comes after the events whose values are known.
 #[inline(always)]
 fn last_of(machine: &Machine) -> Last
     requires { ¬ IsIdle machine.now }
@@ -189,7 +189,7 @@ fn last_of(machine: &Machine) -> Last
     }
 }
 
-/// The answer of a call, with no event before it.
+/// Returns the answer of a call, with no event before it.
 #[inline(always)]
 fn answered(answer: Answer) -> Stretch
     ensures { result ≡ answered_by answer }
@@ -202,7 +202,7 @@ fn answered(answer: Answer) -> Stretch
     }
 }
 
-/// The events that come next: the end goes past those whose values are known.
+/// Returns the events that come next; the end goes past those whose values are known.
 #[inline(always)]
 pub(crate) fn stretch_of<const COPY: u8>(machine: &mut Machine) -> Stretch
     requires { ¬ IsIdle machine.old }
@@ -234,7 +234,7 @@ pub(crate) fn stretch_of<const COPY: u8>(machine: &mut Machine) -> Stretch
     }
 }
 
-/// The same behind the event that is awaited, which took this value.
+/// Returns the same for after the awaited event, which took this value.
 #[inline(always)]
 pub(crate) fn stretch_behind<const COPY: u8>(machine: &mut Machine, value: u64) -> Stretch
     requires { ¬ IsIdle machine.old }

@@ -62,7 +62,7 @@ drain_cause e n events result trace other =
     let each = each_cause e (Drain n) events (drain_told result) trace (drain_told other) in
     (λ is. each.0 (ap drain_told is), λ cause. same_drain result other (each.1 cause))
 
--- what was got is at least one byte, where at least one was asked for
+-- what was got is at least one byte, if at least one was asked for
 abbrev GotSome : Answer → Type 0
 GotSome (Got count) = 1 ≤ count
 GotSome _ = Unit {0}
@@ -101,7 +101,7 @@ connect_cause e events result trace other =
 
 -- ---- the events of a close and a retire
 
--- the first event, where the plan has one left
+-- the first event, if the plan has one left
 record First (op : Op) (next : ℕ → Plan) (events : List PastEvent) (answer : Answer) : Type 0 where
   taken : ℕ
   later : List PastEvent
@@ -152,7 +152,7 @@ retire_events e events answer trace = go e.state trace
 
 -- ---- what a drain asks for
 
--- no event of what is left of a call asks to be signalled
+-- no event of what is left of a call asks for a signal
 abbrev IsQuiet : Plan → Answer → Type 0
 IsQuiet plan answer = (events : List PastEvent) → Leads plan events (answers answer) → has_asked (ops events) ≡ false
 
@@ -179,7 +179,7 @@ quiet_take e k done answer =
     let notifies = quiet_event _ (λ old. if bit_and old (mask Consumed) == 0 then answers done else signal e (answers done)) answer refl (λ old. quiet_if (bit_and old (mask Consumed) == 0) _ _ answer over signals) in
     quiet_bytes e 0 k (take_index e k (answers done)) answer (quiet_event _ (λ _. notify e Consumed (answers done)) answer refl (λ taken. notifies))
 
--- with no byte found the next event asks, and else none does
+-- if no byte was found the next event asks, and else none does
 asks_next : (e : Standing) (k : ℕ) (none : Bool) (next : Plan) (done answer : Answer) (events : List PastEvent) → Leads (if none then ask e Written next else take e k (answers done)) events (answers answer) → has_asked (ops events) ≡ none
 asks_next e k true next done answer events led = ap has_asked (first (Or (ask_word e.role) (mask Written)) (λ _. next) events answer led).ops_are
 asks_next e k false next done answer events led = quiet_take e k done answer events led
@@ -226,6 +226,6 @@ close_view e payload buffer answer saw done told = closed_view e Close payload b
 pub retire_view : (e : EndView) (payload buffer : List ℕ) (answer : Answer) (saw : Bool) → answer ≡ Done → SeesAsTold Retire answer e.saw saw → answered_view e Retire payload buffer answer saw ≡ retired_view e
 retire_view e payload buffer answer saw done told = closed_view e Retire payload buffer answer saw true done refl (or_yes e.retired) told
 
--- an end that rests is seen as it was between two calls
+-- an end that is done is seen as it was between two calls
 pub rest_view : (before : SeatedEnd) (after_rest : SeatedSide) → after_rest.page ≡ before.page → after_rest.side ≡ before.side → IsIdle before.machine → last_view after_rest ≡ view before
 rest_view before after_rest page side idle = λ i. view_of (page i) (sym (ap not idle) i) (side i)

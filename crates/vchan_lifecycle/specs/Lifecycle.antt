@@ -19,7 +19,7 @@ use Rattle.vchan_lifecycle.specs.declared.DrainAnswer.TheVariants.{More, NotYet 
 
 -- ---- the answers
 
--- what one call asks for at most: as many bytes as are handed in, in 32 bits
+-- what one call asks for at most: as many bytes as are given, within 32 bits
 abbrev pub most_asked : List ℕ → ℕ
 most_asked bytes = min (length bytes) 4294967295
 
@@ -43,14 +43,14 @@ drain_told (IsNotYet prod cons) = NotYet prod cons
 drain_told IsAllRead = AllRead
 drain_told (IsPeerGone prod cons) = PeerGone prod cons
 
--- and that of a connect's result
+-- the answer of the protocol that a connect's result tells
 abbrev pub connect_told : Result (Unit {0}) BadOrders → Answer
 connect_told (Ok done) = Connected
 connect_told (Err orders) = Refuses orders.left orders.right
 
 -- ---- the views
 
--- The view of an end after a drain into this buffer. It may have seen its peer's end where its answer doesn't tell of it: where it found the live byte 0, and
+-- The view of an end after a drain into this buffer. It may have seen its peer's end even if its answer doesn't tell of it: if it found the live byte 0, and
 -- then bytes that were written before.
 abbrev pub drained_to : EndView → DrainAnswer → List ℕ → Bool → EndView
 drained_to e (More count) buffer saw = record e { got = e.got ++ take count buffer; saw = saw }
@@ -87,7 +87,7 @@ retire_ops role state = close_ops role ++ Store (own_gone role) 1 ∷ Store (pee
 
 -- ---- what a drain asks for
 
--- an end asks to be signalled by an or: some of these events does
+-- an end asks for a signal by an or: one of these events does
 abbrev pub asks : Op → Bool
 asks (Or word bits) = true
 asks _ = false

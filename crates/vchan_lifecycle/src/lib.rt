@@ -1,8 +1,8 @@
 //! The life of a channel's end on a shared page: connect, drain, close and retire.
 //!
-//! It serves whoever opens and ends a channel. A connect is what a client does in libxenvchan's
-//! init.c, a close that of `libxenvchan_close` in io.c. The drain, which tells an end of a stream
-//! for sure, and the retire, which lets go of the page, are this project's own.
+//! Everything that opens and ends a channel rests on it. A connect is what a client does in libxenvchan's
+//! init.c, and a close is `libxenvchan_close` of io.c. The drain, which tells the end of a stream for sure,
+//! and the retire, after which the end is done with the page, are this project's own.
 #![tactic(auto)]
 
 ghost use Rattle.std.specs.Prelude.{◌≡◌, ◌≢◌, ◌↔◌, ◌||◌, ◌<◌, ◌≤◌, min, true, false, length, ℕ, Result, is_ok};
@@ -26,35 +26,35 @@ ghost use Rattle.vchan_lifecycle.specs.Lifecycle.{most_asked, AnswersDrain, Answ
 use vchan_core::{Answer, Call};
 use vchan_rule::{End, Retired};
 
-/// A connect was refused: the page's order words say these orders, which aren't the page's.
+/// A connect was refused: the page's order words hold these numbers, which aren't the page's orders.
 #[derive(Clone, Copy, Debug, PartialEq, Eq)]
 pub struct BadOrders {
     pub left: u16,
     pub right: u16,
 }
 
-/// What a drain answers.
+/// The answer of a drain.
 #[derive(Clone, Copy, Debug, PartialEq, Eq)]
 pub enum DrainAnswer {
-    /// So many bytes were got, at least one, into the front of the buffer.
+    /// This many bytes were got, at least one, into the front of the buffer.
     More { count: u32 },
     /// No byte was got: at these two indices the ring is empty, and more may come.
     NotYet { prod: u32, cons: u32 },
     /// No byte was got: the peer is shut, and all that it sent was read.
     AllRead,
-    /// No byte was got, and the peer is gone. With two equal indices all was read; with others the
-    /// peer left indices that no honest end leaves.
+    /// No byte was got, and the peer is gone. If the two indices are equal, all was read; if not, the peer left
+    /// indices that no honest end leaves.
     PeerGone { prod: u32, cons: u32 },
 }
 
-/// What one call asks for at most.
+/// Returns what one call asks for at most.
 fn asked(len: usize) -> u32
     ensures { result ≡ min len 4294967295 }
 {
     u32::try_from(len).unwrap_or(u32::MAX)
 }
 
-/// The answer of a drain, told by that of its events.
+/// Returns the answer of a drain, by that of its events.
 fn drain_answer(answer: Answer) -> DrainAnswer
     requires { AnswersDrain answer }
     ensures { drain_told result ≡ answer }
@@ -68,7 +68,7 @@ fn drain_answer(answer: Answer) -> DrainAnswer
     }
 }
 
-/// The answer of a connect, told by that of its events.
+/// Returns the answer of a connect, by that of its events.
 fn connect_answer(answer: Answer) -> Result<(), BadOrders>
     requires { AnswersConnect answer }
     ensures { connect_told result ≡ answer }
@@ -80,8 +80,8 @@ fn connect_answer(answer: Answer) -> Result<(), BadOrders>
     }
 }
 
-/// Connects a fresh client: it is open then. The error comes exactly where the two order words that
-/// it loaded don't say the page's orders; the client stays fresh, and may try again.
+/// Connects a fresh client, which is open then. Returns `BadOrders` if and only if the two order words that
+/// it loaded don't hold the page's orders; the client stays fresh then, and may try again.
 pub fn connect(end: &mut End<'_>) -> Result<(), BadOrders>
     requires idle { (view end.old).idle ≡ true }
     requires fresh { (view end.old).state ≡ Fresh }
@@ -94,7 +94,7 @@ pub fn connect(end: &mut End<'_>) -> Result<(), BadOrders>
     connect_answer(end.do_call(Call::Connect, &[], &mut []))
 }
 
-/// Shuts an end: its live byte is cleared, and its peer signalled.
+/// Shuts an end: its live byte is cleared, and its peer is signalled.
 pub fn close(end: &mut End<'_>)
     requires idle { (view end.old).idle ≡ true }
     requires going { (view end.old).state ≢ Shut }
@@ -106,8 +106,8 @@ pub fn close(end: &mut End<'_>)
     let _ = end.do_call(Call::Close, &[], &mut []);
 }
 
-/// Lets go of the page. An end that isn't shut is closed first; then its gone word is set, and its
-/// peer signalled.
+/// Ends the end's work on the page. An end that isn't shut is closed first; then its gone word is set, and
+/// its peer is signalled.
 pub fn retire(mut end: End<'_>) -> Retired
     requires idle { (view end).idle ≡ true }
     ensures view { last_view result ≡ retired_view (view end.entry) }
@@ -119,10 +119,11 @@ pub fn retire(mut end: End<'_>) -> Retired
     end.rest()
 }
 
-/// Gets as many bytes as wait, up to the length of the buffer, or says for sure that no more come.
-/// Where it finds none it looks at the peer's live byte and at its gone word, and then looks at the
-/// index again. Each answer comes exactly where its cause is in what the call's events loaded. It asks
-/// its peer for a signal exactly where its first look found no byte.
+/// Gets as many bytes as wait, up to the length of the buffer, or tells for sure that no more come.
+///
+/// If it finds none it looks at the peer's live byte and at its gone word, and then looks at the index
+/// again. Each answer comes if and only if its cause is in what the call's events loaded. The call asks the
+/// peer for a signal if and only if its first look found no byte.
 pub fn drain(end: &mut End<'_>, buf: &mut [u8]) -> DrainAnswer
     requires open { IsOpen end.old }
     requires some { 0 < length buf.old }

@@ -22,6 +22,6 @@ abbrev pub AnswersGone : Answer → Type 0
 AnswersGone (Gone is) = Unit {0}
 AnswersGone _ = ⊥
 
--- an end that asked whether its peer is gone has seen its end where it is
+-- an end that asked whether its peer is gone has seen its peer's end if it is
 abbrev pub asked_gone : EndView → Bool → EndView
 asked_gone e gone = record e { saw = e.saw || gone }

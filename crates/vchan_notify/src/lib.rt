@@ -1,7 +1,7 @@
-//! The calls of a channel that ask to be signalled, take a signal, and look whether the peer is
-//! gone, on one end of a shared page.
+//! The calls of a channel that ask for a signal, take a signal, and check whether the peer is gone, on
+//! one end of a shared page.
 //!
-//! It serves whoever waits for a channel. `data_ready` and `buffer_space` are
+//! Everything that waits for a channel rests on it. `data_ready` and `buffer_space` are
 //! `libxenvchan_data_ready` and `libxenvchan_buffer_space` of libxenvchan's io.c, which ask for a
 //! signal before they look; the pending and gone words are this project's own.
 #![tactic(auto)]
@@ -60,7 +60,7 @@ fn is_gone(answer: Answer) -> bool
     }
 }
 
-/// Asks for a signal at the next bytes, and answers how many bytes wait now.
+/// Asks for a signal at the next bytes, and returns how many bytes wait now.
 pub fn data_ready(end: &mut End<'_>) -> u32
     requires open { IsOpen end.old }
     ensures same { IsSameEnd end.old end.new }
@@ -72,7 +72,7 @@ pub fn data_ready(end: &mut End<'_>) -> u32
     ready_count(end.do_call(Call::DataReady, &[], &mut []))
 }
 
-/// Asks for a signal at the next room, and answers how many bytes have room now.
+/// Asks for a signal at the next room, and returns how many bytes there is room for now.
 pub fn buffer_space(end: &mut End<'_>) -> u32
     requires open { IsOpen end.old }
     ensures same { IsSameEnd end.old end.new }
@@ -84,7 +84,7 @@ pub fn buffer_space(end: &mut End<'_>) -> u32
     space_count(end.do_call(Call::BufferSpace, &[], &mut []))
 }
 
-/// Takes a signal: whether one was pending. None is then.
+/// Takes a signal, and returns whether one was pending; none is pending afterwards.
 pub fn take_event(end: &mut End<'_>) -> bool
     requires open { IsOpen end.old }
     ensures same { IsSameEnd end.old end.new }
@@ -96,7 +96,7 @@ pub fn take_event(end: &mut End<'_>) -> bool
     was_signalled(end.do_call(Call::TakeEvent, &[], &mut []))
 }
 
-/// Whether the peer's gone word was loaded as not 0.
+/// Loads the peer's gone word, and returns whether it isn't 0.
 pub fn peer_gone(end: &mut End<'_>) -> bool
     requires open { IsOpen end.old }
     ensures same { IsSameEnd end.old end.new }

@@ -23,7 +23,7 @@ use Rattle.vchan_packet.specs.declared.RecvAnswer.{RecvAnswer}
 use Rattle.vchan_packet.specs.declared.RecvAnswer.TheVariants.{Got as HasGot, Short as IsShort, PeerClosed as RecvClosed}
 use Rattle.vchan_packet.specs.Packet.{most_asked, AnswersSend, AnswersRecv, send_told, recv_told, told_send, told_recv, sent_to, received_from}
 
--- where all that was asked for fits a ring, all was asked for
+-- if all that was asked for fits a ring, all was asked for
 all_asked : (order : Order) (n : ℕ) (xs : List ℕ) → min (length xs) 4294967295 ≤ n → n ≤ size order → min (length xs) 4294967295 ≡ length xs
 all_asked order n xs few fits = let within = size-within order in omega (arith, few, fits, within.1)
 
@@ -73,7 +73,7 @@ got_back n HasGot = refl
 got_back n (IsShort p c) = refl
 got_back n RecvClosed = refl
 
--- each answer comes exactly where its cause is
+-- each answer comes if and only if its cause is there
 pub send_cause : (e : Standing) (n : ℕ) (events : List PastEvent) (result : SendAnswer) → Trace e (Send n) events (send_told n result) → (other : SendAnswer) → (result ≡ other) ↔ SendCause e n (loads_of e events) (send_told n other)
 send_cause e n events result trace other =
     let each = each_cause e (Send n) events (send_told n result) trace (send_told n other) in

@@ -9,7 +9,7 @@ use Rattle.vchan_packet.specs.declared.SendAnswer.TheVariants.{Sent as HasSent, 
 use Rattle.vchan_packet.specs.declared.RecvAnswer.{RecvAnswer}
 use Rattle.vchan_packet.specs.declared.RecvAnswer.TheVariants.{Got as HasGot, Short as IsShort, PeerClosed as RecvClosed}
 
--- what one call asks for: as many bytes as are handed in, in 32 bits
+-- what one call asks for: as many bytes as are given, within 32 bits
 abbrev pub most_asked : List ℕ → ℕ
 most_asked bytes = min (length bytes) 4294967295
 
@@ -26,7 +26,7 @@ AnswersRecv (Short prod cons) = Unit {0}
 AnswersRecv PeerClosed = Unit {0}
 AnswersRecv _ = ⊥
 
--- the answer of the protocol that a send's and a recv's answer tell, where so many bytes were asked for
+-- the answer of the protocol that a send's and a recv's answer tell, if this many bytes were asked for
 abbrev pub send_told : ℕ → SendAnswer → Answer
 send_told n HasSent = Sent n
 send_told n (HasNoRoom prod cons) = NoRoom prod cons

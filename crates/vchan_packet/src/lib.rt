@@ -1,7 +1,7 @@
 //! The bytes of a channel as packets: a send and a recv that never wait and move all or nothing,
 //! on one end of a shared page.
 //!
-//! It serves whoever sends messages of a known length over a channel. The calls are
+//! Everything that sends messages of a known length over a channel rests on it. The calls are
 //! `libxenvchan_send` and `libxenvchan_recv` of libxenvchan's io.c in non-blocking mode.
 #![tactic(auto)]
 
@@ -20,7 +20,7 @@ ghost use Rattle.vchan_packet.specs.Packet.{most_asked, AnswersSend, AnswersRecv
 use vchan_core::{Answer, Call};
 use vchan_rule::End;
 
-/// What a send answers.
+/// The answer of a send.
 #[derive(Clone, Copy, Debug, PartialEq, Eq)]
 pub enum SendAnswer {
     /// All bytes were sent.
@@ -31,7 +31,7 @@ pub enum SendAnswer {
     PeerClosed,
 }
 
-/// What a recv answers.
+/// The answer of a recv.
 #[derive(Clone, Copy, Debug, PartialEq, Eq)]
 pub enum RecvAnswer {
     /// The whole buffer was filled.
@@ -43,14 +43,14 @@ pub enum RecvAnswer {
     PeerClosed,
 }
 
-/// What one call asks for.
+/// Returns what one call asks for.
 fn asked(len: usize) -> u32
     ensures { result ≡ min len 4294967295 }
 {
     u32::try_from(len).unwrap_or(u32::MAX)
 }
 
-/// The answer of a send, told by that of its events.
+/// Returns the answer of a send, by that of its events.
 fn send_answer(answer: Answer) -> SendAnswer
     requires { AnswersSend answer }
     ensures { result ≡ told_send answer }
@@ -63,7 +63,7 @@ fn send_answer(answer: Answer) -> SendAnswer
     }
 }
 
-/// The answer of a recv, told by that of its events.
+/// Returns the answer of a recv, by that of its events.
 fn recv_answer(answer: Answer) -> RecvAnswer
     requires { AnswersRecv answer }
     ensures { result ≡ told_recv answer }
@@ -76,8 +76,8 @@ fn recv_answer(answer: Answer) -> RecvAnswer
     }
 }
 
-/// Sends all bytes where they have room, else none, and never waits. Each answer comes exactly
-/// where its cause is in what the call's events loaded.
+/// Sends all bytes if there is room for them, else none, and never waits. Each answer comes if and only if
+/// its cause is in what the call's events loaded.
 pub fn send(end: &mut End<'_>, data: &[u8]) -> SendAnswer
     requires open { IsOpen end.old }
     ensures same { IsSameEnd end.old end.new }
@@ -92,8 +92,8 @@ pub fn send(end: &mut End<'_>, data: &[u8]) -> SendAnswer
     send_answer(end.do_call(call, data, &mut []))
 }
 
-/// Fills the whole buffer where enough bytes wait, else gets none, and never waits itself. Each
-/// answer comes exactly where its cause is in what the call's events loaded.
+/// Fills the whole buffer if enough bytes wait in the ring, else gets none, and never waits itself. Each
+/// answer comes if and only if its cause is in what the call's events loaded.
 pub fn recv(end: &mut End<'_>, buf: &mut [u8]) -> RecvAnswer
     requires open { IsOpen end.old }
     ensures same { IsSameEnd end.old end.new }

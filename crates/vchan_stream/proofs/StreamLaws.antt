@@ -34,7 +34,7 @@ answers_read e n events answer (read_empty last at none found is) = subst Answer
 pub read_answers : (e : Standing) (n : ℕ) (events : List PastEvent) (answer : Answer) → Trace e (Read n) events answer → AnswersRead answer
 read_answers e n events answer trace = answers_read e n events answer (has_cause e (Read n) events answer trace)
 
--- two answers tell the same only where they are the same
+-- two answers tell the same only if they are the same
 same_write : (a b : WriteAnswer) → write_told a ≡ write_told b → a ≡ b
 same_write (HasWritten k) (HasWritten l) is = cc
 same_write (HasWritten k) (IsFull p c) is = cc
@@ -57,7 +57,7 @@ same_read ReadClosed (HasGot l) is = cc
 same_read ReadClosed (IsEmpty q d) is = cc
 same_read ReadClosed ReadClosed is = refl
 
--- each answer comes exactly where its cause is
+-- each answer comes if and only if its cause is there
 pub write_cause : (e : Standing) (n : ℕ) (events : List PastEvent) (result : WriteAnswer) → Trace e (Write n) events (write_told result) → (other : WriteAnswer) → (result ≡ other) ↔ WriteCause e n (loads_of e events) (write_told other)
 write_cause e n events result trace other =
     let each = each_cause e (Write n) events (write_told result) trace (write_told other) in

@@ -9,7 +9,7 @@ use Rattle.vchan_stream.specs.declared.WriteAnswer.TheVariants.{Wrote as HasWrit
 use Rattle.vchan_stream.specs.declared.ReadAnswer.{ReadAnswer}
 use Rattle.vchan_stream.specs.declared.ReadAnswer.TheVariants.{Got as HasGot, Empty as IsEmpty, PeerClosed as ReadClosed}
 
--- what one call asks for at most: as many bytes as are handed in, in 32 bits
+-- what one call asks for at most: as many bytes as are given, within 32 bits
 abbrev pub most_asked : List ℕ → ℕ
 most_asked bytes = min (length bytes) 4294967295
 
@@ -37,13 +37,13 @@ read_told (HasGot count) = Got count
 read_told (IsEmpty prod cons) = Empty prod cons
 read_told ReadClosed = PeerClosed
 
--- the view of an end after a write of these bytes: as many of them as the answer says are sent
+-- the view of an end after a write of these bytes: as many of them are sent as the answer tells
 abbrev pub wrote_to : EndView → WriteAnswer → List ℕ → EndView
 wrote_to e (HasWritten count) payload = record e { sent = e.sent ++ take count payload }
 wrote_to e (IsFull prod cons) payload = e
 wrote_to e WriteClosed payload = record e { saw = true }
 
--- the view of an end after a read into this buffer: as many of its bytes as the answer says were got
+-- the view of an end after a read into this buffer: as many of its bytes were got as the answer tells
 abbrev pub read_from : EndView → ReadAnswer → List ℕ → EndView
 read_from e (HasGot count) buffer = record e { got = e.got ++ take count buffer }
 read_from e (IsEmpty prod cons) buffer = e

@@ -1,7 +1,7 @@
 //! The bytes of a channel as a stream: a write and a read that never wait, on one end of a shared
 //! page.
 //!
-//! It serves whoever sends a stream over a channel. The calls are `libxenvchan_write` and
+//! Everything that sends a stream over a channel rests on it. The calls are `libxenvchan_write` and
 //! `libxenvchan_read` of libxenvchan's io.c in non-blocking mode.
 #![tactic(auto)]
 
@@ -20,10 +20,10 @@ ghost use Rattle.vchan_stream.specs.Stream.{most_asked, AnswersWrite, AnswersRea
 use vchan_core::{Answer, Call};
 use vchan_rule::End;
 
-/// What a write answers.
+/// The answer of a write.
 #[derive(Clone, Copy, Debug, PartialEq, Eq)]
 pub enum WriteAnswer {
-    /// So many of the first bytes were sent: the smaller of their number and the room found.
+    /// This many of the first bytes were sent: the smaller of their number and the room found.
     Wrote { count: u32 },
     /// No byte was sent: at these two indices the ring has no room.
     Full { prod: u32, cons: u32 },
@@ -31,26 +31,26 @@ pub enum WriteAnswer {
     PeerClosed,
 }
 
-/// What a read answers.
+/// The answer of a read.
 #[derive(Clone, Copy, Debug, PartialEq, Eq)]
 pub enum ReadAnswer {
-    /// So many bytes were got, into the front of the buffer.
+    /// This many bytes were got, into the front of the buffer.
     Got { count: u32 },
     /// No byte was got: at these two indices the ring is empty, and the peer isn't shut.
     Empty { prod: u32, cons: u32 },
-    /// No byte was got: the ring was found empty, and then the peer shut. More may still come, which
-    /// a drain finds.
+    /// No byte was got: the ring was found empty, and then the peer shut. More bytes may still come, which a
+    /// drain finds.
     PeerClosed,
 }
 
-/// What one call asks for at most.
+/// Returns what one call asks for at most.
 fn asked(len: usize) -> u32
     ensures { result ≡ min len 4294967295 }
 {
     u32::try_from(len).unwrap_or(u32::MAX)
 }
 
-/// The answer of a write, told by that of its events.
+/// Returns the answer of a write, by that of its events.
 fn write_answer(answer: Answer) -> WriteAnswer
     requires { AnswersWrite answer }
     ensures { write_told result ≡ answer }
@@ -63,7 +63,7 @@ fn write_answer(answer: Answer) -> WriteAnswer
     }
 }
 
-/// The answer of a read, told by that of its events.
+/// Returns the answer of a read, by that of its events.
 fn read_answer(answer: Answer) -> ReadAnswer
     requires { AnswersRead answer }
     ensures { read_told result ≡ answer }
@@ -76,7 +76,7 @@ fn read_answer(answer: Answer) -> ReadAnswer
     }
 }
 
-/// Sends as many of the first bytes as have room, and never waits. Each answer comes exactly where
+/// Sends as many of the first bytes as there is room for, and never waits. Each answer comes if and only if
 /// its cause is in what the call's events loaded.
 pub fn write(end: &mut End<'_>, data: &[u8]) -> WriteAnswer
     requires open { IsOpen end.old }
@@ -93,8 +93,8 @@ pub fn write(end: &mut End<'_>, data: &[u8]) -> WriteAnswer
     write_answer(end.do_call(call, data, &mut []))
 }
 
-/// Gets as many bytes as wait, up to the length of the buffer, and never waits itself. Each answer
-/// comes exactly where its cause is in what the call's events loaded.
+/// Gets as many bytes as wait in the ring, up to the length of the buffer, and never waits itself. Each
+/// answer comes if and only if its cause is in what the call's events loaded.
 pub fn read(end: &mut End<'_>, buf: &mut [u8]) -> ReadAnswer
     requires open { IsOpen end.old }
     ensures same { IsSameEnd end.old end.new }

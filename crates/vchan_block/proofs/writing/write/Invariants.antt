@@ -5,7 +5,7 @@ use Rattle.vchan_block.specs.declared.writing.BlockWrite.{BlockWrite}
 use Rattle.vchan_block.specs.Rounds.{Writes}
 use Rattle.vchan_block.proofs.writing.write.Given as goal
 
--- so many bytes were sent, and whatever the rounds from here on come to is what all of them come to
+-- this many bytes were sent, and whatever the rounds from here on come to is what all of them come to
 abbrev pub invariant-rounds : goal.invariant-rounds
 invariant-rounds g l = record {
   same : IsSameEnd l.initial.end l.end;
