@@ -1,4 +1,4 @@
--- What the name of a page tells, and what stands of the page under it.
+-- What the name of a page tells, and what holds of the page under it.
 use Rattle.std.proofs.Common.{◌≡◌, ℕ, ◌≤◌, refl, ap, subst, sym, ◌∙◌}
 use Rattle.std.proofs.Math.Bridge.{le_prop}
 use Rattle.atomic_table.specs.Seated.{TableId}
@@ -39,7 +39,7 @@ same_order a b same = moved a.number a.in_range same
         let P : ℕ → Type 0 = λ n. (p : (10 ≤ n) × (n ≤ 20)) → (let whole : Order = record { number = n; in_range = p } in whole) ≡ b in
         subst P (sym is) here p
 
--- and the orders of a page by those of its rings
+-- the orders of a page are told by those of its rings
 same_rings : (a b : Orders) → a.left ≡ b.left → a.right ≡ b.right → a ≡ b
 same_rings a b left right = on_left a.left left a.right right a.distinct
   where
@@ -56,15 +56,15 @@ same_rings a b left right = on_left a.left left a.right right a.distinct
         let P : Order → Type 0 = λ l. (r : Order) → r ≡ b.right → (p : l.number ≡ r.number → 12 ≤ l.number) → (let whole : Orders = record { left = l; right = r; distinct = p } in whole) ≡ b in
         subst P (sym is) on_right
 
--- a name is that of pages of the same orders alone
+-- a name belongs only to pages of the same orders
 pub same_orders : (a b : Orders) (s t : ℕ) (name : TableId) → IsNameOf a s name → IsNameOf b t name → a ≡ b
 same_orders a b s t name n m = same_rings a b (same_order a.left b.left (sym n.left ∙ m.left)) (same_order a.right b.right (sym n.right ∙ m.right))
 
--- and of the same start
+-- a name belongs only to pages of the same start
 pub same_start : (a b : Orders) (s t : ℕ) (name : TableId) → IsNameOf a s name → IsNameOf b t name → s ≡ t
 same_start a b s t name n m = sym n.begins ∙ m.begins
 
--- ---- what stands of a page, under the name
+-- ---- what holds of a page, under the name
 
 done_named : (name : TableId) (e : EndView) → IsDone e → IsDone (named name e)
 done_named name e d = record { idle = d.idle; shut = d.shut; told = d.told }

@@ -16,7 +16,7 @@ still_offered offers page old new same o = record { offer = o.offer; is = o.is; 
 pub still_awaited : (page : PageView) (old new : BackReceiver) → received new ≡ received old → IsAwaited page old → IsAwaited page new
 still_awaited page old new same a = record { mark = a.mark; of_page = a.of_page; got = same ∙ a.got }
 
--- what comes behind the mark of a page is its client's end
+-- what comes after the mark of a page is its client's end
 pub is_client : (page : PageView) (back : BackReceiver) (end : SeatedSide) → IsAwaited page back → Follows (received back) (Done end) → (end.page ≡ page.table) × (end.side.role ≡ Client)
 is_client page back end a follows =
     let now = subst (λ (z : List Back). Follows z (Done end)) a.got follows in

@@ -9,13 +9,13 @@ use Rattle.page_offer.specs.declared.back.Back.{Back}
 use Rattle.page_offer.specs.declared.back.OnePage.{OnePage}
 use Rattle.page_offer.specs.declared.back.Back.TheVariants.{Of, Done}
 
--- behind the mark of a page its client's end may follow
+-- after the mark of a page its client's end may follow
 abbrev pub Follows : List Back → Back → Type 0
 Follows [] (Of page) = Unit {0}
 Follows (Of page ∷ more) (Done end) = (end.page ≡ page.value.table) × (end.side.role ≡ Client)
 Follows before back = ⊥
 
--- where the client puts its end, and where the server takes it
+-- the side by which the client gives its end back, and the side from which the server takes it
 abbrev pub BackSender : Type 0
 BackSender = Producer Back Global OnePage
 

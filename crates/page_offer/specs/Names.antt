@@ -1,4 +1,4 @@
--- By what a page is known before it is laid.
+-- The name by which a page is known before it is made.
 -- The names are this project's own.
 use Rattle.std.specs.Prelude.{◌≡◌, ℕ, List, [], ◌∷◌}
 use denote.RawPtr.{Ptr, block_ptr, null_ptr}
@@ -24,7 +24,7 @@ name_of e orders start = record {
   slot_names = start ∷ address e.words (address e.slots []);
 }
 
--- at which number the indices of the page begin whose name has these numbers
+-- the number at which the indices of the page begin whose name has these numbers
 abbrev pub start_in : List ℕ → ℕ
 start_in [] = 0
 start_in (start ∷ address) = start

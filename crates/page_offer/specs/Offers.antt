@@ -1,4 +1,4 @@
--- What the two sides of an offered page hold, and what they have said to each other.
+-- What the two sides of an offered page hold, and what they have sent to each other.
 -- The forms are this project's own.
 use Rattle.std.specs.Prelude.{◌≡◌, List, [], ◌∷◌}
 use Rattle.std.specs.declared.snapshot.Snapshot.{Snapshot}
@@ -18,7 +18,7 @@ use Rattle.page_offer.specs.declared.client.ClientLast.{ClientLast}
 use Rattle.page_offer.specs.declared.client.ClientLast.TheVariants as client
 use Rattle.page_offer.specs.Views.{idle_view, named}
 
--- this one offer was made, of this page, whose client's end comes back by this way
+-- this one offer was made, of this page, whose client's end comes back through this ring
 pub record IsOffered (offers : List Offer) (page : PageView) (back : BackReceiver) : Type 0 where
   pub offer : Offer
   pub is : offers ≡ offer ∷ []
@@ -40,13 +40,13 @@ pub record IsReturned (settled : Settled) (back : BackReceiver) : Type 0 where
 
 -- ---- an end that is done
 
--- what is seen of a server's end that is done
+-- the view of a server's end that is done
 abbrev pub server_end : TableId → ServerLast → EndView
 server_end name server.Unlaid = idle_view name Server
 server_end name (server.Waits page own back) = named name (last_view own)
 server_end name (server.Settled settled back) = named name settled.server
 
--- and what stands of it, of a page of these start words
+-- what holds of it, for a page of these start words
 abbrev pub StandsServer : PageStart → List Offer → ServerLast → Type 0
 StandsServer words offers server.Unlaid = offers ≡ []
 StandsServer words offers (server.Waits page own back) =
@@ -54,7 +54,7 @@ StandsServer words offers (server.Waits page own back) =
 StandsServer words offers (server.Settled settled back) =
     (settled.orders ≡ words.orders) × (settled.start ≡ words.start) × ((page : PageView) × IsOffered offers page back) × IsReturned settled back
 
--- the client has put its end behind the page's mark
+-- the client has put its end after the page's mark
 pub record HasReturned (offer : Offer) (end : SeatedSide) (back : BackSender) : Type 0 where
   pub same : SameRing offer.back.end back.end
   pub mark : Snapshot PageView

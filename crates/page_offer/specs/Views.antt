@@ -1,4 +1,4 @@
--- What contracts see of a page that is laid when it is first used.
+-- What contracts see of a page that is made at its first use.
 -- The forms are this project's own.
 use Rattle.std.specs.Prelude.{ℕ}
 use Rattle.atomic_table.specs.Seated.{TableId}
@@ -16,7 +16,7 @@ unused_view name role = untouched_view name role (state_at_first role)
 abbrev pub idle_view : TableId → Role → EndView
 idle_view name role = retired_view (unused_view name role)
 
--- an end of a page, and the page, under the name by which the page was known before it was laid
+-- an end of a page, and the page, under the name by which the page was known before it was made
 abbrev pub named : TableId → EndView → EndView
 named name e = record e { page = name }
 
@@ -28,7 +28,7 @@ pub record InUse : Type 0 where
   pub name : TableId
   pub table : TableId
 
--- an end that is done with its page, the orders of the page, and at which number its indices begin
+-- an end that is done with its page, the orders of the page, and the number at which its indices begin
 pub record DoneEnd : Type 0 where
   pub end : EndView
   pub orders : Orders

@@ -1,4 +1,4 @@
-//! The way back of a client's end.
+//! The way by which a client's end comes back to the server.
 use rtrb::{Consumer, Producer, Protocol};
 use std::alloc::Global;
 use std::snapshot::Snapshot;
@@ -7,13 +7,13 @@ use vchan_rule::{HeldPage, Retired};
 /// What goes back to the server.
 #[derive(Drop)]
 pub enum Back {
-    /// The mark of the page, for the proof alone.
+    /// The mark of the page, for the proof only.
     Of(Snapshot<HeldPage>),
     /// The client's end, which is done.
     Done(Retired),
 }
 
-/// One page's mark, and its client's end.
+/// The ring of one page's mark and its client's end.
 pub struct OnePage;
 
 impl Protocol<Back> for OnePage {
@@ -22,7 +22,7 @@ impl Protocol<Back> for OnePage {
     ghost allows = { Follows };
 }
 
-/// Where the client puts its end, and where the server takes it.
+/// The side by which the client gives its end back, and the side from which the server takes it.
 pub type BackSender = Producer<Back, Global, OnePage>;
 
 pub type BackReceiver = Consumer<Back, Global, OnePage>;

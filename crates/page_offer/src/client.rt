@@ -1,4 +1,4 @@
-//! The client's side of a page that is laid when it is first used.
+//! The client's side of a page that is made at its first use.
 ghost use mathlib.Core.List.{IsPrefix};
 ghost use Rattle.std.specs.Prelude.{◌≡◌, [], ◌∷◌, IfOk, IfErr, IsTrue};
 ghost use Rattle.ring_words.specs.declared.page.Role.TheVariants.{Client};
@@ -63,7 +63,7 @@ impl Model for OpenClient {
     ghost invariant = { λ c. (received c.offers ≡ c.offer.value ∷ []) × (c.back ≡ c.offer.value.back) };
 }
 
-/// What a client's side that is done has.
+/// What is left of a client's side that is done.
 #[derive(Drop)]
 pub(crate) enum ClientLast {
     /// No offer was taken.
@@ -98,7 +98,7 @@ impl Model for DoneClient {
 }
 
 impl UnlaidClient {
-    /// The side of a page of these orders, whose indices begin at `first`, and which is offered through
+    /// Makes the side of a page of these orders, whose indices begin at `first`, and which is offered through
     /// this ring.
     pub(crate) fn new(
         offers: Consumer<Offer>,
@@ -117,8 +117,8 @@ impl UnlaidClient {
         }
     }
 
-    /// The client's end, where a page of the side's own orders and start is offered. Else the side comes
-    /// back as it was.
+    /// Takes the offer and returns the client's end, if a page of the side's own orders and start is offered.
+    /// Else returns the side as it was.
     pub fn open<'p>(self) -> Result<(End<'p>, OpenClient), UnlaidClient>
         ensures end { IfOk result (λ opened. IsUnused (view opened.0) × (named self (view opened.0) ≡ unused_view self Client)) }
         ensures side { IfOk result (λ opened. (opened.1.name ≡ self) × (opened.1.table ≡ (view opened.0).page)) }
@@ -157,16 +157,16 @@ impl UnlaidClient {
         Ok((page.attach(seat), side))
     }
 
-    /// Whether no offer comes any more: the server's side is done without having laid the page, or was
-    /// dropped, as where its task ran out of memory. Nothing is promised of the answer.
+    /// Returns whether no offer comes any more: the server's side is done without having made the page, or was
+    /// dropped, for instance because its task ran out of memory. Nothing is promised of the answer.
     pub fn is_abandoned(&mut self) -> bool
         ensures { self.new ≡ self.old }
     {
         self.offers.is_abandoned() || self.left.has_left()
     }
 
-    /// The side of a client that doesn't use its end. An end that was offered retires at once, so that its
-    /// peer finds it gone.
+    /// Finishes the side of a client that doesn't use its end. An end that was offered retires at once, so that
+    /// its peer finds it gone.
     pub fn finish(self) -> DoneClient
         ensures { result.end ≡ idle_view self Client }
     {
@@ -176,7 +176,7 @@ impl UnlaidClient {
         }
     }
 
-    // The same, where no offer was made so far.
+    // The same, if no offer was made so far.
     fn leave(self) -> DoneClient
         ensures { result.end ≡ idle_view self Client }
     {
@@ -196,7 +196,7 @@ impl UnlaidClient {
     }
 }
 
-// Whether a page of these orders and this start is offered.
+// Returns whether a page of these orders and this start is offered.
 fn is_offered(offers: &mut Consumer<Offer>, orders: Orders, first: u32) -> bool
     ensures looked { ConsumerLooked offers.old offers.new }
     ensures offered { IsTrue result → (offer : _) × IsPrefix (offer ∷ []) (known_items offers.new) × (offer.page.orders ≡ orders) × (offer.page.start ≡ first) }
@@ -208,7 +208,7 @@ fn is_offered(offers: &mut Consumer<Offer>, orders: Orders, first: u32) -> bool
 }
 
 impl OpenClient {
-    /// The side once the client's end is done, which goes back to the server.
+    /// Finishes the side after the client's end is done, which goes back to the server.
     pub fn finish(self, own: Retired) -> DoneClient
         requires { (own.page ≡ self.table) × (own.side.role ≡ Client) }
         ensures { result.end ≡ named self.name (last_view own) }

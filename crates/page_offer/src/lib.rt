@@ -1,8 +1,8 @@
-//! A page that is laid when it is first used: its server lays it and offers it to the client, as
-//! libxenvchan's server allocates the rings and tells its client where they are.
+//! A page that is made at its first use: its server makes it and offers it to the client, as libxenvchan's
+//! server allocates the rings and tells its client where they are.
 //!
-//! It serves the data pages of a run, which are many and of which few are in use at a time. How an
-//! offer reaches the client is this project's own.
+//! The data pages of a run, which are many and of which few are in use at a time, rest on it. How an offer
+//! reaches the client is this project's own.
 #![tactic(auto)]
 
 mod back;

@@ -1,4 +1,4 @@
-//! What a server hands to its client.
+//! What a server gives to its client.
 ghost use Rattle.std.specs.Prelude.{◌≡◌, ◌<◌, [], ◌∷◌};
 ghost use Rattle.rtrb.specs.Ring.{sent, known_free};
 ghost use Rattle.ring_words.specs.declared.page.Role.TheVariants.{Client};
@@ -8,8 +8,8 @@ use crate::back::BackSender;
 use std::snapshot::Snapshot;
 use vchan_rule::{HeldPage, IdleSeat};
 
-/// A page that its server has laid, with the seat of the client's end, and the way back for that end
-/// once it is done.
+/// A page that its server has made, with the seat of the client's end, and the way by which that end comes
+/// back after it is done.
 #[derive(Drop)]
 pub struct Offer {
     pub(crate) page: HeldPage,

@@ -1,4 +1,4 @@
-//! The server's side of a page that is laid when it is first used.
+//! The server's side of a page that is made at its first use.
 ghost use Rattle.std.specs.Prelude.{◌≡◌, ◌<◌, [], ◌∷◌, false, IfOk};
 ghost use Rattle.ring_words.specs.declared.page.Role.TheVariants.{Server, Client};
 ghost use Rattle.rtrb.specs.Ring.{IsPair, received, known_items};
@@ -23,7 +23,7 @@ use std::snapshot::Snapshot;
 use vchan_io::Memory;
 use vchan_rule::{End, HeldPage, IdleSeat, Retired, Settled, StartWords};
 
-/// The server's side of a page that isn't laid yet.
+/// The server's side of a page that isn't made yet.
 #[derive(Drop)]
 pub struct UnlaidServer<'p> {
     offers: Producer<Offer>,
@@ -46,7 +46,7 @@ impl<'p> Model for UnlaidServer<'p> {
     ghost invariant = { λ s. (s.start.now.orders ≡ s.orders) × (s.start.now.start ≡ s.first) × (sent s.offers ≡ []) × (0 < known_free s.offers) };
 }
 
-/// A page that a server has laid and not offered yet.
+/// A page that a server has made and not offered yet.
 #[derive(Drop)]
 pub struct LaidPage {
     page: HeldPage,
@@ -85,12 +85,12 @@ impl Model for OpenServer {
     ghost invariant = { λ s. (s.page.orders ≡ s.orders) × (s.page.start ≡ s.first) × IsOffered (sent s.offers) s.page s.back × IsAwaited s.page s.back };
 }
 
-/// What a server's side that is done has.
+/// What is left of a server's side that is done.
 #[derive(Drop)]
 pub(crate) enum ServerLast {
-    /// The page was never laid.
+    /// The page was never made.
     Unlaid,
-    /// The client's end isn't back.
+    /// The client's end isn't back yet.
     Waits {
         page: HeldPage,
         own: Retired,
@@ -125,8 +125,8 @@ impl Model for DoneServer {
     ghost invariant = { λ s. StandsServer (record { orders = s.orders; start = s.first }) (sent s.offers) s.last };
 }
 
-/// The two sides of a page of these orders whose indices begin at `first`: it begins with these words once
-/// it is laid. Its error is want of memory.
+/// Makes the two sides of a page of these orders whose indices begin at `first`: it begins with the words
+/// `start` when it is made. Returns `Memory` if memory runs out.
 pub fn unlaid<'p>(
     alloc: Global,
     start: &'p StartWords,
@@ -152,7 +152,7 @@ pub fn unlaid<'p>(
 }
 
 impl<'p> UnlaidServer<'p> {
-    /// Lays the page. Its error is want of memory.
+    /// Makes the page. Returns `Memory` if memory runs out.
     pub fn lay(&self, alloc: Global) -> Result<LaidPage, Memory>
         ensures { IfOk result (λ laid. (laid.page.orders ≡ self.now.orders) × (laid.page.start ≡ self.now.start)) }
     {
@@ -176,7 +176,7 @@ impl<'p> UnlaidServer<'p> {
         })
     }
 
-    /// Offers the page that was laid to the client, and gives the server's end. The page has the side's own
+    /// Offers the page that was made to the client, and returns the server's end. The page has the side's own
     /// orders and start, and so has the end.
     pub fn open(self, laid: LaidPage) -> (End<'p>, OpenServer)
         requires { (laid.page.orders ≡ self.orders) × (laid.page.start ≡ self.start) }
@@ -211,7 +211,7 @@ impl<'p> UnlaidServer<'p> {
         (end, side)
     }
 
-    /// The side of a server that doesn't use its end.
+    /// Finishes the side of a server that doesn't use its end.
     pub fn finish(self) -> DoneServer
         ensures { (result.end ≡ idle_view self.entry.table Server) × (result.orders ≡ self.entry.orders) × (result.start ≡ self.entry.start) }
     {
@@ -233,15 +233,15 @@ impl<'p> UnlaidServer<'p> {
 }
 
 impl OpenServer {
-    /// Whether nobody takes the offer any more: the client's side is done without having used its end, or
-    /// was dropped, as where its task ran out of memory. Nothing is promised of the answer.
+    /// Returns whether the offer won't be taken any more: the client's side is done without having used its
+    /// end, or was dropped, for instance because its task ran out of memory. Nothing is promised of the answer.
     pub fn is_abandoned(&mut self) -> bool
         ensures { self.new ≡ self.old }
     {
         self.offers.is_abandoned() || self.left.has_left()
     }
 
-    /// The side once the server's end is done.
+    /// Finishes the side after the server's end is done.
     pub fn finish(self, own: Retired) -> DoneServer
         requires { (own.page ≡ self.table) × (own.side.role ≡ Server) }
         ensures { result.end ≡ named self.name (last_view own) }
@@ -266,15 +266,15 @@ impl OpenServer {
 }
 
 impl DoneServer {
-    /// The name of the page tells its orders, and at which number its indices begin.
+    /// Gives what the name of the page tells: its orders, and the number at which its indices begin.
     pub fn promise(&self)
         ensures { IsNameOf self.now.orders self.now.start self.now.end.page }
     {
         let _ = &self.last;
     }
 
-    /// Takes the client's end where that is back, so that the page is settled and its memory given
-    /// back. It answers whether anything is left to take.
+    /// Takes the client's end if that is back, so that the page is settled and its memory is freed. Returns
+    /// whether anything is left to take.
     pub fn take_back(&mut self) -> bool
         ensures { self.new ≡ self.old }
     {
@@ -286,7 +286,7 @@ impl DoneServer {
 }
 
 impl ServerLast {
-    // The same, once the client's end is taken where that is back, and whether it isn't.
+    // The same for what is left of the side; also returns whether the client's end isn't back yet.
     fn take_back(self) -> (ServerLast, bool)
         requires { (words : _) × (offers : _) × StandsServer words offers self }
         ensures { (name : _) (words : _) (offers : _) → StandsServer words offers self → StandsServer words offers result.0 × (server_end name result.0 ≡ server_end name self) }

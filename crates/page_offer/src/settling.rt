@@ -1,4 +1,4 @@
-//! A page that was laid when it was first used, once both its sides are done.
+//! A page that was made at its first use, after both its sides are done.
 ghost use Rattle.std.specs.Prelude.{◌≡◌, ◌∷◌, [], List, IfOk, OnErr};
 ghost use Rattle.ring_words.specs.declared.page.Role.TheVariants.{Server, Client};
 ghost use Rattle.rtrb.specs.Ring.{IsPair, sent, received, known_items};
@@ -20,16 +20,16 @@ use vchan_io::Memory;
 use vchan_lifecycle::retire;
 use vchan_rule::{HeldPage, Retired, Settled, StartWords};
 
-/// A settled page, under the name by which it was known before it was laid.
+/// A settled page, under the name by which it was known before it was made.
 #[derive(Drop)]
 pub struct OfferedPage {
     settled: Settled,
     server: Snapshot<DoneServer>,
-    // They go with the page: who settles many pages doesn't give back each one's memory on the way.
+    // They stay with the page, so that settling many pages doesn't free each one's memory on the way.
     rings: Option<Rings>,
 }
 
-/// The rings of a page through which its sides passed all that they had for each other.
+/// The rings of a page, through which its sides passed all that they had for each other.
 #[derive(Drop)]
 struct Rings {
     offers: (Producer<Offer>, Consumer<Offer>),
@@ -46,7 +46,7 @@ impl Model for OfferedPage {
 }
 
 impl OfferedPage {
-    /// What stands of the page, as `Settled::promise` says of a page that was laid.
+    /// Gives what holds of the page, as `Settled::promise` does for a page that was made at once.
     pub fn promise(&self)
         ensures { IsSettled self.now }
     {
@@ -76,7 +76,7 @@ pub fn settle(
     })
 }
 
-// The same, without the name, and the rings where both sides have used them.
+// The same without the name, with the rings if both sides have used them.
 fn settle_sides(
     alloc: Global,
     start: &StartWords,
@@ -127,7 +127,7 @@ fn settle_sides(
     }
 }
 
-// A page that neither side used, and so without rings to keep: it is laid for its two ends to retire.
+// Settles a page that neither side used, and so without rings to keep: it is made for its two ends to retire.
 fn settle_unused(alloc: Global, start: &StartWords) -> Result<(Settled, Option<Rings>), Memory>
     ensures { (name : _) → IfOk result (λ page. named_page name page.0 ≡ record { orders = start.now.orders; start = start.now.start; server = idle_view name Server; client = idle_view name Client }) }
 {
@@ -138,7 +138,7 @@ fn settle_unused(alloc: Global, start: &StartWords) -> Result<(Settled, Option<R
     Ok((page.settle(server, client), None))
 }
 
-// A page whose client didn't take the offer: its end retires now.
+// Settles a page whose client didn't take the offer: its end retires now.
 fn settle_untaken(page: HeldPage, own: Retired, offer: Offer) -> Settled
     requires offer { offer.page ≡ page }
     requires own { (own.page ≡ page.table) × (own.side.role ≡ Server) }
@@ -154,7 +154,7 @@ fn settle_untaken(page: HeldPage, own: Retired, offer: Offer) -> Settled
     page.settle(own, client)
 }
 
-// A page whose client's end is on its way back.
+// Settles a page whose client's end is on its way back.
 fn settle_returned(
     page: HeldPage,
     own: Retired,
@@ -175,7 +175,7 @@ fn settle_returned(
     }
 }
 
-// What came back is what the client sent.
+// Shows that what came back is what the client sent.
 fn was_returned(back: &mut BackReceiver, sender: &mut BackSender)
     requires pair { IsPair sender.old back.old }
     ensures { (settled : _) → IsReturned settled back.old → (mark : _) (end : SeatedSide) → sent sender.old ≡ Of mark ∷ Done end ∷ [] → settled.client ≡ last_view end }
@@ -183,7 +183,7 @@ fn was_returned(back: &mut BackReceiver, sender: &mut BackSender)
     back.slots_beside(sender);
 }
 
-// An offer whose client's end came back isn't on its way any more.
+// Shows that an offer whose client's end came back isn't on its way any more.
 fn was_taken(mut back: BackReceiver, mut offer: Offer)
     requires pair { IsPair offer.back back }
     ensures { (settled : _) → IsReturned settled back → ⊥ }

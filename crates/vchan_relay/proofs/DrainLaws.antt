@@ -8,7 +8,7 @@ use Rattle.vchan_lifecycle.specs.Lifecycle.{drained_to}
 use Rattle.end_view.specs.EndView.{EndView}
 use Rattle.vchan_relay.specs.Ended.{drained_count}
 
--- a piece that was got into the rest of a buffer stands behind those before it
+-- a piece that was got into the rest of a buffer comes after those before it
 got_some : (got part post buf : List ℕ) (count more : ℕ) → count ≤ length buf → more ≤ length part → got ≡ take count buf ++ take more part → got ≡ take (count + more) (take count buf ++ (part ++ post))
 got_some got part post buf count more within few is =
     is ∙ ap (λ (xs : List ℕ). take count buf ++ xs) (sym (take-append-le more part post few))

@@ -33,7 +33,7 @@ range_drop xs a k b order =
     let whole : b - a ≡ k + rest = omega (arith, order) in
     sym (ap (λ (n : ℕ). drop k (take n (drop a xs))) whole ∙ drop-take k rest (drop a xs) ∙ ap (λ (ys : List ℕ). take rest ys) (drop-drop k a xs))
 
--- what is passed on is sent behind what was sent, and no longer held
+-- what is passed on is sent after what was sent before, and no longer held
 pub passed_on : (got sent held : List ℕ) (k : ℕ) → got ≡ sent ++ held → got ≡ (sent ++ take k held) ++ drop k held
 passed_on got sent held k lawful = lawful ∙ ap (λ (bytes : List ℕ). sent ++ bytes) (sym (take-append-drop k held)) ∙ sym (append_assoc sent (take k held) (drop k held))
 

@@ -17,7 +17,7 @@ use Rattle.vchan_relay.specs.Given.{ReaderGiven}
 use Rattle.vchan_relay.specs.Laying.{IsLaid, AreLaid}
 use Rattle.vchan_relay.specs.Owes.{Owes, WriterHands, RelayHands, ReaderHands, FollowOn, AreTasks, AreHandedBack, AreLeft}
 
--- ---- laying
+-- ---- making pages
 
 pub laid_more : (words : PageStart) (pages : List PageView) (seats : List PageSeats) (page : PageView) (seat : PageSeats) → AreLaid words pages seats → IsLaid words page seat → AreLaid words (pages ++ page ∷ []) (seats ++ seat ∷ [])
 laid_more words [] [] page seat laid is = (is, tt)
@@ -44,12 +44,12 @@ pub last_task : (bytes : List ℕ) (room : ℕ) (all : List PageView) (before : 
 last_task bytes room all before given tasks longer goes_on is same =
     subst (λ (xs : List HopTask). AreTasks bytes room all xs) (sym is) (goes_on (Reads given ∷ []) (λ done hands. subst (λ (r : ReaderGiven). ReaderHands r.page r.room done) same hands))
 
--- no page is left where no seat is
+-- no page is left if no seat is
 pub none_left : (words : PageStart) (pages : List PageView) → AreLaid words pages [] → pages ≡ []
 none_left words [] laid = refl
 none_left words (page ∷ pages) laid = absurd laid
 
--- where a seat is left, it's that of the page at the index
+-- if a seat is left, it is that of the page at the index
 pub record IsNext (words : PageStart) (pages : List PageView) (index : ℕ) (page : PageView) (seat : PageSeats) (seats : List PageSeats) : Type 0 where
   pub within : index < length pages
   pub cut : drop index pages ≡ page ∷ drop (index + 1) pages
@@ -108,7 +108,7 @@ pub some_done_left : (room : ℕ) (page : PageView) (pages : List PageView) (cli
 some_done_left room page [] client left = left.1
 some_done_left room page (next ∷ pages) client left = left.1
 
--- the same of lists that are known
+-- the same for lists that are known
 pub left_at : (room : ℕ) (pages pages' : List PageView) (client : SeatedSide) (dones dones' : List HopDone) → pages ≡ pages' → dones ≡ dones' → AreLeft room pages client dones → AreLeft room pages' client dones'
 left_at room pages pages' client dones dones' is_pages is_dones left = subst (λ (ps : List PageView). AreLeft room ps client dones') is_pages (subst (AreLeft room pages client) is_dones left)
 
@@ -116,7 +116,7 @@ settled_at : (pages pages' : List PageView) (client : SeatedSide) (dones dones' 
 settled_at pages pages' client dones dones' settled got is_pages is_dones by =
     subst (λ (ps : List PageView). AreSettledBy ps client dones settled got) (sym is_pages) (subst (λ (ds : List HopDone). AreSettledBy pages' client ds settled got) (sym is_dones) by)
 
--- all that is settled, once a page more is
+-- all that is settled, after one more page is
 all_settled : (all : List PageView) (first : List HopDone) (s : Settled) (settled longer more : List Settled) (got : List ℕ) → longer ≡ settled ++ s ∷ [] → AreAllSettledBy all first (settled ++ s ∷ more) got → AreAllSettledBy all first (longer ++ more) got
 all_settled all first s settled longer more got is by =
     subst (λ (xs : List Settled). AreAllSettledBy all first xs got) (sym (ap (λ (xs : List Settled). xs ++ more) is ∙ append_assoc settled (s ∷ []) more)) by

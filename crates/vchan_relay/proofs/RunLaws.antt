@@ -44,7 +44,7 @@ follow_count room before [] (task ∷ more ∷ tasks) follow = absurd follow
 follow_count room before (page ∷ pages) [] follow = absurd follow
 follow_count room before (page ∷ pages) (task ∷ tasks) follow = let rest = follow_count room page.table pages tasks follow.1 in omega (arith, rest)
 
--- there is a task more than there are pages
+-- there is one task more than there are pages
 pub count_tasks : (bytes : List ℕ) (room : ℕ) (pages : List PageView) (tasks : List HopTask) → AreTasks bytes room pages tasks → length tasks ≡ length pages + 1
 count_tasks bytes room [] tasks are = absurd are
 count_tasks bytes room (page ∷ pages) [] are = absurd are
@@ -117,7 +117,7 @@ no_more words room got page (next ∷ pages) honest behind =
     let here = no_longer page.server.got page.client.sent (both_honest words page honest).left.in_order in
     omega (arith, later, between, here)
 
--- where the server of a page found the end of its stream, it has all that the client sent
+-- if the server of a page found the end of its stream, it has all that the client sent
 ended_through : (words : PageStart) (got : List ℕ) (page : Settled) (pages : List Settled) → IsHonestly words page → page.server.got ≡ got → HasEnded page.server → Each (HasCarried words got) pages → IsThrough words got page pages
 ended_through words got page pages honest is ended each =
     let both = both_honest words page honest in

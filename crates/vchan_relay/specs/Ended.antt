@@ -1,4 +1,4 @@
--- What the ends of a row of relays have done once they are retired.
+-- What the ends of a row of relays have done when they are retired.
 -- Source: this project's own.
 use Rattle.std.specs.Prelude.{◌≡◌, ◌≤◌, ◌<◌, ℕ, List, length, true, false, IsSome}
 use Rattle.atomic_table.specs.Seated.{TableId}
@@ -9,7 +9,7 @@ use Rattle.vchan_lifecycle.specs.declared.DrainAnswer.{DrainAnswer}
 use Rattle.vchan_lifecycle.specs.declared.DrainAnswer.TheVariants.{More, NotYet, AllRead, PeerGone}
 use Rattle.vchan_rule.specs.Seated.{SeatedSide}
 
--- this end of the page, which was never given up
+-- this end of the page, which was never turned over to a hostile user
 pub record IsEndOf (page : TableId) (role : Role) (e : SeatedSide) : Type 0 where
   pub page_is : e.page ≡ page
   pub role_is : e.side.role ≡ role
@@ -42,7 +42,7 @@ drained_count (NotYet prod cons) = 0
 drained_count AllRead = 0
 drained_count (PeerGone prod cons) = 0
 
--- what a drain's answer says of the end of the stream
+-- what a drain's answer tells of the end of the stream
 abbrev pub MayHaveEnded : DrainAnswer → EndView → Type 0
 MayHaveEnded (More count) e = Unit {0}
 MayHaveEnded (NotYet prod cons) e = Unit {0}

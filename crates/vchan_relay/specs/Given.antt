@@ -13,7 +13,7 @@ pub record HopGiven : Type 0 where
   pub near : TableId
   pub far : TableId
 
--- a reader: the page of its end, and for how many bytes it has room
+-- a reader: the page of its end, and how many bytes it has room for
 pub record ReaderGiven : Type 0 where
   pub page : TableId
   pub room : ℕ

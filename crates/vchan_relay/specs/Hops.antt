@@ -6,7 +6,7 @@ use Rattle.end_view.specs.Settled.{Settled, IsHonestRing}
 use Rattle.vchan_protocol.specs.Honest.RingLaw.{IsPrefixOf}
 use Rattle.vchan_relay.specs.Relay.{IsLawful}
 
--- a relay by what it holds in the end, and the page that it writes
+-- a relay: what it holds in the end, and the page that it writes
 pub record Hop : Type 0 where
   pub held : List ℕ
   pub page : Settled
@@ -29,7 +29,7 @@ IsHonestLeft page = IsHonestRing page.client page.server
 abbrev pub RelaysKeepOrder : Type 0
 RelaysKeepOrder = (page : Settled) (hops : List Hop) → AreRelayed page hops → IsHonestLeft page → Each (λ hop. IsHonestLeft hop.page) hops → IsPrefixOf (last_page page hops).server.got page.client.sent
 
--- it has all of it where each ring is drained and no relay holds a byte
+-- it has all of it if each ring is drained and no relay holds a byte
 abbrev pub RelaysPassAll : Type 0
 RelaysPassAll =
     (page : Settled) (hops : List Hop) → AreRelayed page hops → IsHonestLeft page → Each (λ hop. IsHonestLeft hop.page) hops → page.server.drained ≡ true → Each (λ hop. (hop.page.server.drained ≡ true) × (hop.held ≡ [])) hops →

@@ -24,7 +24,7 @@ RelayHands before after (Wrote end) = ⊥
 RelayHands before after (Passed near far) = IsEndOf before Server near × IsEndOf after Client far × PassesAll (last_view near) (last_view far)
 RelayHands before after (Read end got) = ⊥
 
--- by a reader on a page that has so much room
+-- by a reader on a page, with room for this many bytes
 abbrev pub ReaderHands : TableId → ℕ → HopDone → Type 0
 ReaderHands page room (Wrote end) = ⊥
 ReaderHands page room (Passed near far) = ⊥
@@ -44,7 +44,7 @@ Owes task P = (done : HopDone) → hop_owes task done → P done
 
 -- ---- a row of them
 
--- for each of these pages behind a page the relay that writes it, and then the reader of the last one
+-- for each of these pages, which come after a page, the relay that writes it; and then the reader of the last one
 abbrev pub FollowOn : ℕ → TableId → List PageView → List HopTask → Type 0
 FollowOn room before [] [] = ⊥
 FollowOn room before [] (task ∷ []) = Owes task (ReaderHands before room)
@@ -58,7 +58,7 @@ AreTasks bytes room [] tasks = ⊥
 AreTasks bytes room (page ∷ pages) [] = ⊥
 AreTasks bytes room (page ∷ pages) (task ∷ tasks) = Owes task (WriterHands page.table bytes) × FollowOn room page.table pages tasks
 
--- the same of what they handed back
+-- the same for what they handed back
 abbrev pub FollowBack : ℕ → TableId → List PageView → List HopDone → Type 0
 FollowBack room before [] [] = ⊥
 FollowBack room before [] (done ∷ []) = ReaderHands before room done
@@ -71,7 +71,7 @@ AreHandedBack bytes room [] dones = ⊥
 AreHandedBack bytes room (page ∷ pages) [] = ⊥
 AreHandedBack bytes room (page ∷ pages) (done ∷ dones) = WriterHands page.table bytes done × FollowBack room page.table pages dones
 
--- the same of pages that are left to settle, the first with this client
+-- the same for pages that are left to settle, the first with this client
 abbrev pub AreLeft : ℕ → List PageView → SeatedSide → List HopDone → Type 0
 AreLeft room [] client dones = ⊥
 AreLeft room (page ∷ pages) client dones = IsEndOf page.table Client client × FollowBack room page.table pages dones

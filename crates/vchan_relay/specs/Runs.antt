@@ -1,4 +1,4 @@
--- What stands of a run of relays once it is over.
+-- What holds of a run of relays when it is over.
 -- Source: this project's own.
 use Rattle.std.specs.Prelude.{◌≡◌, ◌+◌, ℕ, List, [], ◌∷◌, length, true, false}
 use Rattle.qrexec_frame.specs.Streams.{Each}
@@ -19,22 +19,22 @@ pub record IsHonestly (words : PageStart) (page : Settled) : Type 0 where
   pub client_honest : page.client.turned ≡ false
   pub server_honest : page.server.turned ≡ false
 
--- through the left ring of a page of two honest ends these bytes went, and it is drained
+-- these bytes went through the left ring of a page of two honest ends, and it is drained
 pub record HasCarried (words : PageStart) (bytes : List ℕ) (page : Settled) : Type 0 where
   pub honest : IsHonestly words page
   pub sent : page.client.sent ≡ bytes
   pub got : page.server.got ≡ bytes
   pub drained : page.server.drained ≡ true
 
--- the bytes went through so many relays
+-- the bytes went through this many relays
 pub record HasRelayed (hops : ℕ) (words : PageStart) (bytes : List ℕ) (r : RelayedPages) : Type 0 where
   pub got : r.got ≡ bytes
   pub count : length r.pages ≡ hops + 1
   pub each : Each (HasCarried words bytes) r.pages
 
--- ---- behind a reader
+-- ---- after a reader
 
--- behind the server of a page: relays and their pages, and then a reader that got these bytes into so much room
+-- after the server of a page: relays and their pages, and then a reader that got these bytes into this much room
 abbrev pub AreBehind : PageStart → ℕ → List ℕ → EndView → List Settled → Type 0
 AreBehind words room got server [] = GetsAll server got room
 AreBehind words room got server (page ∷ pages) = PassesAll server page.client × IsHonestly words page × AreBehind words room got page.server pages

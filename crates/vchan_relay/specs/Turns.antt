@@ -1,4 +1,4 @@
--- What one turn of a relay does: a drain of its near end where it holds nothing, and else a write of the held bytes to its far end.
+-- What one turn of a relay does: a drain of its near end if it holds nothing, and else a write of the held bytes to its far end.
 -- Source: this project's own.
 use Rattle.std.specs.Prelude.{◌≡◌, ◌≢◌, ◌≤◌, ◌==◌, ℕ, Bool, true, false, IsSome, List, [], length, take, drop, if◌then◌else◌}
 use Rattle.vchan_protocol.specs.declared.call.Call.TheVariants.{Drain, Write}
@@ -44,7 +44,7 @@ abbrev pub held_by_write : WriteAnswer → List ℕ → List ℕ
 held_by_write (Wrote count) held = drop count held
 held_by_write answer held = held
 
--- an end after a drain of at most so many bytes into a buffer that is these bytes then, and after a write of these bytes
+-- an end after a drain that left these bytes in its buffer, and after a write of these bytes
 pub record HasDrained (was : SeatedEnd) (answer : DrainAnswer) (bytes : List ℕ) (e : SeatedEnd) : Type 0 where
   pub view_is : view e ≡ drained_to (view was) answer bytes e.side.saw
   pub sees : DrainSees (drain_told answer) was.side.saw e.side.saw
@@ -66,7 +66,7 @@ pub data HasTurned (was : RelayState) (turn : RelayTurn) (now : RelayState) : Ty
   wrote : (answer : WriteAnswer) (far : SeatedEnd) → was.held ≢ [] → HasWritten was.far answer was.held far → turn ≡ by_write (length was.held) answer → now.held ≡ held_by_write answer was.held
       → IsLeft (ends_relay turn) was.near now.near → IsLeft (ends_relay turn) far now.far → HasTurned was turn now
 
--- what an answer says of the relay that it leaves
+-- what an answer tells of the relay that it leaves
 abbrev pub Leaves : RelayTurn → RelayState → Type 0
 Leaves (Took count) r = (1 ≤ count) × (length r.held ≡ count)
 Leaves Ended r = (r.held ≡ []) × ((view r.near).drained ≡ true) × ((view r.near).saw ≡ true) × IsSome (view r.near).ended

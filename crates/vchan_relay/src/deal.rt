@@ -17,7 +17,7 @@ use vchan_io::Memory;
 use vchan_lifecycle::{connect, retire};
 use vchan_rule::{End, IdleSeat, Page, Retired};
 
-/// The client of a page, connected. One that was refused has retired.
+/// Returns the client of a page, connected. A client that was refused has retired.
 fn connected<'p>(page: &'p Page, seat: IdleSeat) -> Result<End<'p>, Retired>
     requires { seat ≡ record { page = page.now; role = Client } }
     ensures ok { IfOk result (λ end. IsOpen end × (end.side.role ≡ Client) × (end.page ≡ page.now.table) × ((view end).sent ≡ [])) }
@@ -30,7 +30,7 @@ fn connected<'p>(page: &'p Page, seat: IdleSeat) -> Result<End<'p>, Retired>
     }
 }
 
-/// The server of a page.
+/// Returns the server of a page.
 fn served<'p>(page: &'p Page, seat: IdleSeat) -> End<'p>
     requires { seat ≡ record { page = page.now; role = Server } }
     ensures { IsOpen result × (result.side.role ≡ Server) × (result.page ≡ page.now.table) × ((view result).got ≡ []) }
@@ -38,7 +38,7 @@ fn served<'p>(page: &'p Page, seat: IdleSeat) -> End<'p>
     page.attach(seat)
 }
 
-/// The task that sends all bytes on a page.
+/// Returns the task that sends all bytes on a page.
 fn writer_task<'p>(page: &'p Page, seat: IdleSeat, bytes: Vec<u8>) -> HopTask<'p>
     requires { seat ≡ record { page = page.now; role = Client } }
     ensures { Owes result (WriterHands page.now.table bytes.items) }
@@ -49,7 +49,7 @@ fn writer_task<'p>(page: &'p Page, seat: IdleSeat, bytes: Vec<u8>) -> HopTask<'p
     }
 }
 
-/// The task that reads the page of `near` and writes the page of the seat.
+/// Returns the task that reads the page of `near` and writes the page of the seat.
 fn relay_task<'p>(
     alloc: Global,
     near: End<'p>,
@@ -74,8 +74,8 @@ fn relay_task<'p>(
     }
 }
 
-/// The tasks of a run from near to far: the writer, a relay for each page but the first, and the
-/// reader, which has room for one byte more than there are. Its error is want of memory.
+/// Returns the tasks of a run from near to far: the writer, a relay for each page except the first, and the
+/// reader, which has room for one byte more than there are. Returns `Memory` if memory runs out.
 pub(crate) fn deal<'p>(
     alloc: Global,
     pages: &'p [Page],

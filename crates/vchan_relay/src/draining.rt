@@ -11,7 +11,7 @@ use qrexec_frame::Bytes;
 use vchan_lifecycle::{DrainAnswer, drain, retire};
 use vchan_rule::End;
 
-/// Drains into a buffer, behind the bytes that it has already.
+/// Drains into a buffer, after the bytes that it has already.
 pub(crate) fn drain_behind(end: &mut End<'_>, room: &mut [u8], count: usize) -> DrainAnswer
     requires open { IsOpen end.old }
     requires some { count < length room.old }
@@ -26,7 +26,7 @@ pub(crate) fn drain_behind(end: &mut End<'_>, room: &mut [u8], count: usize) -> 
     drain(end, &mut room[count..])
 }
 
-/// Retires the reader's end, and hands back the bytes that it got.
+/// Retires the reader's end, and returns the bytes that it got.
 pub(crate) fn hand_back(end: End<'_>, mut room: Vec<u8>, count: usize) -> HopDone
     requires open { IsOpen end }
     requires server { end.side.role ≡ Server }

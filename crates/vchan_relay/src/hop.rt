@@ -30,8 +30,8 @@ impl<'p> Model for Hop<'p> {
     ghost invariant = { λ h. (h.relay.ended ≡ false) × (h.relay.near.side.role ≡ Server) × (h.relay.far.side.role ≡ Client) };
 }
 
-/// A turn of the relay, and another one where it took bytes, by which these are passed on: so the next
-/// task finds them in its turn. The answers are that of the last turn, and whether either moved bytes.
+/// Makes a turn of the relay, and another one if the first took bytes, to pass these on: so the next task
+/// finds them in its turn. Returns the answer of the last turn, and whether either moved bytes.
 fn advance(relay: &mut Relay<'_>) -> (RelayTurn, bool)
     requires { relay.old.ended ≡ false }
     ensures near { IsSameEnd relay.old.near relay.new.near }
@@ -56,7 +56,7 @@ impl<'p> Hop<'p> {
     ghost use Rattle.task_pool.specs.Owes.{Pays};
     ghost use Rattle.vchan_relay.specs.Owes.{hop_owes};
 
-    /// The task of a relay.
+    /// Makes the task of a relay.
     pub(crate) fn new(relay: Relay<'p>) -> Hop<'p>
         requires going { relay.ended ≡ false }
         requires near { relay.near.side.role ≡ Server }
@@ -66,12 +66,12 @@ impl<'p> Hop<'p> {
         Hop { relay, moved: true }
     }
 
-    /// Whether the last turn moved bytes, or there was none yet.
+    /// Returns whether the last turn moved bytes, or there was none yet.
     pub(crate) fn moved(&self) -> bool {
         self.moved
     }
 
-    /// Goes on with the relay, which retires both its ends once it has ended.
+    /// Goes on with the relay, and retires both its ends after it has ended.
     pub(crate) fn turn(self) -> Turn<HopTask<'p>>
         ensures { Pays hop_owes (HopTask.Passes self.entry) result }
     {

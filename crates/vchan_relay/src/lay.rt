@@ -1,4 +1,4 @@
-//! Laying the pages of a run.
+//! Making the pages of a run.
 ghost use Rattle.std.specs.Prelude.{◌≡◌, IfOk, length};
 ghost use Rattle.vchan_relay.specs.Laying.{AreLaid};
 
@@ -14,7 +14,8 @@ pub(crate) struct PageSeats {
     pub(crate) client: IdleSeat,
 }
 
-/// So many pages from near to far, whose indices begin at `start`, with the seats of each. Its error is want of memory.
+/// Makes `count` pages from near to far, whose indices begin at `start`, with the seats of each. Returns
+/// `Memory` if memory runs out.
 pub(crate) fn lay(
     alloc: Global,
     count: usize,

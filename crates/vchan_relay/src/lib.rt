@@ -1,8 +1,7 @@
 //! A relay: it reads the near channel and writes what it got to the far one.
 //!
-//! It serves whoever passes a stream through a domain that stands between two others, or through a
-//! row of such domains, whose relays run as tasks of a pool. The form of a relay is this project's
-//! own.
+//! Everything that passes a stream through a domain between two others, or through a row of such domains,
+//! whose relays run as tasks of a pool, rests on it. The form of a relay is this project's own.
 #![tactic(auto)]
 
 mod deal;

@@ -36,7 +36,7 @@ impl<'p> Reader<'p> {
     ghost use Rattle.vchan_rule.specs.Seated.{view, IsOpen};
     ghost use Rattle.vchan_relay.specs.Owes.{hop_owes};
 
-    /// A reader that has got nothing, with some room.
+    /// Makes a reader that has got nothing, with this room.
     pub(crate) fn new(end: End<'p>, room: Vec<u8>) -> Reader<'p>
         requires open { IsOpen end }
         requires server { end.side.role ≡ Server }
@@ -52,13 +52,12 @@ impl<'p> Reader<'p> {
         }
     }
 
-    /// Whether the last turn got bytes, or there was none yet.
+    /// Returns whether the last turn got bytes, or there was none yet.
     pub(crate) fn moved(&self) -> bool {
         self.moved
     }
 
-    /// Gets what waits. Where no more comes, and where the room is
-    /// full, it retires.
+    /// Gets what waits. It retires when no more comes, or when the room is full.
     pub(crate) fn turn(self) -> Turn<HopTask<'p>>
         ensures { Pays hop_owes (HopTask.Reads self.entry) result }
     {

@@ -36,7 +36,7 @@ impl<'p> Model for Relay<'p> {
     ghost invariant = { λ r. (r.passed ≤ r.taken) × (r.taken ≤ length r.room.items) × (1 ≤ length r.room.items) × (length r.room.items ≤ 1048576) × IsRelay (record { near = r.near; far = r.far; held = slice_range r.room.items r.passed r.taken; room = length r.room.items; ended = r.ended }) };
 }
 
-/// There was no memory for a relay's room. Both ends are as they were.
+/// Memory ran out for a relay's room. Both ends are as they were.
 #[derive(Drop)]
 pub struct RelayRefused<'p> {
     /// The end that the relay would have read.
@@ -45,7 +45,7 @@ pub struct RelayRefused<'p> {
     pub far: End<'p>,
 }
 
-/// So many bytes of room.
+/// Returns `count` bytes of room.
 fn make_room(alloc: Global, count: u32) -> Result<Vec<u8>, AllocError>
     ensures { IfOk result (λ room. length room.items ≡ count) }
 {
@@ -55,12 +55,12 @@ fn make_room(alloc: Global, count: u32) -> Result<Vec<u8>, AllocError>
 }
 
 impl<'p> Relay<'p> {
-    /// A relay that holds no byte, over two open ends, on the first of which nothing was got and on the
-    /// second nothing sent. It holds at most `room` bytes, 1 to 1,048,576.
+    /// Makes a relay that holds no byte, over two open ends: nothing was got on the near one and nothing sent
+    /// on the far one. It holds at most `room` bytes, from 1 to 1,048,576.
     ///
     /// # Errors
     ///
-    /// Want of memory, with both ends.
+    /// Returns `RelayRefused`, with both ends, if memory runs out.
     pub fn new(
         alloc: Global,
         near: End<'p>,
@@ -86,21 +86,21 @@ impl<'p> Relay<'p> {
         }
     }
 
-    /// Whether it has ended. Both its ends are shut then.
+    /// Returns whether it has ended. Both its ends are shut then.
     pub fn ended(&self) -> bool
         ensures { result ≡ self.now.ended }
     {
         self.ended
     }
 
-    /// How many bytes it holds.
+    /// Returns how many bytes it holds.
     pub fn held(&self) -> u32
         ensures { result ≡ length self.now.held }
     {
         (self.taken - self.passed) as u32
     }
 
-    /// What holds of a relay whatever its peers do: what was got on the near channel is what was sent on
+    /// Gives what holds of a relay whatever its peers do: what was got on the near channel is what was sent on
     /// the far one, followed by the held bytes.
     pub fn promise(&self)
         ensures { IsRelay self.now }
@@ -108,9 +108,9 @@ impl<'p> Relay<'p> {
         let _ = &self.ended;
     }
 
-    /// One turn: with no byte held it drains the near end, and else it writes the held bytes to the far
-    /// end. The answer is that of the drain or the write. With `Ended`, `NearGone` and `FarClosed` both
-    /// ends are shut, and the relay has ended.
+    /// Makes one turn: if no byte is held it drains the near end, and else it writes the held bytes to the far
+    /// end. Returns the answer of the drain or the write. After `Ended`, `NearGone` and `FarClosed` both ends
+    /// are shut, and the relay has ended.
     pub fn turn(&mut self) -> RelayTurn
         requires { self.old.ended ≡ false }
         ensures near { IsSameEnd self.old.near self.new.near }
@@ -177,7 +177,7 @@ impl<'p> Relay<'p> {
         }
     }
 
-    // Shuts both ends, with the answer of the turn that ends the relay.
+    // Shuts both ends, and returns the answer of the turn that ends the relay.
     fn end(&mut self, turn: RelayTurn) -> RelayTurn
         requires { self.old.ended ≡ false }
         ensures near { IsSameEnd self.old.near self.new.near × (view self.new.near ≡ shut (view self.old.near)) }
@@ -192,7 +192,7 @@ impl<'p> Relay<'p> {
         turn
     }
 
-    /// Lets go of both channels, the near one first. What is held then is lost.
+    /// Retires both ends, the near one first. Bytes that are still held are lost.
     pub fn retire(self) -> (Retired, Retired)
         ensures near { last_view result.0 ≡ retired_view (view self.entry.near) }
         ensures far { last_view result.1 ≡ retired_view (view self.entry.far) }

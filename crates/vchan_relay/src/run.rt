@@ -34,17 +34,18 @@ impl Model for Relayed {
 
 ghost use Rattle.vchan_relay.specs.Runs.{HasRelayed};
 
-/// Sends all bytes through so many relays, one behind the other, and hands back what the reader behind
-/// the last of them got, with what stands of each page.
+/// Sends all bytes through `hops` relays, one after the other. Returns what the reader after the last of
+/// them got, with what holds of each page.
 ///
-/// A page more is laid than there are relays; their indices begin at `start`. The writer is the client
-/// of the first page, each relay is the server of one page and the client of the next, and the reader
-/// is the server of the last. All bytes go by left rings, and each relay has the room of one. All of
-/// them are tasks of a pool of so many workers.
+/// There is one page more than there are relays; the pages' indices begin at `start`. The writer is the
+/// client of the first page, each relay is the server of one page and the client of the next, and the reader
+/// is the server of the last. All bytes go by left rings, and each relay has the room of one. All of these
+/// are tasks of a pool of `workers` workers.
 ///
 /// # Errors
 ///
-/// Want of memory. All memory is taken before the first byte is sent, but for the list of the pages.
+/// Returns `Memory` if memory runs out. All memory is taken before the first byte is sent, except for the
+/// list of the pages.
 pub fn relay_run<R: Threads + Wait + Sync>(
     rt: &R,
     alloc: Global,

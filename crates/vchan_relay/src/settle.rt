@@ -11,7 +11,7 @@ use std::alloc::Global;
 use vchan_io::Memory;
 use vchan_rule::{Page, Retired, Settled};
 
-/// A page that is settled by its two ends.
+/// Returns a page that is settled by its two ends.
 fn settle_page(page: Page, server: Retired, client: Retired) -> Settled
     requires server { IsEndOf page.table Server server }
     requires client { IsEndOf page.table Client client }
@@ -22,7 +22,7 @@ fn settle_page(page: Page, server: Retired, client: Retired) -> Settled
     settled
 }
 
-/// Settles all pages by what the tasks handed back. Its error is want of memory.
+/// Settles all pages by what the tasks handed back. Returns `Memory` if memory runs out.
 pub(crate) fn settle(
     alloc: Global,
     pages: Vec<Page>,

@@ -19,7 +19,7 @@ pub(crate) enum HopTask<'p> {
     Over(HopDone),
 }
 
-/// What a task hands back: its ends, which make no event any more.
+/// What a task returns: its ends, which make no event any more.
 #[derive(Drop)]
 pub(crate) enum HopDone {
     /// The writer's end.

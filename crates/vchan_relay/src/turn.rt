@@ -1,11 +1,11 @@
-//! What a turn of a relay answers.
+//! The answers of a relay's turn.
 
-/// What one turn of a relay answers.
+/// The answer of one turn of a relay.
 #[derive(Clone, Copy, Debug, PartialEq, Eq)]
 pub enum RelayTurn {
-    /// So many bytes were got from the near channel, at least one, and are held now.
+    /// This many bytes were got from the near channel, at least one, and are held now.
     Took { count: u32 },
-    /// So many of the held bytes were sent on the far channel, at least one.
+    /// This many of the held bytes were sent on the far channel, at least one.
     Passed { count: u32 },
     /// None was held and none was got: at these two indices the near ring is empty, and more may
     /// come.
@@ -16,6 +16,6 @@ pub enum RelayTurn {
     Ended,
     /// The near peer is gone, and left two indices that no honest end leaves. The relay has ended.
     NearGone { prod: u32, cons: u32 },
-    /// The far peer is shut, and so many bytes are held that weren't passed on. The relay has ended.
+    /// The far peer is shut, and this many held bytes weren't passed on. The relay has ended.
     FarClosed { held: u32 },
 }

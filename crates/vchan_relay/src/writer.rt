@@ -36,7 +36,7 @@ impl<'p> Writer<'p> {
     ghost use Rattle.vchan_rule.specs.Seated.{view, IsOpen};
     ghost use Rattle.vchan_relay.specs.Owes.{hop_owes};
 
-    /// A writer that has sent nothing.
+    /// Makes a writer that has sent nothing.
     pub(crate) fn new(end: End<'p>, bytes: Vec<u8>) -> Writer<'p>
         requires open { IsOpen end }
         requires client { end.side.role ≡ Client }
@@ -51,13 +51,12 @@ impl<'p> Writer<'p> {
         }
     }
 
-    /// Whether the last turn sent bytes, or there was none yet.
+    /// Returns whether the last turn sent bytes, or there was none yet.
     pub(crate) fn moved(&self) -> bool {
         self.moved
     }
 
-    /// Sends what has room. After the last byte, and where the reader
-    /// is shut, it retires.
+    /// Sends what has room. It retires after the last byte, or if the reader is shut.
     pub(crate) fn turn(self) -> Turn<HopTask<'p>>
         ensures { Pays hop_owes (HopTask.Writes self.entry) result }
     {

@@ -1,4 +1,4 @@
--- What a drain got stands behind the bytes before it.
+-- What a drain got comes after the bytes before it.
 use Rattle.std.proofs.Common.{◌-◌, ◌≤◌, length, subst, sym, arith}
 use borrow.Rule.Slice.PartMut.{post_of}
 use Rattle.vchan_rule.specs.Seated.{view}

@@ -1,4 +1,4 @@
--- One page more is laid, with its seats.
+-- One more page is made, with its seats.
 use Rattle.std.proofs.Common.{◌∷◌, ◌++◌, [], List, length, sym, subst, ap, ◌∙◌, arith}
 use Rattle.std.proofs.lemmas.List.{length_push}
 use Rattle.vchan_rule.specs.Seated.{PageView}

@@ -32,7 +32,7 @@ settle-requires g c =
     let tasks = subst (λ (ps : List PageView). AreTasks bytes (length bytes + 1) ps c.in_ok-tasks.tasks.items) c.as_slice.ensures.value c.in_ok-tasks.ensures in
     (bytes, length bytes + 1, handed_back bytes (length bytes + 1) c.in_ok-pages.pages.items c.in_ok-tasks.tasks.items c.in_ok-dones.dones.items tasks c.in_ok-dones.ensures)
 
--- whatever the settling gives
+-- whatever the settling returns
 by_settled : (hops : ℕ) (words : PageStart) (bytes : List ℕ) (pages : List PageView) (seats : List PageSeats) (dones : List HopDone) (result : Result RelayedPages Memory) → AreLaid words pages seats → length pages ≡ hops + 1 →
     AreHandedBack bytes (length bytes + 1) pages dones → IfOk result (λ r. AreAllSettledBy pages dones r.pages r.got) → IfOk result (HasRelayed hops words bytes)
 by_settled hops words bytes pages seats dones (Ok r) laid count handed settled = relayed hops words bytes pages seats dones r laid count handed settled
