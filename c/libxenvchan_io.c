@@ -1,9 +1,9 @@
 /*
  * The half of libxenvchan that moves bytes, on the proved ring: libvchan_proved.so, to be loaded before the
- * distribution's library (`LD_PRELOAD`). The distribution's own functions make an end, map its page and bind its
- * event channel, and unmap them; what an open end does on the page is that of vchan_page.h.
+ * distribution's library (`LD_PRELOAD`). The distribution's own functions make an end, map its page, bind its
+ * event channel, and undo these. What an open end does on the page is done by vchan_page.h.
  *
- * No part of it is proved. docs/XEN.md says where it differs from the library and what it doesn't cover.
+ * This file is not proved. docs/XEN.md says how it differs from the library and what it doesn't cover.
  */
 #define _GNU_SOURCE
 #include "vchan_page.h"
@@ -12,8 +12,8 @@
 #include <pthread.h>
 #include <stdlib.h>
 
-/* The proved end of each struct libxenvchan that was seen. Two threads may use one of these, as one that reads and
- * one that writes: their calls are made one after another, but for the waits. */
+/* The proved end of each struct libxenvchan that was seen. Two threads may use the same one, such as a reader and
+ * a writer: their calls are made one after another, except the waits. */
 struct known {
 	struct known *next;
 	struct libxenvchan *of;
@@ -23,7 +23,7 @@ struct known {
 
 static struct known *all;
 static pthread_mutex_t list = PTHREAD_MUTEX_INITIALIZER;
-/* How many were forgotten; and what this thread found last, which most often is what it looks for next. */
+/* How many ends were forgotten; and what this thread found last, which is most often what it looks for next. */
 static unsigned long era;
 static _Thread_local struct {
 	struct libxenvchan *of;
@@ -59,7 +59,7 @@ static bool wait_for_event(void *context)
 	return came;
 }
 
-/* The end that the distribution's init made: open, with the counts that the page has now. */
+/* Makes the proved end for one that the distribution's init made: open, with the counts that the page has now. */
 static struct known *adopt(struct libxenvchan *of)
 {
 	struct libxenvchan_ring *left = of->is_server ? &of->read : &of->write, *right = of->is_server ? &of->write : &of->read;
@@ -117,7 +117,7 @@ static void forget(const struct libxenvchan *of)
 	pthread_mutex_unlock(&list);
 }
 
-/* Makes a call on the end of `ctrl`, which is `page` there; -1 where it can't be had. */
+/* Makes a call on the end of `ctrl`, which the call names `page`. Returns -1 if the end can't be had. */
 #define WITH_PAGE(ctrl, call) \
 	struct known *known = known_of(ctrl); \
 	struct vchan_page *page; \

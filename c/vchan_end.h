@@ -1,7 +1,7 @@
 /*
- * One end of a vchan as the proved library has it (crates/vchan_c). It names no memory: it tells a
+ * One end of a vchan as the proved library has it (crates/vchan_c). It knows no memory: it tells its
  * caller which bytes to move and which words of the shared page to load or store, and takes the values
- * that were found there. vchan_page.h makes whole calls of it.
+ * that were found there. vchan_page.h makes whole calls from it.
  */
 #ifndef VCHAN_END_H
 #define VCHAN_END_H
@@ -17,13 +17,13 @@ enum vchan_call {
 	VCHAN_CONNECT, VCHAN_CLOSE, VCHAN_TAKE_EVENT
 };
 
-/* Why an end can't begin a call. */
+/* The reasons why an end can't begin a call; VCHAN_BEGUN is none. */
 enum vchan_refusal {
 	VCHAN_BEGUN, VCHAN_BUSY, VCHAN_IS_SHUT, VCHAN_UNCONNECTED, VCHAN_IS_CONNECTED, VCHAN_NO_BYTES, VCHAN_NO_CALL,
 	VCHAN_NO_END
 };
 
-/* What a step awaits: the answer is there, the value of a word, or nothing but to go on. */
+/* What a step awaits: nothing, since it has the answer; the value of a word; or only that the caller goes on. */
 enum vchan_kind { VCHAN_ANSWER, VCHAN_LOAD, VCHAN_OR, VCHAN_AND, VCHAN_SWAP, VCHAN_FURTHER };
 
 enum vchan_moves { VCHAN_NOTHING, VCHAN_PUT, VCHAN_TAKE };
@@ -34,14 +34,14 @@ enum vchan_answer {
 	VCHAN_ALL_READ, VCHAN_PEER_GONE, VCHAN_GONE
 };
 
-/* Opaque. Any bytes are allowed: those of no end are refused. */
+/* Opaque. Any bytes are allowed: bytes that are no end's are refused. */
 struct vchan_end {
 	uint32_t numbers[8];
 };
 
-/* What is to be done, in this order: bytes, a store, a signal, and then what is awaited. A word lies at
- * an offset of struct vchan_interface and is so many bytes wide; where the width is 0 that struct has no
- * such word. */
+/* What the caller does, in this order: it moves bytes, stores, signals, and then makes the event that is
+ * awaited. A word lies at an offset of struct vchan_interface, and its width is in bytes; if the width is
+ * 0, that struct has no such word. */
 struct vchan_step {
 	uint8_t kind, width;
 	uint16_t offset;
@@ -57,14 +57,15 @@ struct vchan_step {
 _Static_assert(sizeof(struct vchan_end) == 32, "an end is 32 bytes");
 _Static_assert(sizeof(struct vchan_step) == 56, "a step is 56 bytes");
 
-/* False, with the end as it was, where the numbers are those of no end. */
+/* Makes an end between two calls. Returns false, and changes nothing, if the numbers are those of no end. */
 bool vchan_end_init(struct vchan_end *end, uint8_t role, uint8_t state, uint16_t left_order, uint16_t right_order,
 		    uint32_t prod, uint32_t cons);
 
-/* An enum vchan_refusal. Only where that is 0 do the end and the step change. */
+/* Begins a call. Returns an enum vchan_refusal. The end and the step change only if that is VCHAN_BEGUN. */
 uint8_t vchan_end_begin(struct vchan_end *end, uint8_t call, uint32_t len, struct vchan_step *step);
 
-/* False, with the end as it was, where it is between two calls, or none. */
+/* Takes the awaited value, and tells the next step. Returns false, and changes nothing, if the end is between
+ * two calls or the bytes are no end's. */
 bool vchan_end_took(struct vchan_end *end, uint64_t value, struct vchan_step *step);
 
 #endif

@@ -3,7 +3,7 @@
 #include <limits.h>
 #include <string.h>
 
-/* Offsets in Xen's struct vchan_interface that this file uses by itself. The others come with the steps. */
+/* The offsets in Xen's struct vchan_interface that this file uses itself. The others come with the steps. */
 enum { CLI_LIVE = 20, SRV_LIVE = 21, SRV_NOTIFY = 23 };
 enum { NOTIFY_WRITE = 1 };
 
@@ -12,7 +12,7 @@ static uint8_t *byte_at(const struct vchan_page *page, uint16_t offset)
 	return (uint8_t *)page->head + offset;
 }
 
-/* Each load and each store is one, and all stand in one order. */
+/* Each load and each store is a single access, and all are sequentially consistent. */
 static uint64_t load(const struct vchan_page *page, uint16_t offset, uint8_t width)
 {
 	void *word = byte_at(page, offset);
@@ -52,7 +52,7 @@ static void move_bytes(const struct vchan_page *page, const struct vchan_step *s
 	}
 }
 
-/* The value of what a step awaits. Of words that the page doesn't have, only an own signal can be there. */
+/* Returns the value of what a step awaits. Of the words that the page doesn't have, only the own signal can be set. */
 static uint64_t awaited(const struct vchan_page *page, const struct vchan_step *step)
 {
 	if (step->width == 0)
@@ -89,7 +89,7 @@ static int refusal(uint8_t why)
 	}
 }
 
-/* A whole call: 0, with the answer in `step`. */
+/* Makes a whole call. Returns 0, with the answer in `step`, or -1 with errno. */
 static int make(struct vchan_page *page, enum vchan_call call, uint32_t len, const void *out, void *in,
 		struct vchan_step *step)
 {
@@ -107,13 +107,13 @@ static int make(struct vchan_page *page, enum vchan_call call, uint32_t len, con
 		if (step->kind == VCHAN_ANSWER)
 			return 0;
 		if (step->kind == VCHAN_FURTHER && !step->moves && !step->store_width && !step->signals)
-			return refuse(EBADF); /* nothing was to be done, and nothing is awaited: no end does that */
+			return refuse(EBADF); /* a step with nothing to do or await: no end gives one */
 		if (!vchan_end_took(&page->end, step->kind == VCHAN_FURTHER ? 0 : awaited(page, step), step))
 			return refuse(EBADF);
 	}
 }
 
-/* A call that moves bytes or counts them. */
+/* Makes a call, and returns how many bytes it moved or counted, or -1 with errno. */
 static int moved(struct vchan_page *page, enum vchan_call call, size_t size, const void *out, void *in)
 {
 	struct vchan_step step;
@@ -189,7 +189,7 @@ int vchan_page_is_open(const struct vchan_page *page)
 	return (int)load(page, page->is_client ? SRV_LIVE : CLI_LIVE, 1);
 }
 
-/* Makes a call again behind each signal until it moved bytes. A call of no byte is made once. */
+/* Makes a call again after each signal, until it moved bytes. A call of no byte is made once. */
 static int move_waiting(struct vchan_page *page, enum vchan_call call, size_t size, const void *out, void *in)
 {
 	for (;;) {

@@ -1,5 +1,5 @@
-//! Links the proved library, `libvchan_c.a`: from the folder that VCHAN_C_LIBRARY names, or where `rt lib` makes it in
-//! crates/vchan_c. The tests also get c/vchan_page.c, to set ends of it beside those of this crate.
+//! Links the proved library, `libvchan_c.a`, from the folder that VCHAN_C_LIBRARY names, or else from where `rt lib`
+//! makes it in crates/vchan_c. The tests also get c/vchan_page.c, to put its ends beside those of this crate.
 use std::env;
 use std::path::PathBuf;
 use std::process::Command;

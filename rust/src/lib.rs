@@ -1,9 +1,8 @@
-//! One end of a Xen vchan on a page that is mapped already, by the proved library of crates/vchan_c.
+//! One end of a Xen vchan on a page that is mapped already, with the proved library of crates/vchan_c.
 //!
 //! Which loads and stores an end makes, in which order and at which places, how many bytes move and what a call answers
-//! is proved. This crate makes them, and is no part of the proof: it has no `unsafe` but the three declarations of the
-//! library and [`Head::at`], and each byte of a ring is an atomic, so that a peer that stores at any moment is no
-//! undefined behaviour.
+//! is proved. This crate makes them, and is not proved. Its only `unsafe` is for the library's three functions and
+//! [`Head::at`]. Each byte of a ring is an atomic, so a peer that stores at any moment causes no undefined behaviour.
 //!
 //! ```
 //! use std::sync::atomic::AtomicU8;
@@ -37,7 +36,7 @@ use library::{Kept, Step};
 
 mod library;
 
-/// The front of the shared page: Xen's `struct vchan_interface` without the grants behind it.
+/// The front of the shared page: Xen's `struct vchan_interface` without the list of grants at its end.
 #[repr(C, align(4))]
 #[derive(Debug, Default)]
 pub struct Head {
@@ -54,7 +53,7 @@ pub struct Head {
 }
 
 impl Head {
-    /// The front of a new page, as libxenvchan's server lays it: it waits for a client.
+    /// Makes the front of a new page, as libxenvchan's server does: it waits for a client.
     pub fn new(left_order: u16, right_order: u16) -> Head {
         Head {
             left_order: left_order.into(),
@@ -66,12 +65,12 @@ impl Head {
         }
     }
 
-    /// The front of a page that is mapped at this address.
+    /// Returns the front of a page that is mapped at this address.
     ///
     /// # Safety
     ///
-    /// `start` points to 24 bytes of memory that is mapped as long as the result lives, begins at a multiple of 4, and
-    /// is changed by atomics alone in this process.
+    /// `start` must be a multiple of 4 and point to 24 bytes of memory that stays mapped as long as the result lives,
+    /// and that this process changes only by atomics.
     pub unsafe fn at<'page>(start: *mut u8) -> &'page Head {
         unsafe { &*start.cast::<Head>() }
     }
@@ -117,8 +116,8 @@ impl Head {
     }
 }
 
-/// A page and its two rings: the client writes the left one, and the server the right one. Their lengths are powers of
-/// two from 2^10 to 2^20, the orders that `head` says when an end is opened.
+/// A page and its two rings: the client writes the left one, and the server the right one. Their lengths in bytes are
+/// 2^10 to 2^20, by the orders that `head` holds when an end is made.
 #[derive(Clone, Copy, Debug)]
 pub struct Page<'page> {
     pub head: &'page Head,
@@ -126,32 +125,32 @@ pub struct Page<'page> {
     pub right: &'page [AtomicU8],
 }
 
-/// What stands for an event channel.
+/// The caller's event channel.
 pub trait Events {
     /// Signals the peer.
     fn notify(&mut self);
 
-    /// Waits for a signal of the peer, and takes it.
+    /// Waits for a signal of the peer, and takes it. An error ends the call that waits.
     fn wait(&mut self) -> io::Result<()>;
 
-    /// Takes a signal of the peer without waiting: whether there was one.
+    /// Takes a signal of the peer without waiting, and returns whether there was one.
     fn take(&mut self) -> bool {
         false
     }
 }
 
-/// Why a call moved nothing, and will not.
+/// The reasons why a call failed.
 #[derive(Debug)]
 pub enum Error {
-    /// The peer has closed. Bytes of its may wait all the same: only [`End::drain`] tells the end of the stream.
+    /// The peer has closed. Bytes of it may still wait: only [`End::drain`] tells the end of the stream.
     PeerClosed,
     /// The end isn't connected, or is shut.
     NotConnected,
-    /// A connect of an end that is connected.
+    /// The end to connect is connected already.
     Connected,
-    /// The page's orders are none, or not those of the rings.
+    /// The page's two numbers aren't orders, or aren't those of the rings.
     BadOrders,
-    /// More bytes than the ring has were to be moved at once, or a drain asked for none.
+    /// A drain asked for no byte.
     BadLength,
     /// The wait for a signal failed.
     Wait(io::Error),
@@ -216,18 +215,20 @@ pub struct End<'page, E> {
 }
 
 impl<'page, E: Events> End<'page, E> {
-    /// The server of a new page, whose indices are 0.
+    /// Makes the server of a new page, whose indices are 0. Returns [`Error::BadOrders`] if the page's orders are
+    /// refused or aren't those of the rings.
     pub fn server(page: Page<'page>, events: E) -> Result<End<'page, E>, Error> {
         End::with_counts(page, events, false, false, 0, 0)
     }
 
-    /// The client of a new page, which isn't connected yet.
+    /// Makes the client of a new page, which isn't connected yet. Returns errors as [`End::server`] does.
     pub fn client(page: Page<'page>, events: E) -> Result<End<'page, E>, Error> {
         End::with_counts(page, events, true, false, 0, 0)
     }
 
-    /// An end with its own counts, as one that joins a page that was used: `prod` of the ring that it writes, and `cons`
-    /// of the one that it reads. A client may be connected by other means.
+    /// Makes an end with its own counts, such as one that joins a used page: `prod` of the ring that it writes, and
+    /// `cons` of the one that it reads. A client may have been connected by other means. Returns errors as
+    /// [`End::server`] does.
     pub fn with_counts(
         page: Page<'page>,
         events: E,
@@ -254,48 +255,50 @@ impl<'page, E: Events> End<'page, E> {
         })
     }
 
-    /// Writes as many bytes as have room, and returns how many.
+    /// Writes as many bytes as have room, and returns how many; 0 if there is no room now.
     pub fn write(&mut self, bytes: &[u8]) -> Result<usize, Error> {
         self.moved(Call::Write, Bytes::Out(bytes))
     }
 
-    /// Writes all bytes, or none: whether it did.
+    /// Writes all bytes or none, and returns whether it wrote them.
     pub fn send(&mut self, bytes: &[u8]) -> Result<bool, Error> {
         Ok(self.moved(Call::Send, Bytes::Out(bytes))? == bytes.len())
     }
 
-    /// Reads as many bytes as wait and have room in `into`, and returns how many.
+    /// Reads as many bytes as wait and have room in `into`, and returns how many; 0 if none waits now.
     pub fn read(&mut self, into: &mut [u8]) -> Result<usize, Error> {
         self.moved(Call::Read, Bytes::In(into))
     }
 
-    /// Fills `into`, or reads nothing: whether it did.
+    /// Fills `into` or reads nothing, and returns whether it filled it.
     pub fn recv(&mut self, into: &mut [u8]) -> Result<bool, Error> {
         let len = into.len();
         Ok(self.moved(Call::Recv, Bytes::In(into))? == len)
     }
 
-    /// As a read; but its [`Error::PeerClosed`] is the end of the stream: the peer has closed, and all was read.
+    /// Reads as [`End::read`] does, but [`Error::PeerClosed`] means the end of the stream: the peer has closed, and all
+    /// was read. Returns [`Error::BadLength`] if `into` is empty.
     pub fn drain(&mut self, into: &mut [u8]) -> Result<usize, Error> {
         self.moved(Call::Drain, Bytes::In(into))
     }
 
-    /// How many bytes wait. The end is signalled when there are more.
+    /// Returns how many bytes wait. The end is signalled when there are more.
     pub fn data_ready(&mut self) -> Result<usize, Error> {
         self.moved(Call::DataReady, Bytes::None)
     }
 
-    /// How many bytes have room. The end is signalled when there are more.
+    /// Returns how many bytes have room. The end is signalled when there is more room.
     pub fn buffer_space(&mut self) -> Result<usize, Error> {
         self.moved(Call::BufferSpace, Bytes::None)
     }
 
-    /// Whether a signal of the peer was pending; it is taken.
+    /// Takes the pending signal of the peer, and returns whether there was one.
     pub fn take_event(&mut self) -> Result<bool, Error> {
         Ok(self.moved(Call::TakeEvent, Bytes::None)? == 1)
     }
 
-    /// Opens a client, as libxenvchan's does: it asks to be signalled for data, and signals.
+    /// Opens a client, as libxenvchan does: it asks for signals for data, and signals. Returns [`Error::BadOrders`] if
+    /// the page no longer holds the orders that the end was made with, and [`Error::Connected`] if the end is open.
     pub fn connect(&mut self) -> Result<(), Error> {
         self.moved(Call::Connect, Bytes::None)?;
         self.page.head.srv_notify.fetch_or(NOTIFY_WRITE, SeqCst);
@@ -308,7 +311,7 @@ impl<'page, E: Events> End<'page, E> {
         self.moved(Call::Close, Bytes::None).map(|_| ())
     }
 
-    /// Whether the peer is there, or may come yet.
+    /// Returns whether the peer is there, or may still come.
     pub fn is_open(&self) -> bool {
         let head = self.page.head;
         let live = if self.is_client {
@@ -319,7 +322,7 @@ impl<'page, E: Events> End<'page, E> {
         live.load(SeqCst) != 0
     }
 
-    /// Writes all bytes, and waits for room.
+    /// Writes all bytes, and waits for room. Bytes that were written before an error stay written.
     pub fn write_all(&mut self, mut bytes: &[u8]) -> Result<(), Error> {
         while !bytes.is_empty() {
             match self.write(bytes)? {
@@ -330,7 +333,7 @@ impl<'page, E: Events> End<'page, E> {
         Ok(())
     }
 
-    /// Reads at least one byte, and waits for it.
+    /// Reads at least one byte, and waits for it. With an empty `into` it doesn't wait.
     pub fn read_wait(&mut self, into: &mut [u8]) -> Result<usize, Error> {
         loop {
             match self.read(into)? {
@@ -406,7 +409,7 @@ impl<'page, E: Events> End<'page, E> {
         }
     }
 
-    /// The value of what a step awaits. Of words that the page doesn't have, only an own signal can be there.
+    /// Returns the value of what a step awaits. Of words that the page doesn't have, only the own signal can be set.
     fn awaited(&mut self, step: &Step) -> u64 {
         let head = self.page.head;
         match (step.kind, step.width) {
@@ -426,7 +429,7 @@ impl<'page, E: Events> End<'page, E> {
     }
 }
 
-/// The lines of Rust in docs/LIBRARY.md are run as a test.
+/// Runs the Rust code in docs/LIBRARY.md as a test.
 #[cfg(doctest)]
 #[doc = include_str!("../../docs/LIBRARY.md")]
 struct LibraryDocument;

@@ -1,11 +1,11 @@
-//! The proved library as C has it: c/vchan_end.h.
+//! The proved library, through its C interface c/vchan_end.h.
 
-/// 32 bytes that only the library changes. It refuses what is no end, so any bytes are allowed.
+/// The 32 bytes of an end, which only the library changes. It refuses bytes that are no end's, so any are allowed.
 #[repr(C)]
 #[derive(Clone, Copy, Debug, Default, PartialEq, Eq)]
 pub struct Kept([u32; 8]);
 
-/// What is to be done next: bytes, a store, a signal, and then what is awaited.
+/// What the caller does next: it moves bytes, stores, signals, and then makes the event that is awaited.
 #[repr(C)]
 #[derive(Clone, Copy, Debug, Default)]
 pub struct Step {
@@ -47,7 +47,7 @@ unsafe extern "C" {
     fn vchan_end_took(end: &mut Kept, value: u64, step: &mut Step) -> bool;
 }
 
-// SAFETY of all three: the declarations are those of c/vchan_end.h, and the functions take any numbers.
+// SAFETY of all three: the declarations match c/vchan_end.h, and the functions accept any numbers.
 
 pub fn init(role: u8, state: u8, orders: (u16, u16), prod: u32, cons: u32) -> Option<Kept> {
     let mut end = Kept::default();

@@ -1,4 +1,4 @@
-//! Two ends on one page, in two threads: both of this crate, and one of this crate beside one of c/vchan_page.h.
+//! Two ends on one page, in two threads: two ends of this crate, and one of this crate beside one of c/vchan_page.h.
 use std::ffi::{c_int, c_void};
 use std::io;
 use std::sync::atomic::AtomicU8;
@@ -8,7 +8,7 @@ use std::time::Duration;
 
 use vchan_page::{End, Error, Events, Head, Page};
 
-/// A signal is a message. They add up, where those of an event channel don't, which no call depends on.
+/// Each signal is a message. Signals add up, unlike those of an event channel; no call depends on that.
 struct Line {
     peer: Sender<()>,
     own: Receiver<()>,
