@@ -22,7 +22,8 @@ impl Protocol<Back> for OnePage {
     ghost allows = { Follows };
 }
 
-/// The side by which the client gives its end back, and the side from which the server takes it.
+/// The side by which the client gives its end back.
 pub type BackSender = Producer<Back, Global, OnePage>;
 
+/// The side from which the server takes the client's end.
 pub type BackReceiver = Consumer<Back, Global, OnePage>;

@@ -59,7 +59,7 @@ data InRing (number at : ℕ) : Type 0 where
   in_small : number ≡ 10 → 1024 ≤ at → at < 2048 → InRing number at
   in_large : number ≡ 11 → 2048 ≤ at → at < 4096 → InRing number at
 
--- the bytes of a ring are where its order says
+-- the bytes of a ring are at the place that its order gives
 in_ring : (page : PageWords) (ring : Ring) (at : ℕ) → IsCovered (ring_pieces page ring) at → InRing (number_of (order_of page.orders ring)) at
 in_ring page ring at h = go (placed (order_of page.orders ring))
   where

@@ -48,7 +48,7 @@ fields =
     ∷ field_at 23 1 SrvNotify
     ∷ []
 
--- where in the page a ring lies: SMALL_RING_OFFSET and LARGE_RING_OFFSET of init.c. A ring of order 12 or above
+-- the offset of a ring in the page: SMALL_RING_OFFSET and LARGE_RING_OFFSET of init.c. A ring of order 12 or above
 -- lies in pages of its own
 abbrev pub ring_offset : Order → Option ℕ
 ring_offset order = if number_of order == 10 then Some 1024 else (if number_of order == 11 then Some 2048 else None)
@@ -80,7 +80,7 @@ bytes_piece offset words =
 abbrev pub field_piece : PageWords → Field → Piece
 field_piece page field = number_piece field.offset field.bytes (word_of page field.name)
 
--- what an image shows of a ring: the low byte of each of its words, where it lies in the page
+-- what an image shows of a ring: the low byte of each of its words, if it lies in the page
 abbrev pub ring_pieces : PageWords → Ring → List Piece
 ring_pieces page ring =
     let order = order_of page.orders ring in
@@ -122,7 +122,7 @@ number_from (byte ∷ bytes) = byte + 256 * number_from bytes
 abbrev pub shown : List ℕ → Field → ℕ
 shown image field = number_from (slice_range image field.offset (field.offset + field.bytes))
 
--- the words of a ring that an image shows: its bytes where the ring lies in the page, else zeros
+-- the words of a ring that an image shows: its bytes if the ring lies in the page, else zeros
 abbrev pub ring_shown : List ℕ → Order → List ℕ
 ring_shown image order =
     option_map_or (λ offset. slice_range image offset (offset + size order)) (ring_offset order) (replicate (size order) 0)

@@ -19,6 +19,7 @@ pub struct Pauses {
 }
 
 impl Pauses {
+    /// Makes the pauses of a wait that begins.
     pub fn new() -> Pauses {
         Pauses {
             tries: 0,

@@ -12,19 +12,22 @@ use thiserror::Error;
 /// The greatest limit that `read_all` may be given, in bytes.
 pub const GREATEST_LIMIT: usize = 1_073_741_824;
 
-// A read asks for as many bytes as were read so far, but for at least this many ..
+// A read asks for as many bytes as were read so far, but for no fewer than this many,
 const SHORTEST_PIECE: usize = 8 * 1024;
 
-// .. and for at most this many.
+// and for no more than this many.
 const LONGEST_PIECE: usize = 128 * 1024;
 
 /// The reasons why a source was not read to its end.
 #[derive(Clone, Copy, Debug, PartialEq, Eq, Error)]
 pub enum ReadAllError {
+    /// The source failed.
     #[error("read fault")]
     ReadFault,
+    /// The source has more than the limit.
     #[error("input too long")]
     TooLong,
+    /// Memory ran out.
     #[error("out of memory")]
     Memory,
 }

@@ -29,7 +29,9 @@ use vchan_rule::{End, Retired};
 /// A connect was refused: the page's order words hold these numbers, which aren't the page's orders.
 #[derive(Clone, Copy, Debug, PartialEq, Eq)]
 pub struct BadOrders {
+    /// The number in the order word of the left ring.
     pub left: u16,
+    /// The number in the order word of the right ring.
     pub right: u16,
 }
 

@@ -15,9 +15,13 @@ pub enum EndedBy {
 /// A call under way, with the state and the counts that its end had when it began.
 #[derive(Clone, Copy, Debug, PartialEq, Eq)]
 pub struct Begun {
+    /// The call.
     pub call: Call,
+    /// The state in which the end began it.
     pub state: EndState,
+    /// The end's own count of the bytes that it wrote, modulo 2^32, at that moment.
     pub prod: u32,
+    /// The end's own count of the bytes that it read, modulo 2^32, at that moment.
     pub cons: u32,
 }
 
@@ -46,8 +50,11 @@ pub struct Notes {
 /// One end's part of a core state: all that it has done. Only contracts use it; no running program makes
 /// one.
 pub struct Side {
+    /// Which end it is.
     pub role: Role,
+    /// The orders of the page.
     pub orders: Orders,
+    /// Where it stands in its life.
     pub state: EndState,
     /// Its own count of the bytes that it wrote, from the page's start on, modulo 2^32.
     pub prod: u32,

@@ -1,4 +1,4 @@
--- What a run of relays comes to, by what its tasks handed back.
+-- What a run of relays comes to, by what its tasks returned.
 use Rattle.std.proofs.Common.{◌≡◌, ◌≤◌, ◌<◌, ◌+◌, ℕ, List, [], ◌∷◌, length, Bool, true, false, refl, sym, subst, ap, ◌∙◌, arith}
 use Rattle.std.proofs.lemmas.List.{length-append}
 use Rattle.std.specs.List.{AllZip}
@@ -19,7 +19,7 @@ use Rattle.vchan_relay.specs.Owes.{hop_owes, FollowOn, AreTasks, FollowBack, Are
 use Rattle.vchan_relay.specs.Runs.{RelayedPages, IsHonestly, HasCarried, HasRelayed, AreBehind, IsThrough}
 use Rattle.vchan_relay.specs.Settling.{IsSettledBy, AreSettledBy, AreAllSettledBy}
 
--- ---- from the tasks to what they handed back
+-- ---- from the tasks to what they returned
 
 follow_back : (room : ℕ) (before : TableId) (pages : List PageView) (tasks : List HopTask) (dones : List HopDone) → FollowOn room before pages tasks → AllZip hop_owes tasks dones → FollowBack room before pages dones
 follow_back room before [] [] dones follow paid = absurd follow
@@ -50,7 +50,7 @@ count_tasks bytes room [] tasks are = absurd are
 count_tasks bytes room (page ∷ pages) [] are = absurd are
 count_tasks bytes room (page ∷ pages) (task ∷ tasks) are = let rest = follow_count room page.table pages tasks are.1 in omega (arith, rest)
 
--- ---- from what they handed back to the settled pages
+-- ---- from what they returned to the settled pages
 
 honestly : (words : PageStart) (page : PageView) (server client : SeatedSide) (s : Settled) → words_of page ≡ words → IsEndOf page.table Server server → IsEndOf page.table Client client → IsSettledBy page server client s → IsHonestly words s
 honestly words page server client s laid is_server is_client by = record {

@@ -10,7 +10,7 @@ use Rattle.vchan_relay.specs.declared.task.HopTask.{HopTask}
 use Rattle.vchan_relay.specs.declared.task.HopTask.TheVariants.{Writes, Passes, Reads, Over}
 use Rattle.vchan_relay.specs.Ended.{IsEndOf, SendsAll, PassesAll, GetsAll}
 
--- ---- what is handed back
+-- ---- what is returned
 
 -- by a writer of these bytes on a page
 abbrev pub WriterHands : TableId → List ℕ → HopDone → Type 0
@@ -58,7 +58,7 @@ AreTasks bytes room [] tasks = ⊥
 AreTasks bytes room (page ∷ pages) [] = ⊥
 AreTasks bytes room (page ∷ pages) (task ∷ tasks) = Owes task (WriterHands page.table bytes) × FollowOn room page.table pages tasks
 
--- the same for what they handed back
+-- the same for what they returned
 abbrev pub FollowBack : ℕ → TableId → List PageView → List HopDone → Type 0
 FollowBack room before [] [] = ⊥
 FollowBack room before [] (done ∷ []) = ReaderHands before room done

@@ -1,4 +1,4 @@
--- How the pages of a run of relays are settled by the ends that the tasks handed back.
+-- How the pages of a run of relays are settled by the ends that the tasks returned.
 -- Source: this project's own.
 use Rattle.std.specs.Prelude.{◌≡◌, ℕ, List, [], ◌∷◌}
 use Rattle.end_view.specs.Settled.{Settled, IsSettled}
@@ -13,7 +13,7 @@ pub record IsSettledBy (page : PageView) (server client : SeatedSide) (s : Settl
   pub server_is : s.server ≡ last_view server
   pub client_is : s.client ≡ last_view client
 
--- pages, the first of which has this client, settled by what was handed back after it, and what the reader of the last one got
+-- pages, the first of which has this client, settled by what was returned after it, and what the reader of the last one got
 abbrev pub AreSettledBy : List PageView → SeatedSide → List HopDone → List Settled → List ℕ → Type 0
 AreSettledBy [] client dones settled got = ⊥
 AreSettledBy (page ∷ pages) client [] settled got = ⊥

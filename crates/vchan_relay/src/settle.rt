@@ -22,7 +22,7 @@ fn settle_page(page: Page, server: Retired, client: Retired) -> Settled
     settled
 }
 
-/// Settles all pages by what the tasks handed back. Returns `Memory` if memory runs out.
+/// Settles all pages by what the tasks returned. Returns `Memory` if memory runs out.
 pub(crate) fn settle(
     alloc: Global,
     pages: Vec<Page>,

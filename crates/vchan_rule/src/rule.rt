@@ -49,10 +49,13 @@ impl TableRule<(), View, Opening> for PageRule {
     ghost first = { λ key. Whole key.orders key.start };
 }
 
+/// The words of a page, which its two seats share.
 pub type PageWords = Shared<(), View, Opening, PageRule>;
 
+/// The table of a page, which owns the words.
 pub type PageTable = Table<(), View, Opening, PageRule, Global>;
 
+/// A seat at the table of a page.
 pub type Place = Seat<(), View>;
 
 /// Which event a step is, for the proof only: the end before it, within its call. A call at `Brand`

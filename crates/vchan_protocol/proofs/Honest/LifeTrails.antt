@@ -27,7 +27,7 @@ use Rattle.vchan_protocol.specs.Honest.LifeLaw.{shows_end, has_seen, LoadGives, 
 
 -- ---- what is owed
 
--- an end stores its own words alone; it shows bytes, opens and is never shut then; it is shut when it sets its gone word
+-- an end stores only its own words; it isn't shut when it shows bytes or opens, and it is shut when it sets its gone word
 abbrev pub OwesStore : WordName → Role → EndState → ℕ → Type 0
 OwesStore LeftProd Client state value = state ≢ Shut
 OwesStore RightProd Server state value = state ≢ Shut

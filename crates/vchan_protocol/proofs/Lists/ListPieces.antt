@@ -39,7 +39,7 @@ use Rattle.vchan_protocol.specs.Lists.ListLaw.{IsTold, count_got}
 use Rattle.vchan_protocol.proofs.History.WholeCallLaws.{bytes_loaded-push}
 use Rattle.vchan_protocol.proofs.Lists.ListTells.{Told, told, at, Tells, tells_flags, tells_byte, tells_sent, tells_got, tells_state, tells_gone}
 
--- ---- a plan, carried out on the words and on its end alone
+-- ---- a plan, carried out on the words and on its end only
 
 unfoldable pub run : Orders → List ℕ → Side → Plan → List ℕ × Side × Answer
 run orders words mine (answers answer) = (words, answered mine answer, answer)

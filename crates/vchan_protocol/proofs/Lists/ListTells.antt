@@ -205,7 +205,7 @@ ring_stored order start sent got prod cons prod' cons' own_prod own_cons bytes b
   waits = λ i low high. b (place (start + i) order) (apart i low high) ∙ t.waits i low high;
 }
 
--- an end stores a byte into its ring, at a place where none waits
+-- an end stores a byte into its ring, at a place at which none waits
 pub tells_byte : (who : Role) (channel : ChannelLists) (it : ListEnd) (words : List ℕ) (mine theirs : Told) (k v : ℕ) → k < size (order_of channel.orders (written_ring who)) →
     ((i : ℕ) → length (end_of channel (peer who)).got ≤ i → i < length it.sent → place (channel.start + i) (order_of channel.orders (written_ring who)) ≢ k) →
     Tells who channel it words mine theirs → Tells who channel it (set words (index_of channel.orders (RingByte (written_ring who) k)) v) mine theirs

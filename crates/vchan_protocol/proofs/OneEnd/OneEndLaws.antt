@@ -259,7 +259,7 @@ module _ (start : ℕ) (s : Side) (taken : ℕ) (h : OwnLawful start s) (more : 
 
 -- ---- whatever happens on a page
 
--- each honest end can say so
+-- what an honest end can say of itself, for each honest end
 abbrev EachOwn : Core → Type 0
 EachOwn core = (who : Role) → (side_of core who).turned ≡ false → OwnLawful core.start (side_of core who)
 

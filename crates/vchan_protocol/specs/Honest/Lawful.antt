@@ -19,7 +19,7 @@ pub record IsEnd (role : Role) (orders : Orders) (s : Side) : Type 0 where
   pub role_is : s.role ≡ role
   pub orders_are : s.orders ≡ orders
 
--- the page has as many words as its orders say, each ring is lawful, each end is between two calls or in a lawful one, and the words agree with the ends' lives
+-- the page has as many words as its orders give, each ring is lawful, each end is between two calls or in a lawful one, and the words agree with the ends' lives
 pub record Lawful (core : Core) : Type 0 where
   pub sized : length core.words ≡ word_count core.orders
   pub said_fits : (core.said.0 < 2 ^ 16) × (core.said.1 < 2 ^ 16)

@@ -1,4 +1,4 @@
--- The tasks hand back the ends of all pages, and by that all bytes came through.
+-- The tasks return the ends of all pages, and so all bytes came through.
 use Rattle.std.proofs.Common.{◌≡◌, ◌+◌, ℕ, List, Result, Ok, Err, IfOk, length, sym, subst, ap, arith}
 use denote.Param.Send.{sendable}
 use Rattle.vchan_rule.specs.Seated.{PageStart, PageView}

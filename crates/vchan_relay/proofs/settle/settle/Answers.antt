@@ -1,4 +1,4 @@
--- Each page is settled by the ends that were handed back for it.
+-- Each page is settled by the ends that were returned for it.
 use Rattle.std.proofs.Common.{◌≡◌, ◌∷◌, [], ap, ◌∙◌, arith}
 use Rattle.std.proofs.lemmas.Grind.{common_steps}
 use Rattle.vchan_relay.specs.declared.task.HopDone.{HopDone}
