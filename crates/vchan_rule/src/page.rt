@@ -256,7 +256,7 @@ impl Model for Settled {
 
 impl Settled {
     /// Gives what holds of the page. Between honest ends what was got begins what was sent, and is all of it if
-    /// the ring is drained. If a writer was turned, its honest reader has what was sent before.
+    /// the ring is drained. If a writer was turned, what its honest reader had got then is as it was sent.
     pub fn promise(&self)
         ensures { IsSettled self.now }
     {
