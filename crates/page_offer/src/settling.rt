@@ -54,8 +54,10 @@ impl OfferedPage {
     }
 }
 
-/// What stands of a page of these start words, once both its sides are done with it. Its error is want
-/// of memory, and comes only where the page was never laid: its server's end was retired unused.
+/// Returns what stands of a page of these start words, once both its sides are done with it.
+///
+/// Returns `Memory` if memory runs out, which happens only if the server's end was retired unused: a
+/// page that was never made is made then, to be settled.
 pub fn settle(
     alloc: Global,
     start: &StartWords,

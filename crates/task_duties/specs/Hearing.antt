@@ -1,5 +1,5 @@
 -- What each side of a control channel sends, and what it makes of the bytes that it got.
--- Source: the messages are those of the qrexec protocol; who greets first is this project's own.
+-- Source: the messages are those of the qrexec protocol. In Qubes the server of a vchan greets first: here that is the agent.
 use Rattle.std.specs.Prelude.{◌≡◌, ◌⊎◌, ℕ, Bool, true, false, List, [], ◌∷◌, Option, Some, None, Result, Ok, Err, if◌then◌else◌}
 use Rattle.std.specs.List.{flat_map}
 use Rattle.qrexec_frame.specs.declared.channel.Channel.TheVariants.{Control}

@@ -3,7 +3,8 @@ use ring_words::WordName;
 /// One event: a single load, store, or, and, or swap on one word of a page.
 ///
 /// In `LoadByte` and `StoreByte` the number `at` is the byte's place in the caller's buffer or
-/// payload. The order of the events of a call is that of libxenvchan's io.c.
+/// payload. The order of the events of a call is that of libxenvchan's io.c, which also loads the
+/// end's own indices: no event here does.
 #[derive(Clone, Copy, Debug, PartialEq, Eq)]
 pub enum Op {
     /// Takes the word's value.
