@@ -29,7 +29,7 @@ impl<'p> Agent<'p> {
         Ok(())
     }
 
-    // Sends the own greeting, unless it was sent.
+    // Sends its own greeting, unless it was sent.
     fn greet(&mut self) -> Result<(), Memory>
         requires up { IsUp self.old }
         ensures up { OnOk result (IsUp self.new) }

@@ -160,7 +160,7 @@ waiting-released t meant f old new i less moves =
         ap (λ (l : List Letter). length l) (m.0 same).letters ∙ moved
     by_test x y m false is = let apart : i + 1 ≢ f = λ same. grind (arith, nat_tests, is, same) in ap (λ (z : Daemon). length z.outbox.letters.items) (m.1 apart)
 
--- ---- nothing has gone
+-- ---- nothing was sent
 
 pub sending-moves : (hub : Domains) (journal : List Entry) (domain : ℕ) (ds : List Daemon) (i : ℕ) (x y : Daemon) → IsAt ds i x → i + 1 ≡ domain → ((said : List Message) → HasSaid x.port said → SendsOne x y said None)
     → IsSameDaemon x y → y.answered ≡ x.answered → IsLine y.domain y → IsOpen y.port.end → ((events : List Event) → HasRead x events → HasRead y events) → IsSending hub domain journal ds → IsSending hub domain journal (set ds i y)

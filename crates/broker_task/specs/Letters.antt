@@ -1,4 +1,4 @@
--- The letters of an outbox: messages that wait for room, some of them held until another message has gone.
+-- The letters of an outbox: messages that wait for room, some of them held until another message was sent.
 -- Source: this project's own.
 use Rattle.std.specs.Prelude.{◌≡◌, ℕ, ◌<◌, ◌==◌, ◌&&◌, Bool, true, false, List, length, map, slice_index_or, Option, Some, None, if◌then◌else◌}
 use Rattle.qrexec_frame.specs.declared.message.Message.{Message}

@@ -150,7 +150,7 @@ impl<'p> Daemon<'p> {
         }
     }
 
-    /// Sends the first of its messages that isn't held, if there is room. The own greeting is sent before all
+    /// Sends the first of its messages that isn't held, if there is room. Its own greeting is sent before all
     /// others, once the domain's greeting was read. Returns the message that was sent.
     pub(crate) fn send(&mut self) -> Result<Option<Message>, Memory>
         requires line { IsLine self.old.domain self.old }
@@ -175,7 +175,7 @@ impl<'p> Daemon<'p> {
         Ok(Some(self.outbox.take(at)))
     }
 
-    // Sends the own greeting, once the domain's greeting was read. Returns whether it was sent.
+    // Sends its own greeting, once the domain's greeting was read. Returns whether it was sent.
     fn greet(&mut self) -> Result<bool, Memory>
         requires line { IsLine self.old.domain self.old }
         requires open { IsOpen self.old.port.end }

@@ -45,7 +45,7 @@ pub idents-apart : (calls : List CallPlan) → Each IsSmall calls → AreDiffere
 idents-apart [] small apart = tt
 idents-apart (c ∷ calls) small apart = (others-apart c calls small.0 small.1 apart.0, idents-apart calls small.1 apart.1)
 
--- so do those of calls of which nothing was heard
+-- so do the idents of calls of which nothing was heard
 pub fresh-apart : (calls : List CallPlan) → Each IsSmall calls → AreDifferent (map (λ x. x.number) calls) → AreDifferent (map (λ a. ident_of a.call.number) (map asked_as (map fresh calls)))
 fresh-apart calls small apart = subst (λ l. AreDifferent l) (sym (same calls)) (idents-apart calls small apart)
   where

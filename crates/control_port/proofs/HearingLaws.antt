@@ -50,7 +50,7 @@ heard-all own may given version heard e (Greeted p placed v is greets version_is
     let on = heard-on own may given [] v heard e (Greeted p placed v is greets refl each heard_is) in
     ap (λ g. hears_on own may g e) (sym (append-nil given)) ∙ on ∙ rw (version_is, append-nil heard) refl
 
--- one more that may be said
+-- one more that may be heard
 pub one-more : (own : ℕ) (may : Message → Bool) (given : List (Placed Message)) (v : ℕ) (heard : List Message) (p : Placed Message) → HearsSoFar own may given (Some v) heard → may p.message ≡ true
     → HearsSoFar own may (given ++ p ∷ []) (Some v) (heard ++ p.message ∷ [])
 one-more own may given v heard p (Nothing a b c) is = cc

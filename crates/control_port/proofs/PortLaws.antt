@@ -81,7 +81,7 @@ heard-still old new heard only got h =
 pub heard-greeted : (p : PortState) (heard : List Message) (b : Bool) → HasHeard p heard → HasHeard (record p { greeted = b }) heard
 heard-greeted p heard b h = record { given = h.given; channel = h.channel; stands = h.stands; fine = h.fine; so_far = h.so_far }
 
--- ---- whether a connect succeeds says nothing of what was sent and got
+-- ---- whether a connect succeeds changes nothing of what was sent and got
 
 pub connected-sent : (e : EndView) (b : Bool) → (connected_to e b).sent ≡ e.sent
 connected-sent e true = refl

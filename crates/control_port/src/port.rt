@@ -104,7 +104,7 @@ impl<'p> ControlPort<'p> {
         self.moves.count()
     }
 
-    /// Returns whether the own greeting was sent.
+    /// Returns whether its own greeting was sent.
     pub fn greeted(&self) -> bool
         ensures { result ≡ self.now.greeted }
     {
@@ -159,7 +159,7 @@ impl<'p> ControlPort<'p> {
         buffer_space(&mut self.end)
     }
 
-    /// Sends the own greeting, which is the first message. The greeting was sent if the answer is `Sent`.
+    /// Sends its own greeting, which is the first message. The greeting was sent if the answer is `Sent`.
     /// Each answer comes if and only if its cause is in what the call's events loaded. Returns `Memory` if
     /// memory runs out; nothing was changed then.
     pub fn greet(&mut self) -> Result<SendAnswer, Memory>

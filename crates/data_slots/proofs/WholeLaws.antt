@@ -251,7 +251,7 @@ unused-without (g ∷ fs) (suc i) f used here unused is_used apart = by_use g.us
     by_use (ForCall n input) is more = rw is more
     by_use (ForServing n service) is more = rw is more
 
--- in the frames of ends with an index
+-- the same in the frames of ends with an index
 pub unused-now : (slots : List Slot) (index : PlaceIndex) (at f t p : ℕ) (slot slot' : Slot) (used : Use) → IsIndexOf (places slots) index → slice_get slots at ≡ Some slot → place_of slot ≡ Payload f t p
     → use_of slot.stage ≡ ForNothing → (used ≡ ForNothing → ⊥) → frame_of slot' ≡ record (frame_of slot) { used = used }
     → unused_in (frames (set slots at slot')) ≡ without (Payload f t p) (unused_in (frames slots))

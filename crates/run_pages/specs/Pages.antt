@@ -40,7 +40,7 @@ abbrev pub is_offered : Scenario → PagePlace → Bool
 is_offered s (Control domain) = false
 is_offered s (Payload from to port) = are_offered s from to
 
--- a page has the orders of its place and the first index of the scenario, and is offered if its place says so
+-- a page has the orders of its place and the first index of the scenario, and is offered if pages at its place are
 pub record IsLaidFor (s : Scenario) (p : PageAt) : Type 0 where
   pub orders : p.page.orders ≡ orders_of s p.place
   pub start : p.page.start ≡ s.start

@@ -105,7 +105,7 @@ laid-differ s =
     domains : Differ (all_domains s)
     domains = differ-domains 1 _
 
--- nor do the pages of one domain
+-- no two pages of one domain lie at one place
 pub places-differ : (s : Scenario) (d : ℕ) → Differ (places_of s d)
 places-differ s d = differ-filter (is_end_of d) (laid s) (laid-differ s)
 

@@ -76,7 +76,7 @@ all-found (c ∷ calls) (d ∷ done) differ each = (
             each-at (λ (i : List ℕ). ident_of c.number ≢ i) (idents calls) (ident_of x.number) differ.0 (has-map-back (λ call. ident_of call.number) calls x h) (ap ident_of (sym each.0 ∙ e)))
         by false is = is
 
--- so is each call of a domain, by its caller
+-- each call of a domain has that domain as its caller
 own-call : (s : Scenario) (d : ℕ) (call : CallPlan) → Has (calls_from s d) call → call.from ≡ d
 own-call s d call h = let is = (has-filter (λ c. c.from == d) s.calls call h).1 in grind (arith, nat_tests, is)
 

@@ -23,7 +23,7 @@ const COMMANDS: [(bool, u32, u32, &[u8]); 4] = [
     (false, 5, 519, b"DEFAULT:QUBESRPC echo vault"),
 ];
 
-/// The message of a command.
+/// Makes the message of a command.
 fn message_of(alloc: Global, command: (bool, u32, u32, &[u8])) -> Result<Message, Fail>
     ensures { IfOk result HasNumbers }
 {

@@ -28,7 +28,7 @@ const CALLS: u32 = 16;
 /// greeting, which takes 12, and for 14 commands of 70 bytes each.
 const WITH_ROOM: u32 = 14;
 
-/// The name of a domain.
+/// Makes the name of a domain.
 fn name_of(alloc: Global, name: &[u8]) -> Result<Text, Fail>
     ensures { IfOk result (λ name. length name ≤ 31) }
 {
@@ -68,7 +68,7 @@ fn agent_of(alloc: Global, page: &Page, server: IdleSeat) -> Result<ControlPort<
     Ok(agent)
 }
 
-/// The trigger of a call to the target.
+/// Makes the trigger of a call to the target.
 fn trigger(alloc: Global) -> Result<Message, Fail>
     ensures { IfOk result HasNumbers }
 {

@@ -73,7 +73,7 @@ pub record PrintsServed (name input text : List ℕ) (pages : List Settled) : Ty
 
 -- what a command prints for an input, and the report and the pages that go with it. `step` prints the text of the script in the input; if
 -- the script's lines are whole calls, the lists of what was sent and got are a part of it. `decode` prints the text of the stream that the
--- input spells. Neither has a report, nor have `pipe`, `persist` and `relay`, which alone have pages apart from a report
+-- input spells. Only `run` and `load` have a report, and only `pipe`, `persist` and `relay` have pages apart from a report
 abbrev pub Prints : Command → List ℕ → List ℕ → Option Report → List Settled → Type 0
 Prints Step input text None [] = IsTextOf input text
 Prints (Decode channel) input text None [] = decoded channel input ≡ Ok text

@@ -56,7 +56,7 @@ pub(crate) fn relay_input<R: Threads + Wait + Sync>(
     Ok((text, pages))
 }
 
-/// The orders of the rings that lie in the shared page itself: 10 and 11.
+/// Returns the orders of the rings that lie in the shared page itself: 10 and 11.
 pub(crate) fn small_orders() -> Orders
     ensures { (number_of result.left ≡ 10) × (number_of result.right ≡ 11) }
 {
@@ -66,7 +66,7 @@ pub(crate) fn small_orders() -> Orders
     }
 }
 
-/// The lines of `pages` pages through each of which these bytes went, and the line of the bytes.
+/// Returns the lines of `pages` pages through each of which these bytes went, and the line of the bytes.
 fn relays_text(alloc: Global, pages: usize, bytes: &[u8]) -> Result<Vec<u8>, AllocError>
     requires pages { pages ≤ 17 }
     requires few { length bytes.now ≤ greatest_input }

@@ -81,7 +81,7 @@ pub fn command_in(words: &[String]) -> Option<Command>
     }
 }
 
-/// The command that decodes the kind of channel that a word names.
+/// Returns the command that decodes the kind of channel that a word names.
 fn decode_in(channel: &String) -> Option<Command>
     ensures command { result ≡ option_map Command.Decode (channel_of (string_bytes channel.now)) }
     ensures limits { IfSome result KeepsLimits }
@@ -90,7 +90,7 @@ fn decode_in(channel: &String) -> Option<Command>
     Some(Command::Decode(channel))
 }
 
-/// The kind of channel that a word names.
+/// Returns the kind of channel that a word names.
 fn channel_in(word: &String) -> Option<Channel>
     ensures { result ≡ channel_of (string_bytes word.now) }
 {
@@ -101,7 +101,7 @@ fn channel_in(word: &String) -> Option<Channel>
     }
 }
 
-/// The command that runs a scenario with the number of workers in a word.
+/// Returns the command that runs a scenario with the number of workers in a word.
 fn run_in(workers: &String) -> Option<Command>
     ensures command { result ≡ run_of (string_bytes workers.now) }
     ensures limits { IfSome result KeepsLimits }
@@ -110,7 +110,7 @@ fn run_in(workers: &String) -> Option<Command>
     Some(Command::Run { workers })
 }
 
-/// The command that generates a scenario from two numbers, and runs it.
+/// Returns the command that generates a scenario from two numbers, and runs it.
 fn load_in(number: &String, calls: &String) -> Option<Command>
     ensures command { result ≡ load_of (string_bytes number.now) (string_bytes calls.now) }
     ensures limits { IfSome result KeepsLimits }
@@ -120,7 +120,7 @@ fn load_in(number: &String, calls: &String) -> Option<Command>
     Some(Command::Load { number, calls })
 }
 
-/// The command that passes bytes through a page with the orders in two words.
+/// Returns the command that passes bytes through a page with the orders in two words.
 fn pipe_in(left: &String, right: &String) -> Option<Command>
     ensures command { result ≡ pipe_of (string_bytes left.now) (string_bytes right.now) }
     ensures limits { IfSome result KeepsLimits }
@@ -131,7 +131,7 @@ fn pipe_in(left: &String, right: &String) -> Option<Command>
     Some(Command::Pipe { orders })
 }
 
-/// The orders of a page with these two numbers.
+/// Returns the orders of a page with these two numbers.
 #[tactic(auto, using(step_script::proofs::Language::OrdersLaws::orders_of_bad))]
 fn orders_in(left: u16, right: u16) -> Option<Orders>
     ensures { result ≡ orders_of left right }
@@ -142,7 +142,7 @@ fn orders_in(left: u16, right: u16) -> Option<Orders>
     }
 }
 
-/// The command that serves clients by the service that a word names.
+/// Returns the command that serves clients by the service that a word names.
 fn persist_in(name: &String) -> Option<Command>
     ensures command { result ≡ persist_of (string_bytes name.now) }
     ensures limits { IfSome result KeepsLimits }
@@ -151,7 +151,7 @@ fn persist_in(name: &String) -> Option<Command>
     Some(Command::Persist { name })
 }
 
-/// The command that passes bytes through a number of relays with a number of workers.
+/// Returns the command that passes bytes through a number of relays with a number of workers.
 fn relay_in(hops: &String, workers: &String) -> Option<Command>
     ensures command { result ≡ relay_of (string_bytes hops.now) (string_bytes workers.now) }
     ensures limits { IfSome result KeepsLimits }
@@ -160,7 +160,7 @@ fn relay_in(hops: &String, workers: &String) -> Option<Command>
     Some(Command::Relay { hops, workers })
 }
 
-/// The number in a word, if it is from `least` to `most`. It is written in decimal digits without a leading
+/// Returns the number in a word, if it is from `least` to `most`. It is written in decimal digits without a leading
 /// zero, or as `0`.
 fn number_within(word: &String, least: u32, most: u32) -> Option<u32>
     ensures number { result ≡ number_within least most (string_bytes word.now) }

@@ -63,7 +63,7 @@ fn main(rt: HostRuntime) -> ExitCode {
     ExitCode::from(exit_number(status))
 }
 
-/// All arguments, with the program's own name first. It is `None` if one is no UTF-8, or if memory runs out.
+/// Returns all arguments, with the program's own name first, or `None` if one is no UTF-8 or memory runs out.
 fn arguments(rt: &(impl Env + AllocGlobal), alloc: Global) -> Option<Vec<String>> {
     env::args(rt).ok()?.collect(alloc).ok()
 }

@@ -99,7 +99,7 @@ fn run<S: Source, K: Sink, G: Gate, R: Threads + Wait + Clock + Sync>(
     }
 }
 
-/// The input of a command: the source to its end, or nothing if the command reads none.
+/// Reads the input of a command: the source to its end, or nothing if the command reads none.
 fn read_input<S: Source>(
     alloc: Global,
     command: &Command,
@@ -175,7 +175,7 @@ fn report_place<E: Sink>(err: &mut E, kind: ScenarioKind, at: &Path) -> Result<(
     write_all(err, b"\n")
 }
 
-/// What is wrong with a line of a script, in the program's words.
+/// Returns what is wrong with a line of a script, in the program's words.
 fn script_kind(kind: ScriptKind) -> &'static [u8]
     ensures { result.now ≡ script_word kind }
 {
@@ -190,7 +190,7 @@ fn script_kind(kind: ScriptKind) -> &'static [u8]
     }
 }
 
-/// What is wrong with a line of a list of clients, in the program's words.
+/// Returns what is wrong with a line of a list of clients, in the program's words.
 fn clients_kind(kind: ClientsKind) -> &'static [u8]
     ensures { result.now ≡ clients_word kind }
 {
@@ -202,7 +202,7 @@ fn clients_kind(kind: ClientsKind) -> &'static [u8]
     }
 }
 
-/// What is wrong with a line of byte strings, in the program's words.
+/// Returns what is wrong with a line of byte strings, in the program's words.
 fn decode_kind(kind: DecodeKind) -> &'static [u8]
     ensures { result.now ≡ decode_word kind }
 {

@@ -85,7 +85,7 @@ pub(crate) fn do_work<G: Gate, R: Threads + Wait + Clock + Sync>(
     }
 }
 
-/// The work of a step script.
+/// Does the work of a step script.
 fn step(alloc: Global, input: &[u8]) -> Result<Work, Status>
     ensures prints { IfOk result (λ work. Prints Command.Step input.now work.text.items work.report work.settled.items) }
     ensures due { IfErr result (λ status. IsDue Command.Step input.now status) }
@@ -99,7 +99,7 @@ fn step(alloc: Global, input: &[u8]) -> Result<Work, Status>
     }
 }
 
-/// The work of a captured stream.
+/// Does the work of a captured stream.
 fn decode(alloc: Global, channel: Channel, input: &[u8]) -> Result<Work, Status>
     ensures prints { IfOk result (λ work. Prints (Command.Decode channel) input.now work.text.items work.report work.settled.items) }
     ensures due { IfErr result (λ status. IsDue (Command.Decode channel) input.now status) }
@@ -113,7 +113,7 @@ fn decode(alloc: Global, channel: Channel, input: &[u8]) -> Result<Work, Status>
     }
 }
 
-/// The work of a scenario that is read: the text of its report, and that report.
+/// Does the work of a scenario that is read. It gives the text of its report, and that report.
 fn run<G: Gate, R: Threads + Wait + Sync>(
     rt: &R,
     alloc: Global,
@@ -144,7 +144,7 @@ fn run<G: Gate, R: Threads + Wait + Sync>(
     }
 }
 
-/// The work of a command with pages apart from a report: its text, and these pages.
+/// Makes the work of a command with pages apart from a report: its text, and these pages.
 fn through(done: Result<(Vec<u8>, Vec<Settled>), Memory>) -> Result<Work, Status>
     ensures prints { MatchResult done (λ d. result ≡ Ok (record { text = d.0; report = None; settled = d.1 })) (λ e. result ≡ Err Status.OutOfMemory) }
 {

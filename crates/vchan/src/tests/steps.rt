@@ -173,7 +173,7 @@ fn play_rows<R: Abort + AllocGlobal + Threads + Wait + Clock + Sync>(
     Ok(())
 }
 
-/// What a script prints through `top`, with status 0 and nothing on the third sink; otherwise nothing.
+/// Returns what a script prints through `top`, if the status is 0 and the third sink has nothing.
 fn printed<R: Threads + Wait + Clock + Sync>(
     rt: &R,
     alloc: Global,
