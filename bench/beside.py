@@ -1,9 +1,9 @@
-"""Sets the built program beside another one of the same words, for the scripts of this folder that import it.
+"""Sets the built program beside another one that takes the same words, for the scripts of this folder.
 
-Each row is a name, the program's words and perhaps an input; without one it is 4 MiB of all values. Both programs
-read it N times (5 where `--rounds N` is left out), in turn, and the medians of the wall times and of the processor
-times are set beside one another. With `--busy` two busy loops a processor run beside both, from the first row to the
-last. What both print has to be the same, and both have to end with status 0. Nothing is built: run ./vchan once
+Each row is a name, the program's words and perhaps an input; without one the input is 4 MiB of all values. Both
+programs read it N times (5 if `--rounds N` is left out), in turn, and the medians of the wall times and of the
+processor times are set beside one another. With `--busy` two busy loops for each processor run beside both, from the
+first row to the last. Both must print the same, and both must end with status 0. Nothing is built: run ./vchan once
 before.
 """
 

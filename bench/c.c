@@ -1,6 +1,7 @@
 /*
- * One write and one read of so many bytes, by two ends of libxenvchan and by two of c/vchan_page.h, in turns: in one
- * thread by its processor time, and in two, which pass the bytes one after another, by the clock. bench/c builds it.
+ * Measures one write and one read of a number of bytes, by two ends of libxenvchan and by two of c/vchan_page.h, in
+ * turns: in one thread by its processor time, and in two threads, which pass the bytes one after another, by the
+ * clock. bench/c builds it.
  */
 #include "../c/vchan_page.h"
 #include "../tests/peer/stand_ins.h"

@@ -1,5 +1,5 @@
-/* Counts how often a program asks malloc, calloc or realloc, and writes the number to standard error
-   when the program calls _exit. To be preloaded: the allocator itself is glibc's, called by its other
+/* Counts how often a program calls malloc, calloc or realloc, and writes the number to standard error
+   when the program calls _exit. It is preloaded: the allocator itself is glibc's, called by its other
    names. */
 #include <stddef.h>
 #include <stdio.h>

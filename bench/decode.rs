@@ -1,4 +1,4 @@
-//! The same text by std: one pass over the input, a table of digits, and one buffer for the stream.
+//! Makes the text of `vchan decode` by std: one pass over the input, a table of digits, and one buffer for the stream.
 //!
 //! usage: decode control|data < INPUT
 use std::fmt::Write as _;

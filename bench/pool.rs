@@ -1,7 +1,7 @@
-//! The same tasks by std threads: one `Mutex<VecDeque>` of waiting tasks.
+//! Runs the tasks of bench/pool by std threads: one `Mutex<VecDeque>` has the waiting tasks.
 //!
 //! usage: pool TASKS TURNS WORKERS STEPS
-//! Prints two times in nanoseconds: of one plain loop that makes the turns, and of the pool.
+//! Prints two times in nanoseconds: that of one plain loop that makes the turns, and that of the pool.
 use std::collections::VecDeque;
 use std::sync::Mutex;
 use std::sync::atomic::{AtomicU64, Ordering};

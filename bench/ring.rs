@@ -1,11 +1,11 @@
-//! The events of writes and reads on a page of words, as a plain std Rust program: each word is an
-//! `AtomicU64`, and each event one step of it with `SeqCst`.
+//! Makes the events of writes and reads on a page of words, as a plain std Rust program: each word is an
+//! `AtomicU64`, and each event is one atomic operation on it with `SeqCst`.
 //!
 //! usage: ring SIZE CALLS ROUNDS, or ring threads SIZE CALLS
 //! In each round the client makes CALLS writes of SIZE bytes, and then the server as many reads, on rings
-//! of order 16. It prints the nanoseconds of all writes, and of all reads, on a processor, and the bytes
-//! that were got. With `threads` each end has a thread of its own, and it prints the nanoseconds that went
-//! by until the server had all bytes.
+//! of order 16. It prints the nanoseconds of all writes and of all reads, on a processor, and the number of
+//! bytes that were got. With `threads` each end has a thread of its own, and it prints the nanoseconds until
+//! the server had all bytes.
 use std::env;
 use std::hint::black_box;
 use std::process::exit;

@@ -1,6 +1,7 @@
-//! The baseline of bench/session: the same call of `echo`, its bytes framed and unframed by plain std.
+//! The baseline of bench/session: the same call of `echo`, with its bytes framed and unframed by plain std.
 //!
-//! usage: session SIZE PIECE; prints the nanoseconds that it took, and how many bytes came back.
+//! usage: session SIZE PIECE
+//! Prints the nanoseconds that the call took, and how many bytes came back.
 use std::time::Instant;
 
 const MOST: usize = 65_536;

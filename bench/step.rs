@@ -1,10 +1,10 @@
-//! `vchan step` as a plain std Rust program: the lines `open L R`, `client write BYTES` and
-//! `server read N`, where BYTES is hexadecimal digits, or `HH*N` for one byte N times; and the same two
-//! calls cut into their events by `client begin write BYTES`, `server begin read N`, `E step N` and
-//! `E finish`, where E is the end.
+//! Plays scripts of `vchan step` as a plain std Rust program. It takes the lines `open L R`,
+//! `client write BYTES` and `server read N`, where BYTES is hexadecimal digits, or `HH*N` for one byte N
+//! times. It also takes the same two calls cut into their events by `client begin write BYTES`,
+//! `server begin read N`, `E step N` and `E finish`, where E is the end.
 //!
 //! It keeps to the protocol of libxenvchan's io.c: indices that count modulo 2^32, live bytes,
-//! notify bits and pending signals. Its rings are bytes, and it copies in one piece where it can.
+//! notify bits and pending signals. Its rings are bytes, and it copies in one piece if it can.
 use std::io::{Read, Write};
 use std::ops::Range;
 use std::process::exit;

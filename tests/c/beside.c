@@ -1,7 +1,7 @@
 /*
- * Ends of c/vchan_page.h beside ends of the system's own libxenvchan, on one page: each of the four pairings, by
- * turns and in two threads. When they play by turns, the head of the page and the signals after every call are those
- * of two ends of the library.
+ * Plays ends of c/vchan_page.h beside ends of the system's own libxenvchan, on one page: each of the four pairings,
+ * by turns and in two threads. By turns, after every call, the head of the page and the signals must be those of the
+ * library's two ends.
  */
 #include "../../c/vchan_page.h"
 #include "../peer/stand_ins.h"
@@ -65,7 +65,7 @@ static void open_ours(struct either *end, int left, int right)
 			      take_event, wait_for_event, end) == 0);
 }
 
-/* Makes a page as the library's server does. */
+/* Lays a page as the library's server lays one. */
 static void lay(int left, int right)
 {
 	struct vchan_interface *head = &page.header;
@@ -158,7 +158,7 @@ static uint32_t draw(void)
 	return (uint32_t)(seed >> 16);
 }
 
-/* Adds what was seen after a call to the sum of what was seen before. */
+/* What was seen after each call, as one number. */
 static uint64_t sum_on(uint64_t sum, uint64_t value)
 {
 	return (sum ^ value) * 1099511628211ull;

@@ -1,4 +1,4 @@
-/* Put before c/vchan_page.c: counts its loads and how often it enters the proved library. */
+/* Included before c/vchan_page.c. It counts the loads, and how often the proved library is entered. */
 #include "../../c/vchan_end.h"
 
 extern unsigned long loads, entered;

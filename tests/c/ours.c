@@ -1,7 +1,7 @@
 /*
- * Ends of c/vchan_page.h beside one another, with no other library: by turns against queues, in two threads,
- * in two processes, and one end beside stores of any values into its page. It is built with AddressSanitizer:
- * the head of a page, each ring and each buffer is a block of exactly its size.
+ * Plays ends of c/vchan_page.h beside one another, with no other library: by turns against queues, in two threads,
+ * in two processes, and one end beside stores of any values into its page. It is built with AddressSanitizer: the
+ * head of a page, each ring and each buffer is a block of exactly its size.
  */
 #define _GNU_SOURCE
 #include "../../c/vchan_page.h"
@@ -140,8 +140,8 @@ static uint32_t index_at(const struct line *line, int word)
 	return index;
 }
 
-/* Random calls of both ends by turns. What each returns and gets is what a queue for each ring tells, the page
- * has the counts, and a signal comes if and only if the peer asked. */
+/* Random calls of both ends by turns. What each returns and gets is what a queue for each ring says, the page
+ * has the counts, and a signal comes exactly where the peer asked. */
 static void by_turns(int left, int right, int calls)
 {
 	struct line line;
@@ -179,7 +179,7 @@ static void by_turns(int left, int right, int calls)
 			: act == 2 ? vchan_page_read(end, data, n)
 				   : vchan_page_recv(end, data, n);
 		CHECK(count == (int)(n <= most ? n : act == 0 || act == 2 ? most : 0));
-		/* each look is one load, and there is a second one only after an ask */
+		/* each look is one load, and there is a second one behind an ask alone */
 		CHECK(loads <= (is_write ? 2u : count ? 1u : 2u) + (n > most));
 		CHECK(entered <= (is_write ? 4u : 3u) + (n > most ? 2u : 0u));
 		if (is_write) {
@@ -201,7 +201,7 @@ static void by_turns(int left, int right, int calls)
 			CHECK(vchan_page_take_event(&line.end[!who]) == 0 || (before & bit && n == 0));
 		}
 	}
-	/* a peer that has closed: its bytes are drained, and then the end of the stream is told */
+	/* A peer that has closed: its bytes are drained, and then the end of the stream is told. */
 	while (vchan_page_take_event(&line.end[0]))
 		;
 	CHECK(vchan_page_close(&line.end[1]) == 0 && line.head[CLI_LIVE] == 0 && vchan_page_is_open(&line.end[0]) == 0);
@@ -342,7 +342,7 @@ struct hostile {
 	bool is_over;
 };
 
-/* Stores any value in any word of the page, and any byte in any ring. */
+/* Any value into any word of the page, and any byte into any ring, at any time. */
 static void store_anything(struct line *line)
 {
 	uint32_t value = draw() % 3 == 0 ? draw() : index_at(line, (int)(draw() % 4) * 4) + draw() % 4100 - 2050;
@@ -368,8 +368,8 @@ static void *store_on(void *context)
 	return NULL;
 }
 
-/* One honest end beside stores of anything, made between its calls and by a thread of their own. It moves at most
- * one ring in each call, and no more than asked; its own counts move on by exactly that, whatever the page holds. */
+/* One honest end beside stores of anything, made between its calls and by a thread of their own. It moves at
+ * most one ring a call, and no more than it is asked; its own counts go on by just that, whatever the page says. */
 static void beside_hostile(int left, int right, int calls)
 {
 	for (int who = 0; who < 2; who++) {
@@ -410,7 +410,7 @@ static void beside_hostile(int left, int right, int calls)
 	}
 }
 
-/* Any 32 bytes as an end: each step that they give stays within the rings and within what the call may move. */
+/* Any 32 bytes for an end: what is told of them stays within their rings and what the call may move. */
 static void any_bytes(int rounds)
 {
 	struct vchan_step step;
@@ -423,7 +423,7 @@ static void any_bytes(int rounds)
 
 		for (size_t k = 0; k < sizeof bytes; k++)
 			bytes[k] = (uint8_t)draw();
-		if (draw() % 8) { /* close to the numbers of an end */
+		if (draw() % 8) { /* near to the numbers of an end */
 			bytes[0] %= 2, bytes[1] %= 3, bytes[2] = (uint8_t)(10 + draw() % 11), bytes[3] = 0;
 			bytes[4] = (uint8_t)(10 + draw() % 11), bytes[5] = 0, bytes[6] %= 41, bytes[7] %= 19;
 			if (bytes[6] < 37)
@@ -466,7 +466,7 @@ static bool wait_fails(void *context)
 
 #define REFUSES(call, why) CHECK((errno = 0, (call) == -1) && errno == (why))
 
-/* What a caller can do wrong is answered with an error, and changes nothing. */
+/* What a caller can get wrong is answered, and changes nothing. */
 static void misuse(void)
 {
 	struct line line;
@@ -490,7 +490,7 @@ static void misuse(void)
 	OPEN(VCHAN_CLIENT, (enum vchan_state)3, line.head, line.ring[0], line.ring[1], 11, 12, notify);
 	REFUSES(vchan_page_open(NULL, VCHAN_SERVER, VCHAN_OPEN, line.head, line.ring[0], line.ring[1], 11, 12, 0, 0, notify, NULL, NULL, NULL), EINVAL);
 
-	/* an end that was never opened, and NULL */
+	/* an end that was never opened, and none */
 	REFUSES(vchan_page_write(&page, &byte, 1), EBADF);
 	REFUSES(vchan_page_read(NULL, &byte, 1), EINVAL);
 	REFUSES(vchan_page_send_wait(NULL, &byte, 1), EINVAL);
@@ -505,20 +505,20 @@ static void misuse(void)
 	REFUSES(vchan_page_recv_wait(end, &byte, 2049), EMSGSIZE);
 	REFUSES(vchan_page_write_all(end, &byte, (size_t)1 << 31), EMSGSIZE);
 
-	/* waits that aren't possible, or that fail */
+	/* waits that can't be, or fail */
 	end->wait_for_event = NULL;
 	REFUSES(vchan_page_read_wait(end, &byte, 1), EAGAIN);
 	end->wait_for_event = wait_fails;
 	REFUSES(vchan_page_read_wait(end, &byte, 1), EINTR);
 
-	/* a callback that makes a call on the end that is inside one */
+	/* a callback that makes a call of the end that is inside one */
 	nested = end;
 	end->take_event = call_again;
 	CHECK(vchan_page_take_event(end) == 1);
 	end->take_event = NULL;
 	CHECK(vchan_page_take_event(end) == 0);
 
-	/* a client that was opened with other orders than its page holds */
+	/* a client that says it has other rings than its page */
 	CHECK(vchan_page_open(&page, VCHAN_CLIENT, VCHAN_FRESH, line.head, line.ring[0], line.ring[1], 11, 13, 0, 0, notify, NULL, NULL, &line.ear[1]) == 0);
 	REFUSES(vchan_page_connect(&page), EPROTO);
 

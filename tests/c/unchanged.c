@@ -1,8 +1,7 @@
 /*
- * A program that uses libxenvchan and knows nothing of this project: it makes both ends by the library's own
- * functions and calls no others. `run preload` runs it as it is and with libvchan_proved.so before the library. Both
- * print the same: a sum over each answer, each byte that was read, the head of the page and the signals after each
- * call.
+ * A program of libxenvchan that knows nothing of this project. It makes both ends by the library's own functions
+ * and calls no others. `run preload` runs it as it is and with libvchan_proved.so before the library. Both must print
+ * the same: a sum over each answer, each byte that was read, the head of the page and the signals after each call.
  */
 #include "../peer/stand_ins.h"
 #include <pthread.h>
@@ -88,7 +87,7 @@ static uint64_t by_turns(int left, int right, int calls)
 	return sum;
 }
 
-/* Calls that wait, each end in a thread of its own. */
+/* Calls that wait, by a thread of each end. */
 struct stream {
 	struct libxenvchan *end;
 	int writes;

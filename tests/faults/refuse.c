@@ -1,7 +1,7 @@
-/* Makes one call of the program fail, or all from it on: an allocation, a read or a write.
+/* Makes one call of the program fail, or all from that one on: an allocation, a read or a write.
  *
- * FAULT_KIND is alloc, read, write, short-read or short-write; FAULT_AT is the number of the call, from 1
- * on; FAULT_ON says that all later calls fail too. A byte on descriptor FAULT_FD tells that it came to
+ * FAULT_KIND is alloc, read, write, short-read or short-write. FAULT_AT is the number of the call, from 1
+ * on. With FAULT_ON all later calls fail too. A byte on descriptor FAULT_FD shows that the program made
  * that call. Short calls move one byte.
  */
 #define _GNU_SOURCE

@@ -1,19 +1,19 @@
 /*
  * Plays step scripts by the system's own libxenvchan, in one process and with no hypervisor.
  *
- * Standard input has scripts one behind another, each from its line `open L R` on. For each line of a
+ * Standard input has scripts one after another, each from its line `open L R` on. For each line of a
  * script that makes a call it prints what the library returned:
  *
  *     E CALL RETURN                     of ready, space and event
  *     E CALL RETURN PROD CONS BYTES     of write, send, read and recv
  *     E close
  *
- * PROD and CONS are the indices of the ring that the call moved bytes in, as the page has them behind
- * it, and BYTES are those that a read or recv got. `head` and `image` print bytes of the page. Behind
+ * PROD and CONS are the indices of the ring in which the call moved bytes, as the page has them after
+ * the call, and BYTES are those that a read or recv got. `head` and `image` print bytes of the page. After
  * each script come the two lines of lengths of `vchan step`, and a line `end`.
  *
- * The library calls grants, event channels and the xenstore by functions of other libraries. stand_ins.c
- * has them too, so the linker finds those first. The library itself is the one that the system has, and
+ * The library uses grants, event channels and the xenstore by functions of other libraries. stand_ins.c
+ * has these functions too, and the linker finds them there first. The library itself is the system's, and
  * only its public header is used.
  */
 #include "stand_ins.h"

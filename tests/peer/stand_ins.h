@@ -1,7 +1,7 @@
 /*
- * What stands in for the grants, the event channels and the xenstore of Xen, so that the system's own
- * libxenvchan makes both ends of a page in one process, with no hypervisor. A program that is linked with
- * stand_ins.c before the library has the library call these.
+ * Stands in for the grants, the event channels and the xenstore of Xen, so that the system's own
+ * libxenvchan makes both ends of a page in one process, with no hypervisor. If a program is linked with
+ * stand_ins.c before the library, the library calls these functions.
  */
 #ifndef STAND_INS_H
 #define STAND_INS_H
