@@ -91,6 +91,23 @@ fn six_calls_have_their_lines(rt: HostRuntime) -> Result<(), Fail> {
     Ok(())
 }
 
+/// The file takes five reads of 96 bytes, and a sixth that finds its end. Each of the six fails once.
+#[test]
+fn a_scenario_that_cannot_be_read_is_a_read_fault(rt: HostRuntime) -> Result<(), Fail> {
+    assert!(rt; SIX_CALLS.len() == 5 * 96);
+    for fails in FAILS {
+        let input = Vec::from_slice(rt.alloc(), SIX_CALLS)?;
+        let reads = Stream { most: 96, fails };
+        let words = ["run", "1"];
+        let ran = run_over_memory(&rt, rt.alloc(), &words, input, &reads, &WHOLE, &WHOLE)?;
+        assert_eq!(rt; ran.status.code(), 3);
+        assert!(rt; ran.report.is_none());
+        assert!(rt; ran.out.bytes().is_empty());
+        assert!(rt; ran.err.bytes() == b"vchan: read fault\n".as_slice());
+    }
+    Ok(())
+}
+
 /// Each of the first six writes fails, at most 4 bytes a write. What was written before is there.
 #[test]
 fn a_write_of_a_report_may_fail(rt: HostRuntime) -> Result<(), Fail> {
