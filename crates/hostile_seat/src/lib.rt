@@ -84,17 +84,17 @@ impl<'p> Hostile<'p> {
     /// Puts bytes into the ring that the end writes: as many of the first ones as have room by the consumer
     /// index that it loads, from the place of `own` on. `own` is the user's own producer index; it is moved on
     /// and stored. Returns how many bytes were put.
-    pub fn say(&mut self, own: &mut u32, data: &[u8]) -> u32
+    pub fn say(&mut self, own: &mut u32, payload: &[u8]) -> u32
         ensures page { self.new.page ≡ self.old.page }
         ensures moved { own.new ≡ (own.old + result) % 2 ^ 32 }
-        ensures events { (taken : ℕ) × (result ≡ min (length data.now) (room_of own.old (low32 taken) (order_of self.old.side.orders (written_ring_of self.old.side.role)))) × (self.new.side ≡ strays_along self.old.side (say_events self.old.side.role self.old.side.orders own.old taken (take result data.now) own.new)) }
+        ensures events { (taken : ℕ) × (result ≡ min (length payload.now) (room_of own.old (low32 taken) (order_of self.old.side.orders (written_ring_of self.old.side.role)))) × (self.new.side ≡ strays_along self.old.side (say_events self.old.side.role self.old.side.orders own.old taken (take result payload.now) own.new)) }
     {
         let ring = written_ring(self.end.role());
         let order = self.end.orders().order_of(ring);
         let taken = self.end.load(cons_word(ring));
         let free = room(*own, (taken % 4294967296) as u32, order);
-        let count = said(data.len(), free);
-        let bytes = &data[..count as usize];
+        let count = said(payload.len(), free);
+        let bytes = &payload[..count as usize];
         *own = put(&mut self.end, ring, order, *own, bytes);
         count
     }

@@ -78,18 +78,18 @@ fn recv_answer(answer: Answer) -> RecvAnswer
 
 /// Sends all bytes if there is room for them, else none, and never waits. Each answer comes if and only if
 /// its cause is in what the call's events loaded.
-pub fn send(end: &mut End<'_>, data: &[u8]) -> SendAnswer
+pub fn send(end: &mut End<'_>, payload: &[u8]) -> SendAnswer
     requires open { IsOpen end.old }
     ensures same { IsSameEnd end.old end.new }
     ensures open { IsOpen end.new }
-    ensures view { view end.new ≡ sent_to (view end.old) result data.now }
-    ensures trail { Trace (standing_of end.old.side) (Send (most_asked data.now)) end.new.side.trail (send_told (most_asked data.now) result) }
-    ensures cause { (other : SendAnswer) → (result ≡ other) ↔ SendCause (standing_of end.old.side) (most_asked data.now) (loads_of (standing_of end.old.side) end.new.side.trail) (send_told (most_asked data.now) other) }
+    ensures view { view end.new ≡ sent_to (view end.old) result payload.now }
+    ensures trail { Trace (standing_of end.old.side) (Send (most_asked payload.now)) end.new.side.trail (send_told (most_asked payload.now) result) }
+    ensures cause { (other : SendAnswer) → (result ≡ other) ↔ SendCause (standing_of end.old.side) (most_asked payload.now) (loads_of (standing_of end.old.side) end.new.side.trail) (send_told (most_asked payload.now) other) }
 {
     let call = Call::Send {
-        len: asked(data.len()),
+        len: asked(payload.len()),
     };
-    send_answer(end.do_call(call, data, &mut []))
+    send_answer(end.do_call(call, payload, &mut []))
 }
 
 /// Fills the whole buffer if enough bytes wait in the ring, else gets none, and never waits itself. Each

@@ -78,19 +78,19 @@ fn read_answer(answer: Answer) -> ReadAnswer
 
 /// Sends as many of the first bytes as there is room for, and never waits. Each answer comes if and only if
 /// its cause is in what the call's events loaded.
-pub fn write(end: &mut End<'_>, data: &[u8]) -> WriteAnswer
+pub fn write(end: &mut End<'_>, payload: &[u8]) -> WriteAnswer
     requires open { IsOpen end.old }
     ensures same { IsSameEnd end.old end.new }
     ensures open { IsOpen end.new }
-    ensures view { view end.new ≡ wrote_to (view end.old) result data.now }
-    ensures few { (count : ℕ) → result ≡ WriteAnswer.Wrote count → count ≤ length data.now }
-    ensures trail { Trace (standing_of end.old.side) (Write (most_asked data.now)) end.new.side.trail (write_told result) }
-    ensures cause { (other : WriteAnswer) → (result ≡ other) ↔ WriteCause (standing_of end.old.side) (most_asked data.now) (loads_of (standing_of end.old.side) end.new.side.trail) (write_told other) }
+    ensures view { view end.new ≡ wrote_to (view end.old) result payload.now }
+    ensures few { (count : ℕ) → result ≡ WriteAnswer.Wrote count → count ≤ length payload.now }
+    ensures trail { Trace (standing_of end.old.side) (Write (most_asked payload.now)) end.new.side.trail (write_told result) }
+    ensures cause { (other : WriteAnswer) → (result ≡ other) ↔ WriteCause (standing_of end.old.side) (most_asked payload.now) (loads_of (standing_of end.old.side) end.new.side.trail) (write_told other) }
 {
     let call = Call::Write {
-        len: asked(data.len()),
+        len: asked(payload.len()),
     };
-    write_answer(end.do_call(call, data, &mut []))
+    write_answer(end.do_call(call, payload, &mut []))
 }
 
 /// Gets as many bytes as wait in the ring, up to the length of the buffer, and never waits itself. Each

@@ -13,6 +13,6 @@ write_answer-requires c = write_answers _ _ _ _ c.do_call.ensures.over.trace
 pub returns-clause-cause : goal.returns-clause-cause
 returns-clause-cause c =
     let trace = c.do_call.ensures.over.trace in
-    write_cause (standing_of c.args.end.now.side) (most_asked c.args.data.now) c.do_call.new.self.side.trail c.write_answer.result
-    (subst (λ (a : Answer). Trace (standing_of c.args.end.now.side) (Write (most_asked c.args.data.now)) c.do_call.new.self.side.trail a) (sym c.write_answer.ensures)
+    write_cause (standing_of c.args.end.now.side) (most_asked c.args.payload.now) c.do_call.new.self.side.trail c.write_answer.result
+    (subst (λ (a : Answer). Trace (standing_of c.args.end.now.side) (Write (most_asked c.args.payload.now)) c.do_call.new.self.side.trail a) (sym c.write_answer.ensures)
     (subst (λ (n : ℕ). Trace (standing_of c.args.end.now.side) (Write n) c.do_call.new.self.side.trail c.do_call.result) c.asked.ensures trace))
