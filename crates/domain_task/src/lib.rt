@@ -8,5 +8,9 @@ mod done;
 mod pool;
 mod task;
 
+pub use agent_task::AgentDone;
+pub use broker_task::BrokerDone;
 pub use done::TaskDone;
+pub use hostile_task::HostileDone;
 pub use task::Task;
+pub use task_duties::{CallDone, DataEnd, PagePlace, RetiredEnd, ServedDone};

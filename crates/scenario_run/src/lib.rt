@@ -15,3 +15,6 @@ mod sessions;
 mod tasks;
 
 pub use run::run_scenario;
+pub use run_report::{
+    CallLine, CallResult, MixedOutcome, Report, ServedLine, SettledPage, report_text, summary_text,
+};
