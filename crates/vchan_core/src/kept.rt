@@ -45,6 +45,7 @@ pub struct Kept {
 }
 
 /// Returns the role of that number: 0 is a server and 1 a client. Returns `None` for every other number.
+#[inline(always)]
 pub fn role_of(number: u8) -> Option<Role>
     ensures { result ≡ role_told number }
 {
@@ -56,6 +57,7 @@ pub fn role_of(number: u8) -> Option<Role>
 }
 
 /// Returns the state of that number: 0 is fresh, 1 open and 2 shut. Returns `None` for every other number.
+#[inline(always)]
 pub fn state_of(number: u8) -> Option<EndState>
     ensures { result ≡ state_told number }
 {
@@ -67,6 +69,7 @@ pub fn state_of(number: u8) -> Option<EndState>
     }
 }
 
+#[inline(always)]
 fn role_number(role: Role) -> u8
     ensures { result ≡ role_number_of role }
 {
@@ -76,6 +79,7 @@ fn role_number(role: Role) -> u8
     }
 }
 
+#[inline(always)]
 fn state_number(state: EndState) -> u8
     ensures { result ≡ state_number_of state }
 {
@@ -88,6 +92,7 @@ fn state_number(state: EndState) -> u8
 
 impl Machine {
     /// Returns this machine as numbers, which are those of no other machine.
+    #[inline(always)]
     pub fn kept(&self) -> Kept
         ensures kept { result ≡ kept_of self.now }
         ensures short { IsShort self.now }
@@ -113,6 +118,7 @@ impl Machine {
 
 impl Kept {
     /// Returns the machine that has these numbers, or `None` if and only if there is none.
+    #[inline(always)]
     pub fn machine(&self) -> Option<Machine>
         ensures kept { IfSome result (λ machine. kept_of machine ≡ self.now) }
         ensures again { (machine : Machine) → IsShort machine → kept_of machine ≡ self.now → result ≡ Some machine }
@@ -125,6 +131,7 @@ impl Kept {
     }
 
     /// Returns the machine that these numbers tell; some of them may be those of another machine.
+    #[inline(always)]
     fn read(&self) -> Option<Machine>
         ensures again { (machine : Machine) → IsShort machine → kept_of machine ≡ self.now → result ≡ Some machine }
     {

@@ -24,6 +24,7 @@ impl AnswerNumbers {
     };
 
     /// Returns the numbers of an answer.
+    #[inline(always)]
     pub fn of(answer: Answer) -> AnswerNumbers
         ensures number { result.number ≡ (numbers_of_answer answer).0 }
         ensures first { result.first ≡ (numbers_of_answer answer).1 }
@@ -59,6 +60,7 @@ impl AnswerNumbers {
 
     /// Returns the answer of this kind with these parts, or `None` if there is no such kind. A part that the
     /// kind doesn't have is ignored.
+    #[inline(always)]
     pub fn answer(self) -> Option<Answer>
         ensures { result ≡ answer_told self.number self.first self.second }
     {

@@ -15,6 +15,7 @@ pub(crate) struct PhaseNumbers {
     pub(crate) answer: AnswerNumbers,
 }
 
+#[inline(always)]
 fn bit_number(bit: Bit) -> u32
     ensures { result ≡ bit_number_of bit }
 {
@@ -24,6 +25,7 @@ fn bit_number(bit: Bit) -> u32
     }
 }
 
+#[inline(always)]
 fn bit_of(number: u32) -> Option<Bit>
     ensures { result ≡ bit_told number }
 {
@@ -43,6 +45,7 @@ impl PhaseNumbers {
     };
 
     /// Returns the numbers of where a machine is; each is 0 between two calls.
+    #[inline(always)]
     pub(crate) fn at(phase: Option<Phase>) -> PhaseNumbers
         ensures numbers { (result.number ≡ (numbers_at phase).0) × (result.first ≡ (numbers_at phase).1) × (result.second ≡ (numbers_at phase).2) }
         ensures answer { (result.answer.number ≡ (answer_at phase).0) × (result.answer.first ≡ (answer_at phase).1) × (result.answer.second ≡ (answer_at phase).2) }
@@ -54,6 +57,7 @@ impl PhaseNumbers {
         }
     }
 
+    #[inline(always)]
     fn of(phase: Phase) -> PhaseNumbers
         ensures numbers { (result.number ≡ (numbers_of_phase phase).0) × (result.first ≡ (numbers_of_phase phase).1) × (result.second ≡ (numbers_of_phase phase).2) }
         ensures answer { (result.answer.number ≡ (answer_within phase).0) × (result.answer.first ≡ (answer_within phase).1) × (result.answer.second ≡ (answer_within phase).2) }
@@ -113,6 +117,7 @@ impl PhaseNumbers {
 
 /// Returns where a machine with these numbers is, or `None` if there is no such kind. Some of the numbers may
 /// be those of another machine.
+#[inline(always)]
 pub(crate) fn phase_of(
     number: u8,
     first: u32,
@@ -127,6 +132,7 @@ pub(crate) fn phase_of(
     }
 }
 
+#[inline(always)]
 fn inner_phase_of(number: u8, first: u32, second: u32, answer: Option<Answer>) -> Option<Phase>
     ensures { result ≡ phase_told number first second answer }
 {
