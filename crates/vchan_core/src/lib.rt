@@ -20,7 +20,7 @@ mod whole_call;
 pub mod words;
 
 pub use kept::{AnswerNumbers, Kept, role_of, state_of};
-pub use machine::{Ahead, Machine, Span};
+pub use machine::{Ahead, LastNotify, Machine, Span};
 pub use plain::Plain;
 pub use refusal::Refusal;
 pub use start::start_words;

@@ -10,7 +10,7 @@ use vchan_protocol::{Answer, Bit, Call, EndState, Op};
 mod ahead;
 pub(crate) mod outcomes;
 
-pub use ahead::{Ahead, Span};
+pub use ahead::{Ahead, LastNotify, Span};
 
 /// One end of a channel, as a pure machine: it tells which event comes next, and takes the value that the
 /// event took. It holds no page, so the same machine drives a plain page and a shared one.
@@ -304,8 +304,10 @@ impl Machine {
         self.phase = Some(phase);
     }
 
-    /// Drops the call under way, for an end that is turned over to a hostile user.
-    pub(crate) fn drop_call(&mut self)
+    /// Drops what is left of the call under way, as when the caller makes that by itself, or when the end is
+    /// turned over to a hostile user.
+    #[inline(always)]
+    pub fn drop_call(&mut self)
         ensures idle { IsIdle self.new }
         ensures standing { standing self.new ≡ standing self.old }
     {

@@ -136,7 +136,8 @@ pub fn peer_gone(role: Role) -> WordName
 }
 
 /// Returns the bit of a notify byte.
-pub(crate) fn mask(bit: Bit) -> u64
+#[inline(always)]
+pub fn mask(bit: Bit) -> u64
     ensures value { result ≡ mask_of bit }
     ensures within { result ≤ 2 }
 {

@@ -1,13 +1,16 @@
-//! The bytes that come next in a put or a take, for a caller that moves them all itself.
-ghost use Rattle.std.specs.Prelude.{◌≡◌, ◌≤◌};
+//! The bytes that come next in a put or a take, and the notify with which a call ends, for a caller
+//! that makes these events by itself.
+ghost use Rattle.std.specs.Prelude.{◌≡◌, ◌≤◌, ◌↔◌, IsSome, IfSome};
 ghost use Rattle.vchan_protocol.specs.Table.Calls.{plan_of, payload_of, loaded_most};
-ghost use Rattle.vchan_core.specs.OneMachine.Phases.{standing, rest, IsIdle, Allows, payload_needed, buffer_needed};
-ghost use Rattle.vchan_core.specs.OneMachine.Ahead.{IsAhead, put_at, take_at};
+ghost use Rattle.vchan_protocol.specs.Table.Plan.{next_op};
+ghost use Rattle.vchan_core.specs.OneMachine.Phases.{standing, rest, rest_at, at_phase, IsIdle, Allows, payload_needed, buffer_needed};
+ghost use Rattle.vchan_core.specs.OneMachine.Ahead.{IsAhead, IsAnd, IsLastNotify, IsLookBehind, look_at as look_at_of, look_behind as look_behind_of, put_at, take_at};
 
 use super::Machine;
 use crate::phase::Phase;
-use ring_words::{Order, Ring};
-use vchan_protocol::{Answer, Call};
+use crate::words::{cons_word, notify_word};
+use ring_words::{Order, Ring, WordName};
+use vchan_protocol::{Answer, Bit, Call};
 
 /// The bytes of a put or a take that are still to be moved: those from `at` on, up to `count`. Byte
 /// number `k` lies where the ring holds the byte of the index `index + k`.
@@ -38,6 +41,18 @@ pub enum Ahead {
     Elsewhere,
 }
 
+/// The notify with which a call ends: the peer's bit in a notify byte is cleared, the peer is signalled if
+/// that bit was set, and the call answers.
+#[derive(Clone, Copy)]
+pub struct LastNotify {
+    /// The notify byte.
+    pub word: WordName,
+    /// The bit.
+    pub bit: Bit,
+    /// What the call answers.
+    pub answer: Answer,
+}
+
 impl Machine {
     /// Returns the bytes that come next.
     #[inline(always)]
@@ -45,29 +60,8 @@ impl Machine {
         ensures { IsAhead self.now result }
     {
         match self.phase {
-            Some(Phase::Put { at, count, answer }) if at < count => {
-                let ring = self.written();
-                Ahead::Puts(Span {
-                    ring,
-                    order: self.orders.order_of(ring),
-                    index: self.prod,
-                    at,
-                    count,
-                    answer,
-                })
-            }
-            Some(Phase::Take { at, count, answer }) if at < count => {
-                let ring = self.read();
-                Ahead::Takes(Span {
-                    ring,
-                    order: self.orders.order_of(ring),
-                    index: self.cons,
-                    at,
-                    count,
-                    answer,
-                })
-            }
-            _ => Ahead::Elsewhere,
+            None => Ahead::Elsewhere,
+            Some(phase) => self.ahead_at(phase),
         }
     }
 
@@ -119,6 +113,32 @@ impl Machine {
         });
     }
 
+    /// Returns the notify with which the call under way ends, if nothing else is left of it: if and only if
+    /// the next event is an and.
+    #[inline(always)]
+    pub fn last_notify(&self) -> Option<LastNotify>
+        ensures plan { IfSome result (IsLastNotify self.now) }
+        ensures some { IsSome result ↔ IsAnd (next_op (rest self.now)) }
+    {
+        match self.phase {
+            None => None,
+            Some(phase) => self.last_notify_at(phase),
+        }
+    }
+
+    /// Returns the word that a write or a send loads after its peer's live byte, if that byte comes next. It
+    /// is loaded whenever the byte isn't 0.
+    #[inline(always)]
+    pub fn look_behind(&self) -> Option<WordName>
+        ensures word { result ≡ look_behind_of self.now }
+        ensures look { IfSome result (IsLookBehind self.now) }
+    {
+        match self.phase {
+            None => None,
+            Some(phase) => self.look_at(phase),
+        }
+    }
+
     /// Returns a copy that is inside this call, which begins now.
     #[inline(always)]
     pub fn inside(&self, call: Call) -> Machine
@@ -151,5 +171,66 @@ impl Machine {
         self.prod = after.prod;
         self.cons = after.cons;
         self.phase = None;
+    }
+}
+
+#[tactic(auto, using(vchan_protocol::proofs::Table::PlanLaws::bytes_laws), unfolding(crate::specs::OneMachine::Phases::rest_at, vchan_protocol::specs::Table::Calls::write, vchan_protocol::specs::Table::Calls::write_open, vchan_protocol::specs::Table::Calls::read, vchan_protocol::specs::Table::Calls::read_live, vchan_protocol::specs::Table::Calls::send, vchan_protocol::specs::Table::Calls::send_open, vchan_protocol::specs::Table::Calls::recv, vchan_protocol::specs::Table::Calls::recv_live, vchan_protocol::specs::Table::Calls::drain, vchan_protocol::specs::Table::Calls::drain_live, vchan_protocol::specs::Table::Calls::drain_gone, vchan_protocol::specs::Table::Calls::connect, vchan_protocol::specs::Table::Calls::connect_right))]
+impl Machine {
+    #[inline(always)]
+    fn ahead_at(&self, phase: Phase) -> Ahead
+        ensures { IsAhead (at_phase self.now phase) result }
+    {
+        match phase {
+            Phase::Put { at, count, answer } if at < count => {
+                let ring = self.written();
+                Ahead::Puts(Span {
+                    ring,
+                    order: self.orders.order_of(ring),
+                    index: self.prod,
+                    at,
+                    count,
+                    answer,
+                })
+            }
+            Phase::Take { at, count, answer } if at < count => {
+                let ring = self.read();
+                Ahead::Takes(Span {
+                    ring,
+                    order: self.orders.order_of(ring),
+                    index: self.cons,
+                    at,
+                    count,
+                    answer,
+                })
+            }
+            _ => Ahead::Elsewhere,
+        }
+    }
+
+    #[inline(always)]
+    fn last_notify_at(&self, phase: Phase) -> Option<LastNotify>
+        ensures plan { IfSome result (IsLastNotify (at_phase self.now phase)) }
+        ensures some { IsSome result ↔ IsAnd (next_op (rest_at (standing self.now) phase)) }
+    {
+        match phase {
+            Phase::Notify { bit, answer } => Some(LastNotify {
+                word: notify_word(self.role),
+                bit,
+                answer,
+            }),
+            _ => None,
+        }
+    }
+
+    #[inline(always)]
+    fn look_at(&self, phase: Phase) -> Option<WordName>
+        ensures word { result ≡ look_at_of self.now.role phase }
+        ensures look { IfSome result (IsLookBehind (at_phase self.now phase)) }
+    {
+        match phase {
+            Phase::WriteLive { .. } => Some(cons_word(self.written())),
+            Phase::SendLive { .. } => Some(cons_word(self.written())),
+            _ => None,
+        }
     }
 }
