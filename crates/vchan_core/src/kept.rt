@@ -98,7 +98,10 @@ impl Machine {
         ensures short { IsShort self.now }
         ensures alone { (other : Machine) → IsShort other → kept_of other ≡ result → other ≡ self.now }
     {
-        let at = PhaseNumbers::at(self.phase);
+        let at = match self.phase {
+            None => PhaseNumbers::NONE,
+            Some(phase) => PhaseNumbers::of(phase),
+        };
         Kept {
             role: role_number(self.role),
             state: state_number(self.state),

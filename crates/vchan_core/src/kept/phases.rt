@@ -37,28 +37,16 @@ fn bit_of(number: u32) -> Option<Bit>
 }
 
 impl PhaseNumbers {
-    const NONE: PhaseNumbers = PhaseNumbers {
+    pub(crate) const NONE: PhaseNumbers = PhaseNumbers {
         number: 0,
         first: 0,
         second: 0,
         answer: AnswerNumbers::NONE,
     };
 
-    /// Returns the numbers of where a machine is; each is 0 between two calls.
+    /// Returns the numbers of a phase.
     #[inline(always)]
-    pub(crate) fn at(phase: Option<Phase>) -> PhaseNumbers
-        ensures numbers { (result.number ≡ (numbers_at phase).0) × (result.first ≡ (numbers_at phase).1) × (result.second ≡ (numbers_at phase).2) }
-        ensures answer { (result.answer.number ≡ (answer_at phase).0) × (result.answer.first ≡ (answer_at phase).1) × (result.answer.second ≡ (answer_at phase).2) }
-        ensures short { IsShortAt phase }
-    {
-        match phase {
-            None => PhaseNumbers::NONE,
-            Some(phase) => PhaseNumbers::of(phase),
-        }
-    }
-
-    #[inline(always)]
-    fn of(phase: Phase) -> PhaseNumbers
+    pub(crate) fn of(phase: Phase) -> PhaseNumbers
         ensures numbers { (result.number ≡ (numbers_of_phase phase).0) × (result.first ≡ (numbers_of_phase phase).1) × (result.second ≡ (numbers_of_phase phase).2) }
         ensures answer { (result.answer.number ≡ (answer_within phase).0) × (result.answer.first ≡ (answer_within phase).1) × (result.answer.second ≡ (answer_within phase).2) }
         ensures short { IsShortPhase phase }
