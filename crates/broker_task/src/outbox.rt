@@ -35,7 +35,7 @@ impl Outbox {
         self.letters.is_empty()
     }
 
-    /// Returns whether so many messages wait that the domain isn't read.
+    /// Returns whether as many messages wait as keep the domain from being read.
     pub(crate) fn is_full(&self) -> bool
         ensures { IsTrue result ↔ FULL ≤ length self.now.letters.items }
     {
