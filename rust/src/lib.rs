@@ -163,7 +163,7 @@ impl fmt::Display for Error {
             Error::NotConnected => f.write_str("the end isn't connected"),
             Error::Connected => f.write_str("the end is connected already"),
             Error::BadOrders => f.write_str("the page's orders are refused"),
-            Error::BadLength => f.write_str("a drain of no bytes isn't one"),
+            Error::BadLength => f.write_str("a drain needs room for a byte"),
             Error::Wait(error) => write!(f, "waiting for the peer: {error}"),
         }
     }
