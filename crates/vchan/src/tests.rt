@@ -4,9 +4,7 @@ use std::alloc::AllocError;
 use std::test::Fail;
 use vchan_io::{MemSink, MemSource, Memory};
 
-mod decodes;
 mod scenarios;
-mod steps;
 mod whole_runs;
 
 /// A stream of at most `most` bytes a call, and the numbers of the calls that fail.
@@ -21,8 +19,6 @@ const WHOLE: Stream = Stream {
     most: 1 << 30,
     fails: &[],
 };
-
-const OPENING: &[u8] = b"open 10 11\n";
 
 /// How a run over memory ended, and what it wrote to its two sinks.
 #[derive(Drop)]
@@ -92,90 +88,6 @@ fn run_through<G: Gate, R: Threads + Wait + Clock + Sync>(
         out,
         err,
     })
-}
-
-#[test]
-fn words_of_no_command_are_bad(rt: HostRuntime) -> Result<(), Fail> {
-    let rows: [&[&str]; 25] = [
-        &[],
-        &["step", "x"],
-        &["run"],
-        &["run", "1", "1"],
-        &["run", "0"],
-        &["run", "17"],
-        &["run", "01"],
-        &["run", "4294967297"],
-        &["load"],
-        &["load", "7"],
-        &["load", "7", "200", "4"],
-        &["load", "65536", "1"],
-        &["load", "07", "1"],
-        &["load", "7", "0"],
-        &["load", "7", "2001"],
-        &["load", "7", "-1"],
-        &["pipe", "10"],
-        &["pipe", "10", "10"],
-        &["relay", "0", "1"],
-        &["relay", "1", "17"],
-        &["Step"],
-        &["decode"],
-        &["decode", "Data"],
-        &["decode", "data", "x"],
-        &["data"],
-    ];
-    for words in rows {
-        let input = Vec::from_slice(rt.alloc(), OPENING)?;
-        let ran = run_over_memory(&rt, rt.alloc(), words, input, &WHOLE, &WHOLE, &WHOLE)?;
-        assert_eq!(rt; ran.status.code(), 2);
-        assert!(rt; ran.report.is_none());
-        assert!(rt; ran.out.bytes().is_empty());
-        assert!(rt; ran.err.bytes() == b"vchan: bad words\n".as_slice());
-    }
-    Ok(())
-}
-
-#[test]
-fn inputs_that_are_no_script_are_bad(rt: HostRuntime) -> Result<(), Fail> {
-    let rows: [(&[u8], &[u8]); 6] = [
-        (b"", b"vchan: line 1: bad-header\n"),
-        (b"open 10 10\n", b"vchan: line 1: bad-orders\n"),
-        (
-            b"open 10 11\nclient write 616\n",
-            b"vchan: line 2: bad-hex\n",
-        ),
-        (
-            b"open 10 11\n\nserver red 1\n",
-            b"vchan: line 3: bad-line\n",
-        ),
-        (
-            b"open 10 11\nclient write 61\nserver read 01\n",
-            b"vchan: line 3: bad-number\n",
-        ),
-        (
-            b"open 10 11\nserver connect\n",
-            b"vchan: line 2: bad-line\n",
-        ),
-    ];
-    for (input, said) in rows {
-        let input = Vec::from_slice(rt.alloc(), input)?;
-        let ran = run_over_memory(&rt, rt.alloc(), &["step"], input, &WHOLE, &WHOLE, &WHOLE)?;
-        assert_eq!(rt; ran.status.code(), 5);
-        assert!(rt; ran.out.bytes().is_empty());
-        assert!(rt; ran.err.bytes() == said);
-    }
-    Ok(())
-}
-
-#[test]
-fn inputs_are_bounded(rt: HostRuntime) -> Result<(), Fail> {
-    let longest = vec![in rt.alloc(); b' '; GREATEST_INPUT]?;
-    let ran_longest = run_over_memory(&rt, rt.alloc(), &["step"], longest, &WHOLE, &WHOLE, &WHOLE)?;
-    assert_eq!(rt; ran_longest.status.code(), 5);
-    let longer = vec![in rt.alloc(); b' '; GREATEST_INPUT + 1]?;
-    let ran_longer = run_over_memory(&rt, rt.alloc(), &["step"], longer, &WHOLE, &WHOLE, &WHOLE)?;
-    assert_eq!(rt; ran_longer.status.code(), 4);
-    assert!(rt; ran_longer.err.bytes() == b"vchan: input too long\n".as_slice());
-    Ok(())
 }
 
 /// A run that reads more than six pieces of 16 bytes, and writes more than six of 4.

@@ -6,21 +6,6 @@ use std::test::Fail;
 use std::thread::Threads;
 use std::time::Clock;
 
-/// A file that is no scenario, and what is printed about it.
-const REFUSALS: [(&[u8], &[u8]); 5] = [
-    (b"domain = \n", b"vchan: file: toml\n"),
-    (b"", b"vchan: domain: missing-key\n"),
-    (b"ring = 1\n", b"vchan: ring: unknown-key\n"),
-    (
-        b"[[domain]]\nname = \"work\"\nhostile = [\"rest 0\"]\n",
-        b"vchan: domain[1].hostile[1]: bad-act\n",
-    ),
-    (
-        b"[[domain]]\nname = \"work\"\n[[call]]\nfrom = \"work\"\nto = \"vault\"\nservice = \"echo a\"\n",
-        b"vchan: call[1].service: bad-text\n",
-    ),
-];
-
 /// A file that takes more than six reads of 16 bytes, and is no scenario.
 const LONG: &[u8] =
     b"# a comment that makes this file long enough\n# for more than six reads of 16 bytes\nrings = \"10 and 11\"\n";
@@ -35,18 +20,6 @@ fn run_on<R: Threads + Wait + Clock + Sync>(
 ) -> Result<Outcome, Fail> {
     let input = Vec::from_slice(alloc, file)?;
     run_over_memory(rt, alloc, &["run", "1"], input, reads, writes, says)
-}
-
-#[test]
-fn files_that_are_no_scenario_are_bad(rt: HostRuntime) -> Result<(), Fail> {
-    for (file, said) in REFUSALS {
-        let ran = run_on(&rt, rt.alloc(), file, &WHOLE, &WHOLE, &WHOLE)?;
-        assert_eq!(rt; ran.status.code(), 5);
-        assert!(rt; ran.report.is_none());
-        assert!(rt; ran.out.bytes().is_empty());
-        assert!(rt; ran.err.bytes() == said);
-    }
-    Ok(())
 }
 
 /// Each of the first six reads fails, at most 16 bytes a read.
