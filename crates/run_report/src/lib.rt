@@ -18,6 +18,3 @@ pub use run_laws::{CallLine, CallResult, MixedOutcome, ServedLine};
 pub use standing::Standing;
 pub use summary::summary_text;
 pub use text::report_text;
-
-#[cfg(test)]
-mod tests;

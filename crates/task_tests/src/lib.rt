@@ -13,4 +13,6 @@ mod in_order;
 #[cfg(test)]
 mod late;
 #[cfg(test)]
+mod reports;
+#[cfg(test)]
 mod runs;

@@ -1,8 +1,9 @@
 //! Runs of scenarios in stated orders of turns.
 use crate::in_order::InOrder;
 use crate::late::Late;
-use run_report::{CallLine, CallResult, Report, report_text};
-use scenario_file::{Line, LineResult, Scenario, generate, honest_lines, read};
+use crate::reports::report_of;
+use run_report::report_text;
+use scenario_file::{generate, read};
 use scenario_run::run_scenario;
 use service_gate::{Gate, OpenGate};
 use std::alloc::Global;
@@ -107,58 +108,13 @@ fn a_domain_that_comes_late_serves_all_calls(rt: HostRuntime) -> Result<(), Fail
     Ok(())
 }
 
-/// The line of a report for what a service answers, whatever page the call went through.
-fn call_line(line: Line) -> CallLine {
-    let Line {
-        number,
-        from,
-        to,
-        service,
-        result,
-    } = line;
-    let result = match result {
-        LineResult::Refused { cause } => CallResult::Refused { cause },
-        LineResult::Done {
-            code,
-            stdout,
-            stderr,
-        } => CallResult::Done {
-            code,
-            stdout,
-            stderr,
-            page: 0,
-        },
-    };
-    CallLine {
-        number,
-        from,
-        to,
-        service,
-        result,
-    }
-}
-
-/// The lines that the services alone give a scenario without hostile domains.
-fn told_by_services(alloc: Global, scenario: &Scenario) -> Result<Vec<u8>, Fail> {
-    let mut calls = Vec::new(alloc);
-    for line in honest_lines(alloc, scenario)? {
-        calls.push(call_line(line))?;
-    }
-    let report = Report {
-        calls,
-        served: Vec::new(alloc),
-        pages: Vec::new(alloc),
-    };
-    Ok(report_text(alloc, &report)?)
-}
-
 #[test]
 fn generated_calls_have_the_services_lines_with_one_worker_and_sixteen(
     rt: HostRuntime,
 ) -> Result<(), Fail> {
     let alloc = rt.alloc();
     let scenario = generate(alloc, 7, 200)?;
-    let lines = told_by_services(alloc, &scenario)?;
+    let lines = report_text(alloc, &report_of(alloc, &scenario)?)?;
     for workers in [1, 16] {
         let report = run_scenario(&rt, alloc, &scenario, workers, &OpenGate)?;
         assert!(rt; report_text(alloc, &report)? == lines, "{workers} workers");

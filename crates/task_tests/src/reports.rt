@@ -1,6 +1,8 @@
 //! The texts of worked reports.
-use crate::{CallLine, CallResult, MixedOutcome, Report, ServedLine, report_text, summary_text};
 use qrexec_frame::{Bytes, Text};
+use run_report::{
+    CallLine, CallResult, MixedOutcome, Report, ServedLine, report_text, summary_text,
+};
 use scenario_file::{Line, LineCause, LineResult, Scenario, generate, honest_lines};
 use std::alloc::Global;
 use std::test::Fail;
@@ -23,8 +25,8 @@ fn result_of(told: LineResult) -> CallResult {
     }
 }
 
-// The report of a scenario without hostile domains, computed from its services alone: it has no pages.
-fn report_of(alloc: Global, scenario: &Scenario) -> Result<Report, Memory> {
+/// Returns the report of a scenario without hostile domains as its services alone tell it. It has no pages.
+pub(crate) fn report_of(alloc: Global, scenario: &Scenario) -> Result<Report, Memory> {
     let mut calls = Vec::new(alloc);
     for line in honest_lines(alloc, scenario)? {
         let Line {
