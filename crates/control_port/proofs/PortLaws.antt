@@ -16,8 +16,22 @@ use Rattle.qrexec_hello.specs.Greeting.{greeting}
 use Rattle.qrexec_hello.specs.declared.hello.HelloFault.{HelloFault}
 use Rattle.qrexec_data.specs.declared.fault.SessionFault.TheVariants as fault
 use Rattle.qrexec_data.specs.Seeing.{number}
+use Rattle.ring_words.specs.declared.page.Role.{Role}
+use Rattle.vchan_protocol.specs.declared.op.Op.{Op}
+use Rattle.vchan_protocol.specs.declared.op.Op.TheVariants.{Load, LoadByte, Store, StoreByte, Or, And, Swap, Nothing}
+use Rattle.vchan_protocol.specs.declared.op.PastEvent.{PastEvent}
+use Rattle.vchan_protocol.specs.declared.call.Answer.{Answer}
+use Rattle.vchan_protocol.specs.declared.call.Call.TheVariants.{Retire}
+use Rattle.vchan_protocol.specs.declared.call.EndState.{EndState}
+use Rattle.vchan_protocol.specs.declared.call.EndState.TheVariants.{Fresh, Open, Shut}
+use Rattle.vchan_protocol.specs.declared.side.Notes.{Notes}
+use Rattle.vchan_protocol.specs.declared.side.Side.{Side}
+use Rattle.vchan_protocol.specs.Table.Calls.{Trace}
+use Rattle.vchan_protocol.specs.History.Core.{standing_of, begins, made, noted}
+use Rattle.vchan_protocol.specs.OneEnd.OneCall.{side_along, side_called}
 use Rattle.vchan_rule.specs.Seated.{SeatedEnd, view}
-use Rattle.vchan_lifecycle.specs.Lifecycle.{connected_to, drained_to}
+use Rattle.vchan_lifecycle.specs.Lifecycle.{connected_to, drained_to, ops, retire_ops}
+use Rattle.vchan_lifecycle.proofs.LifecycleLaws.{retire_events}
 use Rattle.vchan_lifecycle.specs.declared.DrainAnswer.TheVariants.{More}
 use Rattle.vchan_packet.specs.Packet.{sent_to}
 use Rattle.vchan_packet.specs.declared.SendAnswer.{SendAnswer}
@@ -241,3 +255,42 @@ hands-not old new inside heard m at kind is t some only same may at_is kind_is =
         let far : HearsSoFar inside.own (may_hear inside.talker) i.given (Some v) heard = rw (own, talker) so_far in
         one-wrong inside.own (may_hear inside.talker) i.given _ v heard (record { at = i.at; message = m }) (reading Control (view inside.end).got).ending far may i.begins
         ∙ rw (version, at_is, kind_is, i.at_is) refl
+
+-- ---- what an end has noted stands while it only stores
+
+abbrev AllStores : List Op → Type 0
+AllStores [] = Unit {0}
+AllStores (Store word value ∷ later) = AllStores later
+AllStores (Load word ∷ later) = ⊥
+AllStores (LoadByte word at ∷ later) = ⊥
+AllStores (StoreByte word at ∷ later) = ⊥
+AllStores (Or word bits ∷ later) = ⊥
+AllStores (And word bits ∷ later) = ⊥
+AllStores (Swap word value ∷ later) = ⊥
+AllStores (Nothing ∷ later) = ⊥
+
+stores-first : (op : Op) (later : List Op) (role : Role) (taken : ℕ) (n : Notes) → AllStores (op ∷ later) → (noted op role taken n ≡ n) × AllStores later
+stores-first (Store word value) later role taken n all = (refl, all)
+stores-first (Load word) later role taken n all = absurd all
+stores-first (LoadByte word at) later role taken n all = absurd all
+stores-first (StoreByte word at) later role taken n all = absurd all
+stores-first (Or word bits) later role taken n all = absurd all
+stores-first (And word bits) later role taken n all = absurd all
+stores-first (Swap word value) later role taken n all = absurd all
+stores-first Nothing later role taken n all = absurd all
+
+notes-stored : (s : Side) (events : List PastEvent) → AllStores (ops events) → (side_along s events).notes ≡ s.notes
+notes-stored s [] all = refl
+notes-stored s (event ∷ events) all =
+    let one = stores-first event.op (ops events) s.role event.taken s.notes all in
+    notes-stored (made s event.op event.taken) events one.1 ∙ one.0
+
+retire-stores : (role : Role) (state : EndState) → AllStores (retire_ops role state)
+retire-stores role Fresh = tt
+retire-stores role Open = tt
+retire-stores role Shut = tt
+
+pub retire-notes : (was new : Side) (payload : List ℕ) (answer : Answer) → Trace (standing_of was) Retire new.trail answer → new ≡ side_called was Retire payload new.trail answer → new.notes ≡ was.notes
+retire-notes was new payload answer trace is =
+    let all : AllStores (ops new.trail) = subst AllStores (sym (retire_events (standing_of was) new.trail answer trace)) (retire-stores was.role was.state) in
+    ap (λ (s : Side). s.notes) is ∙ notes-stored (begins was Retire payload) new.trail all

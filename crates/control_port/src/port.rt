@@ -1,12 +1,12 @@
 //! A control port.
-ghost use Rattle.std.specs.Prelude.{◌≡◌, ◌↔◌, ◌≤◌, ◌<◌, ◌++◌, ◌∷◌, [], ℕ, List, true, false, None, Some, Ok, OnOk, OnErr, IfOk, IfSome, IsSome, Result, is_ok, length};
+ghost use Rattle.std.specs.Prelude.{◌≡◌, ◌↔◌, ◌≤◌, ◌<◌, ◌++◌, ◌∷◌, [], ℕ, List, true, false, None, Some, Ok, OnOk, OnErr, IfOk, IfSome, IsSome, IsTrue, Result, is_ok, length};
 ghost use Rattle.qrexec_frame.specs.Messages.{written, IsSpellable as Fits};
 ghost use Rattle.qrexec_frame.specs.declared.message.Message.{Message as Said};
 ghost use Rattle.ring_words.specs.declared.page.Role.TheVariants.{Client};
 ghost use Rattle.vchan_protocol.specs.declared.call.EndState.TheVariants.{Fresh};
 ghost use Rattle.vchan_lifecycle.specs.declared.BadOrders.{BadOrders as OtherOrders};
 ghost use Rattle.vchan_lifecycle.specs.Lifecycle.{connect_told, connected_to, drained_to, drain_told, most_asked, retired_view};
-ghost use Rattle.vchan_notify.specs.Notify.{asked_gone};
+ghost use Rattle.vchan_notify.specs.Notify.{asked_gone, HasFoundGone};
 ghost use Rattle.vchan_packet.specs.Packet.{send_told, sent_to};
 ghost use Rattle.vchan_packet.specs.declared.SendAnswer.TheVariants as answer;
 ghost use Rattle.vchan_protocol.specs.declared.call.Answer.TheVariants.{Gone, Space};
@@ -129,7 +129,8 @@ impl<'p> ControlPort<'p> {
         connect(&mut self.end)
     }
 
-    /// Returns whether the other side is gone. It takes none of the bytes that have come.
+    /// Returns whether the other side is gone; the end has found it gone if and only if the answer is yes.
+    /// It takes none of the bytes that have come.
     pub fn peer_gone(&mut self) -> bool
         requires open { IsOpen self.old.end }
         ensures end { IsSameEnd self.old.end self.new.end }
@@ -137,6 +138,7 @@ impl<'p> ControlPort<'p> {
         ensures view { view self.new.end ≡ asked_gone (view self.old.end) result }
         ensures trail { Trace (standing_of self.old.end.side) PeerGone self.new.end.side.trail (Gone result) }
         ensures cause { Cause (standing_of self.old.end.side) PeerGone (loads_of (standing_of self.old.end.side) self.new.end.side.trail) (Gone result) }
+        ensures noted { IsTrue result ↔ HasFoundGone self.new.end.side }
         ensures said { (said : List Said) → HasSaid self.old said → HasSaid self.new said }
         ensures heard { (heard : List Said) → HasHeard self.old heard → HasHeard self.new heard }
         ensures same { OnlySends self.old self.new }
@@ -254,14 +256,16 @@ impl<'p> ControlPort<'p> {
     }
 
     /// Hands out the next message after the other side's greeting. Returns `None` if no whole message is left
-    /// of what was taken, or if something is wrong with it; `fault` then tells what. Returns `Memory` if
-    /// memory runs out; the end can still be retired then, and nothing is promised of the messages heard.
+    /// of what was taken, or if something is wrong with it; `fault` then tells what. The version stays once
+    /// it is known. Returns `Memory` if memory runs out; the end can still be retired then, and nothing is
+    /// promised of the messages heard.
     pub fn next(&mut self) -> Result<Option<Message>, Memory>
         requires fine { self.old.fault ≡ None }
         ensures hands { (heard : List Said) → HasHeard self.old heard → IfOk result (λ message. Hands self.new heard message) }
         ensures may { IfOk result (λ message. IfSome message (λ m. may_hear self.old.talker m ≡ true)) }
         ensures fits { IfOk result (λ message. IfSome message (λ m. Fits m)) }
         ensures fewer { IfOk result (λ message. IfSome message (λ m. HasFewerLeft self.old self.new)) }
+        ensures version { IsSome self.old.version → self.new.version ≡ self.old.version }
         ensures only { OnlyHears self.old self.new }
     {
         if self.version.is_some() {
@@ -281,6 +285,7 @@ impl<'p> ControlPort<'p> {
         ensures may { IfOk result (λ message. IfSome message (λ m. may_hear self.old.talker m ≡ true)) }
         ensures fits { IfOk result (λ message. IfSome message (λ m. Fits m)) }
         ensures fewer { IfOk result (λ message. IfSome message (λ m. HasFewerLeft self.old self.new)) }
+        ensures version { self.new.version ≡ self.old.version }
         ensures only { OnlyHears self.old self.new }
     {
         let at = self.decoder.at();
@@ -348,11 +353,13 @@ impl<'p> ControlPort<'p> {
         self.end.state()
     }
 
-    /// Retires the end in its place, so that its peer learns of it now. `rest` gives the end back.
+    /// Retires the end in its place, so that its peer learns of it now. What it has noted of its peer stays.
+    /// `rest` gives the end back.
     pub fn hang_up(&mut self)
         requires idle { (view self.old.end).idle ≡ true }
         ensures end { IsSameEnd self.old.end self.new.end }
         ensures view { view self.new.end ≡ retired_view (view self.old.end) }
+        ensures noted { self.new.end.side.notes ≡ self.old.end.side.notes }
         ensures said { (said : List Said) → HasSaid self.old said → HasSaid self.new said }
         ensures same { OnlySends self.old self.new }
     {
@@ -365,6 +372,7 @@ impl<'p> ControlPort<'p> {
         requires idle { (view self.end).idle ≡ true }
         requires retired { (view self.end).retired ≡ true }
         ensures end { last_view result ≡ view self.entry.end }
+        ensures noted { result.side.notes ≡ self.entry.end.side.notes }
         ensures honest { (last_view result).turned ≡ false }
     {
         let ControlPort { end, .. } = self;

@@ -6,7 +6,7 @@
 //! signal before they look; the pending and gone words are this project's own.
 #![tactic(auto)]
 
-ghost use Rattle.std.specs.Prelude.{◌≡◌, true};
+ghost use Rattle.std.specs.Prelude.{◌≡◌, ◌↔◌, IsTrue, true};
 ghost use Rattle.vchan_protocol.specs.declared.call.Answer.TheVariants.{Ready, Space, Event, Gone};
 ghost use Rattle.vchan_protocol.specs.declared.call.Call.TheVariants.{DataReady, BufferSpace, TakeEvent, PeerGone};
 ghost use Rattle.vchan_protocol.specs.Table.Calls.{Trace};
@@ -15,7 +15,7 @@ ghost use Rattle.vchan_protocol.specs.History.Core.{standing_of};
 ghost use Rattle.vchan_protocol.specs.Answering.Loads.{loads_of};
 ghost use Rattle.vchan_rule.specs.Seated.{view, IsOpen};
 ghost use Rattle.vchan_rule.specs.Ends.{IsSameEnd};
-ghost use Rattle.vchan_notify.specs.Notify.{AnswersReady, AnswersSpace, AnswersEvent, AnswersGone, asked_gone};
+ghost use Rattle.vchan_notify.specs.Notify.{AnswersReady, AnswersSpace, AnswersEvent, AnswersGone, asked_gone, HasFoundGone};
 
 use vchan_core::{Answer, Call};
 use vchan_rule::End;
@@ -104,6 +104,7 @@ pub fn peer_gone(end: &mut End<'_>) -> bool
     ensures view { view end.new ≡ asked_gone (view end.old) result }
     ensures trail { Trace (standing_of end.old.side) PeerGone end.new.side.trail (Gone result) }
     ensures cause { Cause (standing_of end.old.side) PeerGone (loads_of (standing_of end.old.side) end.new.side.trail) (Gone result) }
+    ensures noted { IsTrue result ↔ HasFoundGone end.new.side }
 {
     is_gone(end.do_call(Call::PeerGone, &[], &mut []))
 }

@@ -4,7 +4,7 @@ use Rattle.vchan_protocol.specs.declared.call.Call.TheVariants.{PeerGone}
 use Rattle.vchan_protocol.specs.Table.Calls.{Trace}
 use Rattle.vchan_protocol.specs.History.Core.{standing_of}
 use Rattle.vchan_protocol.proofs.Answering.AnswerLaws.{has_cause}
-use Rattle.vchan_notify.proofs.NotifyLaws.{gone_answers}
+use Rattle.vchan_notify.proofs.NotifyLaws.{gone_answers, found_gone}
 use Rattle.vchan_notify.proofs.peer_gone.Goals as goal
 
 pub is_gone-requires : goal.is_gone-requires
@@ -15,3 +15,6 @@ returns-clause-trail c = subst (λ (a : Answer). Trace (standing_of c.args.end.n
 
 pub returns-clause-cause : goal.returns-clause-cause
 returns-clause-cause c = has_cause _ PeerGone _ _ (subst (λ (a : Answer). Trace (standing_of c.args.end.now.side) PeerGone c.do_call.new.self.side.trail a) (sym c.is_gone.ensures) c.do_call.ensures.over.trace)
+
+pub returns-clause-noted : goal.returns-clause-noted
+returns-clause-noted c = found_gone c.args.end.now.side c.do_call.new.self.side _ c.do_call.result c.is_gone.result c.do_call.ensures.over.trace c.do_call.ensures.over.is c.is_gone.ensures
