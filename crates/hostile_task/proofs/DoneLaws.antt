@@ -19,7 +19,7 @@ use Rattle.task_duties.specs.declared.place.PagePlace.TheVariants.{Control, Payl
 use Rattle.task_duties.specs.declared.ends.RetiredEnd.{RetiredEnd}
 use Rattle.task_duties.specs.Pairwise.{EachPair}
 use Rattle.task_duties.specs.Places.{is_place}
-use Rattle.task_duties.specs.TaskOwes.{EndAt, IsSameEnd, AreEnds}
+use Rattle.task_duties.specs.TaskOwes.{EndAt, IsSameEnd, AreEnds, IsTurnedFrom, before_turned}
 use Rattle.task_duties.specs.GivenEnds.{done_view, retired_at, all_retired}
 use Rattle.task_duties.specs.Hostile.Given.{HostilePlan}
 use Rattle.task_duties.specs.Hostile.Stores.{loaded, stores_of, role_at}
@@ -31,11 +31,12 @@ use Rattle.hostile_task.specs.declared.progress.Progress.{Progress}
 use Rattle.hostile_task.specs.declared.task.HostileTurn.{HostileTurn}
 use Rattle.hostile_task.specs.declared.task.HostileTurn.TheVariants as turn
 use Rattle.hostile_task.specs.Plan.{plan_of, AreApart}
-use Rattle.hostile_task.specs.Pages.{IsRetiredOf, given_of, given_in, places_in}
+use Rattle.hostile_task.specs.Pages.{IsRetiredOf, given_of, places_in}
 use Rattle.hostile_task.specs.UnderWay.{IsTrailSoFar, IsPart, words_at, ActsDone, IsPageSoFar, IsUnderWay}
 use Rattle.hostile_task.specs.Finishing.{Finishes}
 use Rattle.hostile_task.specs.Turns.{Pays}
-use Rattle.hostile_task.proofs.PageLaws.{along_trail, along_role, along_turned}
+use Rattle.hostile_task.proofs.PageLaws.{along_trail, along_role, along_turned, along_before}
+use Rattle.hostile_task.proofs.TurnLaws.{none_left, state_of}
 use Rattle.hostile_task.proofs.DrawLaws.{is_place-same}
 use Rattle.hostile_task.proofs.TrailLaws.{all_acts}
 
@@ -118,23 +119,32 @@ page_same plan p page r retired so_far = record {
   role = ap (λ (v : EndView). v.role) retired.view ∙ along_role page.end.side (retiring page.end.side.role) ∙ so_far.role ∙ sym so_far.same_role;
 }
 
+page_from : (plan : HostilePlan) (p : Progress) (page : TurnedPage) (r : RetiredEnd) → IsRetiredOf page r → IsPageSoFar plan p page → IsTurnedFrom (given_of page) (retired_at r)
+page_from plan p page r retired so_far = record {
+  before = ap before_turned retired.view ∙ along_before page.end (retiring page.end.side.role) ∙ so_far.before;
+}
+
 -- ---- the whole task
 
 pub done_pays : (domain : HostileDomain) (pages : Pages) (p : Progress) (spelled : List ℕ) (result : HostileTurn) → IsUnderWay domain pages p spelled → p.acts ≡ length domain.acts → Finishes domain.number pages result
-    → Pays (record { plan = plan_of domain (places_in pages); ends = given_in pages }) result
+    → Pays (state_of domain pages p) result
 done_pays domain pages p spelled (turn.Again task) way all finishes = absurd finishes
 done_pays domain pages p spelled turn.NoMemory way all finishes = tt
 done_pays domain pages p spelled (turn.Done done) way all finishes = (
-  end_at (view pages.control.given.value) ends,
-  finishes.0,
-  record {
-    same = pairs_of_pairs IsRetiredOf (IsPageSoFar plan p) IsSameEnd given_of retired_at every done.ends.items (λ page r retired so_far. page_same plan p page r retired so_far) finishes.1 way.so_far;
-    are = are_at (view pages.control.given.value) ends (subst (λ (ps : List PagePlace). AreApart ps) (sym places) way.apart);
-    turned_are = each_mapped (λ e. e.view.turned ≡ true) retired_at done.ends.items
-        (each_of_pairs IsRetiredOf (IsPageSoFar plan p) (λ r. (done_view r.retired).turned ≡ true) every done.ends.items (λ page r retired so_far. page_turned plan p page r retired so_far) finishes.1 way.so_far);
-  },
-  each_mapped (λ e. IsTrail plan e.place e.view.trail) retired_at done.ends.items
-      (each_of_pairs IsRetiredOf (IsPageSoFar plan p) (λ r. IsTrail plan r.place (done_view r.retired).trail) every done.ends.items (λ page r retired so_far. page_done plan p page r all retired so_far) finishes.1 way.so_far),
+  none_left domain.acts p.acts p.turns (omega (arith, all)),
+  (
+    end_at (view pages.control.given.value) ends,
+    finishes.0,
+    record {
+      same = pairs_of_pairs IsRetiredOf (IsPageSoFar plan p) IsSameEnd given_of retired_at every done.ends.items (λ page r retired so_far. page_same plan p page r retired so_far) finishes.1 way.so_far;
+      are = are_at (view pages.control.given.value) ends (subst (λ (ps : List PagePlace). AreApart ps) (sym places) way.apart);
+      turned_are = each_mapped (λ e. e.view.turned ≡ true) retired_at done.ends.items
+          (each_of_pairs IsRetiredOf (IsPageSoFar plan p) (λ r. (done_view r.retired).turned ≡ true) every done.ends.items (λ page r retired so_far. page_turned plan p page r retired so_far) finishes.1 way.so_far);
+    },
+    each_mapped (λ e. IsTrail plan e.place e.view.trail) retired_at done.ends.items
+        (each_of_pairs IsRetiredOf (IsPageSoFar plan p) (λ r. IsTrail plan r.place (done_view r.retired).trail) every done.ends.items (λ page r retired so_far. page_done plan p page r all retired so_far) finishes.1 way.so_far),
+    pairs_of_pairs IsRetiredOf (IsPageSoFar plan p) IsTurnedFrom given_of retired_at every done.ends.items (λ page r retired so_far. page_from plan p page r retired so_far) finishes.1 way.so_far,
+  ),
 )
   where
     plan : HostilePlan

@@ -5,5 +5,6 @@ mod SayLaws
 mod SpellLaws
 mod TrailLaws
 mod WayLaws
+mod TurnLaws
 mod DoneLaws
 mod StartLaws

@@ -4,11 +4,13 @@ use Rattle.std.proofs.lemmas.List.{append-nil}
 use Rattle.vchan_protocol.specs.declared.op.PastEvent.{PastEvent}
 use Rattle.vchan_protocol.specs.declared.side.Side.{Side}
 use Rattle.vchan_protocol.specs.Hostile.Turned.{strays}
+use Rattle.vchan_rule.specs.Seated.{SeatedSide, last_view}
 use Rattle.hostile_seat.specs.Hostile.{strays_along}
 use Rattle.task_duties.specs.declared.place.PagePlace.{PagePlace}
-use Rattle.task_duties.specs.TaskOwes.{EndAt}
+use Rattle.task_duties.specs.TaskOwes.{EndAt, before_turned}
 use Rattle.hostile_task.specs.declared.page.TurnedPage.{TurnedPage}
 use Rattle.hostile_task.specs.declared.pages.Pages.{Pages}
+use Rattle.hostile_task.specs.Saying.{side_after}
 use Rattle.hostile_task.specs.Pages.{after_events, AreAfter, AreSamePages, given_of}
 use Rattle.hostile_task.proofs.ListLaws.{map-map}
 
@@ -33,6 +35,11 @@ along_orders s (event ∷ events) = along_orders (strays s event.op event.taken)
 pub along_turned : (s : Side) (events : List PastEvent) → (strays_along s events).turned ≡ s.turned
 along_turned s [] = refl
 along_turned s (event ∷ events) = along_turned (strays s event.op event.taken) events
+
+-- what the end was before it was turned
+pub along_before : (e : SeatedSide) (events : List PastEvent) → before_turned (last_view (side_after e events)) ≡ before_turned (last_view e)
+along_before e [] = refl
+along_before e (event ∷ events) = along_before (side_after e (event ∷ [])) events
 
 -- ---- all pages
 

@@ -1,10 +1,11 @@
 -- A task that begins: its ends are turned over, and nothing is done.
-use Rattle.std.proofs.Common.{◌≡◌, ℕ, false, List, [], ◌∷◌, ◌++◌, map, slice_get, refl, sym, subst, ap, ◌∙◌, arith}
+use Rattle.std.proofs.Common.{◌≡◌, ℕ, false, true, List, [], ◌∷◌, ◌++◌, map, slice_get, refl, sym, subst, ap, ◌∙◌, arith}
 use Rattle.ring_words.specs.declared.page.WordName.TheVariants.{RightProd}
 use Rattle.vchan_protocol.specs.declared.op.Op.TheVariants.{Load}
 use Rattle.vchan_protocol.specs.declared.op.PastEvent.{PastEvent}
 use Rattle.vchan_protocol.specs.Table.Ends.{low32}
 use Rattle.vchan_protocol.specs.Hostile.Turned.{strays}
+use Rattle.end_view.specs.EndView.{view_of}
 use Rattle.vchan_rule.specs.Seated.{SeatedEnd, SeatedSide, view}
 use Rattle.qrexec_frame.specs.Streams.{Each}
 use Rattle.task_duties.specs.declared.place.PagePlace.{PagePlace}
@@ -13,7 +14,7 @@ use Rattle.task_duties.specs.declared.ends.DataEnd.{DataEnd}
 use Rattle.task_duties.specs.declared.ends.UnusedEnd.TheVariants.{Laid}
 use Rattle.task_duties.specs.Pairwise.{EachPair}
 use Rattle.task_duties.specs.Places.{is_place}
-use Rattle.task_duties.specs.TaskOwes.{all_ends, places_in}
+use Rattle.task_duties.specs.TaskOwes.{all_ends, before_turned, places_in}
 use Rattle.task_duties.specs.GivenEnds.{all_given, fresh_view}
 use Rattle.task_duties.specs.Hostile.Given.{HostilePlan}
 use Rattle.ring_words.specs.declared.page.Role.TheVariants.{Server}
@@ -40,6 +41,7 @@ start_control : (domain : HostileDomain) (plan : HostilePlan) (e : SeatedEnd) (p
 start_control domain plan e page end value own number orders over control same side index = record {
   same = same ∙ over.page ∙ ap (λ (s : SeatedEnd). s.page) (sym over.given_is);
   same_role = ap (λ (s : SeatedEnd). s.side.role) over.given_is ∙ control.role ∙ sym (role page.place over.place_is);
+  before = (λ i. before_turned (view_of (same i) true (side i))) ∙ over.before ∙ ap (λ (s : SeatedEnd). before_turned (view s)) (sym over.given_is);
   role = ap (λ s. s.role) side ∙ over.role ∙ control.role ∙ sym (role page.place over.place_is);
   orders = ap (λ s. s.orders) side ∙ over.orders ∙ control.orders ∙ sym orders ∙ sym (order page.place over.place_is);
   turned = ap (λ s. s.turned) side ∙ over.turned;
@@ -75,6 +77,7 @@ start_payload domain plan own d page number orders turned fits =
     record {
       same = over.page ∙ ap (λ (s : SeatedEnd). s.page) (sym over.given_is);
       same_role = ap (λ (s : SeatedEnd). s.side.role) over.given_is ∙ fits_role ∙ sym role;
+      before = over.before ∙ ap (λ (s : SeatedEnd). before_turned (view s)) (sym over.given_is);
       role = over.role ∙ fits_role ∙ sym role;
       orders = over.orders ∙ ap (λ (s : SeatedEnd). s.side.orders) same ∙ fits.orders ∙ sym orders ∙ ap (λ (p : PagePlace). orders_at plan p) (sym over.place_is);
       turned = over.turned;

@@ -21,7 +21,7 @@ use Rattle.hostile_task.specs.Saying.{voice_at, SaysSoFar}
 use Rattle.hostile_task.specs.Pages.{after_events}
 use Rattle.hostile_task.specs.UnderWay.{ActsDone, words_at, IsPart, IsControlTrail, IsTrailSoFar, IsPageSoFar, IsPayload}
 use Rattle.hostile_task.proofs.SayLaws.{nothing_said}
-use Rattle.hostile_task.proofs.PageLaws.{along_trail, along_role, along_orders, along_turned}
+use Rattle.hostile_task.proofs.PageLaws.{along_trail, along_role, along_orders, along_turned, along_before}
 
 -- ---- acts
 
@@ -156,6 +156,7 @@ pub page_with : (plan : HostilePlan) (p next : Progress) (page : TurnedPage) (ev
 page_with plan p next page events so_far trail = record {
   same = so_far.same;
   same_role = so_far.same_role;
+  before = along_before page.end events ∙ so_far.before;
   role = along_role page.end.side events ∙ so_far.role;
   orders = along_orders page.end.side events ∙ so_far.orders;
   turned = along_turned page.end.side events ∙ so_far.turned;

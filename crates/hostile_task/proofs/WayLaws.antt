@@ -95,9 +95,9 @@ most_turns-words Hello bytes is = refl
 most_turns-words (Say said) bytes is = refl
 most_turns-words (Trigger to service count) bytes is = refl
 most_turns-words (Terminate domain port) bytes is = refl
-most_turns-words (Poke page word value) bytes is = refl
-most_turns-words (Scribble seed count) bytes is = refl
-most_turns-words Signal bytes is = refl
+most_turns-words (Poke page word value) bytes is = cc
+most_turns-words (Scribble seed count) bytes is = cc
+most_turns-words Signal bytes is = cc
 most_turns-words (Rest turns) bytes is = cc
 
 -- the pages once the end of the control page is this one

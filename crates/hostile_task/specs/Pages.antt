@@ -2,7 +2,7 @@
 -- Source: this project's own.
 use Rattle.std.specs.Prelude.{◌≡◌, true, List, [], ◌∷◌, map}
 use Rattle.vchan_protocol.specs.declared.op.PastEvent.{PastEvent}
-use Rattle.vchan_rule.specs.Seated.{SeatedEnd, view}
+use Rattle.vchan_rule.specs.Seated.{SeatedEnd, view, last_view}
 use Rattle.end_view.specs.EndView.{view_of}
 use Rattle.hostile_seat.specs.Hostile.{strays_along}
 use Rattle.task_duties.specs.declared.place.PagePlace.{PagePlace}
@@ -11,7 +11,7 @@ use Rattle.task_duties.specs.declared.ends.DataEnd.{DataEnd}
 use Rattle.task_duties.specs.declared.ends.UnusedEnd.TheVariants.{Laid}
 use Rattle.task_duties.specs.declared.ends.RetiredEnd.{RetiredEnd}
 use Rattle.task_duties.specs.GivenEnds.{done_view}
-use Rattle.task_duties.specs.TaskOwes.{EndAt}
+use Rattle.task_duties.specs.TaskOwes.{EndAt, before_turned}
 use Rattle.task_duties.specs.Hostile.Trail.{retiring}
 use Rattle.hostile_task.specs.Saying.{side_after}
 use Rattle.hostile_task.specs.declared.page.TurnedPage.{TurnedPage}
@@ -28,6 +28,7 @@ pub record IsTurnedOver (place : PagePlace) (given : SeatedEnd) (p : TurnedPage)
   pub orders : p.end.side.orders ≡ given.side.orders
   pub turned : p.end.side.turned ≡ true
   pub trail : p.end.side.trail ≡ []
+  pub before : before_turned (last_view p.end) ≡ before_turned (view given)
 
 -- the same of the end of a data page, which is laid
 pub record IsDataTurnedOver (d : DataEnd) (p : TurnedPage) : Type 0 where
@@ -52,14 +53,21 @@ pub record IsRetiredOf (p : TurnedPage) (r : RetiredEnd) : Type 0 where
 abbrev pub given_of : TurnedPage → EndAt
 given_of p = record { place = p.place; view = view p.given.value }
 
+-- and as it is now
+abbrev pub now_of : TurnedPage → EndAt
+now_of p = record { place = p.place; view = last_view p.end }
+
 -- ---- all pages
 
--- where they lie, and their ends as they were given
+-- where they lie, and their ends as they were given and as they are now
 abbrev pub places_in : Pages → List PagePlace
 places_in pages = pages.control.place ∷ map (λ p. p.place) pages.payload.items
 
 abbrev pub given_in : Pages → List EndAt
 given_in pages = map given_of (pages.control ∷ pages.payload.items)
+
+abbrev pub now_in : Pages → List EndAt
+now_in pages = map now_of (pages.control ∷ pages.payload.items)
 
 -- each page after the events of its place
 pub record AreAfter (events : PagePlace → List PastEvent) (old new : Pages) : Type 0 where

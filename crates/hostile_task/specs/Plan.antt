@@ -1,6 +1,6 @@
 -- What the task of a hostile domain is given.
 -- Source: this project's own.
-use Rattle.std.specs.Prelude.{◌≡◌, false, List, [], ◌∷◌}
+use Rattle.std.specs.Prelude.{◌≡◌, ℕ, false, List, [], ◌∷◌}
 use Rattle.ring_words.specs.declared.page.Role.TheVariants.{Server}
 use Rattle.vchan_rule.specs.Seated.{SeatedEnd}
 use Rattle.qrexec_frame.specs.Streams.{Each}
@@ -18,10 +18,13 @@ use Rattle.hostile_task.specs.declared.domain.HostileDomain.{HostileDomain}
 abbrev pub plan_of : HostileDomain → List PagePlace → HostilePlan
 plan_of d places = record { domain = d.number; names = d.names.items; acts = d.acts; control = d.control; payload = d.payload; places = places }
 
--- what a task was given
-pub record HostileGiven : Type 0 where
+-- a task as contracts see it: its plan, its ends as they were given and as they are now, how many of its acts are done, and how many turns the next one has taken
+pub record HostileState : Type 0 where
   pub plan : HostilePlan
   pub ends : List EndAt
+  pub now : List EndAt
+  pub acts : ℕ
+  pub turns : ℕ
 
 -- the end of a domain's control page
 pub record IsControlOf (d : HostileDomain) (end : SeatedEnd) : Type 0 where

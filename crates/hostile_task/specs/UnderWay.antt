@@ -2,13 +2,15 @@
 -- Source: this project's own.
 use Rattle.std.specs.Prelude.{◌≡◌, ℕ, ◌≤◌, ◌<◌, true, List, [], ◌∷◌, ◌++◌, Option, Some, None, length, take, slice_get}
 use Rattle.std.specs.List.{flat_map}
-use Rattle.std.specs.Option.{option_and_then}
+use Rattle.std.specs.Option.{option_and_then, option_map_or}
 use Rattle.ring_words.specs.declared.page.Role.TheVariants.{Server}
 use Rattle.vchan_protocol.specs.declared.op.PastEvent.{PastEvent}
 use Rattle.vchan_protocol.specs.Table.Ends.{written_ring, prod_word}
+use Rattle.vchan_rule.specs.Seated.{view, last_view}
 use Rattle.qrexec_frame.specs.Streams.{Each}
 use Rattle.scenario_file.specs.declared.acts.Act.{Act}
 use Rattle.scenario_file.specs.declared.acts.Act.TheVariants.{Rest}
+use Rattle.task_duties.specs.TaskOwes.{before_turned}
 use Rattle.task_duties.specs.declared.place.PagePlace.{PagePlace}
 use Rattle.task_duties.specs.declared.place.PagePlace.TheVariants.{Control, Payload}
 use Rattle.task_duties.specs.Hostile.Given.{HostilePlan}
@@ -73,6 +75,7 @@ HaveRoles domain pages = EachPage (λ p. p.end.side.role ≡ role_at domain p.pl
 pub record IsPageSoFar (plan : HostilePlan) (p : Progress) (page : TurnedPage) : Type 0 where
   pub same : page.end.page ≡ page.given.value.page
   pub same_role : page.given.value.side.role ≡ role_at plan.domain page.place
+  pub before : before_turned (last_view page.end) ≡ before_turned (view page.given.value)
   pub role : page.end.side.role ≡ role_at plan.domain page.place
   pub orders : page.end.side.orders ≡ orders_at plan page.place
   pub turned : page.end.side.turned ≡ true
@@ -88,10 +91,10 @@ IsPayload (Payload from to port) = Unit {0}
 
 -- ---- the act under way
 
--- the greatest number of turns that an act takes
+-- the greatest number of turns that an act takes: 1,024 if it says something, and for a rest the number that it names
 abbrev pub most_turns : Act → ℕ
 most_turns (Rest turns) = turns
-most_turns act = 1024
+most_turns act = option_map_or (λ bytes. 1024) (words_of act) 1
 
 -- an act that has begun: some of its turns are left, and its words are ready
 abbrev pub HasBegun : Option Act → Progress → List ℕ → Type 0

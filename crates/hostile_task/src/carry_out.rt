@@ -1,7 +1,8 @@
 //! One turn of the act under way.
-ghost use Rattle.std.specs.Prelude.{◌≡◌, ◌<◌, ◌+◌, length};
+ghost use Rattle.std.specs.Prelude.{◌≡◌, ◌<◌, ◌+◌, length, OnOk};
 ghost use Rattle.hostile_task.specs.UnderWay.{IsUnderWay};
 ghost use Rattle.hostile_task.specs.Pages.{AreSamePages};
+ghost use Rattle.hostile_task.specs.Turns.{TakesTurn};
 
 use crate::domain::HostileDomain;
 use crate::pages::Pages;
@@ -13,7 +14,7 @@ use std::alloc::Global;
 use vchan_io::Memory;
 
 /// Carries out one turn of the next act. A scribble is one turn: its stores are drawn one by one,
-/// without waiting in between.
+/// without waiting in between. It leaves fewer turns of the acts.
 ///
 /// # Errors
 ///
@@ -30,6 +31,7 @@ pub fn carry_out(
     requires left { progress.old.acts < length domain.now.acts }
     ensures way { IsUnderWay domain.now pages.new progress.new spelled.new.items }
     ensures same { AreSamePages pages.old pages.new }
+    ensures turn { OnOk result (TakesTurn domain.now.acts progress.old.acts progress.old.turns progress.new.acts progress.new.turns) }
 {
     let act = &domain.acts.list()[progress.acts];
     match act {

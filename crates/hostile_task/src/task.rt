@@ -13,8 +13,8 @@ use task_duties::{DataEnd, PagePlace, RetiredEnd};
 use vchan_io::Memory;
 use vchan_rule::End;
 
-/// A hostile domain that carries out its acts. Contracts see only what it was given, which no turn
-/// changes.
+/// A hostile domain that carries out its acts. Contracts see what it was given, which no turn changes,
+/// its ends as they are, and how far it is with its acts.
 #[derive(Drop)]
 pub struct HostileTask<'p> {
     alloc: Global,
@@ -28,13 +28,13 @@ pub struct HostileTask<'p> {
 }
 
 impl<'p> Model for HostileTask<'p> {
-    ghost use Rattle.hostile_task.specs.Plan.{HostileGiven, plan_of};
-    ghost use Rattle.hostile_task.specs.Pages.{places_in, given_in};
+    ghost use Rattle.hostile_task.specs.Plan.{HostileState, plan_of};
+    ghost use Rattle.hostile_task.specs.Pages.{places_in, given_in, now_in};
     ghost use Rattle.hostile_task.specs.UnderWay.{IsUnderWay};
 
-    ghost Value = { HostileGiven };
+    ghost Value = { HostileState };
 
-    ghost view = { λ t. record { plan = plan_of t.domain (places_in t.pages); ends = given_in t.pages } };
+    ghost view = { λ t. record { plan = plan_of t.domain (places_in t.pages); ends = given_in t.pages; now = now_in t.pages; acts = t.progress.acts; turns = t.progress.turns } };
 
     ghost invariant = { λ t. IsUnderWay t.domain t.pages t.progress t.spelled.items };
 }
@@ -66,7 +66,7 @@ impl<'p> HostileTask<'p> {
     ghost use Rattle.task_duties.specs.TaskOwes.{all_ends, places_in};
     ghost use Rattle.task_duties.specs.GivenEnds.{all_given};
     ghost use Rattle.hostile_task.specs.Plan.{plan_of, AreApart, IsControlOf, AreDataOf};
-    ghost use Rattle.hostile_task.specs.Turns.{Pays};
+    ghost use Rattle.hostile_task.specs.Turns.{HasDone, Pays};
 
     /// Returns the task of a domain with these ends. They are turned over at once, and the producer
     /// index of the control page is read.
@@ -85,6 +85,7 @@ impl<'p> HostileTask<'p> {
         requires apart { AreApart (places_in (all_given payload.items)) }
         ensures plan { IfOk result (λ task. task.plan ≡ plan_of domain (Control domain.number ∷ places_in (all_given payload.entry.items))) }
         ensures ends { IfOk result (λ task. task.ends ≡ all_ends domain.number (view control.entry) (all_given payload.entry.items)) }
+        ensures first { IfOk result (λ task. (task.acts ≡ 0) × (task.turns ≡ 0) × HasDone task) }
     {
         let mut pages = Pages::turn(alloc, domain.number, control, payload)?;
         let own = (pages.control.end.load(WordName::RightProd) % 4_294_967_296) as u32;
@@ -104,7 +105,8 @@ impl<'p> HostileTask<'p> {
         self.moved
     }
 
-    /// Makes one turn: of the next act, or, after the last act, the turn that retires the ends.
+    /// Makes one turn: of the next act, or of a rest or a saying that goes on, or, after the last act,
+    /// the turn that retires the ends. Each turn leaves fewer turns of the acts than there were.
     pub fn turn(self) -> HostileTurn<'p>
         ensures { Pays self.entry result }
     {

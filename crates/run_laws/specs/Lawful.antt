@@ -10,7 +10,7 @@ use Rattle.qrexec_frame.specs.Fronts.{reading}
 use Rattle.qrexec_frame.specs.Streams.{Each, messages}
 use Rattle.service_gate.specs.Triple.{Triple}
 use Rattle.service_gate.specs.ServiceResult.{service}
-use Rattle.end_view.specs.EndView.{EndView}
+use Rattle.end_view.specs.EndView.{EndView, IsUnused}
 use Rattle.end_view.specs.Settled.{Settled, IsSettled}
 use Rattle.qrexec_data.specs.Seeing.{Exited, caller_sees, serving_sees}
 use Rattle.qrexec_data.specs.Sending.{CallerMaySend, ServingMaySend, SentAll}
@@ -24,7 +24,9 @@ use Rattle.task_duties.specs.Hearing.{to_agent, to_broker, hears}
 use Rattle.task_duties.specs.Words.{ident_of, exec_line, service_of_line}
 use Rattle.task_duties.specs.Agent.Sessions.{chunk, IsService}
 use Rattle.task_duties.specs.Agent.Saying.{asking, asking_of}
+use Rattle.task_duties.specs.Hostile.Given.{HostilePlan}
 use Rattle.task_duties.specs.Hostile.Trail.{IsTrail}
+use Rattle.task_duties.specs.TaskOwes.{before_turned}
 use Rattle.run_laws.specs.Laid.{BeganAsSaid, server_of, client_of, laid, calls_from, hostile_plan}
 use Rattle.run_laws.specs.declared.report.MixedOutcome.{MixedOutcome}
 use Rattle.run_laws.specs.declared.report.MixedOutcome.TheVariants.{Done, Refused, Closed, Gone}
@@ -44,6 +46,11 @@ is_turned s d = hostile_at s d
 pub record TurnedAsSaid (s : Scenario) (page : SettledPage) : Type 0 where
   pub server : page.settled.server.turned ≡ is_turned s (server_of page.place)
   pub client : page.settled.client.turned ≡ is_turned s (client_of page.place)
+
+-- an end of a hostile domain: it had done nothing when it was given up, and what was done on it since are the acts of the domain
+pub record IsActedOn (plan : HostilePlan) (place : PagePlace) (e : EndView) : Type 0 where
+  pub unused : IsUnused (before_turned e)
+  pub trail : IsTrail plan place e.trail
 
 -- the report has this page at this place
 abbrev pub LiesAt : Report → PagePlace → Settled → Type 0
@@ -235,6 +242,6 @@ pub record IsLawful (s : Scenario) (r : Report) : Type 0 where
   -- the control pages of honest domains stand
   pub control : (d : ℕ) (page : Settled) → LiesAt r (Control d) page → hostile_at s d ≡ false → ControlStands s ports d page
   pub told : EachPair (λ call l. (to : ℕ) → domain_named s call.to ≡ Some to → ToldAs s r ports call to l.result) s.calls r.calls
-  -- each turned end did what its domain's acts say
-  pub server_trails : (place : PagePlace) (page : Settled) → LiesAt r place page → page.server.turned ≡ true → IsTrail (hostile_plan s (server_of place)) place page.server.trail
-  pub client_trails : (place : PagePlace) (page : Settled) → LiesAt r place page → page.client.turned ≡ true → IsTrail (hostile_plan s (client_of place)) place page.client.trail
+  -- each turned end was unused before, and did what its domain's acts say
+  pub server_acts : (place : PagePlace) (page : Settled) → LiesAt r place page → page.server.turned ≡ true → IsActedOn (hostile_plan s (server_of place)) place page.server
+  pub client_acts : (place : PagePlace) (page : Settled) → LiesAt r place page → page.client.turned ≡ true → IsActedOn (hostile_plan s (client_of place)) place page.client

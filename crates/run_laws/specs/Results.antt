@@ -3,7 +3,7 @@
 use Rattle.std.specs.Prelude.{◌≡◌, ◌≢◌, ℕ, ◌≤◌, true, false, List, [], ◌∷◌, length, map, slice_index_or, Contains, IsPermutation, AllPairs, if◌then◌else◌}
 use Rattle.qrexec_frame.specs.Streams.{Each}
 use Rattle.call_broker.specs.declared.decision.Entry.{Entry}
-use Rattle.end_view.specs.EndView.{EndView, no_end}
+use Rattle.end_view.specs.EndView.{EndView, IsUnused, no_end}
 use Rattle.end_view.specs.Settled.{Settled, IsSettled}
 use Rattle.scenario_file.specs.Scenario.{Plan as Scenario, IsScenario, hostile_at}
 use Rattle.task_duties.specs.declared.place.PagePlace.{PagePlace}
@@ -80,11 +80,11 @@ run_of s dones = record {
 
 -- ---- when it is one
 
--- what the task of a number must be given: the ends of its domain's pages, or, for the broker, the ends of all control pages
+-- what the task of a number must be given: the ends of its domain's pages, unused where it is hostile, or, for the broker, the ends of all control pages
 abbrev pub IsGivenTo : Scenario → ℕ → TaskGiven → Type 0
 IsGivenTo s number (Broker hub awaited ends) = (number ≡ 0) × (hub ≡ hub_of s) × (awaited ≡ awaited_by s) × (places_in ends ≡ map Control (all_domains s))
 IsGivenTo s number (Agent plan ends) = IsHonest s number × (plan ≡ agent_plan s number) × (places_in ends ≡ places_of s number)
-IsGivenTo s number (Hostile plan ends) = (hostile_at s number ≡ true) × (plan ≡ hostile_plan s number) × (places_in ends ≡ places_of s number)
+IsGivenTo s number (Hostile plan ends) = (hostile_at s number ≡ true) × (plan ≡ hostile_plan s number) × (places_in ends ≡ places_of s number) × Each (λ e. IsUnused e.view) ends
 
 -- the task of a number was given what it must be given, and answered as it owed
 abbrev pub HasAnswered : Scenario → List TaskDone → ℕ → Type 0

@@ -13,7 +13,7 @@ use Rattle.task_duties.specs.declared.done.ServedDone.{ServedDone}
 use Rattle.task_duties.specs.declared.done.ControlEnd.{ControlEnd}
 use Rattle.task_duties.specs.Agent.Owes.{AgentOwes}
 use Rattle.task_duties.specs.Broker.Owes.{BrokerOwes}
-use Rattle.task_duties.specs.Hostile.Trail.{IsTrail}
+use Rattle.run_laws.specs.Lawful.{IsActedOn}
 use Rattle.run_laws.specs.Laid.{BeganAsSaid, server_of, client_of, hub_of, awaited_by, agent_plan, hostile_plan, pages_between, is_end_of}
 
 -- a page lies at this place; `laid` lists all such places
@@ -53,4 +53,4 @@ pub record IsRun (s : Scenario) (run : Run) : Type 0 where
   pub client_turned : (place : PagePlace) → IsPlace s place → (run.page place).client.turned ≡ hostile_at s (client_of place)
   pub broker : BrokerOwes (hub_of s) (awaited_by s) run.journal (broker_end run)
   pub agent : (d : ℕ) → IsHonest s d → AgentOwes (agent_plan s d) (end_of run d) (run.calls d) (run.served d) (run.control d)
-  pub hostile : (d : ℕ) → hostile_at s d ≡ true → (place : PagePlace) → IsPlace s place → is_end_of d place ≡ true → IsTrail (hostile_plan s d) place (end_of run d place).trail
+  pub hostile : (d : ℕ) → hostile_at s d ≡ true → (place : PagePlace) → IsPlace s place → is_end_of d place ≡ true → IsActedOn (hostile_plan s d) place (end_of run d place)

@@ -142,6 +142,10 @@ data-places : (payload : List DataEnd) → filter is_data (places_in (all_given 
 data-places [] = refl
 data-places (x ∷ payload) = ap (λ l. Payload x.from x.to x.port ∷ l) (data-places payload)
 
+each-unused : (s : Scenario) (d : ℕ) (ends : List EndAt) → Each (IsNew s d) ends → Each (λ e. IsUnused e.view) ends
+each-unused s d [] are = tt
+each-unused s d (e ∷ ends) are = (are.0.unused, each-unused s d ends are.1)
+
 pub domain-given : (s : Scenario) (pages : List PageAt) (d : ℕ) (hand : Hand) → 1 ≤ d → d ≤ length s.domains → AreLaid s pages → hand_ends d hand ≡ new_ends pages d
     → IsGivenTo s d (domain_given s d hand) × (ends_given (domain_given s d hand) ≡ new_ends pages d)
 domain-given s pages d hand some within are dealt = by (hostile_at s d) refl
@@ -157,5 +161,5 @@ domain-given s pages d hand some within are dealt = by (hostile_at s d) refl
     own = sym (data-places hand.payload.items) ∙ ap (filter is_data) places
 
     by : (b : Bool) → hostile_at s d ≡ b → IsGivenTo s d (domain_given s d hand) × (ends_given (domain_given s d hand) ≡ new_ends pages d)
-    by true is = rw is ((is, ap (λ l. record (hostile_plan s d) { places = l }) places, places), dealt)
+    by true is = rw is ((is, ap (λ l. record (hostile_plan s d) { places = l }) places, places, subst (Each (λ e. IsUnused e.view)) (sym dealt) (each-unused s d (new_ends pages d) (ends-are-new s pages d are))), dealt)
     by false is = rw is ((record { there = there d some within; honest = is }, ap (λ l. record (agent_plan s d) { places = l }) own, places), dealt)

@@ -86,6 +86,14 @@ pub record EndsOwed (turned : Bool) (given ends : List EndAt) (end : PagePlace �
   pub are : AreEnds end ends
   pub turned_are : Each (λ e. e.view.turned ≡ turned) ends
 
+-- an end as it was before it was given up to a hostile user, whose events change its trail alone
+abbrev pub before_turned : EndView → EndView
+before_turned e = record e { idle = true; turned = false; consumed = 0; trail = [] }
+
+-- a retired end of a hostile domain did nothing of its own since it was given
+pub record IsTurnedFrom (given retired : EndAt) : Type 0 where
+  pub before : before_turned retired.view ≡ before_turned given.view
+
 -- ---- what it owes
 
 -- what a task owes by what it was given; nothing if memory ran out
@@ -99,5 +107,5 @@ TaskOwes (Broker hub awaited given) (BrokerDone broker ends) =
     × BrokerOwes hub awaited broker.journal (λ d. end (Control d))
 TaskOwes (Hostile plan given) (HostileDone domain ends) =
     (end : PagePlace → EndView) × (domain ≡ plan.domain) × EndsOwed true given ends end
-    × Each (λ e. IsTrail plan e.place e.view.trail) ends
+    × Each (λ e. IsTrail plan e.place e.view.trail) ends × EachPair IsTurnedFrom given ends
 TaskOwes _ _ = ⊥

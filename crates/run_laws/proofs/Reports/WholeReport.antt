@@ -35,7 +35,6 @@ use Rattle.task_duties.specs.Words.{ident_of}
 use Rattle.task_duties.specs.Agent.Sessions.{chunk, CallerDone, CallerOwes, CallerEnded}
 use Rattle.task_duties.specs.declared.done.CallEnd.{CallEnd}
 use Rattle.task_duties.specs.declared.done.CallEnd.TheVariants.{Session, Refused as WasRefused, Unanswered}
-use Rattle.task_duties.specs.Hostile.Trail.{IsTrail}
 use Rattle.task_duties.proofs.Elements.{Has, has-from, contains-from, has-append, has-map, has-map-back, has-flat_map}
 use Rattle.task_duties.specs.Agent.Owes.{caller_done}
 use Rattle.run_laws.specs.Laid.{BeganAsSaid, hub_of, all_domains, pages_between, ports_between, laid_between, laid, is_end_of, hostile_plan, calls_from, server_of, client_of}
@@ -45,7 +44,7 @@ use Rattle.run_laws.specs.Report.{SettledPage, Report, IsFaulty}
 use Rattle.run_laws.specs.Report as report
 use Rattle.run_laws.specs.Run.{Run, IsRun, IsHonest, IsPlace, end_of}
 use Rattle.run_laws.specs.Laws.{IsExpected}
-use Rattle.run_laws.specs.Lawful.{IsLawful, TurnedAsSaid, LiesAt, MayRefuse, MixedOn, EndedAs, ResultStands, CallStands, ExecAt, hostile_execs, comes_before, IsServed}
+use Rattle.run_laws.specs.Lawful.{IsActedOn, IsLawful, TurnedAsSaid, LiesAt, MayRefuse, MixedOn, EndedAs, ResultStands, CallStands, ExecAt, hostile_execs, comes_before, IsServed}
 use Rattle.run_laws.specs.Lawful as lawful
 use Rattle.run_laws.specs.ReadOff.{end_of_call, page_read, mixed_outcome, mixed_end, result_of, report_of, ports_of, port_of_end}
 use Rattle.run_laws.proofs.Sessions.CallEnds.{IsReported}
@@ -130,35 +129,35 @@ begun-each : (s : Scenario) (run : Run) → IsRun s run → (places : List PageP
 begun-each s run h [] go = tt
 begun-each s run h (p ∷ places) go = (h.begun p (go p (inl refl)), begun-each s run h places (λ place there. go place (inr there)))
 
--- ---- trails
+-- ---- turned ends
 
 server-end : (place : PagePlace) → is_end_of (server_of place) place ≡ true
 server-end (Control d) = grind (arith, nat_tests)
 server-end (Payload f t port) = let ff : (f == f) ≡ true = grind (arith, nat_tests) in rw ff refl
 
-pub server-trail : (s : Scenario) (run : Run) → IsRun s run → (place : PagePlace) → IsPlace s place → (run.page place).server.turned ≡ true → IsTrail (hostile_plan s (server_of place)) place (run.page place).server.trail
-server-trail s run h place there turned =
+pub server-acts : (s : Scenario) (run : Run) → IsRun s run → (place : PagePlace) → IsPlace s place → (run.page place).server.turned ≡ true → IsActedOn (hostile_plan s (server_of place)) place (run.page place).server
+server-acts s run h place there turned =
     let bad : hostile_at s (server_of place) ≡ true = sym (h.server_turned place there) ∙ turned in
-    let trail = h.hostile (server_of place) bad place there (server-end place) in
+    let acted = h.hostile (server_of place) bad place there (server-end place) in
     let self : (server_of place == server_of place) ≡ true = grind (arith, nat_tests) in
     let same : end_of run (server_of place) place ≡ (run.page place).server = rw self refl in
-    subst (λ e. IsTrail (hostile_plan s (server_of place)) place e.trail) same trail
+    subst (λ e. IsActedOn (hostile_plan s (server_of place)) place e) same acted
 
 or-true : (b : Bool) → (b || true) ≡ true
 or-true true = refl
 or-true false = refl
 
-pub client-trail : (s : Scenario) (run : Run) → IsRun s run → (place : PagePlace) → IsPlace s place → (run.page place).client.turned ≡ true → IsTrail (hostile_plan s (client_of place)) place (run.page place).client.trail
-client-trail s run h (Control d) there turned = let fine' : (run.page (Control d)).client.turned ≡ false = h.client_turned (Control d) there in cc
-client-trail s run h (Payload f t port) there turned =
+pub client-acts : (s : Scenario) (run : Run) → IsRun s run → (place : PagePlace) → IsPlace s place → (run.page place).client.turned ≡ true → IsActedOn (hostile_plan s (client_of place)) place (run.page place).client
+client-acts s run h (Control d) there turned = let fine' : (run.page (Control d)).client.turned ≡ false = h.client_turned (Control d) there in cc
+client-acts s run h (Payload f t port) there turned =
     let bad : hostile_at s t ≡ true = sym (h.client_turned (Payload f t port) there) ∙ turned in
     let tt' : (t == t) ≡ true = grind (arith, nat_tests) in
     let own : (f == t || t == t) ≡ true = rw tt' (or-true (f == t)) in
-    let trail = h.hostile t bad (Payload f t port) there own in
+    let acted = h.hostile t bad (Payload f t port) there own in
     let apart = there.0 in
     let other : (f == t) ≡ false = grind (arith, nat_tests) in
     let same : end_of run t (Payload f t port) ≡ (run.page (Payload f t port)).client = rw other refl in
-    subst (λ e. IsTrail (hostile_plan s t) (Payload f t port) e.trail) same trail
+    subst (λ e. IsActedOn (hostile_plan s t) (Payload f t port) e) same acted
 
 -- ---- the calls to hostile domains
 
@@ -336,8 +335,8 @@ lawful_with_served s run h served execs all_execs in_order each =
       control = honest.control;
       told = pairs-of s run (λ call l. (to : ℕ) → domain_named s call.to ≡ Some to → lawful.ToldAs s (report_of s run served) (ports_of s run) call to l.result) s.calls
           (λ call there. told s run h served call there (is_mixed s call) refl);
-      server_trails = λ place page lies turned. (let p = page-of s run served place page lies in
-          subst (λ q. IsTrail (hostile_plan s (server_of place)) place q.server.trail) p.is (server-trail s run h place p.there (ap (λ q. q.server.turned) p.is ∙ turned)));
-      client_trails = λ place page lies turned. (let p = page-of s run served place page lies in
-          subst (λ q. IsTrail (hostile_plan s (client_of place)) place q.client.trail) p.is (client-trail s run h place p.there (ap (λ q. q.client.turned) p.is ∙ turned)));
+      server_acts = λ place page lies turned. (let p = page-of s run served place page lies in
+          subst (λ q. IsActedOn (hostile_plan s (server_of place)) place q.server) p.is (server-acts s run h place p.there (ap (λ q. q.server.turned) p.is ∙ turned)));
+      client_acts = λ place page lies turned. (let p = page-of s run served place page lies in
+          subst (λ q. IsActedOn (hostile_plan s (client_of place)) place q.client) p.is (client-acts s run h place p.there (ap (λ q. q.client.turned) p.is ∙ turned)));
     }

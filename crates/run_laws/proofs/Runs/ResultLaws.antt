@@ -3,7 +3,7 @@ use Rattle.std.proofs.Common.{◌≡◌, ◌≢◌, ℕ, ◌≤◌, zero, suc, L
 use Rattle.std.specs.Prelude.{true, false, Bool, ◌==◌, ◌||◌, is_some, Contains}
 use Rattle.std.proofs.lemmas.Bool.Decides.{nat_tests}
 use Rattle.qrexec_frame.specs.Streams.{Each}
-use Rattle.end_view.specs.EndView.{EndView}
+use Rattle.end_view.specs.EndView.{EndView, IsUnused}
 use Rattle.end_view.specs.Settled.{IsSettled}
 use Rattle.scenario_file.specs.Scenario.{Plan as Scenario, domain_of, is_hostile, hostile_at}
 use Rattle.scenario_file.specs.declared.scenario.Domain.{Domain}
@@ -14,15 +14,16 @@ use Rattle.task_duties.specs.Places.{is_place, has_place}
 use Rattle.task_duties.specs.Pairwise.{EachPair}
 use Rattle.task_duties.specs.Agent.Owes.{AgentOwes}
 use Rattle.task_duties.specs.Broker.Owes.{BrokerOwes}
+use Rattle.task_duties.specs.Hostile.Given.{HostilePlan}
 use Rattle.task_duties.specs.Hostile.Trail.{IsTrail}
-use Rattle.task_duties.specs.TaskOwes.{EndAt, IsSameEnd, AreEnds, TaskGiven, Agent, Broker, Hostile, TaskDone, AgentDone, BrokerDone, HostileDone, NoMemory, places_in, TaskOwes}
+use Rattle.task_duties.specs.TaskOwes.{EndAt, IsSameEnd, IsTurnedFrom, AreEnds, before_turned, TaskGiven, Agent, Broker, Hostile, TaskDone, AgentDone, BrokerDone, HostileDone, NoMemory, places_in, TaskOwes}
 use Rattle.task_duties.proofs.Elements.{Has, has-from, each-at, has-map, has-map-back, has-filter, has-filter-back}
 use Rattle.task_duties.proofs.OutboxLaw.{same-self}
 use Rattle.task_duties.proofs.ServedLaw.{same-place}
 use Rattle.task_duties.proofs.OwesLaws.{agent-owes-same, broker-owes-same}
 use Rattle.run_laws.specs.Laid.{all_domains, laid, places_of, is_data, is_end_of, server_of, client_of, hub_of, awaited_by, agent_plan, hostile_plan}
 use Rattle.run_laws.specs.Report.{SettledPage}
-use Rattle.run_laws.specs.Lawful.{IsLawful}
+use Rattle.run_laws.specs.Lawful.{IsActedOn, IsLawful}
 use Rattle.run_laws.specs.HostileSessions.{session_line}
 use Rattle.run_laws.specs.Run.{IsPlace, IsHonest, end_of, broker_end}
 use Rattle.run_laws.specs.ReadOff.{page_read}
@@ -250,14 +251,35 @@ broker-same s dones (Hostile plan given) done at is some owes = absurd (hostile-
 broker-same s dones (Broker hub awaited given) (AgentDone report) at is some owes = absurd owes
 broker-same s dones (Broker hub awaited given) (HostileDone domain ends) at is some owes = absurd owes
 
+-- an end that is as an unused one but for being turned
+unused-before : (given retired : EndView) → IsUnused given → before_turned retired ≡ before_turned given → IsUnused (before_turned retired)
+unused-before given retired unused same = subst IsUnused (sym same) (record {
+  idle = refl;
+  state = unused.state;
+  sent = unused.sent;
+  got = unused.got;
+  saw = unused.saw;
+  ended = unused.ended;
+  drained = unused.drained;
+  misled = unused.misled;
+  retired = unused.retired;
+  turned = refl;
+})
+
+acted-on : (plan : HostilePlan) (given ends : List EndAt) → Each (λ e. IsUnused e.view) given → Each (λ e. IsTrail plan e.place e.view.trail) ends → EachPair IsTurnedFrom given ends → Each (λ e. IsActedOn plan e.place e.view) ends
+acted-on plan [] [] unused trails from = tt
+acted-on plan [] (e ∷ ends) unused trails from = absurd from
+acted-on plan (g ∷ given) [] unused trails from = tt
+acted-on plan (g ∷ given) (e ∷ ends) unused trails from = (record { unused = unused-before g.view e.view unused.0 from.0.before; trail = trails.0 }, acted-on plan given ends unused.1 trails.1 from.1)
+
 hostile-same : (s : Scenario) (dones : List TaskDone) (d : ℕ) → hostile_at s d ≡ true → is_some (domain_of s d) ≡ true → (given : TaskGiven) (done : TaskDone) → answer_at dones d ≡ done → IsGivenTo s d given
-    → done ≢ NoMemory → TaskOwes given done → (place : PagePlace) → IsPlace s place → is_end_of d place ≡ true → IsTrail (hostile_plan s d) place (end_of (run_of s dones) d place).trail
+    → done ≢ NoMemory → TaskOwes given done → (place : PagePlace) → IsPlace s place → is_end_of d place ≡ true → IsActedOn (hostile_plan s d) place (end_of (run_of s dones) d place)
 hostile-same s dones d bad exists given NoMemory at is some owes place lies own = absurd (some refl)
 hostile-same s dones d bad exists (Hostile plan given) (HostileDone domain ends) at is some owes place lies own =
     let facts = ends-are s d (Hostile plan given) (HostileDone domain ends) is some owes in
-    let trails : Each (λ e. IsTrail (hostile_plan s d) e.place e.view.trail) ends = subst (λ p. Each (λ e. IsTrail p e.place e.view.trail) ends) is.1 owes.3 in
-    let trail = in-view (λ p v. IsTrail (hostile_plan s d) p v.trail) ends trails place (facts.own place (domain-own s d place exists lies own)) in
-    subst (λ v. IsTrail (hostile_plan s d) place v.trail) (ap (λ done'. view_in (ends_of done') place) (sym at) ∙ own-view s dones d place own) trail
+    let acted : Each (λ e. IsActedOn (hostile_plan s d) e.place e.view) ends = subst (λ p. Each (λ e. IsActedOn p e.place e.view) ends) is.1 (acted-on plan given ends is.3 owes.3 owes.4) in
+    let end = in-view (λ p v. IsActedOn (hostile_plan s d) p v) ends acted place (facts.own place (domain-own s d place exists lies own)) in
+    subst (λ v. IsActedOn (hostile_plan s d) place v) (ap (λ done'. view_in (ends_of done') place) (sym at) ∙ own-view s dones d place own) end
 hostile-same s dones d bad exists (Agent plan given) done at is some owes place lies own = let both : false ≡ true = sym is.0.honest ∙ bad in cc
 hostile-same s dones d bad exists (Broker hub awaited given) done at is some owes place lies own = absurd (hostile-there s d bad is.0)
 hostile-same s dones d bad exists (Hostile plan given) (AgentDone report) at is some owes place lies own = absurd owes

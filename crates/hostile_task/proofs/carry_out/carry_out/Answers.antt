@@ -1,5 +1,5 @@
 -- Each act keeps what is known of all pages.
-use Rattle.std.proofs.Common.{◌≡◌, ℕ, ◌+◌, ◌<◌, List, false, nat_le, refl, sym, subst, ap, ◌∙◌, arith}
+use Rattle.std.proofs.Common.{◌≡◌, ℕ, ◌+◌, ◌<◌, ◌≤◌, List, false, true, nat_le, refl, sym, subst, ap, ◌∙◌, arith}
 use Rattle.std.proofs.lemmas.Bool.Decides.{nat_tests}
 use Rattle.vchan_protocol.specs.declared.op.PastEvent.{PastEvent}
 use Rattle.scenario_file.specs.declared.acts.Act.{Act}
@@ -14,6 +14,7 @@ use Rattle.hostile_task.specs.Saying.{after_turn, held_words, SaysSoFar, SaysOn}
 use Rattle.hostile_task.specs.UnderWay.{IsUnderWay, IsPageSoFar}
 use Rattle.hostile_task.proofs.ListLaws.{each_gives}
 use Rattle.hostile_task.proofs.PageLaws.{are_same_after}
+use Rattle.hostile_task.proofs.TurnLaws.{takes_last, takes_rest, takes_said, turn_left}
 use Rattle.hostile_task.proofs.WayLaws.{way_stores, way_rests, way_says, with_control, act_at, says_some}
 use Rattle.hostile_task.proofs.carry_out.carry_out.Goals as goal
 
@@ -89,3 +90,46 @@ returns-in_ok-prepare-in_default-clause-way c =
     subst (λ (q : Progress). IsUnderWay c.args.domain.now (with_control pages c.say-over.new.control) q spelled) (sym c.end_turn-in_default.ensures)
     (way_says c.args.domain.now act words.0 pages c.say-over.new.control c.args.progress.now c.say-over.new.progress c.say-over.result c.args.spelled.now.items spelled c.requires.way at c.requires.left words.1
     c.in_ok-prepare-in_default.ensures.ready (subst Turn held c.say-over.ensures.says) c.say-over.ensures.acts c.say-over.ensures.turns)
+
+pub returns-in-Poke-clause-turn : goal.returns-in-Poke-clause-turn
+returns-in-Poke-clause-turn c =
+    let act : Act = Poke c.in-Poke.page c.in-Poke.word c.in-Poke.value in
+    let p : Progress = c.args.progress.now in
+    let at = act_at c.args.domain.now.acts c.list.result.now p.acts c.index-list-progress.result act c.list.ensures.list c.requires.left c.index-list-progress.is c.in-Poke.is in
+    let few = turn_left c.args.domain.now.acts act p c.args.spelled.now.items c.list.result.now c.list.ensures.list c.list.ensures.fit at c.requires.way.begun in
+    takes_last c.args.domain.now.acts act p.acts p.turns c.end_turn.new.self.acts c.end_turn.new.self.turns at few (λ silent. omega (arith, few)) (ap (λ (q : Progress). q.acts) c.end_turn.ensures) (ap (λ (q : Progress). q.turns) c.end_turn.ensures)
+
+pub returns-in-Scribble-clause-turn : goal.returns-in-Scribble-clause-turn
+returns-in-Scribble-clause-turn c =
+    let act : Act = Scribble c.in-Scribble.seed c.in-Scribble.count in
+    let p : Progress = c.args.progress.now in
+    let at = act_at c.args.domain.now.acts c.list.result.now p.acts c.index-list-progress.result act c.list.ensures.list c.requires.left c.index-list-progress.is c.in-Scribble.is in
+    let few = turn_left c.args.domain.now.acts act p c.args.spelled.now.items c.list.result.now c.list.ensures.list c.list.ensures.fit at c.requires.way.begun in
+    takes_last c.args.domain.now.acts act p.acts p.turns c.end_turn-in-Scribble.new.self.acts c.end_turn-in-Scribble.new.self.turns at few (λ silent. omega (arith, few)) (ap (λ (q : Progress). q.acts) c.end_turn-in-Scribble.ensures) (ap (λ (q : Progress). q.turns) c.end_turn-in-Scribble.ensures)
+
+pub returns-in-Signal-clause-turn : goal.returns-in-Signal-clause-turn
+returns-in-Signal-clause-turn c =
+    let act : Act = Signal in
+    let p : Progress = c.args.progress.now in
+    let at = act_at c.args.domain.now.acts c.list.result.now p.acts c.index-list-progress.result act c.list.ensures.list c.requires.left c.index-list-progress.is c.in-Signal.is in
+    let few = turn_left c.args.domain.now.acts act p c.args.spelled.now.items c.list.result.now c.list.ensures.list c.list.ensures.fit at c.requires.way.begun in
+    takes_last c.args.domain.now.acts act p.acts p.turns c.end_turn-in-Signal.new.self.acts c.end_turn-in-Signal.new.self.turns at few (λ silent. omega (arith, few)) (ap (λ (q : Progress). q.acts) c.end_turn-in-Signal.ensures) (ap (λ (q : Progress). q.turns) c.end_turn-in-Signal.ensures)
+
+pub returns-in-Rest-clause-turn : goal.returns-in-Rest-clause-turn
+returns-in-Rest-clause-turn c =
+    let act : Act = Rest c.in-Rest.turns in
+    let p : Progress = c.args.progress.now in
+    let at = act_at c.args.domain.now.acts c.list.result.now p.acts c.index-list-progress.result act c.list.ensures.list c.requires.left c.index-list-progress.is c.in-Rest.is in
+    let few = turn_left c.args.domain.now.acts act p c.args.spelled.now.items c.list.result.now c.list.ensures.list c.list.ensures.fit at c.requires.way.begun in
+    let last : nat_le c.in-Rest.turns (p.turns + 1) ≡ true → c.in-Rest.turns ≤ p.turns + 1 = λ is. grind (arith, nat_tests, is) in
+    takes_rest c.args.domain.now.acts c.in-Rest.turns p c.end_turn-in-Rest.new.self (nat_le c.in-Rest.turns (p.turns + 1)) at few last
+    (c.end_turn-in-Rest.ensures ∙ ap (λ (q : Progress). after_turn (nat_le c.in-Rest.turns q.turns) q) c.rest.ensures)
+
+pub returns-in_ok-prepare-in_default-clause-turn : goal.returns-in_ok-prepare-in_default-clause-turn
+returns-in_ok-prepare-in_default-clause-turn c =
+    let act : Act = c.index-list-progress.result in
+    let p : Progress = c.args.progress.now in
+    let at = act_at c.args.domain.now.acts c.list.result.now p.acts act act c.list.ensures.list c.requires.left c.index-list-progress.is refl in
+    let few = turn_left c.args.domain.now.acts act p c.args.spelled.now.items c.list.result.now c.list.ensures.list c.list.ensures.fit at c.requires.way.begun in
+    let words = says_some act c.in_default.not-Poke c.in_default.not-Scribble c.in_default.not-Signal c.in_default.not-Rest in
+    takes_said c.args.domain.now.acts act words.0 p c.say-over.new.progress c.end_turn-in_default.new.self c.say-over.result at words.1 few c.say-over.ensures.acts (λ more. (c.say-over.ensures.turns more).0) c.end_turn-in_default.ensures

@@ -4,6 +4,7 @@ use Rattle.task_duties.specs.declared.place.PagePlace.{PagePlace}
 use Rattle.hostile_task.specs.declared.progress.Progress.{Progress}
 use Rattle.hostile_task.specs.Plan.{plan_of}
 use Rattle.hostile_task.specs.UnderWay.{IsUnderWay}
+use Rattle.hostile_task.proofs.TurnLaws.{has_done}
 use Rattle.hostile_task.proofs.WayLaws.{with_control}
 use Rattle.hostile_task.proofs.StartLaws.{are_laid, start_way, start_places, start_given}
 use Rattle.hostile_task.proofs.task.HostileTask.new.Goals as goal
@@ -20,6 +21,13 @@ returns-clause-plan c =
 
 pub returns-clause-ends : goal.returns-clause-ends
 returns-clause-ends c = start_given c.args.domain c.args.control c.args.payload.items c.in_ok-pages.pages c.in_ok-pages.ensures.control c.in_ok-pages.ensures.payload
+
+pub returns-clause-first : goal.returns-clause-first
+returns-clause-first c = (
+  ap (λ (p : Progress). p.acts) c.start.ensures,
+  ap (λ (p : Progress). p.turns) c.start.ensures,
+  has_done c.args.domain (with_control c.in_ok-pages.pages c.load.new.self) c.start.result c.new.result.items (invariant_of-result c),
+)
 
 pub turn-requires : goal.turn-requires
 turn-requires c = are_laid c.args.domain c.args.payload.items c.requires.payload
