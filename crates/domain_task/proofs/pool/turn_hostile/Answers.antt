@@ -1,0 +1,9 @@
+-- A hostile domain that goes on was given the same, and one that is done gives what it owes.
+use Rattle.task_duties.specs.TaskOwes.{Hostile}
+use Rattle.domain_task.proofs.pool.turn_hostile.Goals as goal
+
+pub returns-in-Again : goal.returns-in-Again
+returns-in-Again c = λ i. Hostile (c.in-Again.ensures.plan i) (c.in-Again.ensures.ends i)
+
+pub returns-in-Done : goal.returns-in-Done
+returns-in-Done c = c.in-Done.ensures.1
