@@ -8,6 +8,7 @@ use Rattle.qrexec_frame.specs.Lines.{shown_bytes}
 use Rattle.qrexec_frame.specs.Streams.{Each}
 use Rattle.run_report.specs.Lines.{spaced}
 use Rattle.vchan_rule.specs.Seated.{PageStart}
+use Rattle.vchan_relay.specs.Joints.{JoinedEnds}
 use Rattle.vchan_relay.specs.Runs.{HasCarried, HasRelayed}
 use Rattle.vchan.specs.Prints.{PrintsRelayed}
 use Rattle.vchan.specs.Relays.{counts_line, even_lines, page_lines}
@@ -34,10 +35,10 @@ more_lines before words bytes (page ∷ pages) each =
     ∙ ap (even_lines (length bytes)) same
 
 -- what `relay` prints
-pub prints_relayed : (hops : ℕ) (orders : Orders) (input text got : List ℕ) (pages : List Settled) → (number_of orders.left ≡ 10) × (number_of orders.right ≡ 11) →
-    HasRelayed hops (record { orders = orders; start = 0 }) input (record { got = got; pages = pages }) →
+pub prints_relayed : (hops : ℕ) (orders : Orders) (input text got : List ℕ) (pages : List Settled) (joints : List JoinedEnds) → (number_of orders.left ≡ 10) × (number_of orders.right ≡ 11) →
+    HasRelayed hops (record { orders = orders; start = 0 }) input (record { got = got; pages = pages; joints = joints }) →
     text ≡ even_lines (length got) (hops + 1) ++ (codes "bytes" ++ (spaced (shown_bytes got ∷ []) ++ 10 ∷ [])) → PrintsRelayed hops input text pages
-prints_relayed hops orders input text got pages small relayed is =
+prints_relayed hops orders input text got pages joints small relayed is =
     let tail : List ℕ = codes "bytes" ++ (spaced (shown_bytes input ∷ []) ++ 10 ∷ []) in
     let count : hops + 1 ≡ 0 + length pages = omega (arith, relayed.count) in
     let lines : even_lines (length input) (hops + 1) ≡ page_lines 0 pages =
@@ -45,6 +46,7 @@ prints_relayed hops orders input text got pages small relayed is =
     record {
       orders = orders;
       orders_are = small;
-      relayed = record { got = refl; count = relayed.count; each = relayed.each };
+      joints = joints;
+      relayed = record { got = refl; count = relayed.count; each = relayed.each; joined = relayed.joined };
       prints = is ∙ ap (λ bytes. even_lines (length bytes) (hops + 1) ++ (codes "bytes" ++ (spaced (shown_bytes bytes ∷ []) ++ 10 ∷ []))) relayed.got ∙ ap (λ first. first ++ tail) lines;
     }

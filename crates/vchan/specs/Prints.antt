@@ -16,6 +16,7 @@ use Rattle.end_view.specs.Settled.{Settled}
 use Rattle.run_report.specs.Lines.{text_of}
 use Rattle.run_report.specs.Summary.{summary_of}
 use Rattle.vchan_block.specs.Pipe.{HasPiped}
+use Rattle.vchan_relay.specs.Joints.{JoinedEnds}
 use Rattle.vchan_relay.specs.Runs.{HasRelayed}
 use Rattle.script_words.specs.Words.{lines_of}
 use Rattle.vchan_persist.specs.declared.client.Client.{Client}
@@ -57,7 +58,8 @@ pub record PrintsPiped (orders : Orders) (input text : List ℕ) (page : Settled
 pub record PrintsRelayed (hops : ℕ) (input text : List ℕ) (pages : List Settled) : Type 0 where
   pub orders : Orders
   pub orders_are : (number_of orders.left ≡ 10) × (number_of orders.right ≡ 11)
-  pub relayed : HasRelayed hops (record { orders = orders; start = 0 }) input (record { got = input; pages = pages })
+  pub joints : List JoinedEnds
+  pub relayed : HasRelayed hops (record { orders = orders; start = 0 }) input (record { got = input; pages = pages; joints = joints })
   pub prints : text ≡ relays_text pages input
 
 -- `persist` prints what came of the clients that the input lists, each served by the service of this name on a page of its own, of the orders 10 and 11, whose indices began at 0

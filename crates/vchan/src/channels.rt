@@ -51,7 +51,7 @@ pub(crate) fn relay_input<R: Threads + Wait + Sync>(
     requires few { length input.items ≤ greatest_input }
     ensures { IfOk result (λ done. Prints (Relay hops workers) input.items done.0.items None done.1.items) }
 {
-    let Relayed { got, pages } = relay_run(rt, alloc, hops, workers, small_orders(), 0, input)?;
+    let Relayed { got, pages, .. } = relay_run(rt, alloc, hops, workers, small_orders(), 0, input)?;
     let text = relays_text(alloc, hops as usize + 1, got.slice())?;
     Ok((text, pages))
 }

@@ -1,5 +1,5 @@
 -- A row of tasks and of what they returned, one page after another.
-use Rattle.std.proofs.Common.{◌≡◌, ◌+◌, ◌<◌, ℕ, suc, List, [], ◌∷◌, ◌++◌, length, drop, get_or, refl, sym, subst, ap, ◌∙◌, append_assoc, add-one, arith}
+use Rattle.std.proofs.Common.{◌≡◌, ◌+◌, ◌<◌, ℕ, suc, List, [], ◌∷◌, ◌++◌, length, drop, get_or, refl, sym, subst, ap, ◌∙◌, append_assoc, append-nil, Option, option_to_list, add-one, arith}
 use Rattle.std.proofs.lemmas.List.{length-drop}
 use Rattle.std.proofs.Math.Seq.{drop-cons}
 use Rattle.end_view.specs.Settled.{Settled}
@@ -12,6 +12,7 @@ use Rattle.vchan_relay.specs.declared.task.HopDone.{HopDone}
 use Rattle.vchan_relay.specs.declared.task.HopDone.TheVariants.{Wrote, Passed, Read}
 use Rattle.vchan_relay.specs.declared.task.HopTask.{HopTask}
 use Rattle.vchan_relay.specs.declared.task.HopTask.TheVariants.{Reads}
+use Rattle.vchan_relay.specs.Joints.{JoinedEnds}
 use Rattle.vchan_relay.specs.Ended.{IsEndOf}
 use Rattle.vchan_relay.specs.Given.{ReaderGiven}
 use Rattle.vchan_relay.specs.Laying.{IsLaid, AreLaid}
@@ -77,9 +78,9 @@ pub left_first : (bytes : List ℕ) (room : ℕ) (pages : List PageView) (client
 left_first bytes room [] client dones handed = absurd handed
 left_first bytes room (page ∷ pages) client dones handed = (handed.0.0, handed.1)
 
-pub no_relay_first : (bytes : List ℕ) (room : ℕ) (pages : List PageView) (near far : SeatedSide) (dones : List HopDone) → AreHandedBack bytes room pages (Passed near far ∷ dones) → ⊥
-no_relay_first bytes room [] near far dones handed = handed
-no_relay_first bytes room (page ∷ pages) near far dones handed = handed.0
+pub no_relay_first : (bytes : List ℕ) (room : ℕ) (pages : List PageView) (near far : SeatedSide) (joint : Option JoinedEnds) (dones : List HopDone) → AreHandedBack bytes room pages (Passed near far joint ∷ dones) → ⊥
+no_relay_first bytes room [] near far joint dones handed = handed
+no_relay_first bytes room (page ∷ pages) near far joint dones handed = handed.0
 
 pub no_reader_first : (bytes : List ℕ) (room : ℕ) (pages : List PageView) (end : SeatedSide) (got : List ℕ) (dones : List HopDone) → AreHandedBack bytes room pages (Read end got ∷ dones) → ⊥
 no_reader_first bytes room [] end got dones handed = handed
@@ -89,10 +90,10 @@ pub some_first : (bytes : List ℕ) (room : ℕ) (pages : List PageView) → Are
 some_first bytes room [] handed = handed
 some_first bytes room (page ∷ pages) handed = handed
 
-pub passed_on : (room : ℕ) (page : PageView) (pages : List PageView) (client near far : SeatedSide) (dones : List HopDone) → AreLeft room (page ∷ pages) client (Passed near far ∷ dones) → IsEndOf page.table Server near × AreLeft room pages far dones
-passed_on room page [] client near far [] left = absurd left.1
-passed_on room page [] client near far (done ∷ dones) left = absurd left.1
-passed_on room page (next ∷ pages) client near far dones left = (left.1.0.0, (left.1.0.1, left.1.1))
+pub passed_on : (room : ℕ) (page : PageView) (pages : List PageView) (client near far : SeatedSide) (joint : Option JoinedEnds) (dones : List HopDone) → AreLeft room (page ∷ pages) client (Passed near far joint ∷ dones) → IsEndOf page.table Server near × AreLeft room pages far dones
+passed_on room page [] client near far joint [] left = absurd left.1
+passed_on room page [] client near far joint (done ∷ dones) left = absurd left.1
+passed_on room page (next ∷ pages) client near far joint dones left = (left.1.0.0, (left.1.0.1, left.1.1))
 
 pub read_last : (room : ℕ) (page : PageView) (pages : List PageView) (client end : SeatedSide) (got : List ℕ) (dones : List HopDone) → AreLeft room (page ∷ pages) client (Read end got ∷ dones) → IsEndOf page.table Server end
 read_last room page [] client end got [] left = left.1.0
@@ -112,24 +113,31 @@ some_done_left room page (next ∷ pages) client left = left.1
 pub left_at : (room : ℕ) (pages pages' : List PageView) (client : SeatedSide) (dones dones' : List HopDone) → pages ≡ pages' → dones ≡ dones' → AreLeft room pages client dones → AreLeft room pages' client dones'
 left_at room pages pages' client dones dones' is_pages is_dones left = subst (λ (ps : List PageView). AreLeft room ps client dones') is_pages (subst (AreLeft room pages client) is_dones left)
 
-settled_at : (pages pages' : List PageView) (client : SeatedSide) (dones dones' : List HopDone) (settled : List Settled) (got : List ℕ) → pages ≡ pages' → dones ≡ dones' → AreSettledBy pages' client dones' settled got → AreSettledBy pages client dones settled got
-settled_at pages pages' client dones dones' settled got is_pages is_dones by =
-    subst (λ (ps : List PageView). AreSettledBy ps client dones settled got) (sym is_pages) (subst (λ (ds : List HopDone). AreSettledBy pages' client ds settled got) (sym is_dones) by)
+settled_at : (pages pages' : List PageView) (client : SeatedSide) (dones dones' : List HopDone) (settled : List Settled) (joints : List JoinedEnds) (got : List ℕ) → pages ≡ pages' → dones ≡ dones' →
+    AreSettledBy pages' client dones' settled joints got → AreSettledBy pages client dones settled joints got
+settled_at pages pages' client dones dones' settled joints got is_pages is_dones by =
+    subst (λ (ps : List PageView). AreSettledBy ps client dones settled joints got) (sym is_pages) (subst (λ (ds : List HopDone). AreSettledBy pages' client ds settled joints got) (sym is_dones) by)
 
 -- all that is settled, after one more page is
-all_settled : (all : List PageView) (first : List HopDone) (s : Settled) (settled longer more : List Settled) (got : List ℕ) → longer ≡ settled ++ s ∷ [] → AreAllSettledBy all first (settled ++ s ∷ more) got → AreAllSettledBy all first (longer ++ more) got
-all_settled all first s settled longer more got is by =
-    subst (λ (xs : List Settled). AreAllSettledBy all first xs got) (sym (ap (λ (xs : List Settled). xs ++ more) is ∙ append_assoc settled (s ∷ []) more)) by
+all_settled : (all : List PageView) (first : List HopDone) (s : Settled) (settled longer more : List Settled) (joints : List JoinedEnds) (got : List ℕ) → longer ≡ settled ++ s ∷ [] →
+    AreAllSettledBy all first (settled ++ s ∷ more) joints got → AreAllSettledBy all first (longer ++ more) joints got
+all_settled all first s settled longer more joints got is by =
+    subst (λ (xs : List Settled). AreAllSettledBy all first xs joints got) (sym (ap (λ (xs : List Settled). xs ++ more) is ∙ append_assoc settled (s ∷ []) more)) by
 
-pub settled_on : (all : List PageView) (first : List HopDone) (page : PageView) (pages left : List PageView) (client near far : SeatedSide) (dones handed : List HopDone) (s : Settled) (settled longer : List Settled) →
-    left ≡ page ∷ pages → handed ≡ Passed near far ∷ dones → IsSettledBy page near client s → longer ≡ settled ++ s ∷ [] →
-    ((more : List Settled) (got : List ℕ) → AreSettledBy left client handed more got → AreAllSettledBy all first (settled ++ more) got) →
-    (more : List Settled) (got : List ℕ) → AreSettledBy pages far dones more got → AreAllSettledBy all first (longer ++ more) got
-settled_on all first page pages left client near far dones handed s settled longer is_left is_handed by is goes_on more got rest =
-    all_settled all first s settled longer more got is (goes_on (s ∷ more) got (settled_at left (page ∷ pages) client handed (Passed near far ∷ dones) (s ∷ more) got is_left is_handed (by, rest)))
+pub settled_on : (all : List PageView) (first : List HopDone) (page : PageView) (pages left : List PageView) (client near far : SeatedSide) (joint : Option JoinedEnds) (dones handed : List HopDone) (s : Settled) (settled longer : List Settled)
+    (joints kept : List JoinedEnds) → left ≡ page ∷ pages → handed ≡ Passed near far joint ∷ dones → IsSettledBy page near client s → longer ≡ settled ++ s ∷ [] → kept ≡ joints ++ option_to_list joint →
+    ((more : List Settled) (behind : List JoinedEnds) (got : List ℕ) → AreSettledBy left client handed more behind got → AreAllSettledBy all first (settled ++ more) (joints ++ behind) got) →
+    (more : List Settled) (behind : List JoinedEnds) (got : List ℕ) → AreSettledBy pages far dones more behind got → AreAllSettledBy all first (longer ++ more) (kept ++ behind) got
+settled_on all first page pages left client near far joint dones handed s settled longer joints kept is_left is_handed by is is_kept goes_on more behind got rest =
+    subst (λ (js : List JoinedEnds). AreAllSettledBy all first (longer ++ more) js got) (sym (append_assoc joints (option_to_list joint) behind) ∙ ap (λ (js : List JoinedEnds). js ++ behind) (sym is_kept))
+    (all_settled all first s settled longer more (joints ++ (option_to_list joint ++ behind)) got is
+    (goes_on (s ∷ more) (option_to_list joint ++ behind) got
+    (settled_at left (page ∷ pages) client handed (Passed near far joint ∷ dones) (s ∷ more) (option_to_list joint ++ behind) got is_left is_handed (by, (behind, refl, rest)))))
 
-pub settled_last : (all : List PageView) (first : List HopDone) (page : PageView) (pages left : List PageView) (client end : SeatedSide) (bytes : List ℕ) (dones handed : List HopDone) (s : Settled) (settled longer : List Settled) →
+pub settled_last : (all : List PageView) (first : List HopDone) (page : PageView) (pages left : List PageView) (client end : SeatedSide) (bytes : List ℕ) (dones handed : List HopDone) (s : Settled) (settled longer : List Settled) (joints : List JoinedEnds) →
     left ≡ page ∷ pages → handed ≡ Read end bytes ∷ dones → IsSettledBy page end client s → longer ≡ settled ++ s ∷ [] →
-    ((more : List Settled) (got : List ℕ) → AreSettledBy left client handed more got → AreAllSettledBy all first (settled ++ more) got) → AreAllSettledBy all first longer bytes
-settled_last all first page pages left client end bytes dones handed s settled longer is_left is_handed by is goes_on =
-    subst (λ (xs : List Settled). AreAllSettledBy all first xs bytes) (sym is) (goes_on (s ∷ []) bytes (settled_at left (page ∷ pages) client handed (Read end bytes ∷ dones) (s ∷ []) bytes is_left is_handed (by, refl, refl)))
+    ((more : List Settled) (behind : List JoinedEnds) (got : List ℕ) → AreSettledBy left client handed more behind got → AreAllSettledBy all first (settled ++ more) (joints ++ behind) got) → AreAllSettledBy all first longer joints bytes
+settled_last all first page pages left client end bytes dones handed s settled longer joints is_left is_handed by is goes_on =
+    subst (λ (js : List JoinedEnds). AreAllSettledBy all first longer js bytes) (append-nil joints)
+    (subst (λ (xs : List Settled). AreAllSettledBy all first xs (joints ++ []) bytes) (sym is)
+    (goes_on (s ∷ []) [] bytes (settled_at left (page ∷ pages) client handed (Read end bytes ∷ dones) (s ∷ []) [] bytes is_left is_handed (by, refl, refl, refl))))

@@ -1,6 +1,6 @@
 -- The tasks of a run may go from thread to thread: what a relay and each task consists of may.
 use denote.Param.Send.{IsSend, AllSend, sendable, view_send, recorded_send, struct_send}
-use denote.Param.SendFields.{variants_send}
+use denote.Param.SendFields.{FieldsHave, declared_send, variants_send}
 use denote.Struct.Declared.{shape}
 use Rattle.std.proofs.Crossing.{crosses}
 use Rattle.vchan_rule.proofs.Sent.{end_send}
@@ -13,7 +13,13 @@ use Rattle.vchan_relay.specs.contracts.hop.Hop.TheInside as hop_inside
 use Rattle.vchan_relay.specs.contracts.reader.Reader as reader
 use Rattle.vchan_relay.specs.contracts.reader.Reader.TheInside as reader_inside
 use Rattle.vchan_relay.specs.contracts.task.HopTask as task
-use Rattle.vchan_relay.proofs.task.HopDone.TheSendSync as done
+use Rattle.vchan_relay.specs.contracts.relay.Joint as joint
+use Rattle.vchan_relay.specs.contracts.relay.Joint.TheInside as joint_inside
+use Rattle.vchan_relay.specs.contracts.task.HopDone as done
+use Rattle.qrexec_frame.proofs.bytes.Bytes.TheSendSync as bytes
+use Rattle.vchan_rule.proofs.turned.Retired.TheSendSync as retired
+use Rattle.vchan_rule.specs.contracts.turned.Retired as retired_end
+use Rattle.std.below.core.proofs.snapshot.Sent.{snapshot_send}
 
 relay_send : (κ : _) → IsSend (relay.the_row κ)
 relay_send κ =
@@ -35,5 +41,13 @@ reader_send κ =
     let fields : AllSend (shape (reader_inside.the_type κ)).fields = (end_send κ, (search (sendable, crosses), (search sendable, (search sendable, tt)))) in
     view_send (reader_inside.the_row κ) _ _ _ _ (recorded_send (reader_inside.the_field κ).row _ _ (reader_inside.the_type κ).to_one (struct_send (shape (reader_inside.the_type κ)) fields))
 
+joint_send : IsSend joint.the_row
+joint_send =
+    let fields : FieldsHave IsSend joint_inside.the_type.parts = (snapshot_send retired_end.the_row, (snapshot_send retired_end.the_row, tt)) in
+    view_send joint_inside.the_row _ _ _ _ (declared_send joint_inside.the_type fields)
+
+pub done_send : IsSend done.the_row
+done_send = variants_send done.enum ((retired.the_send, tt), ((retired.the_send, (retired.the_send, (search (sendable, crosses, joint_send) depth 20, tt))), ((retired.the_send, (bytes.the_send, tt)), tt)))
+
 pub task_send : (κ : _) → IsSend (task.the_row κ)
-task_send κ = variants_send (task.enum κ) ((writer_send κ, tt), ((hop_send κ, tt), ((reader_send κ, tt), ((done.the_send, tt), tt))))
+task_send κ = variants_send (task.enum κ) ((writer_send κ, tt), ((hop_send κ, tt), ((reader_send κ, tt), ((done_send, tt), tt))))

@@ -1,4 +1,5 @@
 pub mod Relay
+pub mod Joints
 pub mod Turns
 pub mod Hops
 pub mod Ended

@@ -1,13 +1,15 @@
 -- What the tasks of a run of relays owe, from the nearest page to the farthest.
 -- Source: this project's own.
-use Rattle.std.specs.Prelude.{◌≡◌, ℕ, List, [], ◌∷◌}
+use Rattle.std.specs.Prelude.{◌≡◌, ℕ, false, List, [], ◌∷◌, Option, Some}
 use Rattle.atomic_table.specs.Seated.{TableId}
 use Rattle.ring_words.specs.declared.page.Role.TheVariants.{Server, Client}
+use Rattle.end_view.specs.EndView.{EndView}
 use Rattle.vchan_rule.specs.Seated.{PageView, SeatedSide, last_view}
 use Rattle.vchan_relay.specs.declared.task.HopDone.{HopDone}
 use Rattle.vchan_relay.specs.declared.task.HopDone.TheVariants.{Wrote, Passed, Read}
 use Rattle.vchan_relay.specs.declared.task.HopTask.{HopTask}
 use Rattle.vchan_relay.specs.declared.task.HopTask.TheVariants.{Writes, Passes, Reads, Over}
+use Rattle.vchan_relay.specs.Joints.{JoinedEnds}
 use Rattle.vchan_relay.specs.Ended.{IsEndOf, SendsAll, PassesAll, GetsAll}
 
 -- ---- what is returned
@@ -15,19 +17,23 @@ use Rattle.vchan_relay.specs.Ended.{IsEndOf, SendsAll, PassesAll, GetsAll}
 -- by a writer of these bytes on a page
 abbrev pub WriterHands : TableId → List ℕ → HopDone → Type 0
 WriterHands page bytes (Wrote end) = IsEndOf page Client end × SendsAll (last_view end) bytes
-WriterHands page bytes (Passed near far) = ⊥
+WriterHands page bytes (Passed near far joint) = ⊥
 WriterHands page bytes (Read end got) = ⊥
+
+-- a relay that wasn't refused tells which two ends it joined
+abbrev pub TellsJoint : EndView → EndView → Option JoinedEnds → Type 0
+TellsJoint near far joint = far.misled ≡ false → joint ≡ Some (record { near = near; far = far })
 
 -- by a relay between two pages
 abbrev pub RelayHands : TableId → TableId → HopDone → Type 0
 RelayHands before after (Wrote end) = ⊥
-RelayHands before after (Passed near far) = IsEndOf before Server near × IsEndOf after Client far × PassesAll (last_view near) (last_view far)
+RelayHands before after (Passed near far joint) = IsEndOf before Server near × IsEndOf after Client far × PassesAll (last_view near) (last_view far) × TellsJoint (last_view near) (last_view far) joint
 RelayHands before after (Read end got) = ⊥
 
 -- by a reader on a page, with room for this many bytes
 abbrev pub ReaderHands : TableId → ℕ → HopDone → Type 0
 ReaderHands page room (Wrote end) = ⊥
-ReaderHands page room (Passed near far) = ⊥
+ReaderHands page room (Passed near far joint) = ⊥
 ReaderHands page room (Read end got) = IsEndOf page Server end × GetsAll (last_view end) got room
 
 -- ---- what is owed

@@ -5,12 +5,14 @@ use Rattle.qrexec_frame.specs.Streams.{Each}
 use Rattle.end_view.specs.EndView.{EndView}
 use Rattle.end_view.specs.Settled.{Settled, IsSettled}
 use Rattle.vchan_rule.specs.Seated.{PageStart, began_with}
+use Rattle.vchan_relay.specs.Joints.{JoinedEnds, AreJoined}
 use Rattle.vchan_relay.specs.Ended.{GetsAll, PassesAll}
 
--- what the last reader got, and the pages from near to far
+-- what the last reader got, and the pages and the relays between them from near to far
 pub record RelayedPages : Type 0 where
   pub got : List ℕ
   pub pages : List Settled
+  pub joints : List JoinedEnds
 
 -- a page of two honest ends, which began with these words
 pub record IsHonestly (words : PageStart) (page : Settled) : Type 0 where
@@ -26,11 +28,12 @@ pub record HasCarried (words : PageStart) (bytes : List ℕ) (page : Settled) : 
   pub got : page.server.got ≡ bytes
   pub drained : page.server.drained ≡ true
 
--- the bytes went through this many relays
+-- the bytes went through this many relays, each of which joined two pages that follow one another
 pub record HasRelayed (hops : ℕ) (words : PageStart) (bytes : List ℕ) (r : RelayedPages) : Type 0 where
   pub got : r.got ≡ bytes
   pub count : length r.pages ≡ hops + 1
   pub each : Each (HasCarried words bytes) r.pages
+  pub joined : AreJoined r.pages r.joints
 
 -- ---- after a reader
 

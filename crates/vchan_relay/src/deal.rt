@@ -70,6 +70,7 @@ fn relay_task<'p>(
         Err(far) => Ok(HopTask::Over(HopDone::Passed {
             near: retire(near),
             far,
+            joint: None,
         })),
     }
 }

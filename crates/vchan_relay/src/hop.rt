@@ -78,8 +78,12 @@ impl<'p> Hop<'p> {
         let Hop { mut relay, .. } = self;
         let (_, moved) = advance(&mut relay);
         if relay.ended() {
-            let (near, far) = relay.retire();
-            return Turn::Done(HopDone::Passed { near, far });
+            let (near, far, joint) = relay.retire();
+            return Turn::Done(HopDone::Passed {
+                near,
+                far,
+                joint: Some(joint),
+            });
         }
         Turn::Again(HopTask::Passes(Hop { relay, moved }))
     }

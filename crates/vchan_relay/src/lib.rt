@@ -17,6 +17,6 @@ mod task;
 mod turn;
 mod writer;
 
-pub use relay::{Relay, RelayRefused};
+pub use relay::{Joint, Relay, RelayRefused};
 pub use run::{Relayed, relay_run};
 pub use turn::RelayTurn;

@@ -4,11 +4,13 @@ ghost use Rattle.vchan_rule.specs.Seated.{view, last_view, IsOpen};
 ghost use Rattle.vchan_rule.specs.Ends.{IsSameEnd};
 ghost use Rattle.vchan_lifecycle.specs.Lifecycle.{shut, retired_view};
 ghost use Rattle.vchan_relay.specs.Relay.{IsRelay};
+ghost use Rattle.vchan_relay.specs.Joints.{IsJoint};
 ghost use Rattle.vchan_relay.specs.Turns.{HasTurned, Leaves, ends_relay};
 
 use crate::turn::RelayTurn;
 use std::alloc::{AllocError, Global};
 use std::marker::Model;
+use std::snapshot::Snapshot;
 use vchan_lifecycle::{DrainAnswer, close, drain, retire};
 use vchan_rule::{End, Retired};
 use vchan_stream::{WriteAnswer, write};
@@ -34,6 +36,34 @@ impl<'p> Model for Relay<'p> {
     ghost view = { λ r. record { near = r.near; far = r.far; held = slice_range r.room.items r.passed r.taken; room = length r.room.items; ended = r.ended } };
 
     ghost invariant = { λ r. (r.passed ≤ r.taken) × (r.taken ≤ length r.room.items) × (1 ≤ length r.room.items) × (length r.room.items ≤ 1048576) × IsRelay (record { near = r.near; far = r.far; held = slice_range r.room.items r.passed r.taken; room = length r.room.items; ended = r.ended }) };
+}
+
+/// The two ends that a relay had, the one that it read and the one that it wrote, after it has retired
+/// them. Only [`Relay::retire`] makes one, so whoever has it knows that one relay stood between the two.
+#[derive(Drop)]
+pub struct Joint {
+    near: Snapshot<Retired>,
+    far: Snapshot<Retired>,
+}
+
+impl Model for Joint {
+    ghost use Rattle.vchan_rule.specs.Seated.{last_view};
+    ghost use Rattle.vchan_relay.specs.Joints.{JoinedEnds, IsJoint};
+
+    ghost Value = { JoinedEnds };
+
+    ghost view = { λ j. record { near = last_view j.near.value; far = last_view j.far.value } };
+
+    ghost invariant = { λ j. IsJoint (record { near = last_view j.near.value; far = last_view j.far.value }) };
+}
+
+impl Joint {
+    /// What was sent on the far end is a beginning of what was got on the near one.
+    pub fn promise(&self)
+        ensures { IsJoint self.now }
+    {
+        let _ = &self.near;
+    }
 }
 
 /// Memory ran out for a relay's room. Both ends are as they were.
@@ -192,14 +222,21 @@ impl<'p> Relay<'p> {
         turn
     }
 
-    /// Retires both ends, the near one first. Bytes that are still held are lost.
-    pub fn retire(self) -> (Retired, Retired)
+    /// Retires both ends, the near one first, and tells which two they were. Bytes that are still held
+    /// are lost.
+    pub fn retire(self) -> (Retired, Retired, Joint)
         ensures near { last_view result.0 ≡ retired_view (view self.entry.near) }
         ensures far { last_view result.1 ≡ retired_view (view self.entry.far) }
         ensures honest { ((last_view result.0).turned ≡ false) × ((last_view result.1).turned ≡ false) }
+        ensures joint { result.2 ≡ record { near = last_view result.0; far = last_view result.1 } }
     {
         let Self { near, far, .. } = self;
         let near = retire(near);
-        (near, retire(far))
+        let far = retire(far);
+        let joint = Joint {
+            near: Snapshot::of(&near),
+            far: Snapshot::of(&far),
+        };
+        (near, far, joint)
     }
 }

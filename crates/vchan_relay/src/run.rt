@@ -3,6 +3,7 @@ ghost use Rattle.std.specs.Prelude.{◌≡◌, ◌≤◌, ◌<◌, ◌+◌, ◌^
 
 use crate::deal::deal;
 use crate::lay::lay;
+use crate::relay::Joint;
 use crate::settle::settle;
 use qrexec_frame::Bytes;
 use ring_words::Orders;
@@ -22,6 +23,8 @@ pub struct Relayed {
     pub got: Bytes,
     /// The pages, from near to far.
     pub pages: Vec<Settled>,
+    /// The relays between them, from near to far: each joined a page and the next one.
+    pub joints: Vec<Joint>,
 }
 
 impl Model for Relayed {
@@ -29,7 +32,7 @@ impl Model for Relayed {
 
     ghost Value = { RelayedPages };
 
-    ghost view = { λ r. record { got = r.got; pages = r.pages.items } };
+    ghost view = { λ r. record { got = r.got; pages = r.pages.items; joints = r.joints.items } };
 }
 
 ghost use Rattle.vchan_relay.specs.Runs.{HasRelayed};

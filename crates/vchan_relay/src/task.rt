@@ -1,6 +1,7 @@
 //! The tasks of a run of relays.
 use crate::hop::Hop;
 use crate::reader::Reader;
+use crate::relay::Joint;
 use crate::writer::Writer;
 use qrexec_frame::Bytes;
 use task_pool::{PoolTask, Turn};
@@ -24,10 +25,17 @@ pub(crate) enum HopTask<'p> {
 pub(crate) enum HopDone {
     /// The writer's end.
     Wrote(Retired),
-    /// The end that a relay read, and the one that it wrote.
-    Passed { near: Retired, far: Retired },
+    /// The end that a relay read, and the one that it wrote. A relay that was refused joined nothing.
+    Passed {
+        near: Retired,
+        far: Retired,
+        joint: Option<Joint>,
+    },
     /// The reader's end, and what it got.
-    Read { end: Retired, bytes: Bytes },
+    Read {
+        end: Retired,
+        bytes: Bytes,
+    },
 }
 
 impl<'p> PoolTask for HopTask<'p> {

@@ -10,7 +10,7 @@ use Rattle.vchan_relay.specs.Owes.{AreHandedBack, AreTasks}
 use Rattle.vchan_relay.specs.Runs.{HasRelayed, RelayedPages}
 use Rattle.vchan_relay.specs.Settling.{AreAllSettledBy}
 use Rattle.vchan_relay.proofs.RunLaws.{count_tasks, handed_back, relayed}
-use Rattle.vchan_relay.proofs.Sent.{task_send}
+use Rattle.vchan_relay.proofs.Sent.{done_send, task_send}
 use Rattle.vchan_relay.proofs.run.relay_run.Goals as goal
 
 pub deal-requires-clause-laid : goal.deal-requires-clause-laid
@@ -18,6 +18,9 @@ deal-requires-clause-laid g c = (record { orders = c.args.orders; start = c.args
 
 pub run_pool-requires-send-T : goal.run_pool-requires-send-T
 run_pool-requires-send-T g c κs within = search (sendable, task_send)
+
+pub run_pool-requires-send-T-Done : goal.run_pool-requires-send-T-Done
+run_pool-requires-send-T-Done g c κs within = search (sendable, done_send)
 
 pub run_pool-requires-clause-few_tasks : goal.run_pool-requires-clause-few_tasks
 run_pool-requires-clause-few_tasks g c κs within =
@@ -34,7 +37,7 @@ settle-requires g c =
 
 -- whatever the settling returns
 by_settled : (hops : ℕ) (words : PageStart) (bytes : List ℕ) (pages : List PageView) (seats : List PageSeats) (dones : List HopDone) (result : Result RelayedPages Memory) → AreLaid words pages seats → length pages ≡ hops + 1 →
-    AreHandedBack bytes (length bytes + 1) pages dones → IfOk result (λ r. AreAllSettledBy pages dones r.pages r.got) → IfOk result (HasRelayed hops words bytes)
+    AreHandedBack bytes (length bytes + 1) pages dones → IfOk result (λ r. AreAllSettledBy pages dones r.pages r.joints r.got) → IfOk result (HasRelayed hops words bytes)
 by_settled hops words bytes pages seats dones (Ok r) laid count handed settled = relayed hops words bytes pages seats dones r laid count handed settled
 by_settled hops words bytes pages seats dones (Err memory) laid count handed settled = tt
 
