@@ -1,4 +1,4 @@
-//! How many turns a task takes, which no clause says.
+//! How many turns a task takes. Clauses say how many are left at most.
 use crate::domain::HostileDomain;
 use crate::task::{HostileTask, HostileTurn};
 use scenario_file::{Domain, Scenario, read};
