@@ -7,9 +7,12 @@ use Rattle.qrexec_frame.specs.declared.channel.Channel.TheVariants as channel
 use Rattle.qrexec_frame.specs.declared.message.Message.{Message}
 use Rattle.qrexec_frame.specs.declared.message.Message.TheVariants as message
 use Rattle.qrexec_frame.specs.Fronts.{reading}
+use Rattle.qrexec_frame.specs.Names.{cleaned_service}
 use Rattle.qrexec_frame.specs.Streams.{Each, messages}
 use Rattle.service_gate.specs.Triple.{Triple}
 use Rattle.service_gate.specs.ServiceResult.{service}
+use Rattle.call_broker.specs.declared.event.Event.TheVariants.{Trigger}
+use Rattle.call_broker.specs.Domains.{target_of}
 use Rattle.end_view.specs.EndView.{EndView, IsUnused}
 use Rattle.end_view.specs.Settled.{Settled, IsSettled}
 use Rattle.qrexec_data.specs.Seeing.{Exited, caller_sees, serving_sees}
@@ -20,14 +23,15 @@ use Rattle.scenario_file.specs.Lines.{lines, without_hostile}
 use Rattle.task_duties.specs.declared.place.PagePlace.{PagePlace}
 use Rattle.task_duties.specs.declared.place.PagePlace.TheVariants.{Control, Payload}
 use Rattle.task_duties.specs.Pairwise.{EachPair}
-use Rattle.task_duties.specs.Hearing.{to_agent, to_broker, hears}
+use Rattle.task_duties.specs.Hearing.{to_agent, to_broker, IsSaid, hears}
 use Rattle.task_duties.specs.Words.{ident_of, exec_line, service_of_line}
 use Rattle.task_duties.specs.Agent.Sessions.{chunk, IsService}
+use Rattle.task_duties.specs.Broker.Outbox.{event_of}
 use Rattle.task_duties.specs.Agent.Saying.{asking, asking_of}
 use Rattle.task_duties.specs.Hostile.Given.{HostilePlan}
 use Rattle.task_duties.specs.Hostile.Trail.{IsTrail}
 use Rattle.task_duties.specs.TaskOwes.{before_turned}
-use Rattle.run_laws.specs.Laid.{BeganAsSaid, server_of, client_of, laid, calls_from, hostile_plan}
+use Rattle.run_laws.specs.Laid.{BeganAsSaid, server_of, client_of, laid, calls_from, hostile_plan, hub_of}
 use Rattle.run_laws.specs.declared.report.MixedOutcome.{MixedOutcome}
 use Rattle.run_laws.specs.declared.report.MixedOutcome.TheVariants.{Done, Refused, Closed, Gone}
 use Rattle.run_laws.specs.declared.report.CallResult.{CallResult}
@@ -76,14 +80,18 @@ abbrev pub AreApart : Scenario → Ports → Type 0
 AreApart s ports =
     AllPairs (λ a b. a.from ≡ b.from → domain_named s a.to ≡ domain_named s b.to → IsSome (ports a.number) → ports a.number ≢ ports b.number) s.calls
 
--- the call was answered on this page, as its target's service answers
-pub record IsAnswered (call : CallPlan) (page : Settled) (code : ℤ) (stdout stderr : List ℕ) : Type 0 where
+-- the call was answered on this page, as its target's service answers; each side sent what the version of its domain has it send
+pub record IsAnswered (s : Scenario) (call : CallPlan) (to : ℕ) (page : Settled) (code : ℤ) (stdout stderr : List ℕ) : Type 0 where
   pub code_is : (caller_sees page.server.got).verdict ≡ Exited code
   pub stdout_is : (caller_sees page.server.got).stdout ≡ stdout
   pub stderr_is : (caller_sees page.server.got).stderr ≡ stderr
   pub no_fault : (serving_sees page.client.got).fault ≡ None
   pub input_is : (serving_sees page.client.got).input ≡ call.stdin
   pub input_ended : (serving_sees page.client.got).ended ≡ true
+  pub asked : CallerMaySend (version_at s call.from) chunk call.stdin page.server.got page.server.sent
+  pub owed : List ℕ → Triple
+  pub is_service : IsService call.service owed
+  pub answered : ServingMaySend (version_at s to) chunk owed page.client.got page.client.sent
 
 -- the state of an end that its outcome implies
 abbrev pub EndedAs : MixedOutcome → EndView → Type 0
@@ -107,7 +115,7 @@ MixedOn s call outcome got page =
 abbrev pub ResultStands : Scenario → Report → Ports → CallPlan → ℕ → CallResult → Type 0
 ResultStands s r ports call to (IsDone code stdout stderr page) =
     (port : ℕ) × (settled : Settled) × (ports call.number ≡ Some port)
-    × (slice_get r.pages page ≡ Some (record { place = Payload call.from to port; settled = settled })) × IsAnswered call settled code stdout stderr
+    × (slice_get r.pages page ≡ Some (record { place = Payload call.from to port; settled = settled })) × IsAnswered s call to settled code stdout stderr
 ResultStands s r ports call to (IsRefused cause) = Unit {0}
 ResultStands s r ports call to (IsMixed Refused got) = (ports call.number ≡ None) × (got ≡ []) × MayRefuse s r call to
 ResultStands s r ports call to (IsMixed outcome got) =
@@ -162,6 +170,17 @@ ServedSent s x owed Closed end = (end.ended ≡ Some AllRead) ⊎ (end.misled �
 ServedSent s x owed Gone end = end.ended ≡ Some PeerGone
 ServedSent s x owed outcome end = Unit {0}
 
+-- the session of an Exec was asked for: the broker heard a trigger on the caller's page whose target names the domain that serves, and the Exec has the trigger's service, cleaned, and the caller's name
+pub record IsAskedFor (s : Scenario) (r : Report) (x : ExecAt) : Type 0 where
+  pub page : Settled
+  pub lies : LiesAt r (Control x.from) page
+  pub target : List ℕ
+  pub service : List ℕ
+  pub ident : List ℕ
+  pub heard : Contains (filter_map (event_of x.from) (hears 3 to_broker page.client.got).messages) (Trigger x.from target service ident)
+  pub named : target_of (hub_of s) target ≡ Some x.to
+  pub line_is : x.line ≡ exec_line (cleaned_service service) (name_at s x.from)
+
 -- the line of a session with a hostile caller stands: its page confirms it
 pub record IsServed (s : Scenario) (r : Report) (x : ExecAt) (l : ServedLine) : Type 0 where
   pub from : l.from ≡ name_at s x.from
@@ -177,6 +196,7 @@ pub record IsServed (s : Scenario) (r : Report) (x : ExecAt) (l : ServedLine) : 
   pub fits : FitsServing l.outcome l.got
   pub sent : ServingMaySend (version_at s x.to) chunk owed page.client.got page.client.sent
   pub ended : ServedSent s x owed l.outcome page.client
+  pub asked : IsAskedFor s r x
 
 -- ---- the control page of an honest domain
 
@@ -195,10 +215,14 @@ abbrev pub answer_of : Scenario → Ports → CallPlan → Option ℕ → Option
 answer_of s ports call (Some to) (Some port) = message.Connect to port (ident_of call.number)
 answer_of s ports call to port = message.Refused (ident_of call.number)
 
--- nothing on the control page of an honest domain is wrong: it asked for its calls in order, and each has exactly one answer
+-- nothing on the control page of an honest domain is wrong: each side that sent anything greeted with its own version and then sent whole messages that it may send; the domain asked for its calls in order, and each has exactly one answer
 pub record ControlStands (s : Scenario) (ports : Ports) (d : ℕ) (page : Settled) : Type 0 where
   pub left : (hears (version_at s d) to_agent page.server.got).fault ≡ None
   pub right : (hears 3 to_broker page.client.got).fault ≡ None
+  pub left_said : List Message
+  pub left_says : IsSaid 3 to_agent left_said page.client.sent
+  pub right_said : List Message
+  pub right_says : IsSaid (version_at s d) to_broker right_said page.server.sent
   pub asked : filter_map asking (control_messages page.client.got) ≡ map asking_of (calls_from s d)
   pub answered : Each (λ call. replies (ident_of call.number) (control_messages page.server.got) ≡ answer_of s ports call (domain_named s call.to) (ports call.number) ∷ []) (calls_from s d)
 

@@ -22,7 +22,7 @@ use Rattle.task_duties.specs.declared.place.PagePlace.TheVariants.{Control, Payl
 use Rattle.task_duties.specs.Words.{ident_of}
 use Rattle.task_duties.specs.Hearing.{to_agent}
 use Rattle.task_duties.specs.Agent.Answers.{Answer, Waits, IsRefused, At}
-use Rattle.task_duties.specs.Agent.Sessions.{CallerDone, CallerOwes}
+use Rattle.task_duties.specs.Agent.Sessions.{CallerDone, CallerOwes, ServingOwes}
 use Rattle.task_duties.specs.declared.done.CallEnd.{CallEnd}
 use Rattle.task_duties.specs.declared.done.CallEnd.TheVariants.{Session, Refused as WasRefused, Unanswered}
 use Rattle.task_duties.specs.Agent.Owes.{ReportsAnswer, caller_done}
@@ -99,12 +99,12 @@ target-plain s call to plain named = ap (λ o. option_map_or (hostile_at s) o fa
 with-line : (s : Scenario) (run : Run) (call : CallPlan) (result : LineResult) → by_domain call (domain_named s call.to) ≡ result → Some (with_result (line_read s run call) result) ≡ Some (line_of s call)
 with-line s run call result is = ap (λ r. Some (with_result (line_read s run call) r)) (sym is)
 
-answered-well : (owed : List ℕ → Triple) (call : CallPlan) (done : CallerDone) (page : Settled) (own : ℕ) → IsEqual call done page → CallerOwes own call.stdin done page.server → (code : ℤ) → done.outcome ≡ outcome.Done code
-    → IsAnswered call page code done.stdout done.stderr
-answered-well owed call done page own eq o code is =
+answered-well : (s : Scenario) (call : CallPlan) (to : ℕ) (done : CallerDone) (page : Settled) → IsEqual call done page → CallerOwes (version_at s call.from) call.stdin done page.server
+    → (serving : Outcome) (got : List ℕ) → ServingOwes (version_at s to) call.service serving got page.client → (code : ℤ) → done.outcome ≡ outcome.Done code → IsAnswered s call to page code done.stdout done.stderr
+answered-well s call to done page eq o serving got w code is =
     let fits = o.fits in
     let fits' : FitsCaller (outcome.Done code) (caller_sees page.server.got) = subst (λ x. FitsCaller x (caller_sees page.server.got)) is fits in
-    record { code_is = fits'; stdout_is = sym o.stdout; stderr_is = sym o.stderr; no_fault = eq.no_fault; input_is = eq.input_is; input_ended = eq.input_ended }
+    record { code_is = fits'; stdout_is = sym o.stdout; stderr_is = sym o.stderr; no_fault = eq.no_fault; input_is = eq.input_is; input_ended = eq.input_ended; asked = o.sent; owed = w.owed; is_service = w.is_service; answered = w.sent }
 
 -- a call that has a session
 fine-session : (s : Scenario) (run : Run) (h : IsRun s run) (served : List ServedLine) (call : CallPlan) → Has s.calls call → is_mixed s call ≡ false → (port to : ℕ) (done : CallerDone)
@@ -130,9 +130,10 @@ fine-session s run h served call there plain port to done end r =
     let place : Has (laid s) (Payload call.from to port) = is-laid s call.from to port a.place in
     let ports : ports_of s run call.number ≡ Some port = ports-is s run (facts s run h) call there ∙ ap port_of_end end in
     let page = page-found s run (Payload call.from to port) place in
-    let answered = answered-well eq.owed call done (run.page (Payload call.from to port)) (version_at s call.from) eq view.owes (eq.owed call.stdin).code eq.outcome in
+    let serving = served_all s run h call.from to port honest other call (contains-from (calls_from s call.from) call planned) (contains-from (agent_heard s run call.from) _ view.heard) in
+    let answered = answered-well s call to done (run.page (Payload call.from to port)) eq view.owes serving.done.outcome serving.done.got serving.owes (eq.owed call.stdin).code eq.outcome in
     let clean = control_bytes s run h to other in
-    let told = (served_all s run h call.from to port honest other call (contains-from (calls_from s call.from) call planned) (contains-from (agent_heard s run call.from) _ view.heard)).told in
+    let told = serving.told in
     let all = has-all (control_messages (run.page (Control to)).server.got) (agent_heard s run to) _ (greeted (version_at s to) to_agent (run.page (Control to)).server.got clean.left) (has-from (agent_heard s run to) _ told) in
     let target : (to' : ℕ) → domain_named s call.to ≡ Some to' → to ≡ to' = λ to' n. let e : Some to ≡ Some to' = sym named ∙ n in cc in
     let Stands : ℕ → Type 0 = λ t'. ResultStands s (report_of s run served) (ports_of s run) call t' (IsDone (eq.owed call.stdin).code done.stdout done.stderr (index_of (Payload call.from to port) (laid s))) in

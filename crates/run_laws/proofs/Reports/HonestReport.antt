@@ -34,7 +34,8 @@ use Rattle.run_laws.specs.ReadOff.{end_of_call, page_read, plain_end, mixed_end,
 use Rattle.run_laws.proofs.Domains.AnswersAllLaw.{answers_all, replies-one}
 use Rattle.run_laws.proofs.Sessions.CallEnds.{IsReported, is-reported}
 use Rattle.run_laws.proofs.Scenarios.Calls.{ident-number, own-call}
-use Rattle.run_laws.proofs.Domains.ControlLaws.{control_bytes}
+use Rattle.run_laws.proofs.Domains.ControlLaws.{own-end, control_bytes}
+use Rattle.run_laws.proofs.Scenarios.Numbers.{is-domain}
 use Rattle.run_laws.proofs.Domains.ControlMessages.{greeted, same-asked, same-replies}
 use Rattle.run_laws.proofs.Reports.FineCalls.{caller-honest, planned-of, session-heard, refused-heard, IsFine, fine-call, mixed-paged, mixed-is}
 use Rattle.run_laws.proofs.Domains.Planned.{ports-differ}
@@ -175,9 +176,14 @@ control-stands : (s : Scenario) (run : Run) (h : IsRun s run) (d : ℕ) → IsHo
 control-stands s run h d honest =
     let clean = control_bytes s run h d honest in
     let all = answers_all s run h d honest in
+    let agent = h.agent d honest in
     record {
       left = clean.left;
       right = clean.right;
+      left_said = h.broker.said d;
+      left_says = h.broker.says d (is-domain s d honest.there);
+      right_said = agent.said;
+      right_says = rw (own-end run d) at agent.says;
       asked = same-asked _ _ (greeted 3 to_broker (run.page (Control d)).client.got clean.right) ∙ all.asked;
       answered = each-of (λ call. replies (ident_of call.number) (control_messages (run.page (Control d)).server.got) ≡ answer_of s (ports_of s run) call (domain_named s call.to) (ports_of s run call.number) ∷ [])
           (calls_from s d) (λ call planned. reply-of s run h d honest call planned);

@@ -8,6 +8,8 @@ use Rattle.qrexec_frame.specs.declared.message.Message.TheVariants as m
 use Rattle.qrexec_frame.specs.Streams.{Each}
 use Rattle.service_gate.specs.Triple.{Triple}
 use Rattle.service_gate.specs.ServiceResult.{service}
+use Rattle.call_broker.specs.declared.event.Event.TheVariants.{Trigger}
+use Rattle.call_broker.specs.Journal.{events}
 use Rattle.end_view.specs.EndView.{EndView}
 use Rattle.qrexec_data.specs.declared.outcome.Outcome.{Outcome}
 use Rattle.qrexec_data.specs.declared.outcome.Outcome.TheVariants as outcome
@@ -21,7 +23,8 @@ use Rattle.task_duties.specs.Hearing.{to_agent}
 use Rattle.task_duties.specs.Agent.Answers.{Served, takes_all, nothing_heard}
 use Rattle.task_duties.specs.Agent.Sessions.{ServingOwes, ServingEnded}
 use Rattle.task_duties.specs.Agent.Owes.{ReportsServed}
-use Rattle.task_duties.proofs.Elements.{Has, has-from, has-flat_map, has-filter_map, has-map, pair-of}
+use Rattle.task_duties.specs.Broker.Outbox.{is_from}
+use Rattle.task_duties.proofs.Elements.{Has, has-from, contains-from, has-flat_map, has-filter_map, has-filter-back, has-map, has-map-back, pair-of}
 use Rattle.task_duties.proofs.LineLaw.{line-served}
 use Rattle.task_duties.proofs.ServedLaw.{serves-each}
 use Rattle.task_duties.specs.declared.done.ServedDone.{ServedDone}
@@ -30,7 +33,7 @@ use Rattle.run_laws.specs.Laid.{laid, agent_plan}
 use Rattle.run_laws.specs.declared.report.ServedLine.{ServedLine}
 use Rattle.run_laws.specs.Report.{SettledPage, Report}
 use Rattle.run_laws.specs.Report as report
-use Rattle.run_laws.specs.Lawful.{ExecAt, exec_at, execs_on, hostile_execs, IsServed, ServedSent, control_messages}
+use Rattle.run_laws.specs.Lawful.{ExecAt, exec_at, execs_on, hostile_execs, IsAskedFor, IsServed, ServedSent, control_messages}
 use Rattle.run_laws.specs.Run.{Run, IsRun, IsHonest, IsPlace, end_of}
 use Rattle.run_laws.specs.Laws.{agent_heard}
 use Rattle.run_laws.specs.ReadOff.{page_read, mixed_outcome, report_of}
@@ -40,7 +43,9 @@ use Rattle.run_laws.proofs.Scenarios.Names.{service_byte, no-spaces, name-is, na
 use Rattle.run_laws.proofs.Scenarios.Places.{is-laid}
 use Rattle.run_laws.proofs.Domains.Planned.{is-called, heard-apart, heard-unused}
 use Rattle.run_laws.proofs.Sessions.ServedAllLaw.{heard-entry}
+use Rattle.run_laws.proofs.Reports.ReadLaws.{control-laid}
 use Rattle.run_laws.proofs.Reports.WholeReport.{laid-place, lies-at}
+use Rattle.run_laws.proofs.Scenarios.Numbers.{is-domain}
 use Rattle.run_laws.proofs.Scenarios.Facts.{facts}
 
 -- a cleaned service has no space
@@ -70,13 +75,37 @@ ended-of s x owed outcome.Closed end (inl c) = inl c.ended
 ended-of s x owed outcome.Closed end (inr c) = inr c
 ended-of s x owed outcome.Gone end f = f.ended
 
+-- it was asked for
+exec-asked : (s : Scenario) (run : Run) (h : IsRun s run) (d : ℕ) → IsHonest s d → (from port : ℕ) (line : List ℕ) → Has (agent_heard s run d) (m.Exec from port line)
+    → (served : List ServedLine) → IsAskedFor s (report_of s run served) (record { from = from; to = d; port = port; line = line })
+exec-asked s run h d honest from port line heard served =
+    let c = heard-entry s run h d honest (m.Exec from port line) heard in
+    let put = c.is in
+    let called = is-called s run h c.one c.there from put.target put.service put.ident d port put.event put.accepted in
+    let there = called.place.1 in
+    let entered = subst (Has (events run.journal)) put.event (has-map-back (λ y. y.event) run.journal c.one c.there) in
+    let self : (from == from) ≡ true = grind (arith, nat_tests) in
+    let read = has-filter-back (is_from from) (events run.journal) (Trigger from put.target put.service put.ident) entered self in
+    let told = subst (λ l. Has l (Trigger from put.target put.service put.ident)) (h.broker.reads from (is-domain s from there)) read in
+    record {
+      page = run.page (Control from);
+      lies = lies-at s run served (Control from) (control-laid s from there);
+      target = put.target;
+      service = put.service;
+      ident = put.ident;
+      heard = contains-from _ _ told;
+      named = called.accepted.named;
+      line_is = put.line_is ∙ ap (exec_line (cleaned_service put.service)) (name-is s from there);
+    }
+
 -- an Exec that was heard names a service and a page
-pub record ExecRead (s : Scenario) (d from port : ℕ) (line : List ℕ) : Type 0 where
+pub record ExecRead (s : Scenario) (run : Run) (d from port : ℕ) (line : List ℕ) : Type 0 where
   pub service : List ℕ
   pub read : service_of_line line ≡ Some service
   pub place : IsPlace s (Payload from d port)
+  pub asked : (served : List ServedLine) → IsAskedFor s (report_of s run served) (record { from = from; to = d; port = port; line = line })
 
-pub exec-read : (s : Scenario) (run : Run) (h : IsRun s run) (d : ℕ) → IsHonest s d → (from port : ℕ) (line : List ℕ) → Has (agent_heard s run d) (m.Exec from port line) → ExecRead s d from port line
+pub exec-read : (s : Scenario) (run : Run) (h : IsRun s run) (d : ℕ) → IsHonest s d → (from port : ℕ) (line : List ℕ) → Has (agent_heard s run d) (m.Exec from port line) → ExecRead s run d from port line
 exec-read s run h d honest from port line heard =
     let c = heard-entry s run h d honest (m.Exec from port line) heard in
     let put = c.is in
@@ -91,10 +120,11 @@ exec-read s run h d honest from port line heard =
       service = cleaned_service put.service;
       read = ap service_of_line line_is ∙ line-served (cleaned_service put.service) (name_at s from) spaces word known;
       place = place;
+      asked = exec-asked s run h d honest from port line heard;
     }
 
 -- what the agent reports of it stands
-pub exec-stands : (s : Scenario) (run : Run) (d from port : ℕ) (line : List ℕ) (x : ExecRead s d from port line) (done : ServedDone)
+pub exec-stands : (s : Scenario) (run : Run) (d from port : ℕ) (line : List ℕ) (x : ExecRead s run d from port line) (done : ServedDone)
     → ReportsServed (agent_plan s d) (end_of run d) (record { from = from; port = port; service = x.service }) done
     → (served : List ServedLine) → IsServed s (report_of s run served) (record { from = from; to = d; port = port; line = line }) (session_line s (session_of d done))
 exec-stands s run d from port line x done r served =
@@ -117,6 +147,7 @@ exec-stands s run d from port line x done r served =
       fits = subst (λ g. report.FitsServing (mixed_outcome done.outcome) g) (sym owes.got_is) (fits-of done.outcome (run.page (Payload from d port)).client.got owes.fits);
       sent = owes.sent;
       ended = ended-of s (record { from = from; to = d; port = port; line = line }) owes.owed done.outcome (run.page (Payload from d port)).client owes.ended;
+      asked = x.asked served;
     }
 
 exec-served : (s : Scenario) (run : Run) (h : IsRun s run) (d : ℕ) → IsHonest s d → (from port : ℕ) (line : List ℕ) → Has (agent_heard s run d) (m.Exec from port line)

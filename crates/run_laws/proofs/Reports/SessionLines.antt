@@ -93,7 +93,7 @@ serves-all d (m ∷ ms) a apart each = serves-all d ms (takes d a m) apart.1 (un
 
 -- ---- the sessions of one domain
 
-matched : (s : Scenario) (run : Run) (d : ℕ) (ms : List Message) (dones : List ServedDone) → ((from port : ℕ) (line : List ℕ) → Has ms (Exec from port line) → ExecRead s d from port line)
+matched : (s : Scenario) (run : Run) (d : ℕ) (ms : List Message) (dones : List ServedDone) → ((from port : ℕ) (line : List ℕ) → Has ms (Exec from port line) → ExecRead s run d from port line)
     → EachPair (ReportsServed (agent_plan s d) (end_of run d)) (served_in ms) dones
     → EachPair (Matches s run) (filter_map (exec_at s d) ms) (map (session_of d) (filter (λ done. hostile_at s done.from) dones))
 unfolding served_in served_from
@@ -101,7 +101,7 @@ matched s run d [] [] go r = tt
 matched s run d [] (e ∷ dones) go r = absurd r
 matched s run d (Exec from port line ∷ ms) dones go r = by_read (go from port line (inl refl)) dones r (λ rest h. matched s run d ms rest (λ f p l there. go f p l (inr there)) h)
   where
-    by_caller : (x : ExecRead s d from port line) (e : ServedDone) → ReportsServed (agent_plan s d) (end_of run d) (record { from = from; port = port; service = x.service }) e → (rest : List ServedDone)
+    by_caller : (x : ExecRead s run d from port line) (e : ServedDone) → ReportsServed (agent_plan s d) (end_of run d) (record { from = from; port = port; service = x.service }) e → (rest : List ServedDone)
         → EachPair (Matches s run) (filter_map (exec_at s d) ms) (map (session_of d) (filter (λ done. hostile_at s done.from) rest)) → (b : Bool) → hostile_at s from ≡ b
         → EachPair (Matches s run) (filter_map (exec_at s d) (Exec from port line ∷ ms)) (map (session_of d) (filter (λ done. hostile_at s done.from) (e ∷ rest)))
     by_caller x e r' rest more true is =
@@ -109,13 +109,13 @@ matched s run d (Exec from port line ∷ ms) dones go r = by_read (go from port 
         rw (is, other) (record { from = r'.0; to = refl; port = r'.1; stands = exec-stands s run d from port line x e r' }, more)
     by_caller x e r' rest more false is = let other : hostile_at s e.from ≡ false = ap (hostile_at s) r'.0 ∙ is in rw (is, other) more
 
-    by_list : (x : ExecRead s d from port line) (dones' : List ServedDone) → EachPair (ReportsServed (agent_plan s d) (end_of run d)) (record { from = from; port = port; service = x.service } ∷ served_in ms) dones'
+    by_list : (x : ExecRead s run d from port line) (dones' : List ServedDone) → EachPair (ReportsServed (agent_plan s d) (end_of run d)) (record { from = from; port = port; service = x.service } ∷ served_in ms) dones'
         → ((rest : List ServedDone) → EachPair (ReportsServed (agent_plan s d) (end_of run d)) (served_in ms) rest → EachPair (Matches s run) (filter_map (exec_at s d) ms) (map (session_of d) (filter (λ done. hostile_at s done.from) rest)))
         → EachPair (Matches s run) (filter_map (exec_at s d) (Exec from port line ∷ ms)) (map (session_of d) (filter (λ done. hostile_at s done.from) dones'))
     by_list x [] h more = absurd h
     by_list x (e ∷ rest) h more = by_caller x e h.0 rest (more rest h.1) (hostile_at s from) refl
 
-    by_read : (x : ExecRead s d from port line) (dones' : List ServedDone) → EachPair (ReportsServed (agent_plan s d) (end_of run d)) (served_in (Exec from port line ∷ ms)) dones'
+    by_read : (x : ExecRead s run d from port line) (dones' : List ServedDone) → EachPair (ReportsServed (agent_plan s d) (end_of run d)) (served_in (Exec from port line ∷ ms)) dones'
         → ((rest : List ServedDone) → EachPair (ReportsServed (agent_plan s d) (end_of run d)) (served_in ms) rest → EachPair (Matches s run) (filter_map (exec_at s d) ms) (map (session_of d) (filter (λ done. hostile_at s done.from) rest)))
         → EachPair (Matches s run) (filter_map (exec_at s d) (Exec from port line ∷ ms)) (map (session_of d) (filter (λ done. hostile_at s done.from) dones'))
     by_read x dones' h more =
