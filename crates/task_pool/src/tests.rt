@@ -5,8 +5,8 @@ use service_gate::{Gate, OpenGate};
 use std::alloc::{AllocError, Global};
 use std::sync::atomic::{AtomicBool, AtomicU64, Ordering};
 use std::test::Fail;
-use std::thread;
 use std::time::Duration;
+use std::{hint, thread};
 
 // A task of this many turns, which answers how many it made.
 #[derive(Drop)]
@@ -152,8 +152,11 @@ fn all_turns_at_once(rt: HostRuntime) -> Result<(), Fail> {
     Ok(())
 }
 
-// How many tries a gate holds the one task that should be alone.
-const SOLITUDE: u32 = 1_000_000;
+// How often a gate that holds the one task that should be alone gives its processor away, and how many tries it
+// makes before each time. To give it away a million times would take minutes on a busy machine.
+const SOLITUDE: u32 = 1_000;
+
+const TRIES: u32 = 1_000;
 
 // Holds the first task that enters, and tells whether another one enters meanwhile.
 #[derive(Drop)]
@@ -173,6 +176,9 @@ impl Gate for Alone {
         }
         self.holds.store(true, Ordering::SeqCst);
         for _ in 0..SOLITUDE {
+            for _ in 0..TRIES {
+                hint::spin_loop();
+            }
             thread::yield_now();
         }
         self.holds.store(false, Ordering::SeqCst);

@@ -6,9 +6,9 @@ use std::alloc::Global;
 use std::sync::Wait;
 use std::sync::atomic::{AtomicBool, AtomicU64, Ordering};
 use std::test::Fail;
-use std::thread;
 use std::thread::Threads;
 use std::time::Clock;
+use std::{hint, thread};
 
 /// Six calls between three domains.
 const SIX_CALLS: &[u8] = br#"
@@ -182,8 +182,11 @@ impl Gate for Together {
     }
 }
 
-/// The tries for which a gate holds the one task that should be alone.
-const SOLITUDE: u32 = 1_000_000;
+/// How often a gate that holds the one task that should be alone gives its processor away, and how many tries it
+/// makes before each time. To give it away a million times would take minutes on a busy machine.
+const SOLITUDE: u32 = 1_000;
+
+const TRIES: u32 = 1_000;
 
 /// Holds the first task that enters, and notes whether another one enters meanwhile.
 #[derive(Drop)]
@@ -203,6 +206,9 @@ impl Gate for Alone {
         }
         self.holds.store(true, Ordering::SeqCst);
         for _ in 0..SOLITUDE {
+            for _ in 0..TRIES {
+                hint::spin_loop();
+            }
             thread::yield_now();
         }
         self.holds.store(false, Ordering::SeqCst);
