@@ -23,8 +23,10 @@ enum vchan_refusal {
 	VCHAN_NO_END
 };
 
-/* What a step awaits: nothing, since it has the answer; the value of a word; or only that the caller goes on. */
-enum vchan_kind { VCHAN_ANSWER, VCHAN_LOAD, VCHAN_OR, VCHAN_AND, VCHAN_SWAP, VCHAN_FURTHER };
+/* What a step awaits: nothing, since it has the answer; the value of a word; or only that the caller goes on.
+ * With VCHAN_NOTIFY it has the answer, and the caller ends the call with a notify: it clears the bits in the
+ * word, at once, and signals the peer if the word had them. */
+enum vchan_kind { VCHAN_ANSWER, VCHAN_LOAD, VCHAN_OR, VCHAN_NOTIFY, VCHAN_SWAP, VCHAN_FURTHER };
 
 enum vchan_moves { VCHAN_NOTHING, VCHAN_PUT, VCHAN_TAKE };
 
@@ -39,18 +41,19 @@ struct vchan_end {
 	uint32_t numbers[8];
 };
 
-/* What the caller does, in this order: it moves bytes, stores, signals, and then makes the event that is
- * awaited. A word lies at an offset of struct vchan_interface, and its width is in bytes; if the width is
- * 0, that struct has no such word. */
+/* What the caller does, in this order: it moves bytes, stores, signals, makes the event that is awaited, and
+ * then, unless its value was 0, loads the word to look at. A word lies at an offset of struct vchan_interface,
+ * and its width is in bytes; if the width is 0, there is no such word. */
 struct vchan_step {
 	uint8_t kind, width;
 	uint16_t offset;
 	uint8_t moves, ring; /* the ring: 0 left, 1 right */
 	uint8_t store_width, signals;
 	uint16_t store_offset;
-	uint8_t answer, spare;
+	uint8_t answer, look_width;
 	uint32_t place, at, first, second; /* bytes: `first` from `place` on, `second` from the ring's front on */
-	uint32_t answer_first, answer_second, spares;
+	uint32_t answer_first, answer_second;
+	uint16_t look_offset, spare;
 	uint64_t stored, bits;
 };
 
@@ -64,8 +67,8 @@ bool vchan_end_init(struct vchan_end *end, uint8_t role, uint8_t state, uint16_t
 /* Begins a call. Returns an enum vchan_refusal. The end and the step change only if that is VCHAN_BEGUN. */
 uint8_t vchan_end_begin(struct vchan_end *end, uint8_t call, uint32_t len, struct vchan_step *step);
 
-/* Takes the awaited value, and tells the next step. Returns false, and changes nothing, if the end is between
- * two calls or the bytes are no end's. */
-bool vchan_end_took(struct vchan_end *end, uint64_t value, struct vchan_step *step);
+/* Takes the awaited value and that of the word that was looked at, and tells the next step. Returns false, and
+ * changes nothing, if the end is between two calls or the bytes are no end's. */
+bool vchan_end_took(struct vchan_end *end, uint64_t value, uint64_t look, struct vchan_step *step);
 
 #endif

@@ -52,18 +52,25 @@ static void move_bytes(const struct vchan_page *page, const struct vchan_step *s
 	}
 }
 
-/* Returns the value of what a step awaits. Of the words that the page doesn't have, only the own signal can be set. */
+/* Returns the value of what a step awaits, or 0. Of the words that the page doesn't have, only the own signal can be set. */
 static uint64_t awaited(const struct vchan_page *page, const struct vchan_step *step)
 {
 	if (step->width == 0)
 		return step->kind == VCHAN_SWAP && page->take_event && page->take_event(page->context);
 	if (step->kind == VCHAN_OR)
 		return __atomic_fetch_or(byte_at(page, step->offset), (uint8_t)step->bits, __ATOMIC_SEQ_CST);
-	if (step->kind == VCHAN_AND)
-		return __atomic_fetch_and(byte_at(page, step->offset), (uint8_t)step->bits, __ATOMIC_SEQ_CST);
 	if (step->offset == CLI_LIVE && page->persists)
 		return 1;
 	return load(page, step->offset, step->width);
+}
+
+/* Makes the notify with which a call ends: what the peer asked for is cleared, and it is signalled. */
+static void notify_peer(const struct vchan_page *page, const struct vchan_step *step)
+{
+	uint8_t asked = __atomic_fetch_and(byte_at(page, step->offset), (uint8_t)~step->bits, __ATOMIC_SEQ_CST);
+
+	if (asked & step->bits)
+		page->notify(page->context);
 }
 
 static int refuse(int error)
@@ -94,6 +101,7 @@ static int make(struct vchan_page *page, enum vchan_call call, uint32_t len, con
 		struct vchan_step *step)
 {
 	uint8_t why = vchan_end_begin(&page->end, call, len, step);
+	uint64_t value, look;
 
 	if (why != VCHAN_BEGUN)
 		return refusal(why);
@@ -104,11 +112,13 @@ static int make(struct vchan_page *page, enum vchan_call call, uint32_t len, con
 			store(page, step->store_offset, step->store_width, step->stored);
 		if (step->signals)
 			page->notify(page->context);
-		if (step->kind == VCHAN_ANSWER)
+		if (step->kind == VCHAN_NOTIFY)
+			notify_peer(page, step);
+		if (step->kind == VCHAN_ANSWER || step->kind == VCHAN_NOTIFY)
 			return 0;
-		if (step->kind == VCHAN_FURTHER && !step->moves && !step->store_width && !step->signals)
-			return refuse(EBADF); /* a step with nothing to do or await: no end gives one */
-		if (!vchan_end_took(&page->end, step->kind == VCHAN_FURTHER ? 0 : awaited(page, step), step))
+		value = awaited(page, step);
+		look = step->look_width && value ? load(page, step->look_offset, step->look_width) : 0;
+		if (!vchan_end_took(&page->end, value, look, step))
 			return refuse(EBADF);
 	}
 }

@@ -173,6 +173,12 @@ impl std::error::Error for Error {}
 
 const NOTIFY_WRITE: u8 = 1;
 
+/// Kinds of steps, as `enum vchan_kind` of c/vchan_end.h.
+const ANSWER: u8 = 0;
+const OR: u8 = 2;
+const NOTIFY: u8 = 3;
+const SWAP: u8 = 4;
+
 #[derive(Clone, Copy)]
 enum Call {
     Write = 1,
@@ -372,12 +378,22 @@ impl<'page, E: Events> End<'page, E> {
             if step.signals != 0 {
                 self.events.notify();
             }
-            if step.kind == 0 {
-                return Ok(step);
+            match step.kind {
+                ANSWER => return Ok(step),
+                NOTIFY => {
+                    self.notify_peer(&step);
+                    return Ok(step);
+                }
+                _ => {}
             }
             let value = self.awaited(&step);
+            let look = match step.look_width {
+                0 => 0,
+                _ if value == 0 => 0,
+                width => self.page.head.load(step.look_offset, width),
+            };
             assert!(
-                library::took(&mut self.kept, value, &mut step),
+                library::took(&mut self.kept, value, look, &mut step),
                 "the end is inside a call"
             );
         }
@@ -409,20 +425,25 @@ impl<'page, E: Events> End<'page, E> {
         }
     }
 
-    /// Returns the value of what a step awaits. Of words that the page doesn't have, only the own signal can be set.
+    /// Makes the notify with which a call ends: what the peer asked for is cleared, and it is signalled.
+    fn notify_peer(&mut self, step: &Step) {
+        let bits = step.bits as u8;
+        let word = self.page.head.byte(step.offset);
+        if word.fetch_and(!bits, SeqCst) & bits != 0 {
+            self.events.notify();
+        }
+    }
+
+    /// Returns the value of what a step awaits, or 0. Of words that the page doesn't have, only the own signal can be
+    /// set.
     fn awaited(&mut self, step: &Step) -> u64 {
         let head = self.page.head;
         match (step.kind, step.width) {
-            (5, _) => 0,
-            (4, 0) => self.events.take().into(),
+            (SWAP, 0) => self.events.take().into(),
             (_, 0) => 0,
-            (2, _) => head
+            (OR, _) => head
                 .byte(step.offset)
                 .fetch_or(step.bits as u8, SeqCst)
-                .into(),
-            (3, _) => head
-                .byte(step.offset)
-                .fetch_and(step.bits as u8, SeqCst)
                 .into(),
             _ => head.load(step.offset, step.width),
         }

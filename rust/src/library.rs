@@ -5,7 +5,7 @@
 #[derive(Clone, Copy, Debug, Default, PartialEq, Eq)]
 pub struct Kept([u32; 8]);
 
-/// What the caller does next: it moves bytes, stores, signals, and then makes the event that is awaited.
+/// What the caller does next: it moves bytes, stores, signals, makes the event that is awaited, and looks after that.
 #[repr(C)]
 #[derive(Clone, Copy, Debug, Default)]
 pub struct Step {
@@ -18,14 +18,15 @@ pub struct Step {
     pub signals: u8,
     pub store_offset: u16,
     pub answer: u8,
-    pub spare: u8,
+    pub look_width: u8,
     pub place: u32,
     pub at: u32,
     pub first: u32,
     pub second: u32,
     pub answer_first: u32,
     pub answer_second: u32,
-    pub spares: u32,
+    pub look_offset: u16,
+    pub spare: u16,
     pub stored: u64,
     pub bits: u64,
 }
@@ -44,7 +45,7 @@ unsafe extern "C" {
         cons: u32,
     ) -> bool;
     fn vchan_end_begin(end: &mut Kept, call: u8, len: u32, step: &mut Step) -> u8;
-    fn vchan_end_took(end: &mut Kept, value: u64, step: &mut Step) -> bool;
+    fn vchan_end_took(end: &mut Kept, value: u64, look: u64, step: &mut Step) -> bool;
 }
 
 // SAFETY of all three: the declarations match c/vchan_end.h, and the functions accept any numbers.
@@ -58,6 +59,6 @@ pub fn begin(end: &mut Kept, call: u8, len: u32, step: &mut Step) -> u8 {
     unsafe { vchan_end_begin(end, call, len, step) }
 }
 
-pub fn took(end: &mut Kept, value: u64, step: &mut Step) -> bool {
-    unsafe { vchan_end_took(end, value, step) }
+pub fn took(end: &mut Kept, value: u64, look: u64, step: &mut Step) -> bool {
+    unsafe { vchan_end_took(end, value, look, step) }
 }

@@ -181,7 +181,7 @@ static void by_turns(int left, int right, int calls)
 		CHECK(count == (int)(n <= most ? n : act == 0 || act == 2 ? most : 0));
 		/* each look is one load, and there is a second one behind an ask alone */
 		CHECK(loads <= (is_write ? 2u : count ? 1u : 2u) + (n > most));
-		CHECK(entered <= (is_write ? 4u : 3u) + (n > most ? 2u : 0u));
+		CHECK(entered <= 2u + (n > most ? 2u : 0u) + (!is_write && !count));
 		if (is_write) {
 			memcpy(queue[ring] + held[ring], data, (size_t)count);
 			held[ring] += (size_t)count, prod[ring] += (uint32_t)count;
@@ -435,11 +435,12 @@ static void any_bytes(int rounds)
 		}
 		memcpy(&end, bytes, sizeof end);
 		memcpy(order, bytes + 2, sizeof order);
-		if (vchan_end_begin(&end, (uint8_t)(draw() % 12), draw(), &step) != VCHAN_BEGUN && !vchan_end_took(&end, draw(), &step)) {
+		if (vchan_end_begin(&end, (uint8_t)(draw() % 12), draw(), &step) != VCHAN_BEGUN && !vchan_end_took(&end, draw(), draw(), &step)) {
 			CHECK(memcmp(&end, bytes, sizeof end) == 0);
 			continue;
 		}
 		accepted++;
+		CHECK(step.kind != VCHAN_FURTHER || step.moves || step.store_width || step.signals);
 		if (step.moves)
 			CHECK(step.ring < 2 && (uint64_t)step.place + step.first <= (uint64_t)1 << order[step.ring] && step.second <= step.place);
 	}

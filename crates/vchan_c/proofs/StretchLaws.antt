@@ -1,6 +1,6 @@
 -- A stretch of events is what a plan leads through.
 use Rattle.std.proofs.Common.{◌≡◌, ℕ, Option, Some, None, suc, zero, ◌+◌, ◌-◌, ◌*◌, ◌/◌, ◌%◌, ◌<◌, ◌≤◌, Bool, true, false, List, [], ◌∷◌, ◌++◌, ◌⊎◌, inl, inr, refl, subst, sym, ap, ◌∙◌, arith}
-use Rattle.std.specs.Prelude.{if◌then◌else◌}
+use Rattle.std.specs.Prelude.{if◌then◌else◌, bit_and, ◌==◌, ◌≢◌}
 use Rattle.std.proofs.lemmas.Nat.{mod-mul-add, div-add-mod'}
 use Rattle.std.proofs.lemmas.Bool.{cases_lt}
 use Rattle.std.proofs.lemmas.Bool.Decides.{nat_tests}
@@ -9,28 +9,32 @@ use Rattle.ring_words.specs.declared.order.Orders.{Orders}
 use Rattle.ring_words.specs.Page.{order_of}
 use Rattle.ring_words.specs.declared.page.Role.{Role}
 use Rattle.ring_words.specs.declared.page.Role.TheVariants.{Server, Client}
+use Rattle.ring_words.specs.declared.page.WordName.{WordName}
 use Rattle.ring_words.specs.declared.page.WordName.TheVariants.{RingByte}
 use Rattle.ring_words.specs.Rings.{place, size}
 use Rattle.ring_words.proofs.RingLaws.{place_on, size-within}
+use Rattle.std.proofs.lemmas.Bool.{false≢true}
 use Rattle.vchan_protocol.specs.declared.op.Op.{Op}
-use Rattle.vchan_protocol.specs.declared.op.Op.TheVariants.{Store, StoreByte, LoadByte}
+use Rattle.vchan_protocol.specs.declared.op.Op.TheVariants.{Load, LoadByte, Store, StoreByte, Or, And, Swap, Nothing}
 use Rattle.vchan_protocol.specs.declared.op.PastEvent.{PastEvent}
 use Rattle.vchan_protocol.specs.declared.call.Answer.{Answer}
 use Rattle.vchan_protocol.specs.Table.Plan.{Plan, answers, does, Leads, past, next_op}
 use Rattle.vchan_protocol.specs.declared.call.EndState.{EndState}
-use Rattle.vchan_protocol.specs.Table.Ends.{Standing, standing_after, state_after, prod_after, cons_after, peer_pending, written_ring, read_ring, write_order, read_order}
+use Rattle.vchan_protocol.specs.Table.Ends.{Standing, standing_after, state_after, prod_after, cons_after, peer_pending, mask, written_ring, read_ring, write_order, read_order}
 use Rattle.vchan_core.specs.declared.machine.Machine.{Machine}
 use Rattle.vchan_core.specs.declared.machine.ahead.Span.{Span}
+use Rattle.vchan_core.specs.declared.machine.ahead.LastNotify.{LastNotify}
+use Rattle.vchan_protocol.specs.Table.Calls.{signal}
 use Rattle.vchan_core.specs.OneMachine.Phases.{standing, rest, rest_or_answer, IsIdle}
-use Rattle.vchan_core.specs.OneMachine.Ahead.{IsPut, IsTake, put_at, take_at}
+use Rattle.vchan_core.specs.OneMachine.Ahead.{IsPut, IsTake, IsOnByte, IsLastNotify, put_at, take_at}
 use Rattle.vchan_core.proofs.WholeCall.PieceLaws.{at_put, at_take, put_plan, take_plan, put_place, take_place}
 use Rattle.vchan_c.specs.declared.stretch.Bytes.{Bytes}
 use Rattle.vchan_c.specs.declared.stretch.Moves.{Moves}
 use Rattle.vchan_c.specs.declared.stretch.Moves.TheVariants.{Nothing as NoBytes, Puts, Takes}
 use Rattle.vchan_c.specs.declared.stretch.Stored.{Stored}
 use Rattle.vchan_c.specs.declared.stretch.Last.{Last}
-use Rattle.vchan_c.specs.declared.stretch.Last.TheVariants.{Answer as Answered, Event, Further}
-use Rattle.vchan_c.specs.Stretches.{AreBytes, IsWithin, MovesWithin, IsStretch, IsLast, awaits, byte_place, puts_told, takes_told, moved, stored, standing_stored, signalled, left, standing_behind}
+use Rattle.vchan_c.specs.declared.stretch.Last.TheVariants.{Answer as Answered, Event, Notify, Further}
+use Rattle.vchan_c.specs.Stretches.{AreBytes, IsWithin, MovesWithin, IsStretch, IsLast, awaits, byte_place, puts_told, takes_told, moved, stored, standing_stored, signalled, notified, told, left, IsStoreNone, IsPassed}
 
 -- ---- the places of a span's bytes
 
@@ -151,21 +155,84 @@ signalled_as : (e f : Standing) (signals : Bool) → e.role ≡ f.role → signa
 signalled_as e f false is = refl
 signalled_as e f true is = ap (λ (role : Role). let signal : List PastEvent = past (Store (peer_pending role) 1) 0 ∷ [] in signal) is
 
--- bytes, a store and a signal, one after the other
-module _ (m mid late now : Machine) (moves : Moves) (store : Option Stored) (signals : Bool) (last : Last) (moves_lead : (values : ℕ → ℕ) → Leads (rest m) (moved values moves) (rest mid)) (moves_stand : standing mid ≡ standing m) (store_leads : Leads (rest mid) (stored store) (rest late)) (store_stands : standing late ≡ standing_stored store (standing mid)) (signal_leads : Leads (rest late) (signalled (standing late) signals) (left last now)) (signal_stays : standing now ≡ standing late) (last_is : IsLast last now) where
+-- what comes after a stretch goes by the end's role
+notified_as : (e f : Standing) (last : Last) (value : ℕ) → e.role ≡ f.role → notified e last value ≡ notified f last value
+notified_as e f (Answered answer) value is = refl
+notified_as e f (Event op look) value is = refl
+notified_as e f Further value is = refl
+notified_as e f (Notify last) value is = ap (λ (role : Role). let events : List PastEvent = past (And last.word (18446744073709551615 - mask last.bit)) value ∷ (if bit_and value (mask last.bit) == 0 then [] else past (Store (peer_pending role) 1) 0 ∷ []) in events) is
+
+-- bytes, a store, a signal and what comes after, one after the other
+module _ (m mid late end now : Machine) (moves : Moves) (store : Option Stored) (signals : Bool) (last : Last) (moves_lead : (values : ℕ → ℕ) → Leads (rest m) (moved values moves) (rest mid)) (moves_stand : standing mid ≡ standing m) (store_leads : Leads (rest mid) (stored store) (rest late)) (store_stands : standing late ≡ standing_stored store (standing mid)) (signal_leads : Leads (rest late) (signalled (standing late) signals) (rest end)) (signal_stays : standing end ≡ standing late) (last_leads : (value : ℕ) → Leads (rest end) (notified (standing end) last value) (left last now)) (last_stays : standing now ≡ standing end) where
   late_stands : standing late ≡ standing_stored store (standing m)
   late_stands = store_stands ∙ ap (λ (e : Standing). standing_stored store e) moves_stand
 
-  signal_here : Leads (rest late) (signalled (standing m) signals) (left last now)
-  signal_here = subst (λ (events : List PastEvent). Leads (rest late) events (left last now)) (signalled_as (standing late) (standing m) signals (ap (λ (e : Standing). e.role) late_stands ∙ stored_role store (standing m))) signal_leads
+  late_role : late.role ≡ m.role
+  late_role = ap (λ (e : Standing). e.role) late_stands ∙ stored_role store (standing m)
 
-  pub stretched : IsStretch (rest m) (standing m) (record { moves = moves; store = store; signals = signals; last = last }) now
-  stretched = record {
-    leads = λ values. Leads-join (rest m) (moved values moves) (stored store ++ signalled (standing m) signals) (rest mid) (left last now) (moves_lead values)
-        (Leads-join (rest mid) (stored store) (signalled (standing m) signals) (rest late) (left last now) store_leads signal_here);
-    stands = signal_stays ∙ late_stands;
+  signal_here : Leads (rest late) (signalled (standing m) signals) (rest end)
+  signal_here = subst (λ (events : List PastEvent). Leads (rest late) events (rest end)) (signalled_as (standing late) (standing m) signals late_role) signal_leads
+
+  last_here : (value : ℕ) → Leads (rest end) (notified (standing m) last value) (left last now)
+  last_here value = subst (λ (events : List PastEvent). Leads (rest end) events (left last now)) (notified_as (standing end) (standing m) last value (ap (λ (e : Standing). e.role) signal_stays ∙ late_role)) (last_leads value)
+
+  pub stretched : IsLast last now → (last ≡ Further → (values : ℕ → ℕ) → (value : ℕ) → told values value (standing m) (record { moves = moves; store = store; signals = signals; last = last }) ≢ [])
+      → IsStretch (rest m) (standing m) (record { moves = moves; store = store; signals = signals; last = last }) now
+  stretched last_is some = record {
+    leads = λ values value. Leads-join (rest m) (moved values moves) (stored store ++ (signalled (standing m) signals ++ notified (standing m) last value)) (rest mid) (left last now) (moves_lead values)
+        (Leads-join (rest mid) (stored store) (signalled (standing m) signals ++ notified (standing m) last value) (rest late) (left last now) store_leads
+        (Leads-join (rest late) (signalled (standing m) signals) (notified (standing m) last value) (rest end) (left last now) signal_here (last_here value)));
+    stands = last_stays ∙ (signal_stays ∙ late_stands);
     last_is = last_is;
+    some = some;
   }
+
+-- ---- a stretch after which nothing is awaited has an event
+
+-- an event that is on no byte, no store, no signal and not awaited is none
+no_event : (signal : WordName) (op : Op) → ¬ IsOnByte op → IsStoreNone signal op → op ≢ Store signal 1 → IsPassed op → ⊥
+no_event signal (LoadByte word at) byte store other passed = byte tt
+no_event signal (StoreByte word at) byte store other passed = byte tt
+no_event signal (Store word value) byte store other passed = other (rw store.0 (rw store.1 refl))
+no_event signal (Load word) byte store other passed = passed
+no_event signal (Or word bits) byte store other passed = passed
+no_event signal (And word bits) byte store other passed = passed
+no_event signal (Swap word value) byte store other passed = passed
+no_event signal Nothing byte store other passed = passed
+
+cons-some : (x : PastEvent) (xs : List PastEvent) → x ∷ xs ≢ []
+cons-some x xs = λ is. cc
+
+puts-some : (bytes : Bytes) (n : ℕ) (more : List PastEvent) → 0 < n → puts_told bytes 0 n ++ more ≢ []
+puts-some bytes zero more h = absurd (omega (arith, h))
+puts-some bytes (suc n) more h = cons-some _ _
+
+takes-some : (values : ℕ → ℕ) (bytes : Bytes) (n : ℕ) (more : List PastEvent) → 0 < n → takes_told values bytes 0 n ++ more ≢ []
+takes-some values bytes zero more h = absurd (omega (arith, h))
+takes-some values bytes (suc n) more h = cons-some _ _
+
+pub told_some : (m mid late end : Machine) (moves : Moves) (store : Option Stored) (signals : Bool) (last : Last) (payload buffer : ℕ)
+    → ((values : ℕ → ℕ) → Leads (rest m) (moved values moves) (rest mid)) → MovesWithin (standing m) payload buffer moves → (moves ≡ NoBytes → ¬ IsOnByte (next_op (rest m)))
+    → Leads (rest mid) (stored store) (rest late) → standing mid ≡ standing m → (store ≡ None → IsStoreNone (peer_pending mid.role) (next_op (rest mid)))
+    → Leads (rest late) (signalled (standing late) signals) (rest end) → standing late ≡ standing_stored store (standing mid) → (signals ≡ false → next_op (rest late) ≢ Store (peer_pending late.role) 1)
+    → IsPassed (next_op (rest end))
+    → (values : ℕ → ℕ) (value : ℕ) → told values value (standing m) (record { moves = moves; store = store; signals = signals; last = last }) ≢ []
+told_some m mid late end (Puts bytes) store signals last payload buffer moves_lead within moves_none store_leads mid_stands store_none signal_leads late_stands signal_none passed values value =
+    puts-some bytes (bytes.first + bytes.second) _ (omega (arith, within.some))
+told_some m mid late end (Takes bytes) store signals last payload buffer moves_lead within moves_none store_leads mid_stands store_none signal_leads late_stands signal_none passed values value =
+    takes-some values bytes (bytes.first + bytes.second) _ (omega (arith, within.some))
+told_some m mid late end NoBytes (Some store) signals last payload buffer moves_lead within moves_none store_leads mid_stands store_none signal_leads late_stands signal_none passed values value = cons-some _ _
+told_some m mid late end NoBytes None true last payload buffer moves_lead within moves_none store_leads mid_stands store_none signal_leads late_stands signal_none passed values value = cons-some _ _
+told_some m mid late end NoBytes None false last payload buffer moves_lead within moves_none store_leads mid_stands store_none signal_leads late_stands signal_none passed values value =
+    let to_mid : rest m ≡ rest mid = moves_lead values in
+    let to_late : rest mid ≡ rest late = store_leads in
+    let to_end : rest late ≡ rest end = signal_leads in
+    let role : late.role ≡ mid.role = ap (λ (e : Standing). e.role) late_stands in
+    let op = next_op (rest late) in
+    let no_byte : ¬ IsOnByte op = subst (λ (p : Plan). ¬ IsOnByte (next_op p)) (to_mid ∙ to_late) (moves_none refl) in
+    let no_store : IsStoreNone (peer_pending late.role) op = subst (λ (p : Plan). IsStoreNone (peer_pending late.role) (next_op p)) to_late (subst (λ (r : Role). IsStoreNone (peer_pending r) (next_op (rest mid))) (sym role) (store_none refl)) in
+    let is_passed : IsPassed op = subst (λ (p : Plan). IsPassed (next_op p)) (sym to_end) passed in
+    absurd (no_event (peer_pending late.role) op no_byte no_store (signal_none refl) is_passed)
 
 -- the store gives the answer
 pub store_answers : (m mid now : Machine) (moves : Moves) (store : Option Stored) (told : Option Answer) (answer : Answer)
@@ -174,11 +241,48 @@ pub store_answers : (m mid now : Machine) (moves : Moves) (store : Option Stored
     → told ≡ Some answer → IsIdle now
     → IsStretch (rest m) (standing m) (record { moves = moves; store = store; signals = false; last = Answered answer }) now
 store_answers m mid now moves store told answer moves_lead moves_stand store_leads store_stands is idle = record {
-  leads = λ values. Leads-join (rest m) (moved values moves) (stored store ++ []) (rest mid) (answers answer) (moves_lead values)
+  leads = λ values value. Leads-join (rest m) (moved values moves) (stored store ++ []) (rest mid) (answers answer) (moves_lead values)
       (Leads-join (rest mid) (stored store) [] (answers answer) (answers answer) (subst (λ (o : Option Answer). Leads (rest mid) (stored store) (rest_or_answer o now)) is store_leads) refl);
   stands = store_stands ∙ ap (λ (e : Standing). standing_stored store e) moves_stand;
   last_is = idle;
+  some = λ is. absurd (answered_further answer is);
 }
+  where
+    answered_further : (answer : Answer) → Answered answer ≡ Further → ⊥
+    answered_further answer is = cc
+
+-- the signal gives the answer
+pub signal_answers : (m mid late now : Machine) (moves : Moves) (store : Option Stored) (signals : Bool) (told : Option Answer) (answer : Answer)
+    → ((values : ℕ → ℕ) → Leads (rest m) (moved values moves) (rest mid)) → standing mid ≡ standing m
+    → Leads (rest mid) (stored store) (rest late) → standing late ≡ standing_stored store (standing mid)
+    → Leads (rest late) (signalled (standing late) signals) (rest_or_answer told now) → standing now ≡ standing late
+    → told ≡ Some answer → IsIdle now
+    → IsStretch (rest m) (standing m) (record { moves = moves; store = store; signals = signals; last = Answered answer }) now
+signal_answers m mid late now moves store signals told answer moves_lead moves_stand store_leads store_stands signal_leads signal_stays is idle =
+    let here : standing late ≡ standing_stored store (standing m) = store_stands ∙ ap (λ (e : Standing). standing_stored store e) moves_stand in
+    let role : late.role ≡ m.role = ap (λ (e : Standing). e.role) here ∙ stored_role store (standing m) in
+    let signal_here : Leads (rest late) (signalled (standing m) signals) (answers answer) =
+    subst (λ (events : List PastEvent). Leads (rest late) events (answers answer)) (signalled_as (standing late) (standing m) signals role)
+    (subst (λ (o : Option Answer). Leads (rest late) (signalled (standing late) signals) (rest_or_answer o now)) is signal_leads) in
+    record {
+      leads = λ values value. Leads-join (rest m) (moved values moves) (stored store ++ (signalled (standing m) signals ++ [])) (rest mid) (answers answer) (moves_lead values)
+          (Leads-join (rest mid) (stored store) (signalled (standing m) signals ++ []) (rest late) (answers answer) store_leads
+          (Leads-join (rest late) (signalled (standing m) signals) [] (answers answer) (answers answer) signal_here refl));
+      stands = signal_stays ∙ here;
+      last_is = idle;
+      some = λ is. absurd (answered_further is);
+    }
+  where
+    answered_further : Answered answer ≡ Further → ⊥
+    answered_further is = cc
+
+-- the notify with which a call ends
+pub notify_leads : (m now : Machine) (last : LastNotify) → IsLastNotify m last → (value : ℕ) → Leads (rest m) (notified (standing m) (Notify last) value) (left (Notify last) now)
+notify_leads m now last is value = subst (λ (p : Plan). Leads p (notified (standing m) (Notify last) value) (answers last.answer)) (sym is.plan) (ap (λ (word : WordName). And word (18446744073709551615 - mask last.bit)) is.word, go (bit_and value (mask last.bit) == 0))
+  where
+    go : (b : Bool) → Leads (if b then answers last.answer else signal (standing m) (answers last.answer)) (if b then [] else past (Store (peer_pending m.role) 1) 0 ∷ []) (answers last.answer)
+    go true = refl
+    go false = (refl, refl)
 
 -- what comes after a stretch, by the answer that its last event gave
 pub left_answer : (answer : Answer) (told : Option Answer) (p : Plan) (events : List PastEvent) (now : Machine) → told ≡ Some answer → Leads p events (rest_or_answer told now) → Leads p events (answers answer)
@@ -186,11 +290,6 @@ left_answer answer told p events now is leads = subst (λ (o : Option Answer). L
 
 pub left_rest : (told : Option Answer) (p : Plan) (events : List PastEvent) (now : Machine) → told ≡ None → Leads p events (rest_or_answer told now) → Leads p events (rest now)
 left_rest told p events now is leads = subst (λ (o : Option Answer). Leads p events (rest_or_answer o now)) is leads
-
-pub left_last : (last : Last) (told : Option Answer) (p : Plan) (events : List PastEvent) (now : Machine) → told ≡ None → ¬ IsIdle now → IsLast last now → Leads p events (rest_or_answer told now) → Leads p events (left last now)
-left_last (Answered answer) told p events now is busy last_is leads = absurd (busy last_is)
-left_last (Event op) told p events now is busy last_is leads = left_rest told p events now is leads
-left_last Further told p events now is busy last_is leads = left_rest told p events now is leads
 
 -- ---- bounds
 
@@ -212,22 +311,19 @@ moves_more e f payload payload' buffer buffer' (Puts bytes) role orders p b h =
 moves_more e f payload payload' buffer buffer' (Takes bytes) role orders p b h =
     within_more (read_order e) (read_order f) buffer buffer' bytes (ap (λ (o : Orders). order_of o (read_ring e.role)) orders ∙ ap (λ (r : Role). order_of f.orders (read_ring r)) role) b h
 
--- an event that is awaited leaves role and orders
-after_role : (b : Bool) (e : Standing) (op : Op) → (if b then standing_after e op else e).role ≡ e.role
+-- ---- an event that is awaited
+
+-- it leaves an end's standing
+pub awaited_stands : (e : Standing) (op : Op) → awaits op ≡ true → standing_after e op ≡ e
 unfolding standing_after
-after_role true e op = refl
-after_role false e op = refl
-
-after_orders : (b : Bool) (e : Standing) (op : Op) → (if b then standing_after e op else e).orders ≡ e.orders
-unfolding standing_after
-after_orders true e op = refl
-after_orders false e op = refl
-
-pub behind_role : (m : Machine) → (standing_behind m).role ≡ m.role
-behind_role m = after_role (awaits (next_op (rest m))) (standing m) (next_op (rest m))
-
-pub behind_orders : (m : Machine) → (standing_behind m).orders ≡ m.orders
-behind_orders m = after_orders (awaits (next_op (rest m))) (standing m) (next_op (rest m))
+awaited_stands e (Load word) is = refl
+awaited_stands e (Or word bits) is = refl
+awaited_stands e (Swap word value) is = refl
+awaited_stands e (And word bits) is = absurd (false≢true is)
+awaited_stands e (LoadByte word at) is = absurd (false≢true is)
+awaited_stands e (Store word value) is = absurd (false≢true is)
+awaited_stands e (StoreByte word at) is = absurd (false≢true is)
+awaited_stands e Nothing is = absurd (false≢true is)
 
 -- ---- a machine that was read
 

@@ -16,7 +16,7 @@ use Rattle.vchan_core.specs.OneMachine.Refusals.{refusal_of}
 use Rattle.vchan_core.specs.OneMachine.Keeping.{kept_of, IsShort, role_number, state_number}
 use Rattle.vchan_c.specs.declared.stretch.Stretch.{Stretch}
 use Rattle.vchan_c.specs.declared.step.Step.{Step}
-use Rattle.vchan_c.specs.Stretches.{IsStretch, MovesWithin, plan_behind, standing_behind}
+use Rattle.vchan_c.specs.Stretches.{IsStretch, MovesWithin, plan_behind}
 use Rattle.vchan_c.specs.Steps.{step_of}
 
 -- the call that a number and a length name
@@ -107,9 +107,9 @@ pub record Begins (old : Kept) (number len : ℕ) (new : Kept) (step : Step) : T
   pub allows : Allows machine call
   pub tells : Tells (plan_of (standing machine) call) (standing machine) (payload_of call) (loaded_most (standing machine) call) new step
 
--- the end goes on after what it awaited
-pub record Goes (old : Kept) (value : ℕ) (new : Kept) (step : Step) : Type 0 where
+-- the end goes on after what it awaited, and after the look that came with that
+pub record Goes (old : Kept) (value look : ℕ) (new : Kept) (step : Step) : Type 0 where
   pub machine : Machine
   pub kept : IsKept old machine
   pub busy : ¬ IsIdle machine
-  pub tells : Tells (plan_behind machine value) (standing_behind machine) (payload_needed machine) (buffer_needed machine) new step
+  pub tells : Tells (plan_behind machine value look) (standing machine) (payload_needed machine) (buffer_needed machine) new step

@@ -7,13 +7,14 @@ use Rattle.ring_words.specs.declared.page.WordName.TheVariants.{LeftCons, LeftPr
 use Rattle.ring_words.specs.Image.{Field, fields}
 use Rattle.vchan_protocol.specs.declared.op.Op.{Op}
 use Rattle.vchan_protocol.specs.declared.op.Op.TheVariants.{Load, LoadByte, Store, StoreByte, Or, And, Swap, Nothing}
+use Rattle.vchan_protocol.specs.Table.Ends.{mask}
 use Rattle.vchan_core.specs.OneMachine.Keeping.{numbers_of_answer}
 use Rattle.vchan_c.specs.declared.stretch.Bytes.{Bytes}
 use Rattle.vchan_c.specs.declared.stretch.Moves.{Moves}
 use Rattle.vchan_c.specs.declared.stretch.Moves.TheVariants.{Nothing as NoBytes, Puts, Takes}
 use Rattle.vchan_c.specs.declared.stretch.Stored.{Stored}
 use Rattle.vchan_c.specs.declared.stretch.Last.{Last}
-use Rattle.vchan_c.specs.declared.stretch.Last.TheVariants.{Answer as Answered, Event, Further}
+use Rattle.vchan_c.specs.declared.stretch.Last.TheVariants.{Answer as Answered, Event, Notify, Further}
 use Rattle.vchan_c.specs.declared.stretch.Stretch.{Stretch}
 use Rattle.vchan_c.specs.declared.step.Step.{Step}
 
@@ -86,11 +87,11 @@ abbrev pub bool_number : Bool → ℕ
 bool_number false = 0
 bool_number true = 1
 
--- an event: its kind, the offset and the width of its word, and its number
+-- an event that is awaited: its kind, the offset and the width of its word, and its number
 abbrev pub numbers_of_event : Op → ℕ × ℕ × ℕ × ℕ
 numbers_of_event (Load word) = (1, offset_of word, width_of word, 0)
 numbers_of_event (Or word bits) = (2, offset_of word, width_of word, bits)
-numbers_of_event (And word bits) = (3, offset_of word, width_of word, bits)
+numbers_of_event (And word bits) = (5, 0, 0, 0)
 numbers_of_event (Swap word value) = (4, offset_of word, width_of word, value)
 numbers_of_event (LoadByte word at) = (5, 0, 0, 0)
 numbers_of_event (Store word value) = (5, 0, 0, 0)
@@ -99,13 +100,24 @@ numbers_of_event Nothing = (5, 0, 0, 0)
 
 abbrev pub numbers_of_last : Last → ℕ × ℕ × ℕ × ℕ
 numbers_of_last (Answered answer) = (0, 0, 0, 0)
-numbers_of_last (Event op) = numbers_of_event op
+numbers_of_last (Event op look) = numbers_of_event op
+numbers_of_last (Notify last) = (3, offset_of last.word, width_of last.word, mask last.bit)
 numbers_of_last Further = (5, 0, 0, 0)
 
 abbrev pub answer_in : Last → ℕ × ℕ × ℕ
 answer_in (Answered answer) = numbers_of_answer answer
-answer_in (Event op) = (0, 0, 0)
+answer_in (Event op look) = (0, 0, 0)
+answer_in (Notify last) = numbers_of_answer last.answer
 answer_in Further = (0, 0, 0)
+
+-- the word that is loaded behind the one that is awaited
+abbrev pub look_offset : Last → ℕ
+look_offset (Event op (Some word)) = offset_of word
+look_offset _ = 0
+
+abbrev pub look_width : Last → ℕ
+look_width (Event op (Some word)) = width_of word
+look_width _ = 0
 
 -- a stretch of events as numbers
 abbrev pub step_of : Stretch → Step
@@ -119,14 +131,15 @@ step_of s = record {
   signals = bool_number s.signals;
   store_offset = store_offset s.store;
   answer = (answer_in s.last).0;
-  spare = 0;
+  look_width = look_width s.last;
   place = (bytes_in s.moves).place;
   at = (bytes_in s.moves).at;
   first = (bytes_in s.moves).first;
   second = (bytes_in s.moves).second;
   answer_first = (answer_in s.last).1;
   answer_second = (answer_in s.last).2;
-  spares = 0;
+  look_offset = look_offset s.last;
+  spare = 0;
   stored = store_value s.store;
   bits = (numbers_of_last s.last).3;
 }

@@ -1,6 +1,7 @@
 -- The events that an end makes next: those whose values are known, up to one whose value is awaited.
-use Rattle.std.specs.Prelude.{◌≡◌, ◌<◌, ◌≤◌, ◌+◌, ◌-◌, ℕ, zero, suc, Bool, true, false, nat_lt, if◌then◌else◌, Option, Some, None, List, [], ◌∷◌, ◌++◌}
+use Rattle.std.specs.Prelude.{◌≡◌, ◌≢◌, ◌<◌, ◌≤◌, ◌+◌, ◌-◌, ℕ, zero, suc, Bool, true, false, nat_lt, bit_and, ◌==◌, ◌&&◌, not, is_some, if◌then◌else◌, Option, Some, None, List, [], ◌∷◌, ◌++◌}
 use Rattle.ring_words.specs.declared.order.Order.{Order}
+use Rattle.ring_words.specs.declared.page.WordName.{WordName}
 use Rattle.ring_words.specs.declared.page.WordName.TheVariants.{RingByte}
 use Rattle.ring_words.specs.Rings.{place, size}
 use Rattle.vchan_protocol.specs.declared.op.Op.{Op}
@@ -8,23 +9,24 @@ use Rattle.vchan_protocol.specs.declared.op.Op.TheVariants.{Load, LoadByte, Stor
 use Rattle.vchan_protocol.specs.declared.op.PastEvent.{PastEvent}
 use Rattle.vchan_protocol.specs.declared.call.Answer.{Answer}
 use Rattle.vchan_protocol.specs.Table.Plan.{Plan, answers, Leads, next_op, after, past}
-use Rattle.vchan_protocol.specs.Table.Ends.{Standing, standing_after, peer_pending, write_order, read_order}
+use Rattle.vchan_protocol.specs.Table.Ends.{Standing, standing_after, peer_pending, mask, low8, write_order, read_order}
 use Rattle.vchan_core.specs.declared.machine.Machine.{Machine}
 use Rattle.vchan_core.specs.declared.machine.ahead.Span.{Span}
 use Rattle.vchan_core.specs.OneMachine.Phases.{standing, rest, IsIdle}
+use Rattle.vchan_core.specs.OneMachine.Ahead.{look_behind}
 use Rattle.vchan_c.specs.declared.stretch.Bytes.{Bytes}
 use Rattle.vchan_c.specs.declared.stretch.Moves.{Moves}
 use Rattle.vchan_c.specs.declared.stretch.Moves.TheVariants.{Nothing as NoBytes, Puts, Takes}
 use Rattle.vchan_c.specs.declared.stretch.Stored.{Stored}
 use Rattle.vchan_c.specs.declared.stretch.Last.{Last}
-use Rattle.vchan_c.specs.declared.stretch.Last.TheVariants.{Answer as Answered, Event, Further}
+use Rattle.vchan_c.specs.declared.stretch.Last.TheVariants.{Answer as Answered, Event, Notify, Further}
 use Rattle.vchan_c.specs.declared.stretch.Stretch.{Stretch}
 
--- the event's value tells how the call goes on: that of a byte doesn't, nor that of a store
+-- The event's value is awaited: that of a byte or a store tells nothing, and what follows an and is known for each.
 abbrev pub awaits : Op → Bool
 awaits (Load word) = true
 awaits (Or word bits) = true
-awaits (And word bits) = true
+awaits (And word bits) = false
 awaits (Swap word value) = true
 awaits (LoadByte word at) = false
 awaits (Store word value) = false
@@ -86,37 +88,72 @@ abbrev pub signalled : Standing → Bool → List PastEvent
 signalled e false = []
 signalled e true = past (Store (peer_pending e.role) 1) 0 ∷ []
 
--- ---- a stretch of events
+-- the event is a store for which a step has a place of its own: none, or the signal of this word
+abbrev pub IsStoreNone : WordName → Op → Type 0
+IsStoreNone signal (Store word value) = (word ≡ signal) × (value ≡ 1)
+IsStoreNone signal _ = Unit {0}
 
--- its events, if the bytes that are loaded have these values
-abbrev pub told : (ℕ → ℕ) → Standing → Stretch → List PastEvent
-told values e stretch = moved values stretch.moves ++ (stored stretch.store ++ signalled e stretch.signals)
+-- ---- what comes after
 
--- what is left of the call after it
+-- The notify with which a call ends, if its word holds this value: a bit of it is cleared, and if that was set the peer
+-- is signalled.
+abbrev pub notified : Standing → Last → ℕ → List PastEvent
+notified e (Notify last) value = past (And last.word (18446744073709551615 - mask last.bit)) value ∷ (if bit_and value (mask last.bit) == 0 then [] else past (Store (peer_pending e.role) 1) 0 ∷ [])
+notified e (Answered answer) value = []
+notified e (Event op look) value = []
+notified e Further value = []
+
+-- what is left of the call
 abbrev pub left : Last → Machine → Plan
 left (Answered answer) m = answers answer
-left (Event op) m = rest m
+left (Notify last) m = answers last.answer
+left (Event op look) m = rest m
 left Further m = rest m
+
+-- the event is neither awaited nor an and, and there is one
+abbrev pub IsPassed : Op → Type 0
+IsPassed (LoadByte word at) = Unit {0}
+IsPassed (Store word value) = Unit {0}
+IsPassed (StoreByte word at) = Unit {0}
+IsPassed _ = ⊥
+
+-- an event that is awaited is the end's next one, with the look after it
+pub record IsAwaited (op : Op) (look : Option WordName) (m : Machine) : Type 0 where
+  pub busy : ¬ IsIdle m
+  pub op_is : op ≡ next_op (rest m)
+  pub awaits : awaits op ≡ true
+  pub look_is : look ≡ look_behind m
 
 abbrev pub IsLast : Last → Machine → Type 0
 IsLast (Answered answer) m = IsIdle m
-IsLast (Event op) m = (¬ IsIdle m) × ((op ≡ next_op (rest m)) × (awaits op ≡ true))
-IsLast Further m = (¬ IsIdle m) × (awaits (next_op (rest m)) ≡ false)
+IsLast (Notify last) m = IsIdle m
+IsLast (Event op look) m = IsAwaited op look m
+IsLast Further m = ¬ IsIdle m
 
--- The stretch is what an end with this standing does next of the plan, and the machine is what it leaves.
+-- ---- a stretch of events
+
+-- its events, if the bytes that are loaded have these values, and the word of its notify this one
+abbrev pub told : (ℕ → ℕ) → ℕ → Standing → Stretch → List PastEvent
+told values value e stretch = moved values stretch.moves ++ (stored stretch.store ++ (signalled e stretch.signals ++ notified e stretch.last value))
+
+-- The stretch is what an end with this standing does next of the plan, and the machine is what it leaves. If the call
+-- goes on with nothing awaited, it has an event.
 pub record IsStretch (plan : Plan) (e : Standing) (stretch : Stretch) (now : Machine) : Type 0 where
-  pub leads : (values : ℕ → ℕ) → Leads plan (told values e stretch) (left stretch.last now)
+  pub leads : (values : ℕ → ℕ) → (value : ℕ) → Leads plan (told values value e stretch) (left stretch.last now)
   pub stands : standing now ≡ standing_stored stretch.store e
   pub last_is : IsLast stretch.last now
+  pub some : stretch.last ≡ Further → (values : ℕ → ℕ) → (value : ℕ) → told values value e stretch ≢ []
 
 abbrev pub answered_by : Answer → Stretch
 answered_by answer = record { moves = NoBytes; store = None; signals = false; last = Answered answer }
 
 -- ---- after the event that is awaited
 
--- what is left after it took this value, and what the end knows then; if none is awaited, nothing changes
-abbrev pub plan_behind : Machine → ℕ → Plan
-plan_behind m value = if awaits (next_op (rest m)) then after (rest m) value else rest m
+-- a word is loaded after the event that is awaited, which took this value
+abbrev pub looks_on : Machine → ℕ → Bool
+looks_on m value = is_some (look_behind m) && not (low8 value == 0)
 
-abbrev pub standing_behind : Machine → Standing
-standing_behind m = if awaits (next_op (rest m)) then standing_after (standing m) (next_op (rest m)) else standing m
+-- what is left after it took this value, and the word that is loaded after it that one; if none is awaited, nothing changes
+abbrev pub plan_behind : Machine → ℕ → ℕ → Plan
+plan_behind m value look =
+    if awaits (next_op (rest m)) then (if looks_on m value then after (after (rest m) value) look else after (rest m) value) else rest m

@@ -114,25 +114,26 @@ fn begin<const COPY: u8>(end: &mut Kept, kept: Kept, call: u8, len: u32, step: &
 }
 
 /// Takes the value of what the last step awaits, after the step was carried out, and tells the next step.
-/// The value is the word as it was; if nothing is awaited it is ignored.
+/// The value is the word as it was; if nothing is awaited it is ignored. `look` is the value of the word to
+/// look at; it is ignored if there is none, or if the awaited value was 0.
 ///
 /// Returns false, and changes nothing, if the 32 bytes are those of no end, or of one that is between two
 /// calls.
 #[unsafe(no_mangle)]
-pub extern "C" fn vchan_end_took(end: &mut Kept, value: u64, step: &mut Step) -> bool
-    ensures moved { result ≡ true → Goes end.old value end.new step.new }
+pub extern "C" fn vchan_end_took(end: &mut Kept, value: u64, look: u64, step: &mut Step) -> bool
+    ensures moved { result ≡ true → Goes end.old value look end.new step.new }
     ensures refused { result ≡ false → (end.new ≡ end.old) × (step.new ≡ step.old) }
     ensures accepted { (machine : Machine) → IsShort machine → kept_of machine ≡ end.old → (IsTrue result ↔ ¬ IsIdle machine) }
     ensures none { IsNoEnd end.old → result ≡ false }
 {
     match end.phase {
-        1 => took_in::<1>(end, value, step),
-        2 => took_in::<2>(end, value, step),
-        9 => took_in::<9>(end, value, step),
-        39 => took_in::<39>(end, value, step),
+        1 => took_in::<1>(end, value, look, step),
+        5 => took_in::<5>(end, value, look, step),
+        9 => took_in::<9>(end, value, look, step),
+        13 => took_in::<13>(end, value, look, step),
         _ => {
             let kept = *end;
-            took::<0>(end, kept, value, step)
+            took::<0>(end, kept, value, look, step)
         }
     }
 }
@@ -140,9 +141,9 @@ pub extern "C" fn vchan_end_took(end: &mut Kept, value: u64, step: &mut Step) ->
 /// [`vchan_end_took`] for an end in this phase. Each frequent phase has a copy of its own, in which the end
 /// is read, moved on and written back with no case of another phase.
 #[inline(never)]
-fn took_in<const PHASE: u8>(end: &mut Kept, value: u64, step: &mut Step) -> bool
+fn took_in<const PHASE: u8>(end: &mut Kept, value: u64, look: u64, step: &mut Step) -> bool
     requires { end.old.phase ≡ PHASE }
-    ensures moved { result ≡ true → Goes end.old value end.new step.new }
+    ensures moved { result ≡ true → Goes end.old value look end.new step.new }
     ensures refused { result ≡ false → (end.new ≡ end.old) × (step.new ≡ step.old) }
     ensures accepted { (machine : Machine) → IsShort machine → kept_of machine ≡ end.old → (IsTrue result ↔ ¬ IsIdle machine) }
     ensures none { IsNoEnd end.old → result ≡ false }
@@ -151,14 +152,14 @@ fn took_in<const PHASE: u8>(end: &mut Kept, value: u64, step: &mut Step) -> bool
         phase: PHASE,
         ..*end
     };
-    took::<PHASE>(end, kept, value, step)
+    took::<PHASE>(end, kept, value, look, step)
 }
 
 /// [`vchan_end_took`] for an end that was read. Each number is a copy.
 #[inline(always)]
-fn took<const COPY: u8>(end: &mut Kept, kept: Kept, value: u64, step: &mut Step) -> bool
+fn took<const COPY: u8>(end: &mut Kept, kept: Kept, value: u64, look: u64, step: &mut Step) -> bool
     requires { kept ≡ end.old }
-    ensures moved { result ≡ true → Goes end.old value end.new step.new }
+    ensures moved { result ≡ true → Goes end.old value look end.new step.new }
     ensures refused { result ≡ false → (end.new ≡ end.old) × (step.new ≡ step.old) }
     ensures accepted { (machine : Machine) → IsShort machine → kept_of machine ≡ end.old → (IsTrue result ↔ ¬ IsIdle machine) }
     ensures none { IsNoEnd end.old → result ≡ false }
@@ -169,7 +170,7 @@ fn took<const COPY: u8>(end: &mut Kept, kept: Kept, value: u64, step: &mut Step)
     if machine.idle() {
         return false;
     }
-    *step = Step::of(stretch_behind::<COPY>(&mut machine, value));
+    *step = Step::of(stretch_behind::<COPY>(&mut machine, value, look));
     *end = machine.kept();
     true
 }

@@ -1,14 +1,17 @@
 //! A step as plain numbers.
 ghost use Rattle.std.specs.Prelude.{◌≡◌};
 ghost use Rattle.vchan_core.specs.OneMachine.Keeping.{numbers_of_answer};
-ghost use Rattle.vchan_c.specs.Steps.{offset_of, width_of, AreXenFields, ring_number as ring_number_of, moves_number, bytes_in, store_offset, store_width, store_value, numbers_of_event, numbers_of_last, answer_in, step_of};
+ghost use Rattle.vchan_c.specs.Steps.{offset_of, width_of, AreXenFields, ring_number as ring_number_of, moves_number, bytes_in, store_offset, store_width, store_value, numbers_of_event, numbers_of_last, look_offset, look_width, answer_in, step_of};
 
 use crate::stretch::{Bytes, Last, Moves, Stored, Stretch};
 use ring_words::{Ring, WordName};
+use vchan_core::words::mask;
 use vchan_core::{AnswerNumbers, Op};
 
 /// What a caller does next, in this order: it moves bytes, stores a number, signals its peer, and
-/// then makes the event whose value is awaited, or has the answer of its call.
+/// then makes the event whose value is awaited, or has the answer of its call. If there is a word to look
+/// at, it is loaded after the awaited one, unless that one was 0. A notify clears the bits in its word, at
+/// once, and signals the peer if the word had them.
 ///
 /// A word is given by its offset in Xen's `struct vchan_interface` and its width in bytes. A word that
 /// Xen's page doesn't have has the width 0: nothing is done there, and a load or a swap takes what the
@@ -16,12 +19,12 @@ use vchan_core::{AnswerNumbers, Op};
 #[repr(C)]
 #[derive(Clone, Copy, Debug, PartialEq, Eq)]
 pub struct Step {
-    /// What is awaited: 0 nothing, and the answer is in this step; 1 a load, 2 an or, 3 an and, 4 a swap; 5
-    /// nothing, and the call goes on.
+    /// What is awaited: 0 nothing, and the answer is in this step; 1 a load; 2 an or; 3 nothing, the answer is
+    /// in this step, and the call ends with a notify; 4 a swap; 5 nothing, and the call goes on.
     pub kind: u8,
-    /// The width of the awaited word, in bytes.
+    /// The width of the awaited word, or of the notify's, in bytes.
     pub width: u8,
-    /// The offset of the awaited word.
+    /// The offset of that word.
     pub offset: u16,
     /// Whether bytes are moved: 0 no, 1 they are stored, 2 they are loaded.
     pub moves: u8,
@@ -35,8 +38,8 @@ pub struct Step {
     pub store_offset: u16,
     /// The kind of the answer, from 1 to 18 in the order of [`vchan_core::Answer`].
     pub answer: u8,
-    /// Always 0.
-    pub spare: u8,
+    /// The width of the word to look at, in bytes; 0 if there is none.
+    pub look_width: u8,
     /// The place in the ring of the first byte.
     pub place: u32,
     /// The number of the first byte in the caller's payload or buffer.
@@ -49,11 +52,13 @@ pub struct Step {
     pub answer_first: u32,
     /// The second part of the answer.
     pub answer_second: u32,
+    /// The offset of the word to look at.
+    pub look_offset: u16,
     /// Always 0.
-    pub spares: u32,
+    pub spare: u16,
     /// The number to store.
     pub stored: u64,
-    /// The bits of an or or an and, or what a swap stores.
+    /// The bits of an or, those that a notify clears, or what a swap stores.
     pub bits: u64,
 }
 
@@ -117,10 +122,10 @@ fn moved(moves: Moves) -> (u8, Bytes)
 
 /// Returns a store: the offset and the width of its word, and its number.
 #[inline(always)]
-fn stored(store: Option<Stored>) -> (u16, u8, u64)
-    ensures offset { result.0 ≡ store_offset store }
-    ensures width { result.1 ≡ store_width store }
-    ensures value { result.2 ≡ store_value store }
+fn stored(store: &Option<Stored>) -> (u16, u8, u64)
+    ensures offset { result.0 ≡ store_offset store.now }
+    ensures width { result.1 ≡ store_width store.now }
+    ensures value { result.2 ≡ store_value store.now }
 {
     match store {
         None => (0, 0, 0),
@@ -131,7 +136,7 @@ fn stored(store: Option<Stored>) -> (u16, u8, u64)
     }
 }
 
-/// What is awaited: its kind, the offset and the width of its word, and its number.
+/// What is awaited, or the notify: its kind, the offset and the width of its word, and its number.
 #[derive(Clone, Copy)]
 struct Awaited {
     kind: u8,
@@ -178,16 +183,32 @@ impl Awaited {
         match op {
             Op::Load { word } => Awaited::at(1, word, 0),
             Op::Or { word, bits } => Awaited::at(2, word, bits),
-            Op::And { word, bits } => Awaited::at(3, word, bits),
             Op::Swap { word, value } => Awaited::at(4, word, value),
-            Op::LoadByte { .. } | Op::Store { .. } | Op::StoreByte { .. } | Op::Nothing => {
-                Awaited::FURTHER
-            }
+            Op::LoadByte { .. }
+            | Op::Store { .. }
+            | Op::StoreByte { .. }
+            | Op::And { .. }
+            | Op::Nothing => Awaited::FURTHER,
         }
     }
 }
 
-/// Returns what comes after a stretch: what is awaited, and the answer.
+/// Returns the offset and the width of the word to look at.
+#[inline(always)]
+fn looked(last: Last) -> (u16, u8)
+    ensures offset { result.0 ≡ look_offset last }
+    ensures width { result.1 ≡ look_width last }
+{
+    match last {
+        Last::Event {
+            look: Some(word),
+            ..
+        } => offset_and_width(word),
+        _ => (0, 0),
+    }
+}
+
+/// Returns what comes after a stretch: what is awaited, or the notify, and the answer.
 #[inline(always)]
 fn ended(last: Last) -> (Awaited, AnswerNumbers)
     ensures kind { result.0.kind ≡ (numbers_of_last last).0 }
@@ -203,7 +224,11 @@ fn ended(last: Last) -> (Awaited, AnswerNumbers)
     };
     match last {
         Last::Answer(answer) => (Awaited::NOTHING, AnswerNumbers::of(answer)),
-        Last::Event(op) => (Awaited::of(op), NONE),
+        Last::Event { op, .. } => (Awaited::of(op), NONE),
+        Last::Notify(last) => (
+            Awaited::at(3, last.word, mask(last.bit)),
+            AnswerNumbers::of(last.answer),
+        ),
         Last::Further => (Awaited::FURTHER, NONE),
     }
 }
@@ -215,8 +240,9 @@ impl Step {
         ensures { result ≡ step_of stretch }
     {
         let (moves, bytes) = moved(stretch.moves);
-        let (store_offset, store_width, value) = stored(stretch.store);
+        let (store_offset, store_width, value) = stored(&stretch.store);
         let (awaited, answer) = ended(stretch.last);
+        let (look_offset, look_width) = looked(stretch.last);
         Step {
             kind: awaited.kind,
             width: awaited.width,
@@ -227,14 +253,15 @@ impl Step {
             signals: u8::from(stretch.signals),
             store_offset,
             answer: answer.number,
-            spare: 0,
+            look_width,
             place: bytes.place,
             at: bytes.at,
             first: bytes.first,
             second: bytes.second,
             answer_first: answer.first,
             answer_second: answer.second,
-            spares: 0,
+            look_offset,
+            spare: 0,
             stored: value,
             bits: awaited.bits,
         }

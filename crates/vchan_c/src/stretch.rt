@@ -1,12 +1,14 @@
 //! The events that an end makes next, up to one whose value it has to know.
-ghost use Rattle.std.specs.Prelude.{◌≡◌, ◌↔◌, ◌≤◌, ◌<◌, ℕ, IsSome};
-ghost use Rattle.vchan_protocol.specs.Table.Plan.{Leads};
+ghost use Rattle.std.specs.Prelude.{◌≡◌, ◌≢◌, ◌↔◌, ◌≤◌, ◌<◌, ℕ, IsSome, None, true, false};
+ghost use Rattle.vchan_protocol.specs.Table.Ends.{peer_pending as peer_pending_of};
+ghost use Rattle.vchan_protocol.specs.Table.Plan.{Leads, next_op, after};
+ghost use Rattle.vchan_core.specs.OneMachine.Ahead.{IsOnByte};
 ghost use Rattle.vchan_core.specs.OneMachine.Phases.{standing, rest, rest_or_answer, IsIdle, payload_needed, buffer_needed};
-ghost use Rattle.vchan_c.specs.Stretches.{AreBytes, awaits as awaits_of, moved, stored, signalled, answered_by, plan_behind, standing_behind, standing_stored, IsLast, MovesWithin, IsStretch};
+ghost use Rattle.vchan_c.specs.Stretches.{AreBytes, awaits as awaits_of, moved, stored, signalled, notified, answered_by, looks_on, plan_behind, standing_stored, left, IsLast, IsStoreNone, IsPassed, MovesWithin, IsStretch};
 
 use ring_words::{Ring, WordName, place};
 use vchan_core::words::peer_pending;
-use vchan_core::{Ahead, Answer, Machine, Op, Span};
+use vchan_core::{Ahead, Answer, LastNotify, Machine, Op, Span};
 
 /// Bytes of a ring: some from a place on, and some from the ring's front on.
 #[derive(Clone, Copy)]
@@ -48,8 +50,10 @@ pub struct Stored {
 pub enum Last {
     /// The answer of the call.
     Answer(Answer),
-    /// An event whose value is awaited.
-    Event(Op),
+    /// An event whose value is awaited, and the word that is loaded after it, unless that value is 0.
+    Event { op: Op, look: Option<WordName> },
+    /// The notify with which the call ends, and its answer.
+    Notify(LastNotify),
     /// More events of this kind.
     Further,
 }
@@ -67,15 +71,12 @@ pub struct Stretch {
     pub last: Last,
 }
 
-/// Returns whether the value of an event decides how the call goes on.
+/// Returns whether the value of an event is awaited. What follows an and is known for each value of it.
 #[inline(always)]
 fn awaits(op: Op) -> bool
     ensures { result ≡ awaits_of op }
 {
-    matches!(
-        op,
-        Op::Load { .. } | Op::Or { .. } | Op::And { .. } | Op::Swap { .. }
-    )
+    matches!(op, Op::Load { .. } | Op::Or { .. } | Op::Swap { .. })
 }
 
 /// Returns the next bytes of a span: as many as lie up to the ring's end, and from its front up to the
@@ -107,6 +108,7 @@ fn pass_bytes(machine: &mut Machine) -> Moves
     ensures payload_left { payload_needed machine.new ≤ payload_needed machine.old }
     ensures buffer_left { buffer_needed machine.new ≤ buffer_needed machine.old }
     ensures within { MovesWithin (standing machine.old) (payload_needed machine.old) (buffer_needed machine.old) result }
+    ensures none { result ≡ Moves.Nothing → ¬ IsOnByte (next_op (rest machine.old)) }
 {
     match machine.ahead() {
         Ahead::Puts(span) => {
@@ -128,6 +130,7 @@ fn pass_bytes(machine: &mut Machine) -> Moves
 fn pass_store(machine: &mut Machine) -> (Option<Stored>, Option<Answer>)
     requires { ¬ IsIdle machine.old }
     ensures events { Leads (rest machine.old) (stored result.0) (rest_or_answer result.1 machine.new) }
+    ensures none { result.0 ≡ None → IsStoreNone (peer_pending_of (standing machine.old).role) (next_op (rest machine.old)) }
     ensures standing { standing machine.new ≡ standing_stored result.0 (standing machine.old) }
     ensures idle { IsSome result.1 ↔ IsIdle machine.new }
     ensures payload_left { payload_needed machine.new ≤ payload_needed machine.old }
@@ -135,7 +138,7 @@ fn pass_store(machine: &mut Machine) -> (Option<Stored>, Option<Answer>)
 {
     let signal = peer_pending(machine.role());
     match machine.next() {
-        Op::Store { word, value } if word != signal => {
+        Op::Store { word, value } if word != signal || value != 1 => {
             (Some(Stored { word, value }), machine.took(0))
         }
         _ => (None, None),
@@ -147,6 +150,7 @@ fn pass_store(machine: &mut Machine) -> (Option<Stored>, Option<Answer>)
 fn pass_signal(machine: &mut Machine) -> (bool, Option<Answer>)
     requires { ¬ IsIdle machine.old }
     ensures events { Leads (rest machine.old) (signalled (standing machine.old) result.0) (rest_or_answer result.1 machine.new) }
+    ensures none { result.0 ≡ false → next_op (rest machine.old) ≢ Op.Store (peer_pending_of (standing machine.old).role) 1 }
     ensures standing { standing machine.new ≡ standing machine.old }
     ensures idle { IsSome result.1 ↔ IsIdle machine.new }
     ensures payload_left { payload_needed machine.new ≤ payload_needed machine.old }
@@ -159,33 +163,62 @@ fn pass_signal(machine: &mut Machine) -> (bool, Option<Answer>)
     }
 }
 
-/// Takes the value of the event that is awaited, if one is.
+/// Returns whether the end loads a word at once after the awaited event, which took this value.
 #[inline(always)]
-fn pass_awaited(machine: &mut Machine, value: u64) -> Option<Answer>
+fn looks_behind(machine: &Machine, value: u64) -> bool
+    ensures looks { result ≡ looks_on machine.now value }
+    ensures awaited { result ≡ true → awaits_of (next_op (after (rest machine.now) value)) ≡ true }
+{
+    match machine.look_behind() {
+        Some(_) => value % 256 != 0,
+        None => false,
+    }
+}
+
+/// Takes the value of the event that is awaited, if one is, and that of the word that is loaded after it,
+/// if one is.
+#[inline(always)]
+fn pass_awaited(machine: &mut Machine, value: u64, look: u64) -> Option<Answer>
     requires { ¬ IsIdle machine.old }
-    ensures rest { rest_or_answer result machine.new ≡ plan_behind machine.old value }
-    ensures standing { standing machine.new ≡ standing_behind machine.old }
+    ensures rest { rest_or_answer result machine.new ≡ plan_behind machine.old value look }
+    ensures standing { standing machine.new ≡ standing machine.old }
     ensures idle { IsSome result ↔ IsIdle machine.new }
     ensures payload_left { payload_needed machine.new ≤ payload_needed machine.old }
     ensures buffer_left { buffer_needed machine.new ≤ buffer_needed machine.old }
 {
-    if awaits(machine.next()) {
-        return machine.took(value);
+    if !awaits(machine.next()) {
+        return None;
     }
-    None
+    let looks = looks_behind(machine, value);
+    match machine.took(value) {
+        None if looks => machine.took(look),
+        answer => answer,
+    }
 }
 
-/// Returns what comes after the events whose values are known.
+/// Returns what comes after the events whose values are known. The end goes past the notify with which
+/// its call ends.
 #[inline(always)]
-fn last_of(machine: &Machine) -> Last
-    requires { ¬ IsIdle machine.now }
-    ensures { IsLast result machine.now }
+fn pass_last(machine: &mut Machine) -> Last
+    requires { ¬ IsIdle machine.old }
+    ensures last { IsLast result machine.new }
+    ensures events { (value : ℕ) → Leads (rest machine.old) (notified (standing machine.old) result value) (left result machine.new) }
+    ensures standing { standing machine.new ≡ standing machine.old }
+    ensures payload_left { payload_needed machine.new ≤ payload_needed machine.old }
+    ensures buffer_left { buffer_needed machine.new ≤ buffer_needed machine.old }
+    ensures further { result ≡ Last.Further → IsPassed (next_op (rest machine.old)) }
 {
+    if let Some(last) = machine.last_notify() {
+        machine.drop_call();
+        return Last::Notify(last);
+    }
     let op = machine.next();
-    if awaits(op) {
-        Last::Event(op)
-    } else {
-        Last::Further
+    if !awaits(op) {
+        return Last::Further;
+    }
+    Last::Event {
+        op,
+        look: machine.look_behind(),
     }
 }
 
@@ -224,7 +257,7 @@ pub(crate) fn stretch_of<const COPY: u8>(machine: &mut Machine) -> Stretch
     let (signals, answer) = pass_signal(machine);
     let last = match answer {
         Some(answer) => Last::Answer(answer),
-        None => last_of(machine),
+        None => pass_last(machine),
     };
     Stretch {
         moves,
@@ -234,16 +267,20 @@ pub(crate) fn stretch_of<const COPY: u8>(machine: &mut Machine) -> Stretch
     }
 }
 
-/// Returns the same for after the awaited event, which took this value.
+/// Returns the same for after the awaited event, which took this value, and the look after that.
 #[inline(always)]
-pub(crate) fn stretch_behind<const COPY: u8>(machine: &mut Machine, value: u64) -> Stretch
+pub(crate) fn stretch_behind<const COPY: u8>(
+    machine: &mut Machine,
+    value: u64,
+    look: u64,
+) -> Stretch
     requires { ¬ IsIdle machine.old }
-    ensures stretch { IsStretch (plan_behind machine.old value) (standing_behind machine.old) result machine.new }
+    ensures stretch { IsStretch (plan_behind machine.old value look) (standing machine.old) result machine.new }
     ensures payload_left { payload_needed machine.new ≤ payload_needed machine.old }
     ensures buffer_left { buffer_needed machine.new ≤ buffer_needed machine.old }
     ensures within { MovesWithin (standing machine.old) (payload_needed machine.old) (buffer_needed machine.old) result.moves }
 {
-    match pass_awaited(machine, value) {
+    match pass_awaited(machine, value, look) {
         Some(answer) => answered(answer),
         None => stretch_of::<COPY>(machine),
     }

@@ -1,7 +1,5 @@
-use Rattle.std.proofs.Common.{sym, ◌∙◌, rules, arith}
-use Rattle.vchan_core.specs.OneMachine.Phases.{standing}
-use Rattle.vchan_c.specs.Stretches.{standing_behind}
-use Rattle.vchan_c.proofs.StretchLaws.{alone, moves_more, behind_role, behind_orders}
+use Rattle.std.proofs.Common.{sym, ◌∙◌, rules}
+use Rattle.vchan_c.proofs.StretchLaws.{alone}
 use Rattle.vchan_c.proofs.took.Goals as goal
 
 pub returns-clause-moved : goal.returns-clause-moved
@@ -18,7 +16,6 @@ returns-clause-moved g c = λ _. record {
     does = c.stretch_behind.ensures.stretch;
     payload_left = c.stretch_behind.ensures.payload_left;
     buffer_left = c.stretch_behind.ensures.buffer_left;
-    within = moves_more (standing c.in-Some.machine) (standing_behind c.in-Some.machine) _ _ _ _ c.stretch_behind.result.moves (sym (behind_role c.in-Some.machine)) (sym (behind_orders c.in-Some.machine))
-        (omega arith) (omega arith) c.stretch_behind.ensures.within;
+    within = c.stretch_behind.ensures.within;
   };
 }
