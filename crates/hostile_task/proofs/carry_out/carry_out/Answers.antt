@@ -123,7 +123,7 @@ returns-in-Rest-clause-turn c =
     let few = turn_left c.args.domain.now.acts act p c.args.spelled.now.items c.list.result.now c.list.ensures.list c.list.ensures.fit at c.requires.way.begun in
     let last : nat_le c.in-Rest.turns (p.turns + 1) ≡ true → c.in-Rest.turns ≤ p.turns + 1 = λ is. grind (arith, nat_tests, is) in
     takes_rest c.args.domain.now.acts c.in-Rest.turns p c.end_turn-in-Rest.new.self (nat_le c.in-Rest.turns (p.turns + 1)) at few last
-    (c.end_turn-in-Rest.ensures ∙ ap (λ (q : Progress). after_turn (nat_le c.in-Rest.turns q.turns) q) c.rest.ensures)
+    (c.end_turn-in-Rest.ensures ∙ ap (λ (next : Progress). after_turn (nat_le c.in-Rest.turns next.turns) next) c.rest.ensures)
 
 pub returns-in_ok-prepare-in_default-clause-turn : goal.returns-in_ok-prepare-in_default-clause-turn
 returns-in_ok-prepare-in_default-clause-turn c =
