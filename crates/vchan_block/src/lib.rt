@@ -16,6 +16,7 @@ mod receiving;
 mod ring;
 mod sending;
 mod wait;
+mod waking;
 mod writing;
 
 pub use piping::pipe;

@@ -1,26 +1,31 @@
 //! What a thread does between two tries.
+use crate::waking::Waking;
+use std::sync::Wait;
 use std::time::{Clock, Duration};
 use std::{hint, thread};
 
-/// How many tries are made without giving up the processor: as long as a running peer takes for a round.
-const SPINS: u32 = 256;
+/// How many tries are made without giving up the processor: as long as a running peer takes for a round. With
+/// half as many, a pipe with small rings sleeps on an idle machine; with twice as many, it is slower on a busy
+/// one.
+const SPINS: u32 = 512;
 
 /// The shortest and the longest sleep, in microseconds.
 const SHORTEST: u64 = 16;
 
 const LONGEST: u64 = 1_000;
 
-/// The pauses of one wait, which grow: at first there are none, then the thread sleeps, each time twice as
-/// long. It never yields, which costs a whole slice of time if others want the processor.
+/// The pauses of one wait. At first there are none, then the thread sleeps: until its peer wakes it, or, if
+/// nobody does, each time twice as long. It never yields, which costs a whole slice of time if others want the
+/// processor.
 #[derive(Clone, Copy)]
-pub struct Pauses {
+pub(crate) struct Pauses {
     tries: u32,
     sleep: u64,
 }
 
 impl Pauses {
     /// Makes the pauses of a wait that begins.
-    pub fn new() -> Pauses {
+    pub(crate) fn new() -> Pauses {
         Pauses {
             tries: 0,
             sleep: SHORTEST,
@@ -28,13 +33,20 @@ impl Pauses {
     }
 
     /// Pauses once.
-    pub fn pause(&mut self, clock: &impl Clock) {
+    pub(crate) fn pause<R: Wait + Clock>(&mut self, rt: &R, waking: Waking<'_>) {
         if self.tries < SPINS {
             hint::spin_loop();
             self.tries = self.tries.saturating_add(1);
             return;
         }
-        thread::sleep(clock, Duration::from_micros(self.sleep));
-        self.sleep = self.sleep.saturating_mul(2).min(LONGEST);
+        match waking {
+            Waking::Nobody => {
+                thread::sleep(rt, Duration::from_micros(self.sleep));
+                self.sleep = self.sleep.saturating_mul(2).min(LONGEST);
+            }
+            Waking::Peer { own, peer: _ } => {
+                own.park_timeout(rt, Duration::from_micros(LONGEST));
+            }
+        }
     }
 }

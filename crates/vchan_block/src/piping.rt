@@ -5,8 +5,9 @@ ghost use Rattle.vchan_rule.specs.Seated.{view, last_view, IsOpen};
 ghost use Rattle.vchan_rule.specs.Ends.{IsSameEnd};
 ghost use Rattle.vchan_block.specs.Pipe.{GetsAll, HasEnded, HasPiped, IsEndOf, MayHaveEnded, SendsAll, drained_count};
 
-use crate::wait::wait;
-use crate::writing::write;
+use crate::wait::wait_waking;
+use crate::waking::{Sleepers, Waking};
+use crate::writing::write_waking;
 use ring_words::Orders;
 use std::alloc::Global;
 use std::sync::Wait;
@@ -29,6 +30,7 @@ fn write_all_and_retire<R: Wait + Clock>(
     page: &Page,
     seat: IdleSeat,
     bytes: &[u8],
+    waking: Waking<'_>,
 ) -> Retired
     requires { seat ≡ record { page = page.now; role = Client } }
     ensures end { IsEndOf page.now.table Client result }
@@ -37,7 +39,7 @@ fn write_all_and_retire<R: Wait + Clock>(
     let mut end = page.attach(seat);
     match connect(&mut end) {
         Ok(()) => {
-            let _ = write(rt, &mut end, bytes);
+            let _ = write_waking(rt, &mut end, bytes, waking);
             retire(end)
         }
         Err(_) => retire(end),
@@ -60,7 +62,12 @@ fn drain_behind(end: &mut End<'_>, buf: &mut [u8], count: usize) -> DrainAnswer
 }
 
 /// Drains until no more comes, or until the buffer is full. Returns how many bytes were got.
-fn drain_all<R: Wait + Clock>(rt: &R, end: &mut End<'_>, buf: &mut [u8]) -> usize
+fn drain_all<R: Wait + Clock>(
+    rt: &R,
+    end: &mut End<'_>,
+    buf: &mut [u8],
+    waking: Waking<'_>,
+) -> usize
     requires open { IsOpen end.old }
     requires some { 0 < length buf.old }
     requires none { (view end.old).got ≡ [] }
@@ -76,11 +83,12 @@ fn drain_all<R: Wait + Clock>(rt: &R, end: &mut End<'_>, buf: &mut [u8]) -> usiz
         match drain_behind(end, buf, count) {
             DrainAnswer::More { count: more } => {
                 count += more as usize;
+                waking.wake_peer();
                 if count == buf.len() {
                     return count;
                 }
             }
-            DrainAnswer::NotYet { prod: _, cons: _ } => wait(rt, end),
+            DrainAnswer::NotYet { prod: _, cons: _ } => wait_waking(rt, end, waking),
             DrainAnswer::AllRead => return count,
             DrainAnswer::PeerGone { prod: _, cons: _ } => return count,
         }
@@ -94,6 +102,7 @@ fn read_all_and_retire<R: Wait + Clock>(
     page: &Page,
     seat: IdleSeat,
     mut buf: Vec<u8>,
+    waking: Waking<'_>,
 ) -> Received
     requires seat { seat ≡ record { page = page.now; role = Server } }
     requires some { 0 < vec_len buf }
@@ -101,7 +110,7 @@ fn read_all_and_retire<R: Wait + Clock>(
     ensures got { GetsAll (last_view result.end) result.bytes.items (vec_len buf) }
 {
     let mut end = page.attach(seat);
-    let count = drain_all(rt, &mut end, buf.as_mut_slice());
+    let count = drain_all(rt, &mut end, buf.as_mut_slice(), waking);
     buf.truncate(count);
     Received {
         end: retire(end),
@@ -137,6 +146,8 @@ fn write_and_read<R: Threads + Wait + Clock + Sync>(
     ensures client { IfOk result (λ done. IsEndOf page.now.table Client done.0 × SendsAll (last_view done.0) bytes.now) }
     ensures server { IfOk result (λ done. IsEndOf page.now.table Server done.1.end × GetsAll (last_view done.1.end) done.1.bytes.items (vec_len buf)) }
 {
+    let sleepers = Sleepers::new();
+    let sleepers = &sleepers;
     scope(
         scope_env(),
         rt,
@@ -150,12 +161,17 @@ fn write_and_read<R: Threads + Wait + Clock + Sync>(
                 move || -> Retired
                     requires { client ≡ record { page = page.now; role = Client } }
                     ensures { IsEndOf page.entry.now.table Client result × SendsAll (last_view result) bytes.entry.now }
-                { write_all_and_retire(rt, page, client, bytes) },
+                {
+                    let end = write_all_and_retire(rt, page, client, bytes, sleepers.for_writer());
+                    sleepers.for_writer().wake_peer();
+                    end
+                },
             );
             let Ok(writer) = writer else {
                 return Err(Memory);
             };
-            let received = read_all_and_retire(rt, page, server, buf);
+            let received = read_all_and_retire(rt, page, server, buf, sleepers.for_reader());
+            sleepers.for_reader().wake_peer();
             Ok((writer.join(rt), received))
         },
     )

@@ -3,7 +3,7 @@ use Rattle.vchan_rule.specs.Seated.{SeatedEnd, view, IsOpen}
 use Rattle.vchan_rule.specs.Ends.{IsSameEnd}
 use Rattle.vchan_block.specs.declared.writing.BlockWrite.{BlockWrite}
 use Rattle.vchan_block.specs.Rounds.{Writes}
-use Rattle.vchan_block.proofs.writing.write.Given as goal
+use Rattle.vchan_block.proofs.writing.write_waking.Given as goal
 
 -- this many bytes were sent, and whatever the rounds from here on come to is what all of them come to
 abbrev pub invariant-rounds : goal.invariant-rounds

@@ -8,8 +8,8 @@ use Rattle.vchan_stream.specs.declared.WriteAnswer.TheVariants as write
 use Rattle.vchan_block.specs.declared.writing.BlockWrite.TheVariants as wrote
 use Rattle.vchan_block.specs.Rounds.{Writes, MovesLast, FindsClosed, MovesSome, FindsFull}
 use Rattle.vchan_block.proofs.RoundLaws.{round_on, sent_on, wrote_whole}
-use Rattle.vchan_block.proofs.writing.write.Goals as goal
-use Rattle.vchan_block.proofs.writing.write.Goals.{in-Wrote+else-moved-bytes, in-Full}
+use Rattle.vchan_block.proofs.writing.write_waking.Goals as goal
+use Rattle.vchan_block.proofs.writing.write_waking.Goals.{in-Wrote+else-moved-bytes, in-Full}
 
 pub returns-then-moved-bytes-clause-rounds : goal.returns-then-moved-bytes-clause-rounds
 returns-then-moved-bytes-clause-rounds g c =
@@ -53,26 +53,26 @@ rounds-preserved g c =
           let less : moved + count < length bytes = omega (arith, w.in-Wrote.ensures.few count refl, ap length (take_rest bytes moved), length-drop moved bytes, w.if-moved-bytes.false, c.rounds.invariant.within) in
           record {
             same = grind (arith, common_steps);
-            open_is = c.wait.ensures.open;
+            open_is = c.wait_waking.ensures.open;
             within = omega (arith, now, less);
-            view_is = c.wait.ensures.view ∙ sent_on (view c.rounds.end) (view c.args.end.now) (view c.write.new.end) bytes _ moved count (take_rest bytes moved) c.rounds.invariant.view_is w.in-Wrote.ensures.view
+            view_is = c.wait_waking.ensures.view ∙ sent_on (view c.rounds.end) (view c.args.end.now) (view c.write.new.end) bytes _ moved count (take_rest bytes moved) c.rounds.invariant.view_is w.in-Wrote.ensures.view
                 ∙ ap (λ (n : ℕ). record (view c.args.end.now) { sent = (view c.args.end.now).sent ++ take n bytes }) (sym now);
             goes_on = λ new answer rest. c.rounds.invariant.goes_on new answer
-                (MovesSome count c.write.new.end c.wait.new.end
+                (MovesSome count c.write.new.end c.wait_waking.new.end
                 (round_on bytes _ moved (write.Wrote count) c.rounds.end c.write.new.end (take_rest bytes moved) w.in-Wrote.ensures.view w.in-Wrote.ensures.trail)
-                less c.wait.ensures.waits (subst (λ (n : ℕ). Writes bytes n c.wait.new.end new answer) now rest));
+                less c.wait_waking.ensures.waits (subst (λ (n : ℕ). Writes bytes n c.wait_waking.new.end new answer) now rest));
           })
       | in-Full w ↦
           (let now : c.match-write.moved ≡ moved = w.moved-is in
           record {
             same = grind (arith, common_steps);
-            open_is = c.wait.ensures.open;
+            open_is = c.wait_waking.ensures.open;
             within = omega (arith, now, c.rounds.invariant.within);
-            view_is = c.wait.ensures.view ∙ w.in-Full.ensures.view ∙ c.rounds.invariant.view_is
+            view_is = c.wait_waking.ensures.view ∙ w.in-Full.ensures.view ∙ c.rounds.invariant.view_is
                 ∙ ap (λ (n : ℕ). record (view c.args.end.now) { sent = (view c.args.end.now).sent ++ take n bytes }) (sym now);
             goes_on = λ new answer rest. c.rounds.invariant.goes_on new answer
-                (FindsFull w.in-Full.prod w.in-Full.cons c.write.new.end c.wait.new.end
+                (FindsFull w.in-Full.prod w.in-Full.cons c.write.new.end c.wait_waking.new.end
                 (round_on bytes _ moved (write.Full w.in-Full.prod w.in-Full.cons) c.rounds.end c.write.new.end (take_rest bytes moved) w.in-Full.ensures.view w.in-Full.ensures.trail)
-                c.wait.ensures.waits (subst (λ (n : ℕ). Writes bytes n c.wait.new.end new answer) now rest));
+                c.wait_waking.ensures.waits (subst (λ (n : ℕ). Writes bytes n c.wait_waking.new.end new answer) now rest));
           })
     ]

@@ -2,7 +2,7 @@ use Rattle.std.proofs.Common.{◌≡◌}
 use Rattle.vchan_rule.specs.Seated.{SeatedEnd, view, IsOpen}
 use Rattle.vchan_rule.specs.Ends.{IsSameEnd}
 use Rattle.vchan_block.specs.Rounds.{Waits}
-use Rattle.vchan_block.proofs.wait.wait.Given as goal
+use Rattle.vchan_block.proofs.wait.wait_waking.Given as goal
 
 -- whatever the tries from here on come to is what all of them come to
 abbrev pub invariant-tries : goal.invariant-tries

@@ -2,7 +2,7 @@
 use Rattle.std.proofs.Common.{Bool, subst, ◌∙◌, arith}
 use Rattle.std.proofs.lemmas.Grind.{common_steps}
 use Rattle.vchan_block.specs.Rounds.{IsTry, Takes, TriesAgain}
-use Rattle.vchan_block.proofs.wait.wait.Goals as goal
+use Rattle.vchan_block.proofs.wait.wait_waking.Goals as goal
 
 pub returns-then-take_event-clause-waits : goal.returns-then-take_event-clause-waits
 returns-then-take_event-clause-waits g c =
