@@ -9,10 +9,14 @@ use std::{hint, thread};
 /// one.
 const SPINS: u32 = 512;
 
-/// The shortest and the longest sleep, in microseconds.
+/// The shortest and the longest sleep of a thread that nobody wakes, in microseconds. A sleep takes ten to
+/// twenty of them on a processor, so a second of waiting takes two to three milliseconds.
 const SHORTEST: u64 = 16;
 
-const LONGEST: u64 = 1_000;
+const LONGEST: u64 = 8_000;
+
+/// The longest sleep of a thread that its peer wakes, in microseconds. A wake that is missed costs so much.
+const LONGEST_PARK: u64 = 1_000;
 
 /// The pauses of one wait. At first there are none, then the thread sleeps: until its peer wakes it, or, if
 /// nobody does, each time twice as long. It never yields, which costs a whole slice of time if others want the
@@ -45,7 +49,7 @@ impl Pauses {
                 self.sleep = self.sleep.saturating_mul(2).min(LONGEST);
             }
             Waking::Peer { own, peer: _ } => {
-                own.park_timeout(rt, Duration::from_micros(LONGEST));
+                own.park_timeout(rt, Duration::from_micros(LONGEST_PARK));
             }
         }
     }
