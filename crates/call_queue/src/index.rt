@@ -1,22 +1,20 @@
 //! An index of names.
-ghost use Rattle.std.specs.Prelude.{◌≡◌, ◌<◌, length, IfOk, IfSome};
+ghost use Rattle.std.specs.Prelude.{◌≡◌, map, IfOk};
 ghost use Rattle.call_queue.specs.Index.{place_in, IsIndex};
 
-use qrexec_frame::Text;
 use std::alloc::{AllocError, Global};
 use std::collections::BTreeMap;
 
 /// The places of names in a list.
 pub(crate) type Index = BTreeMap<Vec<u8>, usize>;
 
-/// Makes the index of some names. If names are equal, it has the first place.
-pub(crate) fn index_of(alloc: Global, names: &[Text]) -> Result<Index, AllocError>
-    ensures { IfOk result (λ index. IsIndex names.now index) }
+/// Makes the index of some names, which become its keys. If names are equal, it has the first place.
+pub(crate) fn index_of(alloc: Global, mut names: Vec<Vec<u8>>) -> Result<Index, AllocError>
+    ensures { IfOk result (λ index. IsIndex (map (λ name. name.items) names.items) index) }
 {
     let mut index = BTreeMap::new(alloc);
-    for place in (0..names.len()).rev() {
-        let name = Vec::from_slice(alloc, names[place].bytes())?;
-        index.insert(name, place)?;
+    while let Some(name) = names.pop() {
+        index.insert(name, names.len())?;
     }
     Ok(index)
 }

@@ -65,9 +65,9 @@ impl CallQueue {
         ensures apart { IfOk result (λ q. AreDifferent (map (λ a. ident_of a.call.number) (asked_by q))) }
     {
         let idents = idents_of(alloc, &calls)?;
-        let by_ident = index_of(alloc, &idents)?;
+        let by_ident = index_of(alloc, idents)?;
         let targets = targets_of(alloc, &calls)?;
-        let by_target = index_of(alloc, &targets)?;
+        let by_target = index_of(alloc, targets)?;
         let counts = vec![in alloc; 0u32; calls.len()]?;
         let calls = queued(alloc, calls, &by_target)?;
         Ok(CallQueue {

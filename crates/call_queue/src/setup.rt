@@ -7,32 +7,31 @@ ghost use Rattle.call_queue.specs.Inside.{IsFresh};
 
 use crate::call::{CallAnswer, QueuedCall};
 use crate::index::{Index, index_of, place_in};
-use crate::trigger::ident_text;
-use qrexec_frame::Text;
+use crate::trigger::ident_bytes;
 use scenario_file::CallPlan;
 use std::alloc::{AllocError, Global};
 use std::snapshot::Snapshot;
 use vchan_io::Memory;
 
 /// Returns the idents of some calls.
-pub(crate) fn idents_of(alloc: Global, calls: &[CallPlan]) -> Result<Vec<Text>, Memory>
-    ensures are { IfOk result (λ idents. idents.items ≡ map (λ c. ident_of c.number) calls.now) }
+pub(crate) fn idents_of(alloc: Global, calls: &[CallPlan]) -> Result<Vec<Vec<u8>>, Memory>
+    ensures are { IfOk result (λ idents. map (λ ident. ident.items) idents.items ≡ map (λ c. ident_of c.number) calls.now) }
     ensures small { OnOk result (Each (λ c. c.number < 2 ^ 32) calls.now) }
 {
     let mut idents = Vec::with_capacity(alloc, calls.len())?;
     for call in calls {
-        idents.push(ident_text(alloc, call.number)?)?;
+        idents.push(ident_bytes(alloc, call.number)?)?;
     }
     Ok(idents)
 }
 
 /// Returns the names of the targets of some calls.
-pub(crate) fn targets_of(alloc: Global, calls: &[CallPlan]) -> Result<Vec<Text>, AllocError>
-    ensures { IfOk result (λ targets. targets.items ≡ map (λ c. c.to) calls.now) }
+pub(crate) fn targets_of(alloc: Global, calls: &[CallPlan]) -> Result<Vec<Vec<u8>>, AllocError>
+    ensures { IfOk result (λ targets. map (λ target. target.items) targets.items ≡ map (λ c. c.to) calls.now) }
 {
     let mut targets = Vec::with_capacity(alloc, calls.len())?;
     for call in calls {
-        targets.push(call.to.clone()?)?;
+        targets.push(Vec::from_slice(alloc, call.to.bytes())?)?;
     }
     Ok(targets)
 }

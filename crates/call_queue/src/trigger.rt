@@ -35,8 +35,10 @@ pub(crate) fn ident_text(alloc: Global, number: u32) -> Result<Text, Memory>
     }
 }
 
-fn ident_bytes(alloc: Global, number: u32) -> Result<Vec<u8>, Memory>
-    ensures { IfOk result (λ bytes. bytes.items ≡ ident_of number) }
+/// Returns the bytes of the same ident.
+pub(crate) fn ident_bytes(alloc: Global, number: u32) -> Result<Vec<u8>, Memory>
+    ensures is { IfOk result (λ bytes. bytes.items ≡ ident_of number) }
+    ensures number { number < 2 ^ 32 }
 {
     let mut bytes = Vec::with_capacity(alloc, LONGEST_IDENT)?;
     bytes.extend_from_slice(b"call-")?;

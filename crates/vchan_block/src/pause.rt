@@ -15,7 +15,7 @@ const SHORTEST: u64 = 16;
 
 const LONGEST: u64 = 8_000;
 
-/// The longest sleep of a thread that its peer wakes, in microseconds. A wake that is missed costs so much.
+/// The longest sleep of a thread that its peer wakes, in microseconds. A missed wake costs at most this.
 const LONGEST_PARK: u64 = 1_000;
 
 /// The pauses of one wait. At first there are none, then the thread sleeps: until its peer wakes it, or, if

@@ -1,8 +1,10 @@
-use Rattle.std.proofs.Common.{◌≡◌, ◌+◌, ℕ, List}
-use Rattle.std.specs.Prelude.{option_map, drop}
-use Rattle.call_broker.specs.Domains.{place_of}
+use Rattle.std.proofs.Common.{length, map}
 use Rattle.call_queue.specs.Index.{place_in}
+use Rattle.call_queue.proofs.IndexLaws.{IsFilled}
 use Rattle.call_queue.proofs.index.index_of.Given as goal
 
-abbrev pub invariant-loop-place : goal.invariant-loop-place
-invariant-loop-place l = (name : List ℕ) → place_in l.index name ≡ option_map (λ k. k + l.place) (place_of (drop l.place l.names) name)
+abbrev pub invariant-loop-name : goal.invariant-loop-name
+invariant-loop-name l = IsFilled (λ name. place_in l.index name) (map (λ name. name.items) l.names.items) (map (λ name. name.items) l.fn.names.items)
+
+abbrev pub decreases-loop-name : goal.decreases-loop-name
+decreases-loop-name l = length l.names.items

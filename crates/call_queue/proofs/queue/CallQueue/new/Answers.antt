@@ -12,9 +12,9 @@ use Rattle.call_queue.proofs.queue.CallQueue.new.Goals as goal
 pub invariant_of-result : goal.invariant_of-result
 invariant_of-result c =
     let by_ident : IsIndex (map (λ x. ident_of x.number) c.args.calls.items) c.in_ok-by_ident.by_ident =
-    subst (λ l. IsIndex l c.in_ok-by_ident.by_ident) (c.deref-2.ensures.value ∙ (c.in_ok-idents.ensures.are ∙ ap (map (λ x. ident_of x.number)) c.deref.ensures.value)) c.in_ok-by_ident.ensures in
+    subst (λ l. IsIndex l c.in_ok-by_ident.by_ident) (c.in_ok-idents.ensures.are ∙ ap (map (λ x. ident_of x.number)) c.deref.ensures.value) c.in_ok-by_ident.ensures in
     let by_target : IsIndex (map (λ x. x.to) c.args.calls.items) c.in_ok-by_target.by_target =
-    subst (λ l. IsIndex l c.in_ok-by_target.by_target) (c.deref-4.ensures.value ∙ (c.in_ok-targets.ensures ∙ ap (map (λ x. x.to)) c.deref-3.ensures.value)) c.in_ok-by_target.ensures in
+    subst (λ l. IsIndex l c.in_ok-by_target.by_target) (c.in_ok-targets.ensures ∙ ap (map (λ x. x.to)) c.deref-2.ensures.value) c.in_ok-by_target.ensures in
     let many : c.len.result ≡ length c.args.calls.items = omega (arith, c.len.ensures, c.args.calls.ok.0) in
     let counts_are : c.in_ok-counts.counts.items ≡ replicate (length c.args.calls.items) 0 = c.in_ok-counts.ensures.items_if_clones_equal (λ y e. e) ∙ ap (λ n. replicate n 0) many in
     kept-fresh c.args.calls.items c.in_ok-calls.calls.items c.in_ok-by_ident.by_ident c.in_ok-by_target.by_target c.in_ok-counts.counts.items c.in_ok-calls.ensures
