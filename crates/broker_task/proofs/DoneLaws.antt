@@ -1,22 +1,17 @@
 -- A task whose domains are all settled owes what it gives.
-use Rattle.std.proofs.Common.{◌≡◌, ℕ, ◌+◌, ◌-◌, suc, zero, Bool, true, false, List, [], ◌∷◌, ◌++◌, length, map, refl, sym, ap, ◌∙◌, subst, arith, inl, inr}
-use Rattle.std.specs.Prelude.{IsPermutation, filter_map, slice_index_or}
+use Rattle.std.proofs.Common.{◌≡◌, ℕ, ◌+◌, ◌-◌, suc, zero, true, false, List, [], ◌∷◌, ◌++◌, length, map, refl, sym, ap, ◌∙◌, subst, arith, inl, inr}
+use Rattle.std.specs.Prelude.{◌⊎◌, IsPermutation, IsSome, filter_map}
 use Rattle.std.proofs.lemmas.List.{append-nil}
 use Rattle.end_view.specs.EndView.{EndView, no_end}
 use Rattle.vchan_lifecycle.specs.Lifecycle.{retired_view}
-use Rattle.vchan_rule.specs.Seated.{view}
 use Rattle.qrexec_frame.specs.declared.message.Message.{Message}
 use Rattle.qrexec_frame.specs.declared.message.Message.TheVariants.{Connect}
-use Rattle.qrexec_frame.specs.Messages.{IsSpellable}
 use Rattle.qrexec_frame.specs.Streams.{Each}
 use Rattle.call_broker.specs.declared.decision.Entry.{Entry}
 use Rattle.call_broker.specs.Brokered.{Brokered}
 use Rattle.call_broker.specs.Domains.{Domains, is_domain, count_of}
 use Rattle.call_broker.specs.Journal.{is_dropped}
-use Rattle.control_port.specs.declared.talk.Talker.{Talker}
-use Rattle.control_port.specs.declared.talk.Talker.TheVariants.{Broker as ByBroker}
-use Rattle.control_port.specs.Talking.{may_say}
-use Rattle.control_port.specs.Port.{PortState, SentWhole, HasSaid}
+use Rattle.control_port.specs.Port.{HasSaid}
 use Rattle.task_duties.specs.declared.place.PagePlace.{PagePlace}
 use Rattle.task_duties.specs.declared.place.PagePlace.TheVariants.{Control, Payload}
 use Rattle.task_duties.specs.declared.ends.RetiredEnd.{RetiredEnd}
@@ -25,7 +20,7 @@ use Rattle.task_duties.specs.Pairwise.{EachPair}
 use Rattle.task_duties.specs.Hearing.{to_agent, to_broker, IsSaid, hears}
 use Rattle.task_duties.specs.Broker.Outbox.{outbox, event_of, read_from, answered, live_calls}
 use Rattle.task_duties.specs.Broker.Owes.{broker_version, awaited_of, BrokerOwes}
-use Rattle.task_duties.specs.TaskOwes.{IsSameEnd, AreEnds, broker_ends}
+use Rattle.task_duties.specs.TaskOwes.{Broker, IsSameEnd, AreEnds, broker_ends}
 use Rattle.task_duties.specs.GivenEnds.{retired_at}
 use Rattle.task_duties.proofs.Elements.{each-at, has-from}
 use Rattle.broker_task.specs.declared.letter.Letter.{Letter}
@@ -34,13 +29,15 @@ use Rattle.broker_task.specs.declared.switchboard.Switchboard.{Switchboard}
 use Rattle.broker_task.specs.declared.task.BrokerTurn.{BrokerTurn}
 use Rattle.broker_task.specs.declared.task.BrokerTurn.TheVariants as turn
 use Rattle.broker_task.specs.Letters.{IsAt, messages_in}
-use Rattle.broker_task.specs.Lines.{end_of, is_gone, first_view, MayDrop, IsLine, events_got}
+use Rattle.broker_task.specs.Lines.{end_of, BrokerEnd, is_gone, first_view, MayDrop, IsLine, events_got}
 use Rattle.broker_task.specs.Posting.{EachAt, EachMoves, MayGo, HasPosted}
-use Rattle.broker_task.specs.Given.{given_of, IsRetiredOf}
+use Rattle.broker_task.specs.Given.{given_now, retired_end, IsRetiredOf}
 use Rattle.broker_task.specs.Rounds.{IsReady, GoesOn, IsSettled}
-use Rattle.broker_task.specs.Turns.{Pays, Finishes}
+use Rattle.broker_task.specs.Standing.{Stands}
+use Rattle.broker_task.specs.Turns.{Pays, StandsAfter, Finishes}
 use Rattle.broker_task.proofs.HearingSteps.{place-of-domain, item-at}
 use Rattle.broker_task.proofs.RoundSteps.{at-one}
+use Rattle.broker_task.proofs.StandingLaws.{said-by, awaited-at, stands-done}
 
 -- ---- what was given is the same
 
@@ -59,13 +56,13 @@ moves-map {B} f (x ∷ old) (y ∷ new) moves =
     } in
     λ i. head i ∷ moves-map f old new rest i
 
-pub given-on : (old new : Switchboard) → GoesOn old new → given_of new ≡ given_of old
+pub given-on : (old new : Switchboard) → GoesOn old new → given_now new ≡ given_now old
 given-on old new goes =
     let awaited : map (λ x. x.awaited) new.daemons.items ≡ map (λ x. x.awaited) old.daemons.items =
     moves-map (λ x. x.awaited) old.daemons.items new.daemons.items (record { count = goes.same.count; each = λ i y at. let m = goes.same.each i y at in (m.0, m.1, m.2.awaited) }) in
     let views : map (λ x. first_view (end_of x)) new.daemons.items ≡ map (λ x. first_view (end_of x)) old.daemons.items =
     moves-map (λ x. first_view (end_of x)) old.daemons.items new.daemons.items (record { count = goes.same.count; each = λ i y at. let m = goes.same.each i y at in (m.0, m.1, m.2.given) }) in
-    λ i. record { hub = goes.hub i; awaited = awaited i; ends = broker_ends 1 (views i) }
+    λ i. Broker (goes.hub i) (awaited i) (broker_ends 1 (views i))
 
 -- ---- all domains in turn, as a list
 
@@ -138,17 +135,9 @@ ends-honest (x ∷ ds) (r ∷ rs) pairs = (pairs.0.honest, ends-honest ds rs pai
 
 -- ---- what each domain was sent, and has sent
 
-said-whole : (greeted : Bool) (own : ℕ) (said : List Message) (sent : List ℕ) → own ≡ broker_version → Each (λ m. (to_agent m ≡ true) × IsSpellable m) said → SentWhole greeted own said sent → IsSaid broker_version to_agent said sent
-said-whole false own said sent is each whole = record { each = each; whole = inl whole }
-said-whole true own said sent is each whole = record { each = each; whole = inr (subst (λ (o : ℕ). SentWhole true o said sent) is whole) }
-
-said-by : (p : PortState) (said : List Message) → p.talker ≡ ByBroker → p.own ≡ broker_version → HasSaid p said → IsSaid broker_version to_agent said (view p.end).sent
-said-by p said talker own h = said-whole p.greeted p.own said (view p.end).sent own (subst (λ (t : Talker). Each (λ m. (may_say t m ≡ true) × IsSpellable m) said) talker h.each) h.whole
-
-awaited-at : (ds : List Daemon) (i : ℕ) (x : Daemon) → IsAt ds i x → slice_index_or (map (λ z. z.awaited) ds) i 0 ≡ x.awaited
-awaited-at [] i x at = absurd (omega (arith, at.within))
-awaited-at (y ∷ ds) zero x at = ap (λ (z : Daemon). z.awaited) (sym at.is)
-awaited-at (y ∷ ds) (suc i) x at = awaited-at ds i x (record { within = omega (arith, at.within); is = at.is })
+drop-cause : (e : BrokerEnd) → MayDrop e → (e.view.saw ≡ true) ⊎ (e.view.misled ≡ true) ⊎ IsSome (hears broker_version to_broker e.view.got).fault
+drop-cause e (inl h) = inl h.saw
+drop-cause e (inr h) = inr h
 
 -- ---- the whole task
 
@@ -170,7 +159,7 @@ owes s ready settled = record {
       let x = at.0 in
       let h = (ready.posting.posted at.1 x at.2).dropped in
       let gone : is_gone x ≡ true = sym h ∙ ap (λ (k : ℕ). is_dropped journal k) at.3 ∙ dropped in
-      subst (λ (e : EndView). MayDrop e) (sym (end-is d there)) ((ready.posting.lines at.1 x at.2).cause gone);
+      subst (λ (e : EndView). (e.saw ≡ true) ⊎ (e.misled ≡ true) ⊎ IsSome (hears broker_version to_broker e.got).fault) (sym (end-is d there)) (drop-cause _ ((ready.posting.lines at.1 x at.2).cause gone));
   said = ready.posting.said;
   says = λ d there.
       let at = daemon d there in
@@ -229,7 +218,7 @@ owes s ready settled = record {
     awaited-is : (d : ℕ) (there : is_domain s.broker.hub d ≡ true) → awaited_of (map (λ z. z.awaited) s.daemons.items) d ≡ (daemon d there).0.awaited
     awaited-is d there = let at = daemon d there in awaited-at s.daemons.items (d - 1) at.0 at.2
 
-pub done-pays : (s : Switchboard) (result : BrokerTurn) → IsReady s → EachAt (IsSettled s.broker.hub s.broker.journal (length s.daemons.items)) s.daemons.items → Finishes s result → Pays (given_of s) result
+pub done-pays : (s : Switchboard) (result : BrokerTurn) → IsReady s → EachAt (IsSettled s.broker.hub s.broker.journal (length s.daemons.items)) s.daemons.items → Finishes s result → Pays (given_now s) result
 done-pays s (turn.Again task) ready settled finishes = absurd finishes
 done-pays s turn.NoMemory ready settled finishes = tt
 done-pays s (turn.Done done) ready settled finishes = (
@@ -242,3 +231,8 @@ done-pays s (turn.Done done) ready settled finishes = (
   },
   subst (λ (b : Brokered). BrokerOwes s.broker.hub (map (λ x. x.awaited) s.daemons.items) b.journal (λ d. end_in s.daemons.items (Control d))) (sym finishes.0) (owes s ready settled),
 )
+
+pub done-stands : (s : Switchboard) (result : BrokerTurn) → IsReady s → Finishes s result → StandsAfter result
+done-stands s (turn.Again task) ready finishes = absurd finishes
+done-stands s turn.NoMemory ready finishes = tt
+done-stands s (turn.Done done) ready finishes = subst (λ (b : Brokered). Stands b.hub b.journal (map retired_end done.ends.items)) (sym finishes.0) (stands-done s done.ends.items ready finishes.1)

@@ -1,6 +1,6 @@
 -- A domain that is dropped: its entry of the journal, what it leaves unsent, and the Connects that may be sent without it.
 use Rattle.std.proofs.Common.{◌≡◌, ◌≢◌, ℕ, Bool, true, false, List, [], ◌∷◌, ◌++◌, refl, sym, ap, ◌∙◌, subst, arith, None, inl}
-use Rattle.std.specs.Prelude.{◌==◌, ◌||◌, IsPermutation}
+use Rattle.std.specs.Prelude.{◌==◌, ◌||◌, IsPermutation, filter_map}
 use Rattle.std.proofs.lemmas.List.{append-nil}
 use Rattle.std.proofs.lemmas.Bool.Decides.{nat_tests}
 use Rattle.qrexec_frame.specs.declared.message.Message.{Message}
@@ -15,11 +15,13 @@ use Rattle.call_broker.specs.Journal.{events, is_dropped, IsNumbered}
 use Rattle.call_broker.proofs.BrokerLaws.{decided-push, each-push}
 use Rattle.call_broker.proofs.OpenLaws.{both}
 use Rattle.control_port.specs.Port.{HasSaid}
-use Rattle.task_duties.specs.Broker.Outbox.{outbox, answered, read_from}
+use Rattle.task_duties.specs.Hearing.{to_broker, hears}
+use Rattle.task_duties.specs.Broker.Outbox.{outbox, answered, event_of, read_from}
+use Rattle.task_duties.specs.Broker.Owes.{broker_version}
 use Rattle.broker_task.specs.declared.letter.Letter.{Letter}
 use Rattle.broker_task.specs.declared.daemon.Daemon.{Daemon}
 use Rattle.broker_task.specs.Letters.{messages_in, connects}
-use Rattle.broker_task.specs.Lines.{is_gone, IsLine, HasRead, HasReadAll, IsSameDaemon, events_got}
+use Rattle.broker_task.specs.Lines.{end_of, heard_by, is_gone, IsLine, HasRead, HasReadAll, IsSameDaemon}
 use Rattle.broker_task.specs.Posting.{EachAt, EachMoves, LetsGo, MayGo, IsLetter, HasPosted, IsPosting, HasHeardOut, HaveRead}
 use Rattle.broker_task.proofs.PostLaws.{same-number, each-moved, moves-then}
 use Rattle.broker_task.proofs.PostingLaws.{each-as, may-go-on, outbox-more, answered-more, dropped-more, still-dropped, line-same}
@@ -32,7 +34,8 @@ pub record HangsUp (x y : Daemon) : Type 0 where
   pub gone : is_gone y ≡ true
   pub line : IsLine y.domain y
   pub said : (said : List Message) → HasSaid x.port said → HasSaid y.port said
-  pub got : events_got y ≡ events_got x
+  pub got : (end_of y).got ≡ (end_of x).got
+  pub version : y.port.version ≡ x.port.version
   pub letters : y.outbox.letters.items ≡ []
   pub same : IsSameDaemon x y
   pub counted : y.answered ≡ x.answered
@@ -122,7 +125,15 @@ read-drop journal t decided old new moves h =
     let more : List Entry = journal ++ record { event = Dropped t; decision = decided } ∷ [] in
     let both_ways : EachAt (λ d x. (d ≢ t → HasRead x (read_from journal d)) × (d ≡ t → HasReadAll x (read_from journal d))) old = λ i x at. (h.others i x at, h.own i x at) in
     each-alone t HangsUp (λ d x. (d ≢ t → HasRead x (read_from journal d)) × (d ≡ t → HasReadAll x (read_from journal d))) (λ d x. HasRead x (read_from more d)) old new moves
-    (λ d x y same up p. record { all = up.got ∙ (p.1 same).all ∙ sym (drop-read journal t d decided); on = λ still. cc (up.gone, still) })
+    (λ d x y same up p. record {
+      all =
+          ap (λ (k : ℕ). filter_map (event_of k) (heard_by (end_of y)).messages) up.same.domain ∙ ap (λ (g : List ℕ). filter_map (event_of x.domain) (hears broker_version to_broker g).messages) up.got ∙ (p.1 same).all
+          ∙ sym (drop-read journal t d decided);
+      version = ap (λ (g : List ℕ). (hears broker_version to_broker g).version) up.got ∙ (p.1 same).version ∙ sym up.version;
+      on = λ still. cc (up.gone, still);
+      going = λ still. cc (up.gone, still);
+      fine = λ still. cc (up.gone, still);
+    })
     (λ d x apart p. subst (λ es. HasRead x es) (sym (drop-read journal t d decided)) (p.0 apart)) both_ways
 
 -- a Connect to a domain that was dropped may be sent

@@ -18,7 +18,7 @@ use Rattle.task_duties.specs.Broker.Outbox.{outbox, read_from, is_from, event_of
 use Rattle.broker_task.specs.declared.daemon.Daemon.{Daemon}
 use Rattle.broker_task.specs.declared.letter.Letter.{Letter}
 use Rattle.broker_task.specs.Letters.{IsAt, messages_in}
-use Rattle.broker_task.specs.Lines.{is_shut, IsLine, ReadsOn, HasRead, HasReadAll, HandsOut, HasRoom, OnlyPort}
+use Rattle.broker_task.specs.Lines.{is_shut, IsLine, IsGoing, ReadsOn, HasRead, HasReadAll, HandsOut, HasRoom, OnlyPort}
 use Rattle.broker_task.proofs.LineLaws.{read-still}
 use Rattle.broker_task.specs.Posting.{EachAt, EachMoves, SamePort, SameEnd, MovesPort, HasPosted, IsLetter, IsPosting, IsHearing, HasHeardOut}
 use Rattle.broker_task.proofs.PostLaws.{each-moved, moves-one, moves-as, moves-then, same-number}
@@ -77,7 +77,7 @@ read-other journal e d domain is apart = read-more journal e d ∙ ap (λ b. rea
 pub read-port : (x y : Daemon) (events : List Event) → y.port ≡ x.port → y.domain ≡ x.domain → HasRead x events → HasRead y events
 read-port x y events port domain h =
     read-still x y events domain (ap (λ (q : PortState). (view q.end).got) port) (ap (λ (q : PortState). is_shut (view q.end).state) port) (ap (λ (q : PortState). q.fault) port)
-    (λ heard g. subst (λ (q : PortState). HasHeard q heard) (sym port) g) h
+    (ap (λ (q : PortState). q.version) port) (λ g. subst (λ (q : PortState). IsGoing (view q.end)) (sym port) g) (λ heard g. subst (λ (q : PortState). HasHeard q heard) (sym port) g) h
 
 -- what was read of a domain stays so if its port has heard the same
 pub reads-heard : (x y : Daemon) (events : List Event) → y.domain ≡ x.domain → y.port.fault ≡ x.port.fault → ((heard : List Message) → HasHeard x.port heard → HasHeard y.port heard) → ReadsOn x events → ReadsOn y events

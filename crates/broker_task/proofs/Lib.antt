@@ -11,4 +11,5 @@ pub mod DropSteps
 pub mod RoundSteps
 pub mod SettledLaws
 pub mod StartLaws
+pub mod StandingLaws
 pub mod DoneLaws

@@ -1,6 +1,6 @@
 -- What was read from a domain and sent to it, through the calls of its port.
-use Rattle.std.proofs.Common.{◌≡◌, ℕ, ◌≤◌, List, [], ◌∷◌, ◌++◌, refl, sym, ap, ◌∙◌, subst, arith, Option, Some, None, true}
-use Rattle.std.specs.Prelude.{filter_map, ◌==◌}
+use Rattle.std.proofs.Common.{◌≡◌, ◌↔◌, ℕ, ◌≤◌, List, [], ◌∷◌, ◌++◌, refl, sym, ap, ◌∙◌, subst, arith, inl, inr, Option, Some, None, Bool, true, false}
+use Rattle.std.specs.Prelude.{filter_map, ◌==◌, ◌||◌, IsTrue, IsSome}
 use Rattle.std.proofs.lemmas.Bool.Decides.{nat_tests}
 use Rattle.std.proofs.lemmas.List.Elements.{filter_map-append}
 use Rattle.qrexec_frame.specs.declared.message.Message.{Message}
@@ -10,6 +10,14 @@ use Rattle.qrexec_frame.specs.Texts.{FitsText}
 use Rattle.qrexec_frame.specs.Streams.{Each}
 use Rattle.vchan_rule.specs.Seated.{SeatedEnd, view}
 use Rattle.end_view.specs.EndView.{EndView}
+use Rattle.vchan_protocol.specs.declared.side.EndedBy.{EndedBy}
+use Rattle.vchan_protocol.specs.declared.side.EndedBy.TheVariants.{AllRead as ByAllRead, PeerGone as ByPeerGone}
+use Rattle.vchan_protocol.specs.declared.side.Side.{Side}
+use Rattle.vchan_protocol.specs.History.Core.{first_ended}
+use Rattle.vchan_lifecycle.specs.Lifecycle.{drained_to}
+use Rattle.vchan_lifecycle.specs.declared.DrainAnswer.{DrainAnswer}
+use Rattle.vchan_lifecycle.specs.declared.DrainAnswer.TheVariants.{More, NotYet, AllRead, PeerGone}
+use Rattle.vchan_notify.specs.Notify.{HasFoundGone, asked_gone}
 use Rattle.vchan_packet.specs.Packet.{sent_to}
 use Rattle.vchan_packet.specs.declared.SendAnswer.{SendAnswer}
 use Rattle.vchan_packet.specs.declared.SendAnswer.TheVariants.{Sent, NoRoom, PeerClosed}
@@ -22,7 +30,7 @@ use Rattle.task_duties.specs.Hearing.{to_broker, hears}
 use Rattle.task_duties.specs.Broker.Outbox.{event_of, is_from}
 use Rattle.task_duties.specs.Broker.Owes.{broker_version}
 use Rattle.broker_task.specs.declared.daemon.Daemon.{Daemon}
-use Rattle.broker_task.specs.Lines.{end_of, is_shut, is_gone, ReadsOn, HasRead, HandsOut, HasRoom}
+use Rattle.broker_task.specs.Lines.{end_of, is_shut, is_gone, HasSeenEnd, MayDrop, IsGoing, more_may_come, ReadsOn, HasRead, HandsOut, HasRoom}
 
 -- ---- what a port has sent stays so while it hears
 
@@ -111,6 +119,10 @@ hands-none old new events same talker own reads hands =
           ap (λ (o : ℕ). filter_map (event_of new.domain) (hears o to_broker (view new.port.end).got).messages) (sym own)
           ∙ ap (λ (t : Talker). filter_map (event_of new.domain) (hears new.port.own (may_hear t) (view new.port.end).got).messages) (sym talker)
           ∙ ap (λ r. filter_map (event_of new.domain) r.messages) h.0 ∙ sym are;
+      version =
+          ap (λ (o : ℕ). (hears o to_broker (view new.port.end).got).version) (sym own)
+          ∙ ap (λ (t : Talker). (hears new.port.own (may_hear t) (view new.port.end).got).version) (sym talker)
+          ∙ ap (λ r. r.version) h.0;
       faulty =
           ap (λ (o : ℕ). (hears o to_broker (view new.port.end).got).fault) (sym own)
           ∙ ap (λ (t : Talker). (hears new.port.own (may_hear t) (view new.port.end).got).fault) (sym talker)
@@ -120,17 +132,25 @@ hands-none old new events same talker own reads hands =
 
 -- ---- what was read stays so while a port sends
 
-pub read-still : (old new : Daemon) (events : List Event) → new.domain ≡ old.domain → (end_of new).got ≡ (end_of old).got → is_gone new ≡ is_gone old → new.port.fault ≡ old.port.fault
-    → ((heard : List Message) → HasHeard old.port heard → HasHeard new.port heard) → HasRead old events → HasRead new events
-read-still old new events domain got gone fault hears_on h = record {
+pub read-still : (old new : Daemon) (events : List Event) → new.domain ≡ old.domain → (end_of new).got ≡ (end_of old).got → is_gone new ≡ is_gone old → new.port.fault ≡ old.port.fault → new.port.version ≡ old.port.version
+    → (IsGoing (end_of old) → IsGoing (end_of new)) → ((heard : List Message) → HasHeard old.port heard → HasHeard new.port heard) → HasRead old events → HasRead new events
+read-still old new events domain got gone fault version going hears_on h = record {
   all = ap (λ (d : ℕ). filter_map (event_of d) (hears broker_version to_broker (end_of new).got).messages) domain ∙ ap (λ (g : List ℕ). filter_map (event_of old.domain) (hears broker_version to_broker g).messages) got ∙ h.all;
+  version = ap (λ (g : List ℕ). (hears broker_version to_broker g).version) got ∙ h.version ∙ sym version;
   on = λ up. let o = h.on (sym gone ∙ up) in record {
     heard = o.heard;
     hears_them = hears_on o.heard o.hears_them;
     are = o.are ∙ ap (λ d. filter_map (event_of d) o.heard) (sym domain);
     fine = fault ∙ o.fine;
   };
+  going = λ up. going (h.going (sym gone ∙ up));
+  fine = λ up. ap (λ (g : List ℕ). (hears broker_version to_broker g).fault) got ∙ h.fine (sym gone ∙ up);
 }
+
+pub sent-going : (e : EndView) (answer : SendAnswer) (payload : List ℕ) → IsGoing e → IsGoing (sent_to e answer payload)
+sent-going e Sent payload h = h
+sent-going e (NoRoom prod cons) payload h = h
+sent-going e PeerClosed payload h = h
 
 pub sent-got : (e : EndView) (answer : SendAnswer) (payload : List ℕ) → (sent_to e answer payload).got ≡ e.got
 sent-got e Sent payload = refl
@@ -147,4 +167,35 @@ pub read-sending : (old new : Daemon) (events : List Event) (answer : SendAnswer
     → ((heard : List Message) → HasHeard old.port heard → HasHeard new.port heard) → HasRead old events → HasRead new events
 read-sending old new events answer payload domain only is hears_on h =
     read-still old new events domain (ap (λ (e : EndView). e.got) is ∙ sent-got (end_of old) answer payload) (ap (λ (e : EndView). is_shut e.state) is ∙ ap is_shut (sent-state (end_of old) answer payload))
-    (ap (λ (p : PortState). p.fault) only) hears_on h
+    (ap (λ (p : PortState). p.fault) only) (ap (λ (p : PortState). p.version) only) (λ g. subst IsGoing (sym is) (sent-going (end_of old) answer payload g)) hears_on h
+
+-- ---- an end that has seen the end of its peer: a drain ended its stream, or it found its peer gone
+
+first-some : (o : Option EndedBy) (by : EndedBy) → IsSome (first_ended o (Some by))
+first-some None by = refl
+first-some (Some first) by = refl
+
+pub drained-over : (old new : EndView) (drained : DrainAnswer) (buf : List ℕ) (saw : Bool) (word : Option ℕ) → new ≡ drained_to old drained buf saw → more_may_come drained ≡ false
+    → MayDrop (record { view = new; gone = word })
+drained-over old new (More count) buf saw word is over = cc
+drained-over old new (NotYet prod cons) buf saw word is over = cc
+drained-over old new AllRead buf saw word is over =
+    inl (subst (λ (e : EndView). HasSeenEnd (record { view = e; gone = word })) (sym is) (record { saw = refl; how = inl (first-some old.ended ByAllRead) }))
+drained-over old new (PeerGone prod cons) buf saw word is over =
+    inl (subst (λ (e : EndView). HasSeenEnd (record { view = e; gone = word })) (sym is) (record { saw = refl; how = inl (first-some old.ended ByPeerGone) }))
+
+pub drained-going : (old new : EndView) (drained : DrainAnswer) (buf : List ℕ) (saw : Bool) → new ≡ drained_to old drained buf saw → more_may_come drained ≡ true → IsGoing old → IsGoing new
+drained-going old new (More count) buf saw is going h = subst IsGoing (sym is) h
+drained-going old new (NotYet prod cons) buf saw is going h = subst IsGoing (sym is) h
+drained-going old new AllRead buf saw is going h = cc
+drained-going old new (PeerGone prod cons) buf saw is going h = cc
+
+or-true : (b : Bool) → (b || true) ≡ true
+or-true true = refl
+or-true false = refl
+
+pub found-gone : (old new : EndView) (s : Side) (is : Bool) → new ≡ asked_gone old is → is ≡ true → IsTrue is ↔ HasFoundGone s → MayDrop (record { view = new; gone = s.notes.gone })
+found-gone old new s is new_is found noted = inl (record { saw = ap (λ (e : EndView). e.saw) new_is ∙ ap (λ (b : Bool). old.saw || b) found ∙ or-true old.saw; how = inr (noted.0 found) })
+
+pub asked-going : (old new : EndView) (is : Bool) → new ≡ asked_gone old is → IsGoing old → IsGoing new
+asked-going old new is new_is h = subst IsGoing (sym new_is) h

@@ -1,6 +1,6 @@
 -- The outboxes beside a journal, through one entry more.
 use Rattle.std.proofs.Common.{◌≡◌, ℕ, ◌+◌, Bool, true, false, List, [], ◌∷◌, ◌++◌, refl, sym, ap, ◌∙◌, subst, append_assoc, inl, inr}
-use Rattle.std.specs.Prelude.{◌||◌, Contains, IsPermutation, count_by, cond}
+use Rattle.std.specs.Prelude.{◌||◌, Contains, IsPermutation, IsSome, count_by, cond}
 use Rattle.std.proofs.lemmas.List.Folds.{list_any-append}
 use Rattle.std.proofs.lemmas.List.Sums.{sum_by-append, sum_by-cons}
 use Rattle.std.proofs.lemmas.List.{append-nil}
@@ -163,7 +163,8 @@ line-same d x y port domain h = record {
   client = ap (λ (q : PortState). (view q.end).role) port ∙ h.client;
   honest = ap (λ (q : PortState). (view q.end).turned) port ∙ h.honest;
   retired = λ gone. ap (λ (q : PortState). (view q.end).retired) port ∙ h.retired (sym (ap (λ (q : PortState). is_shut (view q.end).state) port) ∙ gone);
-  cause = λ gone. subst (λ (q : PortState). MayDrop (view q.end)) (sym port) (h.cause (sym (ap (λ (q : PortState). is_shut (view q.end).state) port) ∙ gone));
+  cause = λ gone. subst (λ (q : PortState). MayDrop (record { view = view q.end; gone = q.end.side.notes.gone })) (sym port) (h.cause (sym (ap (λ (q : PortState). is_shut (view q.end).state) port) ∙ gone));
+  greets = λ greeted. subst (λ (q : PortState). IsSome q.version) (sym port) (h.greets (sym (ap (λ (q : PortState). q.greeted) port) ∙ greeted));
 }
 
 pub posting-more : (hub : Domains) (journal : List Entry) (old new : List Daemon) (event : Event) (decided : Decision) → IsPosting hub journal old → EachMoves (Posts hub (record { event = event; decision = decided })) old new

@@ -16,7 +16,7 @@ use Rattle.task_duties.specs.Broker.Outbox.{read_from}
 use Rattle.broker_task.specs.declared.daemon.Daemon.{Daemon}
 use Rattle.broker_task.specs.declared.switchboard.Switchboard.{Switchboard}
 use Rattle.broker_task.specs.Letters.{IsAt}
-use Rattle.broker_task.specs.Lines.{end_of, is_gone, first_view, MayDrop, IsLine, ReadsOn, HasRead, IsSameDaemon, OnlyPort}
+use Rattle.broker_task.specs.Lines.{end_of, broker_end, is_gone, first_view, MayDrop, IsGoing, IsLine, ReadsOn, HasRead, IsSameDaemon, OnlyPort}
 use Rattle.broker_task.specs.Replies.{HasShortNames}
 use Rattle.broker_task.specs.Posting.{EachAt, EachMoves, SameEnd, LetsGo, MovesPort, IsPosting, HasHeardOut, HaveRead}
 use Rattle.broker_task.specs.Rounds.{IsReady, GoesOn, IsThere, HasListened}
@@ -46,13 +46,13 @@ domain-there hub ds i x count at number =
 
 -- ---- what has come was taken
 
-is-there : (b : Bool) (y : Daemon) → (b ≡ true → IsOpen y.port.end) → (b ≡ false → MayDrop (end_of y)) → IsThere b y
+is-there : (b : Bool) (y : Daemon) → (b ≡ true → IsOpen y.port.end × IsGoing (end_of y)) → (b ≡ false → MayDrop (broker_end y)) → IsThere b y
 is-there true y opens cause = opens refl
 is-there false y opens cause = cause refl
 
 pub listened : {E : Type 0} (hub : Domains) (domain : ℕ) (journal : List Entry) (ds : List Daemon) (i : ℕ) (x y : Daemon) (r : Result Bool E) → IsAt ds i x → i + 1 ≡ domain → IsPosting hub journal ds → HaveRead journal ds
     → is_gone x ≡ false → OnlyPort x y → OnOk r (IsLine y.domain y) → OnOk r (is_gone y ≡ false) → ((said : List Message) → HasSaid x.port said → OnOk r (HasSaid y.port said))
-    → ((events : List Event) → ReadsOn x events → OnOk r (ReadsOn y events)) → (r ≡ Ok true → IsOpen y.port.end) → (r ≡ Ok false → MayDrop (end_of y)) → IfOk r (λ there. HasListened hub domain journal (set ds i y) there)
+    → ((events : List Event) → ReadsOn x events → OnOk r (ReadsOn y events)) → (r ≡ Ok true → IsOpen y.port.end × (IsGoing (end_of x) → IsGoing (end_of y))) → (r ≡ Ok false → MayDrop (broker_end y)) → IfOk r (λ there. HasListened hub domain journal (set ds i y) there)
 listened hub domain journal ds i x y (Err e) there number p read up only line now said reads opens cause = tt
 listened hub domain journal ds i x y (Ok b) there number p read up only line now said reads opens cause =
     let domain_is : y.domain ≡ x.domain = ap (λ (z : Daemon). z.domain) only in
@@ -79,26 +79,27 @@ listened hub domain journal ds i x y (Ok b) there number p read up only line now
             subst (λ (z : Daemon). ReadsOn z (read_from journal d)) (sym is.1) (reads (read_from journal d) ((subst (λ (z : Daemon). HasRead z (read_from journal d)) is.0 q).on up)))
             (λ d a apart q same. absurd (apart same)) read;
       };
-      whether = each-here (IsThere b) domain (set ds i y) i y here number (is-there b y (λ is. opens (ap (λ (k : Bool). Ok k) is)) (λ is. cause (ap (λ (k : Bool). Ok k) is)));
+      whether = each-here (IsThere b) domain (set ds i y) i y here number (is-there b y (λ is. let o = opens (ap (λ (k : Bool). Ok k) is) in (o.0, o.1 ((read i x there).going up))) (λ is. cause (ap (λ (k : Bool). Ok k) is)));
     }
 
 -- ---- what it sent was heard
 
 there-on : (b : Bool) (x y : Daemon) → y.port.end ≡ x.port.end → IsThere b x → IsThere b y
-there-on true x y same h = subst (λ (e : SeatedEnd). IsOpen e) (sym same) h
-there-on false x y same h = subst (λ (e : SeatedEnd). MayDrop (view e)) (sym same) h
+there-on true x y same h = subst (λ (e : SeatedEnd). IsOpen e × IsGoing (view e)) (sym same) h
+there-on false x y same h = subst (λ (e : SeatedEnd). MayDrop (record { view = view e; gone = e.side.notes.gone })) (sym same) h
 
 pub still-there : (domain : ℕ) (b : Bool) (old new : List Daemon) → EachMoves SameEnd old new → EachAt (λ d x. d ≡ domain → IsThere b x) old → EachAt (λ d x. d ≡ domain → IsThere b x) new
 still-there domain b old new moves h = each-moved (λ d x. d ≡ domain → IsThere b x) (λ d x. d ≡ domain → IsThere b x) SameEnd old new moves (λ d x y m is same. there-on b x y m.0 (is same)) h
 
-pub heard-fine : (domain : ℕ) (journal : List Entry) (ds : List Daemon) → HasHeardOut domain journal ds → EachAt (λ d x. d ≡ domain → x.port.fault ≡ None) ds → HaveRead journal ds
+pub heard-fine : (domain : ℕ) (journal : List Entry) (ds : List Daemon) → HasHeardOut domain journal ds → EachAt (λ d x. d ≡ domain → (x.port.fault ≡ None) × IsGoing (end_of x)) ds → HaveRead journal ds
 heard-fine domain journal ds h fine = λ i x at. by_test i x at (i + 1 == domain) refl
   where
     by_test : (i : ℕ) (x : Daemon) → IsAt ds i x → (b : Bool) → (i + 1 == domain) ≡ b → HasRead x (read_from journal (i + 1))
     by_test i x at true is =
         let same : i + 1 ≡ domain = same-number (i + 1) domain is in
         let all = h.own i x at same in
-        record { all = all.all; on = λ up. all.on (fine i x at same) }
+        let f = fine i x at same in
+        record { all = all.all; version = all.version; on = λ up. all.on f.0; going = λ up. f.1; fine = λ up. all.faulty ∙ f.0 }
     by_test i x at false is = let apart : i + 1 ≢ domain = λ same. grind (arith, nat_tests, is, same) in h.others i x at apart
 
 pub no-fault : (o : Option SessionFault) → is_none o ≡ true → o ≡ None
@@ -109,7 +110,7 @@ some-fault : (o : Option SessionFault) → is_none o ≡ false → IsSome o
 some-fault None is = cc
 some-fault (Some f) is = refl
 
-pub heard-faulty : (domain : ℕ) (journal : List Entry) (ds : List Daemon) (i : ℕ) (x : Daemon) → IsAt ds i x → i + 1 ≡ domain → HasHeardOut domain journal ds → is_none x.port.fault ≡ false → MayDrop (end_of x)
+pub heard-faulty : (domain : ℕ) (journal : List Entry) (ds : List Daemon) (i : ℕ) (x : Daemon) → IsAt ds i x → i + 1 ≡ domain → HasHeardOut domain journal ds → is_none x.port.fault ≡ false → MayDrop (broker_end x)
 heard-faulty domain journal ds i x there number h is = inr (inr (subst (λ (o : Option SessionFault). IsSome o) (sym (h.own i x there number).faulty) (some-fault x.port.fault is)))
 
 -- ---- all of it

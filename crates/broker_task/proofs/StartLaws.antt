@@ -15,7 +15,7 @@ use Rattle.broker_task.specs.Letters.{IsAt, messages_in}
 use Rattle.broker_task.specs.Lines.{end_of, first_view, IsLine, HasRead}
 use Rattle.broker_task.specs.Replies.{HasShortNames}
 use Rattle.broker_task.specs.Posting.{IsLetter, HasPosted, IsPosting, HaveRead}
-use Rattle.broker_task.specs.Given.{task_given, given_of}
+use Rattle.broker_task.specs.Given.{given_now}
 use Rattle.broker_task.specs.Starting.{IsStarted, AreStarted}
 use Rattle.broker_task.specs.Rounds.{IsReady}
 
@@ -115,5 +115,5 @@ ready-new s awaited controls first names count are =
       read = subst (λ (j : List Entry). HaveRead j s.daemons.items) (sym first) both.1;
     }
 
-pub given-new : (s : Switchboard) (awaited : List ℕ) (controls : List SeatedEnd) → AreStarted 1 awaited controls s.daemons.items → task_given (given_of s) ≡ broker_given s.broker.hub awaited (map view controls)
+pub given-new : (s : Switchboard) (awaited : List ℕ) (controls : List SeatedEnd) → AreStarted 1 awaited controls s.daemons.items → given_now s ≡ broker_given s.broker.hub awaited (map view controls)
 given-new s awaited controls are = λ i. Broker s.broker.hub (started-awaited 1 awaited controls s.daemons.items are i) (broker_ends 1 (started-views 1 awaited controls s.daemons.items are i))

@@ -1,6 +1,7 @@
 -- The letters of an outbox: messages that wait for room, some of them held until another message was sent.
 -- Source: this project's own.
-use Rattle.std.specs.Prelude.{◌≡◌, ℕ, ◌<◌, ◌==◌, ◌&&◌, Bool, true, false, List, length, map, slice_index_or, Option, Some, None, if◌then◌else◌}
+use Rattle.std.specs.Prelude.{◌≡◌, ℕ, ◌<◌, ◌==◌, ◌&&◌, Bool, true, false, List, length, map, take, slice_index_or, Option, Some, None, if◌then◌else◌}
+use Rattle.qrexec_frame.specs.Streams.{Each}
 use Rattle.qrexec_frame.specs.declared.message.Message.{Message}
 use Rattle.qrexec_frame.specs.declared.message.Message.TheVariants.{Connect}
 use Rattle.broker_task.specs.declared.letter.Letter.{Letter}
@@ -9,6 +10,17 @@ use Rattle.broker_task.specs.declared.letter.Letter.{Letter}
 pub record IsAt {A : Type 0} (xs : List A) (at : ℕ) (x : A) : Type 0 where
   pub within : at < length xs
   pub is : x ≡ slice_index_or xs at x
+
+-- all of these letters are held
+abbrev pub AreHeld : List Letter → Type 0
+AreHeld letters = Each (λ l. l.held ≡ true) letters
+
+-- the first letter that isn't held is at this place
+pub record IsFirstReady (letters : List Letter) (at : ℕ) : Type 0 where
+  pub letter : Letter
+  pub there : IsAt letters at letter
+  pub ready : letter.held ≡ false
+  pub before : AreHeld (take at letters)
 
 -- the messages of some letters, in order
 abbrev pub messages_in : List Letter → List Message

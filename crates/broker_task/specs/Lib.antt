@@ -3,6 +3,7 @@ pub mod Lines
 pub mod Replies
 pub mod Posting
 pub mod Given
+pub mod Standing
 pub mod Starting
 pub mod Rounds
 pub mod Turns

@@ -8,7 +8,7 @@ use Rattle.task_duties.specs.Places.{numbers}
 use Rattle.task_duties.specs.Broker.Outbox.{live_calls}
 use Rattle.broker_task.specs.declared.daemon.Daemon.{Daemon}
 use Rattle.broker_task.specs.declared.switchboard.Switchboard.{Switchboard}
-use Rattle.broker_task.specs.Lines.{end_of, is_gone, MayDrop, IsSameDaemon}
+use Rattle.broker_task.specs.Lines.{end_of, broker_end, is_gone, MayDrop, IsGoing, IsSameDaemon}
 use Rattle.broker_task.specs.Replies.{HasShortNames}
 use Rattle.broker_task.specs.Posting.{EachAt, EachMoves, IsPosting, IsHearing, HaveRead}
 
@@ -30,10 +30,10 @@ pub record GoesOn (old new : Switchboard) : Type 0 where
 abbrev pub IsUp : ℕ → List Daemon → Type 0
 IsUp domain ds = EachAt (λ d x. d ≡ domain → is_gone x ≡ false) ds
 
--- the end of a domain is open, or there is cause to drop it
+-- the end of a domain is open and going, or there is cause to drop it
 abbrev pub IsThere : Bool → Daemon → Type 0
-IsThere true x = IsOpen x.port.end
-IsThere false x = MayDrop (end_of x)
+IsThere true x = IsOpen x.port.end × IsGoing (end_of x)
+IsThere false x = MayDrop (broker_end x)
 
 -- what has come from a domain was taken, and not yet decided
 pub record HasListened (hub : Domains) (domain : ℕ) (journal : List Entry) (ds : List Daemon) (there : Bool) : Type 0 where

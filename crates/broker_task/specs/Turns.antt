@@ -1,18 +1,25 @@
 -- What a turn of the task of the broker returns.
-use Rattle.std.specs.Prelude.{◌≡◌}
+use Rattle.std.specs.Prelude.{◌≡◌, map}
 use Rattle.task_duties.specs.Pairwise.{EachPair}
-use Rattle.task_duties.specs.TaskOwes.{TaskOwes, BrokerDone}
+use Rattle.task_duties.specs.TaskOwes.{TaskGiven, TaskOwes, BrokerDone}
 use Rattle.task_duties.specs.GivenEnds.{all_retired}
 use Rattle.broker_task.specs.declared.switchboard.Switchboard.{Switchboard}
 use Rattle.broker_task.specs.declared.task.BrokerTurn.{BrokerTurn}
 use Rattle.broker_task.specs.declared.task.BrokerTurn.TheVariants as turn
-use Rattle.broker_task.specs.Given.{BrokerGiven, task_given, IsRetiredOf}
+use Rattle.broker_task.specs.Given.{task_given, retired_end, IsRetiredOf}
+use Rattle.broker_task.specs.Standing.{Stands, AreSettled}
 
 -- a task that goes on owes what it owed, and a task that is done gives that
-abbrev pub Pays : BrokerGiven → BrokerTurn → Type 0
-Pays given (turn.Again task) = task ≡ given
-Pays given (turn.Done done) = TaskOwes (task_given given) (BrokerDone done.broker (all_retired done.ends.items))
+abbrev pub Pays : TaskGiven → BrokerTurn → Type 0
+Pays given (turn.Again task) = task_given task ≡ given
+Pays given (turn.Done done) = TaskOwes given (BrokerDone done.broker (all_retired done.ends.items))
 Pays given turn.NoMemory = Unit {0}
+
+-- each domain was attended to; and where the task goes on, not all of them are settled
+abbrev pub StandsAfter : BrokerTurn → Type 0
+StandsAfter (turn.Again task) = (stands : Stands task.hub task.journal task.controls) × (AreSettled task.hub task.awaited task.journal stands.said → ⊥)
+StandsAfter (turn.Done done) = Stands done.broker.hub done.broker.journal (map retired_end done.ends.items)
+StandsAfter turn.NoMemory = Unit {0}
 
 -- a task that is done gives its broker and all ends in their order, or memory ran out
 abbrev pub Finishes : Switchboard → BrokerTurn → Type 0

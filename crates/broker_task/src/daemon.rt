@@ -11,7 +11,7 @@ ghost use Rattle.control_port.specs.Port.{HasSaid, HasFewerLeft};
 ghost use Rattle.control_port.specs.declared.talk.Talker.TheVariants.{Broker};
 ghost use Rattle.task_duties.specs.Hearing.{to_agent, to_broker};
 ghost use Rattle.task_duties.specs.Broker.Outbox.{event_of};
-ghost use Rattle.broker_task.specs.Lines.{end_of, is_gone, first_view, MayDrop, IsLine, ReadsOn, HasRead, HandsOut, SendsOne, IsReply, IsSameDaemon, OnlyPort, events_got};
+ghost use Rattle.broker_task.specs.Lines.{end_of, broker_end, is_gone, first_view, MayDrop, IsGoing, IsLine, ReadsOn, HasRead, HandsOut, SendsOne, IsReply, IsSameDaemon, OnlyPort, more_may_come};
 
 use crate::outbox::Outbox;
 use call_broker::Event;
@@ -84,8 +84,8 @@ impl<'p> Daemon<'p> {
         ensures port { OnlyPort self.old self.new }
         ensures line { IsLine self.new.domain self.new }
         ensures up { is_gone self.new ≡ false }
-        ensures open { result ≡ true → IsOpen self.new.port.end }
-        ensures cause { result ≡ false → MayDrop (end_of self.new) }
+        ensures open { result ≡ true → IsOpen self.new.port.end × (IsGoing (end_of self.old) → IsGoing (end_of self.new)) }
+        ensures cause { result ≡ false → MayDrop (broker_end self.new) }
         ensures got { (end_of self.new).got ≡ (end_of self.old).got }
         ensures said { (said : List Said) → HasSaid self.old.port said → HasSaid self.new.port said }
         ensures read { (events : List Told) → ReadsOn self.old events → ReadsOn self.new events }
@@ -113,8 +113,8 @@ impl<'p> Daemon<'p> {
         ensures idle { (end_of self.new).idle ≡ true }
         ensures line { OnOk result (IsLine self.new.domain self.new) }
         ensures up { OnOk result (is_gone self.new ≡ false) }
-        ensures open { result ≡ Ok true → IsOpen self.new.port.end }
-        ensures cause { result ≡ Ok false → MayDrop (end_of self.new) }
+        ensures open { result ≡ Ok true → IsOpen self.new.port.end × (IsGoing (end_of self.old) → IsGoing (end_of self.new)) }
+        ensures cause { result ≡ Ok false → MayDrop (broker_end self.new) }
         ensures full { IsSome self.old.port.version → 64 ≤ length self.old.outbox.letters.items → (end_of self.new).got ≡ (end_of self.old).got }
         ensures said { (said : List Said) → HasSaid self.old.port said → OnOk result (HasSaid self.new.port said) }
         ensures read { (events : List Told) → ReadsOn self.old events → OnOk result (ReadsOn self.new events) }
@@ -126,10 +126,8 @@ impl<'p> Daemon<'p> {
         if self.is_unread() {
             return Ok(!self.port.peer_gone());
         }
-        match self.port.drain(buf)? {
-            DrainAnswer::More { .. } | DrainAnswer::NotYet { .. } => Ok(true),
-            DrainAnswer::AllRead | DrainAnswer::PeerGone { .. } => Ok(false),
-        }
+        let drained = self.port.drain(buf)?;
+        Ok(more_may_come(&drained))
     }
 
     /// Hands out the next event that the domain has sent. Returns `None` if none is left of what was taken,
@@ -213,11 +211,12 @@ impl<'p> Daemon<'p> {
     /// Retires the end of a domain that is dropped, and gives up the messages that wait for it.
     pub(crate) fn hang_up(&mut self)
         requires line { IsLine self.old.domain self.old }
-        requires cause { MayDrop (end_of self.old) }
+        requires cause { MayDrop (broker_end self.old) }
         ensures gone { is_gone self.new ≡ true }
         ensures line { IsLine self.new.domain self.new }
         ensures said { (said : List Said) → HasSaid self.old.port said → HasSaid self.new.port said }
-        ensures got { events_got self.new ≡ events_got self.old }
+        ensures got { (end_of self.new).got ≡ (end_of self.old).got }
+        ensures version { self.new.port.version ≡ self.old.port.version }
         ensures outbox { self.new.outbox.letters.items ≡ [] }
         ensures same { IsSameDaemon self.old self.new × (self.new.answered ≡ self.old.answered) }
     {
@@ -264,6 +263,16 @@ impl<'p> Daemon<'p> {
     {
         let Daemon { port, .. } = self;
         let _ = port.retire();
+    }
+}
+
+// Whether more may come after this answer of a drain.
+fn more_may_come(drained: &DrainAnswer) -> bool
+    ensures { result ≡ more_may_come drained.now }
+{
+    match drained {
+        DrainAnswer::More { .. } | DrainAnswer::NotYet { .. } => true,
+        DrainAnswer::AllRead | DrainAnswer::PeerGone { .. } => false,
     }
 }
 

@@ -1,7 +1,7 @@
 //! The outbox of a domain.
 ghost use Rattle.std.specs.Prelude.{◌≡◌, ◌<◌, ◌≤◌, ◌↔◌, IsTrue, ◌++◌, ◌∷◌, [], false, true, map, length, OnOk, IfSome, Some, None};
 ghost use Rattle.std.specs.List.{remove};
-ghost use Rattle.broker_task.specs.Letters.{IsAt, released, connects, is_meant};
+ghost use Rattle.broker_task.specs.Letters.{IsAt, AreHeld, IsFirstReady, released, connects, is_meant};
 ghost use Rattle.broker_task.specs.declared.letter.Letter.{Letter as Put};
 
 use crate::letter::Letter;
@@ -64,9 +64,10 @@ impl Outbox {
         release(self.letters.make_contiguous(), target, None);
     }
 
-    /// Returns the place of the first message that isn't held.
+    /// Returns the place of the first message that isn't held, or `None` if all are held.
     pub(crate) fn first_ready(&self) -> Option<usize>
-        ensures { IfSome result (λ at. (l : Put) × IsAt self.now.letters.items at l × (l.held ≡ false)) }
+        ensures none { (result ≡ None) ↔ AreHeld self.now.letters.items }
+        ensures first { IfSome result (λ at. IsFirstReady self.now.letters.items at) }
     {
         for at in 0..self.letters.len() {
             if !self.letters[at].held {

@@ -1,7 +1,7 @@
 //! A round over all domains.
 ghost use Rattle.std.specs.Prelude.{◌≡◌, ◌<◌, ℕ, length, true, None, OnOk, IfOk};
 ghost use Rattle.call_broker.specs.Domains.{is_domain};
-ghost use Rattle.broker_task.specs.Lines.{end_of, MayDrop, IsSameDaemon};
+ghost use Rattle.broker_task.specs.Lines.{broker_end, MayDrop, IsSameDaemon};
 ghost use Rattle.broker_task.specs.Posting.{EachAt, EachMoves, LetsGo, IsPosting, HasHeardOut, HaveRead, AreIdle};
 ghost use Rattle.broker_task.specs.Rounds.{IsReady, GoesOn, IsUp, HasListened};
 
@@ -68,7 +68,7 @@ impl<'p> Switchboard<'p> {
         requires number { is_domain self.old.broker.hub domain ≡ true }
         requires posting { IsPosting self.old.broker.hub self.old.broker.journal self.old.daemons.items }
         requires heard { HasHeardOut domain self.old.broker.journal self.old.daemons.items }
-        requires cause { EachAt (λ d x. d ≡ domain → MayDrop (end_of x)) self.old.daemons.items }
+        requires cause { EachAt (λ d x. d ≡ domain → MayDrop (broker_end x)) self.old.daemons.items }
         ensures hub { self.new.broker.hub ≡ self.old.broker.hub }
         ensures idle { AreIdle self.new.daemons.items }
         ensures posting { OnOk result (IsPosting self.new.broker.hub self.new.broker.journal self.new.daemons.items) }

@@ -14,7 +14,7 @@ use vchan_rule::End;
 const CHUNK: usize = 4_096;
 
 /// The broker of calls, with its ends of all control pages. Contracts see what the task was given, which no
-/// turn changes.
+/// turn changes, its journal, and its ends as they are now.
 #[derive(Drop)]
 pub struct BrokerTask<'p> {
     alloc: Global,
@@ -28,11 +28,11 @@ pub struct BrokerTask<'p> {
 impl<'p> Model for BrokerTask<'p> {
     ghost use Rattle.std.specs.Prelude.{◌<◌, length};
     ghost use Rattle.broker_task.specs.Rounds.{IsReady};
-    ghost use Rattle.broker_task.specs.Given.{BrokerGiven, given_of};
+    ghost use Rattle.broker_task.specs.Given.{BrokerState, state_of};
 
-    ghost Value = { BrokerGiven };
+    ghost Value = { BrokerState };
 
-    ghost view = { λ t. given_of t.switchboard };
+    ghost view = { λ t. state_of t.switchboard };
 
     ghost invariant = { λ t. IsReady t.switchboard × (0 < length t.buf.items) };
 }
@@ -59,8 +59,8 @@ pub struct BrokerDone {
 ghost use Rattle.qrexec_frame.specs.Streams.{Each};
 ghost use Rattle.broker_task.specs.Lines.{IsLine};
 ghost use Rattle.broker_task.specs.Rounds.{IsReady};
-ghost use Rattle.broker_task.specs.Given.{given_of};
-ghost use Rattle.broker_task.specs.Turns.{Pays, Finishes};
+ghost use Rattle.broker_task.specs.Given.{given_now};
+ghost use Rattle.broker_task.specs.Turns.{Pays, StandsAfter, Finishes};
 
 impl<'p> BrokerTask<'p> {
     ghost use Rattle.call_broker.specs.Domains.{count_of};
@@ -106,8 +106,13 @@ impl<'p> BrokerTask<'p> {
 
     /// Makes one turn, which is a round over all domains. Once all of them are settled or dropped, the ends
     /// retire.
+    ///
+    /// After each turn every domain that must be dropped is dropped, and no other without a cause. No domain
+    /// was greeted before it greeted. If a Connect was sent, the Exec of its call was sent too, or the target
+    /// was dropped. A task that wants another turn isn't settled.
     pub fn turn(self) -> BrokerTurn<'p>
-        ensures { Pays self.entry result }
+        ensures pays { Pays (task_given self.entry) result }
+        ensures stands { StandsAfter result }
     {
         let BrokerTask {
             alloc,
@@ -138,7 +143,8 @@ fn after_round<'p>(
 ) -> BrokerTurn<'p>
     requires ready { IsReady switchboard }
     requires some { 0 < length buf.items }
-    ensures { Pays (given_of switchboard.entry) result }
+    ensures pays { Pays (given_now switchboard.entry) result }
+    ensures stands { StandsAfter result }
 {
     if switchboard.is_settled() {
         return finish(alloc, switchboard);

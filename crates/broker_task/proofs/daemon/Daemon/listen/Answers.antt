@@ -1,13 +1,46 @@
-use Rattle.std.proofs.Common.{refl, ap}
+use Rattle.std.proofs.Common.{◌≡◌, ◌∙◌, Bool, true, false, not, refl, sym, ap}
+use Rattle.std.specs.Prelude.{Result, Ok}
+use Rattle.vchan_io.specs.declared.memory.Memory.{Memory}
+use Rattle.vchan_rule.specs.Seated.{view}
 use Rattle.control_port.specs.Port.{PortState}
+use Rattle.broker_task.proofs.LineLaws.{drained-over, drained-going, found-gone, asked-going}
 use Rattle.broker_task.proofs.HearingSteps.{reads-heard}
 use Rattle.broker_task.proofs.daemon.Daemon.listen.Goals as goal
+
+told : (r : Result Bool Memory) (a b : Bool) → r ≡ Ok a → r ≡ Ok b → a ≡ b
+told r a b one other = cc
+
+is-yes : (b : Bool) → not b ≡ false → b ≡ true
+is-yes true is = refl
+is-yes false is = cc
 
 pub returns-then-is_unread-clause-read : goal.returns-then-is_unread-clause-read
 returns-then-is_unread-clause-read c = λ events r. reads-heard c.is_connected.new.self (record c.is_connected.new.self { port = c.peer_gone.new.self }) events refl (ap (λ (p : PortState). p.fault) c.peer_gone.ensures.same) c.peer_gone.ensures.heard (c.is_connected.ensures.read events r)
 
-pub returns-in-More-clause-read : goal.returns-in-More-clause-read
-returns-in-More-clause-read c = λ events r. reads-heard c.is_connected.new.self (record c.is_connected.new.self { port = c.drain.new.self }) events refl c.in_ok-drain.ensures.same.4 c.in_ok-drain.ensures.heard (c.is_connected.ensures.read events r)
+pub returns-then-is_unread-clause-cause : goal.returns-then-is_unread-clause-cause
+returns-then-is_unread-clause-cause c = λ is.
+    found-gone (view c.is_connected.new.self.port.end) (view c.peer_gone.new.self.end) c.peer_gone.new.self.end.side c.peer_gone.result c.peer_gone.ensures.view (is-yes c.peer_gone.result (told (Ok (not c.peer_gone.result)) (not c.peer_gone.result) false refl is)) c.peer_gone.ensures.noted
 
-pub returns-in-AllRead-clause-read : goal.returns-in-AllRead-clause-read
-returns-in-AllRead-clause-read c = λ events r. reads-heard c.is_connected.new.self (record c.is_connected.new.self { port = c.drain.new.self }) events refl c.in_ok-drain.ensures.same.4 c.in_ok-drain.ensures.heard (c.is_connected.ensures.read events r)
+pub returns-clause-read : goal.returns-clause-read
+returns-clause-read c = λ events r. reads-heard c.is_connected.new.self (record c.is_connected.new.self { port = c.drain.new.self }) events refl c.in_ok-drained.ensures.same.4 c.in_ok-drained.ensures.heard (c.is_connected.ensures.read events r)
+
+pub returns-clause-cause : goal.returns-clause-cause
+returns-clause-cause c = λ is.
+    drained-over (view c.is_connected.new.self.port.end) (view c.drain.new.self.end) c.in_ok-drained.drained c.drain.new.buf c.drain.new.self.end.side.saw c.drain.new.self.end.side.notes.gone c.in_ok-drained.ensures.view
+    (sym c.more_may_come.ensures ∙ told (Ok c.more_may_come.result) c.more_may_come.result false refl is)
+
+pub returns-then-is_unread-clause-open : goal.returns-then-is_unread-clause-open
+returns-then-is_unread-clause-open c = λ is.
+    let connected : c.is_connected.result ≡ true = cc in (
+      c.peer_gone.ensures.«open»,
+      λ h. asked-going (view c.is_connected.new.self.port.end) (view c.peer_gone.new.self.end) c.peer_gone.result c.peer_gone.ensures.view ((c.is_connected.ensures.«open» connected).1 h),
+    )
+
+pub returns-clause-open : goal.returns-clause-open
+returns-clause-open c = λ is.
+    let connected : c.is_connected.result ≡ true = cc in (
+      c.drain.ensures.«open»,
+      λ h.
+          drained-going (view c.is_connected.new.self.port.end) (view c.drain.new.self.end) c.in_ok-drained.drained c.drain.new.buf c.drain.new.self.end.side.saw c.in_ok-drained.ensures.view
+          (sym c.more_may_come.ensures ∙ told (Ok c.more_may_come.result) c.more_may_come.result true refl is) ((c.is_connected.ensures.«open» connected).1 h),
+    )

@@ -3,6 +3,7 @@ use Rattle.std.specs.Prelude.{is_none}
 use Rattle.call_broker.specs.Brokered.{Brokered}
 use Rattle.call_broker.specs.Domains.{Domains, is_domain}
 use Rattle.broker_task.specs.Letters.{IsAt}
+use Rattle.broker_task.specs.Lines.{end_of, IsGoing}
 use Rattle.broker_task.specs.Posting.{EachAt}
 use Rattle.broker_task.specs.Rounds.{IsThere}
 use Rattle.broker_task.proofs.PostLaws.{on-ok}
@@ -31,11 +32,12 @@ send-requires-clause-sending c =
     let there : IsAt ds (c.args.domain - 1) x = record { within = place.0; is = c.index-2.ensures } in
     let fine : is_none x.port.fault ≡ true = cc in
     let up : c.in_ok-there.there ≡ true = cc in
-    let listened = c.in_ok-there.ensures.listened in
+    let here = subst (λ (b : Bool). EachAt (λ d y. d ≡ c.args.domain → IsThere b y) ds) up (still-there c.args.domain c.in_ok-there.there c.listen.new.self.daemons.items ds c.hear.ensures.ends c.in_ok-there.ensures.listened.whether) in
+    let going = (here (c.args.domain - 1) x there place.1).1 in
     record {
       posting = c.in_ok-hear.ensures.posting;
-      read = heard-fine c.args.domain s.broker.journal ds c.in_ok-hear.ensures.heard (each-here (λ y. y.port.fault ≡ None) c.args.domain ds (c.args.domain - 1) x there place.1 (no-fault x.port.fault fine));
-      opened = subst (λ (b : Bool). EachAt (λ d y. d ≡ c.args.domain → IsThere b y) ds) up (still-there c.args.domain c.in_ok-there.there c.listen.new.self.daemons.items ds c.hear.ensures.ends listened.whether);
+      read = heard-fine c.args.domain s.broker.journal ds c.in_ok-hear.ensures.heard (each-here (λ y. (y.port.fault ≡ None) × IsGoing (end_of y)) c.args.domain ds (c.args.domain - 1) x there place.1 (no-fault x.port.fault fine, going));
+      opened = λ i y at same. (here i y at same).0;
     }
 
 pub returns-clause-goes : goal.returns-clause-goes
