@@ -1,10 +1,9 @@
--- What an agent has sent, through one message more.
-use Rattle.std.proofs.Common.{◌≡◌, ℕ, ◌<◌, List, [], ◌∷◌, ◌++◌, length, refl, ap, sym, ◌∙◌, inl, inr, Option, Some, None, subst, append_assoc, zero, suc, arith, drop, Bor}
-use Rattle.std.specs.Prelude.{Bool, true, false, map, filter_map, nat_lt, slice_get, slice_set, if◌then◌else◌}
+-- What an agent has said, through each message more.
+use Rattle.std.proofs.Common.{◌≡◌, ℕ, ◌+◌, ◌<◌, ◌≤◌, List, [], ◌∷◌, ◌++◌, length, length-append, refl, ap, sym, ◌∙◌, inl, inr, Option, Some, None, subst, append_assoc, zero, suc, arith, drop, Bor}
+use Rattle.std.specs.Prelude.{◌⊎◌, Bool, true, false, map, is_some, nat_lt, slice_get, slice_set, if◌then◌else◌}
 use Rattle.std.specs.Slice.{IsItemAt}
 use Rattle.std.specs.Option.{option_copied}
 use Rattle.std.proofs.lemmas.List.{append-nil, length-map, map-append}
-use Rattle.std.proofs.lemmas.List.Elements.{filter_map-append}
 use Rattle.qrexec_frame.specs.declared.message.Message.{Message}
 use Rattle.qrexec_frame.specs.declared.message.Message.TheVariants as m
 use Rattle.qrexec_frame.specs.Streams.{Each}
@@ -13,7 +12,7 @@ use Rattle.scenario_file.specs.declared.scenario.CallPlan.{CallPlan}
 use Rattle.task_duties.specs.Pairwise.{SomeOf}
 use Rattle.task_duties.specs.Words.{ident_of}
 use Rattle.task_duties.specs.Agent.Answers.{Asked}
-use Rattle.task_duties.specs.Agent.Saying.{AsksToServe, is_at, IsOfVersion, IsTold}
+use Rattle.task_duties.specs.Agent.Saying.{asking, AsksToServe, is_at, IsOfVersion, IsTold}
 use Rattle.call_queue.specs.Queue.{Queued, QueueState, asked_as, asked_by, IsDue, HasToSay, trigger_of, after_trigger, IsConnectedAt}
 use Rattle.call_queue.specs.Asking.{Asks}
 use Rattle.call_queue.proofs.Places.{map-got, map-set-same, get-within}
@@ -21,7 +20,7 @@ use Rattle.call_queue.proofs.AskingLaws.{asks-stranger}
 use Rattle.control_port.specs.Port.{PortState}
 use Rattle.agent_control.specs.declared.control.AgentControl.{AgentControl}
 use Rattle.agent_control.specs.declared.control.SessionEnd.{SessionEnd}
-use Rattle.agent_control.specs.Speaking.{MayTell, IsTellable, HasCall, Speaks, CanSpeak, SaysMore, Tells, Says, end_of, end_told}
+use Rattle.agent_control.specs.Speaking.{MayTell, IsTellable, HasCall, Speaks, CanSpeak, SaysMore, Tells, Says, IsSpoken, terminated}
 
 each-more : {A : Type 0} (P : A → Type 0) (xs : List A) (x : A) → Each P xs → P x → Each P (xs ++ x ∷ [])
 each-more P [] x each last = (last, tt)
@@ -44,7 +43,10 @@ still old new w heard said s h = record {
   unsaid = subst (λ u. Each (IsTellable (asked_by new.queue) heard) u.items) (sym s.unsaid) (subst (λ q. Each (IsTellable (asked_by q) heard) old.unsaid.items) (sym s.queue) h.unsaid);
 }
 
-pub says-nothing : (old new : AgentControl) (w : Message) → IsSameEnd old.port.end new.port.end → Says old new w false → SaysMore old new
+spoken-none : (waiting : List SessionEnd) → IsSpoken 0 [] waiting []
+spoken-none waiting = record { triggers = []; is = refl; each = tt; few = omega arith; last = inl refl }
+
+pub says-nothing : (old new : AgentControl) (w : Message) → IsSameEnd old.port.end new.port.end → Says old new w false → SaysMore 0 old new
 says-nothing old new w end s = record {
   end = end;
   port = s.port;
@@ -53,7 +55,7 @@ says-nothing old new w end s = record {
   heard = s.heard;
   told = [];
   unsaid = sym (ap (λ u. u.items) s.unsaid);
-  speaks = λ heard said h. ([], subst (λ l. Speaks new heard l) (sym (append-nil said)) (still old new w heard said s h), refl);
+  speaks = λ heard said h. ([], subst (λ l. Speaks new heard l) (sym (append-nil said)) (still old new w heard said s h), spoken-none new.unsaid.items);
 }
 
 pub tells-nothing : (old new : AgentControl) (e : SessionEnd) (w : Message) → IsSameEnd old.port.end new.port.end → Says old new w false → Tells old new e false
@@ -64,14 +66,62 @@ tells-nothing old new e w end s = record {
   asked = ap asked_by s.queue;
   heard = s.heard;
   unsaid = s.unsaid;
-  speaks = λ heard said h may. ([], subst (λ l. Speaks new heard l) (sym (append-nil said)) (still old new w heard said s h), refl);
+  speaks = λ heard said h may. subst (λ l. Speaks new heard l) (sym (append-nil said)) (still old new w heard said s h);
 }
 
-pub says-same : (c : AgentControl) → CanSpeak c → SaysMore c c
-says-same c can = record { end = (refl, refl, refl, refl); port = (refl, refl); can = can; asked = refl; heard = λ heard h. h; told = []; unsaid = refl; speaks = λ heard said h. ([], subst (λ l. Speaks c heard l) (sym (append-nil said)) h, refl) }
+pub says-same : (c : AgentControl) → CanSpeak c → SaysMore 0 c c
+says-same c can = record {
+  end = (refl, refl, refl, refl);
+  port = (refl, refl);
+  can = can;
+  asked = refl;
+  heard = λ heard h. h;
+  told = [];
+  unsaid = refl;
+  speaks = λ heard said h. ([], subst (λ l. Speaks c heard l) (sym (append-nil said)) h, spoken-none c.unsaid.items);
+}
 
-pub says-then : (a b c : AgentControl) → SaysMore a b → SaysMore b c → SaysMore a c
-says-then a b c p q = record {
+-- ---- one after another
+
+no-triggers : (xs : List Message) → length xs ≤ 0 → xs ≡ []
+no-triggers [] few = refl
+no-triggers (x ∷ xs) few = absurd (omega (arith, few))
+
+both-empty : {A : Type 0} (xs ys : List A) → [] ≡ xs ++ ys → (xs ≡ []) × (ys ≡ [])
+both-empty [] ys is = (refl, sym is)
+both-empty (x ∷ xs) ys is = cc
+
+each-both : {A : Type 0} (P : A → Type 0) (xs ys : List A) → Each P xs → Each P ys → Each P (xs ++ ys)
+each-both P [] ys a b = b
+each-both P (x ∷ xs) ys a b = (a.0, each-both P xs ys a.1 b)
+
+-- ends and then more, or triggers where no end waits and then more
+spoken-then : (n k : ℕ) (told mid told' rest : List SessionEnd) (more more' : List Message) → mid ≡ told' ++ rest → (n ≡ 0) ⊎ (mid ≡ []) → IsSpoken n told mid more → IsSpoken k told' rest more'
+    → IsSpoken (n + k) (told ++ told') rest (more ++ more')
+spoken-then n k told mid told' rest more more' split (inl nought) p q =
+    let none : p.triggers ≡ [] = no-triggers p.triggers (omega (arith, p.few, nought)) in
+    record {
+      triggers = q.triggers;
+      is = ap (λ l. l ++ more') (p.is ∙ (ap (λ l. map terminated told ++ l) none ∙ append-nil (map terminated told)))
+          ∙ (ap (λ l. map terminated told ++ l) q.is ∙ (sym (append_assoc (map terminated told) (map terminated told') q.triggers) ∙ ap (λ l. l ++ q.triggers) (sym (map-append terminated told told'))));
+      each = q.each;
+      few = omega (arith, q.few);
+      last = q.last;
+    }
+spoken-then n k told mid told' rest more more' split (inr none) p q =
+    let empty = both-empty told' rest (sym none ∙ split) in
+    record {
+      triggers = p.triggers ++ q.triggers;
+      is = ap (λ l. l ++ more') p.is
+          ∙ (ap (λ l. (map terminated told ++ p.triggers) ++ l) (q.is ∙ ap (λ l. map terminated l ++ q.triggers) empty.0)
+          ∙ (append_assoc (map terminated told) p.triggers q.triggers ∙ ap (λ l. map terminated l ++ (p.triggers ++ q.triggers)) (sym (ap (λ l. told ++ l) empty.0 ∙ append-nil told))));
+      each = each-both (λ m. is_some (asking m) ≡ true) p.triggers q.triggers p.each q.each;
+      few = omega (arith, p.few, q.few, length-append p.triggers q.triggers);
+      last = inr empty.1;
+    }
+
+pub says-then : (n k : ℕ) (a b c : AgentControl) → (n ≡ 0) ⊎ (b.unsaid.items ≡ []) → SaysMore n a b → SaysMore k b c → SaysMore (n + k) a c
+says-then n k a b c first p q = record {
   end = (q.end.0 ∙ p.end.0, q.end.1 ∙ p.end.1, q.end.2 ∙ p.end.2, q.end.3 ∙ p.end.3);
   port = (q.port.0 ∙ ap (λ (x : PortState). record x { end = c.port.end }) p.port.0, q.port.1 ∙ p.port.1);
   can = q.can;
@@ -81,12 +131,28 @@ says-then a b c p q = record {
   unsaid = p.unsaid ∙ ap (λ l. p.told ++ l) q.unsaid ∙ sym (append_assoc p.told q.told c.unsaid.items);
   speaks = λ heard said h.
       let x = p.speaks heard said h in
-      let y = q.speaks heard (said ++ x.0) x.1 in (
-        x.0 ++ y.0,
-        subst (λ l. Speaks c heard l) (append_assoc said x.0 y.0) y.1,
-        filter_map-append end_told x.0 y.0 ∙ ap (λ l. l ++ filter_map end_told y.0) x.2 ∙ ap (λ l. map end_of p.told ++ l) y.2 ∙ sym (map-append end_of p.told q.told),
-      );
+      let y = q.speaks heard (said ++ x.0) x.1 in
+      (x.0 ++ y.0, subst (λ l. Speaks c heard l) (append_assoc said x.0 y.0) y.1, spoken-then n k p.told b.unsaid.items q.told c.unsaid.items x.0 y.0 q.unsaid first x.2 y.2);
 }
+
+-- with leave for more calls
+pub says-few : (n k : ℕ) (a b : AgentControl) → n ≤ k → SaysMore n a b → SaysMore k a b
+says-few n k a b less p = record {
+  end = p.end;
+  port = p.port;
+  can = p.can;
+  asked = p.asked;
+  heard = p.heard;
+  told = p.told;
+  unsaid = p.unsaid;
+  speaks = λ heard said h.
+      let x = p.speaks heard said h in
+      (x.0, x.1, record { triggers = x.2.triggers; is = x.2.is; each = x.2.each; few = omega (arith, x.2.few, less); last = x.2.last });
+}
+
+-- where no end waited none waits
+pub says-none : (n : ℕ) (a b : AgentControl) → SaysMore n a b → a.unsaid.items ≡ [] → b.unsaid.items ≡ []
+says-none n a b p none = (both-empty p.told b.unsaid.items (sym none ∙ p.unsaid)).1
 
 -- ---- one message more
 
@@ -126,7 +192,7 @@ tells-other old mid e none end s = record {
   unsaid = s.unsaid;
   speaks = λ heard said h may.
       let there : SomeOf (AsksToServe e.domain e.port) heard = subst (λ o. MayTell (asked_by old.queue) heard o e.domain e.port) none may in
-      (m.Terminated e.domain e.port ∷ [], goes old mid mid.queue (m.Terminated e.domain e.port) heard said s refl (asks-stranger mid.queue e.domain e.port said (subst (λ q. Asks q said) (sym s.queue) h.asks)) tt (inr there) h, refl);
+      goes old mid mid.queue (m.Terminated e.domain e.port) heard said s refl (asks-stranger mid.queue e.domain e.port said (subst (λ q. Asks q said) (sym s.queue) h.asks)) tt (inr there) h;
 }
 
 pub tells-own : (old mid : AgentControl) (queue : QueueState) (e : SessionEnd) (place : ℕ) → e.call ≡ Some place → place < length mid.queue.calls → IsSameEnd old.port.end mid.port.end → Says old mid (m.Terminated e.domain e.port) true
@@ -142,7 +208,7 @@ tells-own old mid queue e place own within end s is asks =
       asked = same ∙ ap asked_by s.queue;
       heard = s.heard;
       unsaid = s.unsaid;
-      speaks = λ heard said h may. (m.Terminated e.domain e.port ∷ [], told heard said h same (subst (λ o. MayTell (asked_by old.queue) heard o e.domain e.port) own may), refl);
+      speaks = λ heard said h may. told heard said h same (subst (λ o. MayTell (asked_by old.queue) heard o e.domain e.port) own may);
     }
   where
     told : (heard said : List Message) → Speaks old heard said → asked_by queue ≡ asked_by mid.queue → MayTell (asked_by old.queue) heard (Some place) e.domain e.port
@@ -171,18 +237,17 @@ is-told asked heard version call = by_version (nat_lt version 3)
     by_version true = tt
     by_version false = tt
 
--- a trigger reports no end of a session
-tells-no-end : (version : ℕ) (call : CallPlan) (w : Message) → w ≡ trigger_of version call → filter_map end_told (w ∷ []) ≡ []
-tells-no-end version call w is = ap (λ x. filter_map end_told (x ∷ [])) is ∙ by_version (nat_lt version 3)
+asks-call : (version : ℕ) (call : CallPlan) → is_some (asking (trigger_of version call)) ≡ true
+asks-call version call = by_version (nat_lt version 3)
   where
-    by_version : (b : Bool) → filter_map end_told ((if b then m.Trigger call.to (ident_of call.number) call.service else m.Trigger3 call.to (ident_of call.number) call.service) ∷ []) ≡ []
+    by_version : (b : Bool) → is_some (asking (if b then m.Trigger call.to (ident_of call.number) call.service else m.Trigger3 call.to (ident_of call.number) call.service)) ≡ true
     by_version true = refl
     by_version false = refl
 
-pub says-trigger : (old mid : AgentControl) (queue : QueueState) (version : ℕ) (w : Message) → old.port.version ≡ Some version → IsSameEnd old.port.end mid.port.end → Says old mid w true → HasToSay old.queue version (Some w)
+pub says-trigger : (old mid : AgentControl) (queue : QueueState) (version : ℕ) (w : Message) → old.port.version ≡ Some version → IsSameEnd old.port.end mid.port.end → Says old mid w true → HasToSay old.queue version (Some w) → old.unsaid.items ≡ []
     → ((c : Queued) → IsDue mid.queue c → queue ≡ after_trigger mid.queue c)
-    → ((said : List Message) (v : ℕ) (x : Message) → HasToSay mid.queue v (Some x) → Asks mid.queue said → Asks queue (said ++ x ∷ [])) → SaysMore old (record mid { queue = queue })
-says-trigger old mid queue version w v end s says is asks =
+    → ((said : List Message) (v : ℕ) (x : Message) → HasToSay mid.queue v (Some x) → Asks mid.queue said → Asks queue (said ++ x ∷ [])) → SaysMore 1 old (record mid { queue = queue })
+says-trigger old mid queue version w v end s says none is asks =
     let now : HasToSay mid.queue version (Some w) = subst (λ q. HasToSay q version (Some w)) (sym s.queue) says in
     let same : asked_by queue ≡ asked_by mid.queue = ap asked_by (is now.0 now.1) ∙ map-set-same asked_as mid.queue.calls mid.queue.next now.0 _ now.1.0 refl in
     let of_version : IsOfVersion mid.port.version w = subst (λ o. IsOfVersion o w) (sym (s.version ∙ v)) (subst (λ x. IsOfVersion (Some version) x) (sym now.2) (is-of-version version now.0.call)) in
@@ -194,7 +259,17 @@ says-trigger old mid queue version w v end s says is asks =
       heard = s.heard;
       told = [];
       unsaid = sym (ap (λ u. u.items) s.unsaid);
-      speaks = λ heard said h. (w ∷ [], goes old mid queue w heard said s same (asks said version w now (subst (λ q. Asks q said) (sym s.queue) h.asks)) of_version (subst (λ x. IsTold (asked_by queue) heard x) (sym now.2) (is-told (asked_by queue) heard version now.0.call)) h, tells-no-end version now.0.call w now.2);
+      speaks = λ heard said h. (
+        w ∷ [],
+        goes old mid queue w heard said s same (asks said version w now (subst (λ q. Asks q said) (sym s.queue) h.asks)) of_version (subst (λ x. IsTold (asked_by queue) heard x) (sym now.2) (is-told (asked_by queue) heard version now.0.call)) h,
+        record {
+          triggers = w ∷ [];
+          is = refl;
+          each = (subst (λ x. is_some (asking x) ≡ true) (sym now.2) (asks-call version now.0.call), tt);
+          few = omega arith;
+          last = inr (ap (λ u. u.items) s.unsaid ∙ none);
+        },
+      );
     }
 
 -- the call whose end is to be reported is one of the queue
@@ -204,11 +279,11 @@ within-queue old mid e place w has own s =
     let there : place < length (asked_by mid.queue) = subst (λ q. place < length (asked_by q)) (sym s.queue) here in
     subst (λ n. place < n) (length-map mid.queue.calls asked_as) there
 
--- the first end that wasn't reported was reported, and is removed
-pub tells-first : (old mid new : AgentControl) (e : SessionEnd) (rest : List SessionEnd) → Tells old mid e true → mid.unsaid.items ≡ e ∷ rest → new.unsaid.items ≡ rest → new ≡ record mid { unsaid = new.unsaid } → SaysMore old new
+-- the first end that was unsaid was told, and is taken out
+pub tells-first : (old mid new : AgentControl) (e : SessionEnd) (rest : List SessionEnd) → Tells old mid e true → mid.unsaid.items ≡ e ∷ rest → new.unsaid.items ≡ rest → new ≡ record mid { unsaid = new.unsaid } → SaysMore 0 old new
 tells-first old mid new e rest t first rest_is new_is =
     let was : old.unsaid.items ≡ e ∷ rest = ap (λ u. u.items) (sym t.unsaid) ∙ first in
-    subst (λ x. SaysMore old x) (sym new_is) (record {
+    subst (λ x. SaysMore 0 old x) (sym new_is) (record {
       end = t.end;
       port = t.port;
       can = record {
@@ -226,20 +301,20 @@ tells-first old mid new e rest t first rest_is new_is =
       speaks = λ heard said h.
           let may = subst (λ l. Each (IsTellable (asked_by old.queue) heard) l) was h.unsaid in
           let more = t.speaks heard said h may.0 in (
-            more.0,
+            terminated e ∷ [],
             record {
-              said_is = more.1.said_is;
-              asks = more.1.asks;
-              of_version = more.1.of_version;
-              told = more.1.told;
-              unsaid = subst (λ l. Each (IsTellable (asked_by mid.queue) heard) l) (sym rest_is) (subst (λ l. Each (IsTellable (asked_by mid.queue) heard) l) first more.1.unsaid).1;
+              said_is = more.said_is;
+              asks = more.asks;
+              of_version = more.of_version;
+              told = more.told;
+              unsaid = subst (λ l. Each (IsTellable (asked_by mid.queue) heard) l) (sym rest_is) (subst (λ l. Each (IsTellable (asked_by mid.queue) heard) l) first more.unsaid).1;
             },
-            more.2,
+            record { triggers = []; is = refl; each = tt; few = omega arith; last = inl refl },
           );
     })
 
--- if there was no room for it, it still isn't reported
-pub tells-not : (old mid : AgentControl) (e : SessionEnd) (rest : List SessionEnd) → Tells old mid e false → old.unsaid.items ≡ e ∷ rest → SaysMore old mid
+-- and where it had no room it is unsaid still
+pub tells-not : (old mid : AgentControl) (e : SessionEnd) (rest : List SessionEnd) → Tells old mid e false → old.unsaid.items ≡ e ∷ rest → SaysMore 0 old mid
 tells-not old mid e rest t first = record {
   end = t.end;
   port = t.port;
@@ -248,7 +323,7 @@ tells-not old mid e rest t first = record {
   heard = t.heard;
   told = [];
   unsaid = sym (ap (λ u. u.items) t.unsaid);
-  speaks = λ heard said h. t.speaks heard said h (subst (λ l. Each (IsTellable (asked_by old.queue) heard) l) first h.unsaid).0;
+  speaks = λ heard said h. ([], t.speaks heard said h (subst (λ l. Each (IsTellable (asked_by old.queue) heard) l) first h.unsaid).0, spoken-none mid.unsaid.items);
 }
 
 -- what is borrowed of the front is the first element

@@ -1,6 +1,6 @@
 -- What an agent sends on its control channel: its port and the queue of its calls, tied to the messages that were sent and heard.
 -- Source: the messages are those of the qrexec protocol; the order and the limit are this project's own.
-use Rattle.std.specs.Prelude.{◌≡◌, ℕ, ◌<◌, Bool, true, false, List, [], ◌∷◌, ◌++◌, length, map, filter_map, slice_get, Option, Some, None, if◌then◌else◌}
+use Rattle.std.specs.Prelude.{◌≡◌, ◌⊎◌, ℕ, ◌<◌, ◌≤◌, Bool, true, false, List, [], ◌∷◌, ◌++◌, length, map, slice_get, Option, Some, None, is_some, if◌then◌else◌}
 use Rattle.qrexec_frame.specs.declared.message.Message.{Message}
 use Rattle.qrexec_frame.specs.declared.message.Message.TheVariants.{Terminated}
 use Rattle.qrexec_frame.specs.Streams.{Each}
@@ -8,7 +8,7 @@ use Rattle.vchan_rule.specs.Seated.{view, IsOpen}
 use Rattle.vchan_rule.specs.Ends.{IsSameEnd}
 use Rattle.task_duties.specs.Pairwise.{SomeOf}
 use Rattle.task_duties.specs.Agent.Answers.{Asked}
-use Rattle.task_duties.specs.Agent.Saying.{is_at, IsOfVersion, IsTold, AsksToServe}
+use Rattle.task_duties.specs.Agent.Saying.{asking, is_at, IsOfVersion, IsTold, AsksToServe}
 use Rattle.control_port.specs.Port.{PortState, HasSaid, HasHeard, OnlySends}
 use Rattle.control_port.specs.declared.talk.Talker.TheVariants.{Agent}
 use Rattle.call_queue.specs.Queue.{asked_by}
@@ -48,22 +48,24 @@ pub record CanSpeak (c : AgentControl) : Type 0 where
   pub version_is : c.port.version ≡ Some version
   pub calls : Each (λ e. HasCall (asked_by c.queue) e.call) c.unsaid.items
 
--- the domain and the port of the session whose end a message reports, if it reports one
-abbrev pub end_told : Message → Option (ℕ × ℕ)
-end_told (Terminated domain port) = Some (domain, port)
-end_told message = None
+-- the message that tells the end of a session
+abbrev pub terminated : SessionEnd → Message
+terminated e = Terminated e.domain e.port
 
--- the domain and the port of an end of a session
-abbrev pub end_of : SessionEnd → ℕ × ℕ
-end_of e = (e.domain, e.port)
+-- what goes out at once: the ends of these sessions, in their order, and behind them triggers of at most so many calls, but none while an end of a session waits
+pub record IsSpoken (calls : ℕ) (told waiting : List SessionEnd) (more : List Message) : Type 0 where
+  pub triggers : List Message
+  pub is : more ≡ map terminated told ++ triggers
+  pub each : Each (λ m. is_some (asking m) ≡ true) triggers
+  pub few : length triggers ≤ calls
+  pub last : (triggers ≡ []) ⊎ (waiting ≡ [])
 
 -- only the end of the port moved, and by no drain
 abbrev pub OnlyTalks : PortState → PortState → Type 0
 OnlyTalks old new = OnlySends old new × ((view new.end).ended ≡ (view old.end).ended)
 
--- the agent sent more, and nothing else changed: the first ends of sessions were reported, only these and in their order, and the others
--- aren't reported yet
-pub record SaysMore (old new : AgentControl) : Type 0 where
+-- the agent said more, triggers of at most so many calls, and nothing else changed: the first ends of sessions were told, and the others are unsaid still
+pub record SaysMore (calls : ℕ) (old new : AgentControl) : Type 0 where
   pub end : IsSameEnd old.port.end new.port.end
   pub port : OnlyTalks old.port new.port
   pub can : CanSpeak new
@@ -71,7 +73,7 @@ pub record SaysMore (old new : AgentControl) : Type 0 where
   pub heard : (heard : List Message) → HasHeard old.port heard → HasHeard new.port heard
   pub told : List SessionEnd
   pub unsaid : old.unsaid.items ≡ told ++ new.unsaid.items
-  pub speaks : (heard said : List Message) → Speaks old heard said → (more : List Message) × Speaks new heard (said ++ more) × (filter_map end_told more ≡ map end_of told)
+  pub speaks : (heard said : List Message) → Speaks old heard said → (more : List Message) × Speaks new heard (said ++ more) × IsSpoken calls told new.unsaid.items more
 
 -- an end of a session was reported, or there was no room for it; it isn't removed from those to report
 pub record Tells (old new : AgentControl) (e : SessionEnd) (gone : Bool) : Type 0 where
@@ -82,7 +84,7 @@ pub record Tells (old new : AgentControl) (e : SessionEnd) (gone : Bool) : Type 
   pub heard : (heard : List Message) → HasHeard old.port heard → HasHeard new.port heard
   pub unsaid : new.unsaid ≡ old.unsaid
   pub speaks : (heard said : List Message) → Speaks old heard said → IsTellable (asked_by old.queue) heard e
-      → (more : List Message) × Speaks new heard (said ++ more) × (filter_map end_told more ≡ (if gone then end_of e ∷ [] else []))
+      → Speaks new heard (said ++ (if gone then terminated e ∷ [] else []))
 
 -- one message more was sent, or none
 abbrev pub HasSaidOne : PortState → List Message → Message → Bool → Type 0

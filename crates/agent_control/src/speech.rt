@@ -1,5 +1,5 @@
-//! What an agent sends.
-ghost use Rattle.std.specs.Prelude.{◌≡◌, true, false, Some, OnOk, IfOk};
+//! What an agent says.
+ghost use Rattle.std.specs.Prelude.{◌≡◌, ◌<◌, [], true, false, Some, OnOk, IfOk, length};
 ghost use Rattle.qrexec_frame.specs.Messages.{IsSpellable as Fits};
 ghost use Rattle.qrexec_frame.specs.declared.message.Message.{Message as Said};
 ghost use Rattle.task_duties.specs.Hearing.{to_broker};
@@ -22,7 +22,7 @@ impl<'p> AgentControl<'p> {
         requires can { CanSpeak self.old }
         ensures end { IsSameEnd self.old.port.end self.new.port.end }
         ensures open { IsOpen self.new.port.end }
-        ensures more { OnOk result (SaysMore self.old self.new) }
+        ensures more { OnOk result (SaysMore calls self.old self.new) }
     {
         if !self.say_ends()? {
             return Ok(());
@@ -36,9 +36,10 @@ impl<'p> AgentControl<'p> {
         requires can { CanSpeak self.old }
         ensures end { IsSameEnd self.old.port.end self.new.port.end }
         ensures open { IsOpen self.new.port.end }
-        ensures more { OnOk result (SaysMore self.old self.new) }
+        ensures more { OnOk result (SaysMore 0 self.old self.new) }
+        ensures all { IfOk result (λ all. all ≡ true → self.new.unsaid.items ≡ []) }
     {
-        'ends: for _ in 0..self.unsaid.len() {
+        'ends: while !self.unsaid.is_empty() {
             if !self.say_end()? {
                 return Ok(false);
             }
@@ -51,7 +52,8 @@ impl<'p> AgentControl<'p> {
         requires can { CanSpeak self.old }
         ensures end { IsSameEnd self.old.port.end self.new.port.end }
         ensures open { IsOpen self.new.port.end }
-        ensures more { OnOk result (SaysMore self.old self.new) }
+        ensures more { OnOk result (SaysMore 0 self.old self.new) }
+        ensures fewer { IfOk result (λ gone. gone ≡ true → length self.new.unsaid.items < length self.old.unsaid.items) }
     {
         let Some(end) = self.unsaid.front().copied() else {
             return Ok(false);
@@ -87,14 +89,16 @@ impl<'p> AgentControl<'p> {
         }
     }
 
-    // Sends the triggers of at most `calls` calls, as far as the limit and the room allow.
+    // Says the triggers of at most so many calls, as far as the limit and the room allow, where no end of a
+    // session waits.
     fn say_triggers(&mut self, alloc: Global, calls: usize) -> Result<(), Memory>
         requires can { CanSpeak self.old }
+        requires none { self.old.unsaid.items ≡ [] }
         ensures end { IsSameEnd self.old.port.end self.new.port.end }
         ensures open { IsOpen self.new.port.end }
-        ensures more { OnOk result (SaysMore self.old self.new) }
+        ensures more { OnOk result (SaysMore calls self.old self.new) }
     {
-        'triggers: for _ in 0..calls {
+        'triggers: for _call in 0..calls {
             if !self.say_trigger(alloc)? {
                 return Ok(());
             }
@@ -106,9 +110,10 @@ impl<'p> AgentControl<'p> {
     // so a turn without room takes no memory.
     fn say_trigger(&mut self, alloc: Global) -> Result<bool, Memory>
         requires can { CanSpeak self.old }
+        requires none { self.old.unsaid.items ≡ [] }
         ensures end { IsSameEnd self.old.port.end self.new.port.end }
         ensures open { IsOpen self.new.port.end }
-        ensures more { OnOk result (SaysMore self.old self.new) }
+        ensures more { OnOk result (SaysMore 1 self.old self.new) }
     {
         let Some(version) = self.port.version() else {
             return Ok(false);
@@ -136,9 +141,10 @@ impl<'p> AgentControl<'p> {
     fn say_front(&mut self, alloc: Global, version: u32) -> Result<bool, Memory>
         requires can { CanSpeak self.old }
         requires version { self.old.port.version ≡ Some version }
+        requires none { self.old.unsaid.items ≡ [] }
         ensures end { IsSameEnd self.old.port.end self.new.port.end }
         ensures open { IsOpen self.new.port.end }
-        ensures more { OnOk result (SaysMore self.old self.new) }
+        ensures more { OnOk result (SaysMore 1 self.old self.new) }
     {
         let Some(message) = self.queue.front(alloc, version)? else {
             return Ok(false);

@@ -1,5 +1,5 @@
--- A round of an agent: what it sends, and how its control channel ends.
-use Rattle.std.proofs.Common.{◌≡◌, List, ◌++◌, refl, ap, sym, ◌∙◌, Some, None, Option, subst}
+-- A round of an agent: what it says, and how its control channel comes to its end.
+use Rattle.std.proofs.Common.{◌≡◌, ℕ, List, ◌++◌, refl, ap, sym, ◌∙◌, Some, None, Option, subst}
 use Rattle.std.specs.Prelude.{map}
 use Rattle.qrexec_frame.specs.declared.message.Message.{Message}
 use Rattle.qrexec_data.specs.declared.fault.SessionFault.{SessionFault}
@@ -39,8 +39,8 @@ over-running a how over = subst (λ (o : Option ControlEnd). RunsAs o a) (sym ov
 
 -- ---- what is sent
 
-pub says-up : (a : Agent) (control : AgentControl) → IsUp a → SaysMore a.control control → IsUp (record a { control = control })
-says-up a control up more =
+pub says-up : (a : Agent) (control : AgentControl) (calls : ℕ) → IsUp a → SaysMore calls a.control control → IsUp (record a { control = control })
+says-up a control calls up more =
     let h = up.hearing in
     let speaks = more.speaks h.heard h.said h.stands.speaks in
     record {

@@ -1,15 +1,16 @@
-use Rattle.std.proofs.Common.{subst}
+use Rattle.std.proofs.Common.{subst, arith}
 use Rattle.call_queue.specs.Queue.{HasToSay}
 use Rattle.agent_control.specs.Speaking.{Says}
-use Rattle.agent_control.proofs.SpeakingLaws.{says-nothing, says-trigger}
+use Rattle.agent_control.proofs.SpeakingLaws.{says-nothing, says-trigger, says-few}
 use Rattle.agent_control.proofs.control.AgentControl.say_front.Goals as goal
 
 pub returns-then-not-branch-clause-more : goal.returns-then-not-branch-clause-more
 returns-then-not-branch-clause-more c =
-    says-nothing c.args.self.now c.say.new.self c.in-Some.message c.say.ensures.end (subst (λ b. Says c.args.self.now c.say.new.self c.in-Some.message b) c.if-not-branch.true c.in_ok-say.ensures.says)
+    says-few 0 1 c.args.self.now c.say.new.self (omega arith)
+    (says-nothing c.args.self.now c.say.new.self c.in-Some.message c.say.ensures.end (subst (λ b. Says c.args.self.now c.say.new.self c.in-Some.message b) c.if-not-branch.true c.in_ok-say.ensures.says))
 
 pub returns-clause-more : goal.returns-clause-more
 returns-clause-more c =
     says-trigger c.args.self.now c.say.new.self c.triggered.new.self c.args.version c.in-Some.message c.requires.version c.say.ensures.end
     (subst (λ b. Says c.args.self.now c.say.new.self c.in-Some.message b) c.if-not-branch.false c.in_ok-say.ensures.says)
-    (subst (λ o. HasToSay c.args.self.now.queue c.args.version o) c.in-Some.is c.in_ok-message.ensures.says) c.triggered.ensures.is c.triggered.ensures.asks
+    (subst (λ o. HasToSay c.args.self.now.queue c.args.version o) c.in-Some.is c.in_ok-message.ensures.says) c.requires.none c.triggered.ensures.is c.triggered.ensures.asks

@@ -1,5 +1,14 @@
-use Rattle.agent_control.proofs.SpeakingLaws.{says-then}
+use Rattle.std.proofs.Common.{◌+◌, refl, inl, arith}
+use Rattle.agent_control.proofs.SpeakingLaws.{says-then, says-few}
 use Rattle.agent_control.proofs.control.AgentControl.say_on.Goals as goal
 
+pub returns-then-not-branch-clause-more : goal.returns-then-not-branch-clause-more
+returns-then-not-branch-clause-more c = says-few 0 c.args.calls c.args.self.now c.say_ends.new.self (omega arith) c.in_ok-say_ends.ensures.more
+
+pub say_triggers-requires-clause-none : goal.say_triggers-requires-clause-none
+say_triggers-requires-clause-none c = c.in_ok-say_ends.ensures.all c.if-not-branch.false
+
 pub returns-clause-more : goal.returns-clause-more
-returns-clause-more c = says-then c.args.self.now c.say_ends.new.self c.say_triggers.new.self c.in_ok-say_ends.ensures.more c.in_ok-say_triggers.ensures.more
+returns-clause-more c =
+    says-few (0 + c.args.calls) c.args.calls c.args.self.now c.say_triggers.new.self (omega arith)
+    (says-then 0 c.args.calls c.args.self.now c.say_ends.new.self c.say_triggers.new.self (inl refl) c.in_ok-say_ends.ensures.more c.in_ok-say_triggers.ensures.more)

@@ -1,10 +1,11 @@
-use Rattle.std.proofs.Common.{sym, ◌∙◌}
+use Rattle.std.proofs.Common.{sym, ◌∙◌, refl, inl, arith}
 use Rattle.qrexec_frame.specs.declared.message.Message.TheVariants.{Terminated}
-use Rattle.agent_control.proofs.SpeakingLaws.{says-nothing, says-then}
+use Rattle.agent_control.proofs.SpeakingLaws.{says-nothing, says-then, says-few, says-none}
 use Rattle.agent_control.proofs.control.AgentControl.say_trigger.Goals as goal
 
 pub returns-then-not-has_room-clause-more : goal.returns-then-not-has_room-clause-more
-returns-then-not-has_room-clause-more c = says-nothing c.args.self.now c.has_room.new.self (Terminated 0 0) c.has_room.ensures.end (c.has_room.ensures.none (Terminated 0 0))
+returns-then-not-has_room-clause-more c =
+    says-few 0 1 c.args.self.now c.has_room.new.self (omega arith) (says-nothing c.args.self.now c.has_room.new.self (Terminated 0 0) c.has_room.ensures.end (c.has_room.ensures.none (Terminated 0 0)))
 
 pub say_front-requires-clause-can : goal.say_front-requires-clause-can
 say_front-requires-clause-can c = (c.has_room.ensures.none (Terminated 0 0)).can
@@ -12,7 +13,11 @@ say_front-requires-clause-can c = (c.has_room.ensures.none (Terminated 0 0)).can
 pub say_front-requires-clause-version : goal.say_front-requires-clause-version
 say_front-requires-clause-version c = (c.has_room.ensures.none (Terminated 0 0)).version ∙ (sym c.version.ensures ∙ c.in-Some.is)
 
+pub say_front-requires-clause-none : goal.say_front-requires-clause-none
+say_front-requires-clause-none c =
+    says-none 0 c.args.self.now c.has_room.new.self (says-nothing c.args.self.now c.has_room.new.self (Terminated 0 0) c.has_room.ensures.end (c.has_room.ensures.none (Terminated 0 0))) c.requires.none
+
 pub returns-clause-more : goal.returns-clause-more
 returns-clause-more c =
-    says-then c.args.self.now c.has_room.new.self c.say_front.new.self (says-nothing c.args.self.now c.has_room.new.self (Terminated 0 0) c.has_room.ensures.end (c.has_room.ensures.none (Terminated 0 0)))
-    c.in_ok-say_front.ensures.more
+    says-then 0 1 c.args.self.now c.has_room.new.self c.say_front.new.self (inl refl)
+    (says-nothing c.args.self.now c.has_room.new.self (Terminated 0 0) c.has_room.ensures.end (c.has_room.ensures.none (Terminated 0 0))) c.in_ok-say_front.ensures.more
