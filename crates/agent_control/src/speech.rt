@@ -1,4 +1,4 @@
-//! What an agent says.
+//! What an agent sends.
 ghost use Rattle.std.specs.Prelude.{◌≡◌, ◌<◌, [], true, false, Some, OnOk, IfOk, length};
 ghost use Rattle.qrexec_frame.specs.Messages.{IsSpellable as Fits};
 ghost use Rattle.qrexec_frame.specs.declared.message.Message.{Message as Said};
@@ -89,7 +89,7 @@ impl<'p> AgentControl<'p> {
         }
     }
 
-    // Says the triggers of at most so many calls, as far as the limit and the room allow, where no end of a
+    // Sends the triggers of at most `calls` calls, as far as the limit and the room allow, where no end of a
     // session waits.
     fn say_triggers(&mut self, alloc: Global, calls: usize) -> Result<(), Memory>
         requires can { CanSpeak self.old }

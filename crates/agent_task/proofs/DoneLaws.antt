@@ -16,6 +16,8 @@ use Rattle.task_duties.specs.declared.place.PagePlace.{PagePlace}
 use Rattle.task_duties.specs.declared.place.PagePlace.TheVariants.{Control, Payload}
 use Rattle.task_duties.specs.declared.done.ServedDone.{ServedDone}
 use Rattle.task_duties.specs.declared.done.ControlEnd.{ControlEnd}
+use Rattle.task_duties.specs.declared.done.ControlEnd.TheVariants.{Fault}
+use Rattle.qrexec_data.specs.declared.fault.SessionFault.{SessionFault}
 use Rattle.task_duties.specs.declared.ends.DataEnd.{DataEnd}
 use Rattle.task_duties.specs.declared.ends.DoneEnd.TheVariants.{Laid}
 use Rattle.task_duties.specs.declared.ends.RetiredEnd.{RetiredEnd}
@@ -46,7 +48,8 @@ use Rattle.agent_task.specs.declared.given.Given.{Given}
 use Rattle.agent_task.specs.declared.task.AgentDone.{AgentDone}
 use Rattle.agent_task.specs.Given.{data_ends, plan_of, ends_of}
 use Rattle.agent_task.specs.Standing.{Stands, IsServedBy, called_by, called_of}
-use Rattle.agent_task.specs.Ending.{IsOver}
+use Rattle.agent_task.specs.Ending.{IsOver, heard_at}
+use Rattle.agent_task.specs.Telling.{heard_on, TellsOf, TellsAll}
 use Rattle.agent_task.specs.Finishing.{call_end_of, call_done_of, call_dones}
 use Rattle.agent_task.specs.Owing.{IsOwed}
 
@@ -278,6 +281,36 @@ done-owes how a retired ends calls served done over finished domain_is calls_is 
       over = over_is;
       reports = reports;
       serves = serves;
+    }
+
+-- what it tells
+pub done-tells : (how : ControlEnd) (a : Agent) (retired : SeatedSide) (ends : List RetiredEnd) (done : AgentDone) → IsOver how a → last_view retired ≡ view a.control.port.end → done.control ≡ how
+    → done.ends.items ≡ record { place = Control a.given.domain; retired = Laid retired } ∷ ends → TellsAll (plan_of a.given) done
+done-tells how a retired ends done over control control_is ends_is =
+    subst (λ (es : List RetiredEnd). (e : EndAt) × (slice_get (all_retired es) 0 ≡ Some e) × (e.place ≡ Control a.given.domain) × TellsOf plan e.view done.control) (sym ends_is)
+    (record { place = Control a.given.domain; view = last_view retired }, refl, refl, subst (λ (h : ControlEnd). TellsOf plan (last_view retired) h) (sym control_is) (subst (λ (v : EndView). TellsOf plan v how) (sym control) tells))
+  where
+    plan : AgentPlan
+    plan = plan_of a.given
+
+    port : PortState
+    port = a.control.port
+
+    stands : Stands a over.heard over.said
+    stands = over.stands
+
+    same_heard : heard_on plan (view port.end) ≡ heard_at port
+    same_heard =
+        ap (λ (o : ℕ). hears o to_agent (view port.end).got) (sym stands.port.own) ∙ ap (λ (k : Talker). hears port.own (may_hear k) (view port.end).got) (sym stands.port.talker)
+
+    is_fault : (f : SessionFault) → how ≡ Fault f → (heard_on plan (view port.end)).fault ≡ Some f
+    is_fault f is =
+        let at : ControlOver (view port.end) (heard_at port) (Fault f) = subst (λ (x : ControlEnd). ControlOver (view port.end) (heard_at port) x) is over.how_is in
+        ap (λ (h : Heard). h.fault) same_heard ∙ at
+
+    tells : TellsOf plan (view port.end) how
+    tells = record {
+      fault = λ f. (is_fault f, λ is. over.fault_is f (sym (ap (λ (h : Heard). h.fault) same_heard) ∙ is));
     }
 
 -- ---- calls one by one

@@ -125,6 +125,14 @@ control-over a port drained how None hung out ended is over = by_how (end_by dra
         subst (λ (x : ControlEnd). ControlOver (view port.end) (heard_at port) x) how_is (ap (λ (v : EndView). v.saw) hung.view_is ∙ h.0, ap (λ (v : EndView). v.ended) hung.view_is ∙ h.1)
     by_how (Some (Fault f)) how e h = absurd h
 
+-- a fault is what it is over by
+fault-over : (drained : DrainAnswer) (how : ControlEnd) (f : SessionFault) (fault : Option SessionFault) → fault ≡ Some f → over_by fault drained ≡ Some how → how ≡ Fault f
+fault-over drained how f None is over = cc
+fault-over drained how f (Some g) is over =
+    let same : g ≡ f = cc in
+    let how_is : Fault g ≡ how = cc in
+    sym how_is ∙ ap (λ (x : SessionFault). Fault x) same
+
 pub is-over : (a : Agent) (port : PortState) (drained : DrainAnswer) (how : ControlEnd) → HungUp a.control.port port → HasHeardOut a → IsDrained drained a → over_by a.control.port.fault drained ≡ Some how
     → IsOver how (record (with_port a port) { over = Some how })
 is-over a port drained how hung out ended over =
@@ -142,6 +150,7 @@ is-over a port drained how hung out ended over =
       stands = record { port = stands.port; calls = stands.calls; slots = stands.slots; answers = stands.answers; asked_for = stands.asked_for; speaks = stands.speaks; quiet = stands.quiet };
       all = all-hung_up a.control.port port out.heard hung out.all;
       how_is = control-over a port drained how a.control.port.fault hung out ended refl over;
+      fault_is = λ f is. fault-over drained how f a.control.port.fault (sym (ap (λ (h : Heard). h.fault) (heard-hung_up a.control.port port hung ∙ out.all)) ∙ is) over;
       over_is = refl;
       idle = ap (λ (v : EndView). v.idle) hung.view_is ∙ out.is_open.0;
       retired = ap (λ (v : EndView). v.retired) hung.view_is;

@@ -54,6 +54,7 @@ slots-over how a s is over = record {
   stands = slots-stand a s over.heard over.said is over.stands;
   all = over.all;
   how_is = over.how_is;
+  fault_is = over.fault_is;
   over_is = over.over_is;
   idle = over.idle;
   retired = over.retired;

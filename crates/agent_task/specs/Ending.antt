@@ -50,6 +50,7 @@ pub record IsOver (how : ControlEnd) (a : Agent) : Type 0 where
   pub stands : Stands a heard said
   pub all : HasHeardAll a.control.port heard
   pub how_is : ControlOver (view a.control.port.end) (heard_at a.control.port) how
+  pub fault_is : (fault : SessionFault) → (heard_at a.control.port).fault ≡ Some fault → how ≡ Fault fault
   pub over_is : a.over ≡ Some how
   pub idle : (view a.control.port.end).idle ≡ true
   pub retired : (view a.control.port.end).retired ≡ true

@@ -4,4 +4,5 @@ pub mod Standing
 pub mod Ending
 pub mod Finishing
 pub mod Owing
+pub mod Telling
 pub mod Turns

@@ -5,7 +5,9 @@ ghost use Rattle.call_queue.specs.Queue.{answer_of, asked_by};
 ghost use Rattle.agent_task.specs.Standing.{CanGiveUp};
 ghost use Rattle.agent_task.specs.Ending.{IsOver};
 ghost use Rattle.agent_task.specs.Finishing.{call_end_of, call_done_of, call_dones};
+ghost use Rattle.agent_task.specs.Given.{plan_of};
 ghost use Rattle.agent_task.specs.Owing.{IsOwed};
+ghost use Rattle.agent_task.specs.Telling.{TellsAll};
 
 use crate::agent::Agent;
 use crate::task::AgentDone;
@@ -24,7 +26,8 @@ impl<'p> Agent<'p> {
     pub(crate) fn finish(self, over: ControlEnd) -> Result<AgentDone, Memory>
         requires over { IsOver over self }
         requires idle { self.slots.open_count ≡ 0 }
-        ensures { IfOk result (λ done. IsOwed self.entry.given done) }
+        ensures owed { IfOk result (λ done. IsOwed self.entry.given done) }
+        ensures tells { IfOk result (λ done. TellsAll (plan_of self.entry.given) done) }
     {
         let Agent {
             alloc,

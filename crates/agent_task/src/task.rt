@@ -80,7 +80,7 @@ impl<'p> AgentTask<'p> {
     ghost use Rattle.data_slots.specs.Slots.{IsGiven, AreApart};
     ghost use Rattle.agent_task.specs.Given.{given_of};
     ghost use Rattle.agent_task.specs.Ending.{IsOver};
-    ghost use Rattle.agent_task.specs.Turns.{Pays};
+    ghost use Rattle.agent_task.specs.Turns.{Pays, Tells};
 
     /// Makes the task of the agent of a domain, of version 2 or 3, with its calls and its ends. All ends are
     /// unused. The end of the control page is the server's. A data end is the server's if the domain calls on
@@ -141,7 +141,8 @@ impl<'p> AgentTask<'p> {
     /// Makes one turn, which is a round over all channels. Once the control channel and all sessions are
     /// over, it gives the report.
     pub fn turn(self) -> AgentTurn<'p>
-        ensures { Pays self.entry result }
+        ensures pays { Pays self.entry result }
+        ensures tells { Tells self.entry result }
     {
         let AgentTask {
             mut agent,
@@ -170,7 +171,8 @@ impl<'p> AgentTask<'p> {
     fn finish(agent: Agent<'p>, over: ControlEnd) -> AgentTurn<'p>
         requires over { IsOver over agent }
         requires idle { agent.slots.open_count ≡ 0 }
-        ensures { Pays (given_of agent.entry.given) result }
+        ensures pays { Pays (given_of agent.entry.given) result }
+        ensures tells { Tells (given_of agent.entry.given) result }
     {
         match agent.finish(over) {
             Ok(done) => AgentTurn::Done(done),

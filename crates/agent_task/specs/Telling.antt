@@ -1,0 +1,26 @@
+-- What an agent that is done tells of its control channel, beside what it owes.
+-- Source: this project's own.
+use Rattle.std.specs.Prelude.{◌≡◌, ◌↔◌, slice_get, Some}
+use Rattle.end_view.specs.EndView.{EndView}
+use Rattle.qrexec_data.specs.declared.fault.SessionFault.{SessionFault}
+use Rattle.task_duties.specs.declared.place.PagePlace.TheVariants.{Control}
+use Rattle.task_duties.specs.declared.done.ControlEnd.{ControlEnd}
+use Rattle.task_duties.specs.declared.done.ControlEnd.TheVariants.{Fault}
+use Rattle.task_duties.specs.Hearing.{to_agent, Heard, hears}
+use Rattle.task_duties.specs.TaskOwes.{EndAt}
+use Rattle.task_duties.specs.GivenEnds.{all_retired}
+use Rattle.task_duties.specs.Agent.Given.{AgentPlan}
+use Rattle.agent_task.specs.declared.task.AgentDone.{AgentDone}
+
+-- what it heard at its control end
+abbrev pub heard_on : AgentPlan → EndView → Heard
+heard_on plan control = hears plan.version to_agent control.got
+
+-- by its control end and what it reports of that
+pub record TellsOf (plan : AgentPlan) (control : EndView) (how : ControlEnd) : Type 0 where
+  -- a fault is reported if and only if what it heard is wrong in that way
+  pub fault : (fault : SessionFault) → (how ≡ Fault fault) ↔ ((heard_on plan control).fault ≡ Some fault)
+
+-- its control end is the first that it gives back
+abbrev pub TellsAll : AgentPlan → AgentDone → Type 0
+TellsAll plan done = (e : EndAt) × (slice_get (all_retired done.ends.items) 0 ≡ Some e) × (e.place ≡ Control plan.domain) × TellsOf plan e.view done.control
