@@ -21,7 +21,7 @@ use Rattle.qrexec_data.specs.declared.fault.SessionFault.{SessionFault}
 use Rattle.task_duties.specs.declared.ends.DataEnd.{DataEnd}
 use Rattle.task_duties.specs.declared.ends.DoneEnd.TheVariants.{Laid}
 use Rattle.task_duties.specs.declared.ends.RetiredEnd.{RetiredEnd}
-use Rattle.task_duties.specs.Pairwise.{EachPair}
+use Rattle.task_duties.specs.Pairwise.{EachPair, IsPartOf}
 use Rattle.task_duties.specs.Places.{is_place}
 use Rattle.task_duties.specs.Hearing.{to_agent, to_broker, IsSaid, Heard, hears}
 use Rattle.task_duties.specs.TaskOwes.{EndAt, AreEnds, EndsOwed, places_in}
@@ -49,7 +49,9 @@ use Rattle.agent_task.specs.declared.task.AgentDone.{AgentDone}
 use Rattle.agent_task.specs.Given.{data_ends, plan_of, ends_of}
 use Rattle.agent_task.specs.Standing.{Stands, IsServedBy, called_by, called_of}
 use Rattle.agent_task.specs.Ending.{IsOver, heard_at}
+use Rattle.agent_task.specs.Ends.{session_told, sessions_owed}
 use Rattle.agent_task.specs.Telling.{heard_on, TellsOf, TellsAll}
+use Rattle.agent_task.proofs.KeptLaws.{kept-told}
 use Rattle.agent_task.specs.Finishing.{call_end_of, call_done_of, call_dones}
 use Rattle.agent_task.specs.Owing.{IsOwed}
 
@@ -283,7 +285,7 @@ done-owes how a retired ends calls served done over finished domain_is calls_is 
       serves = serves;
     }
 
--- what it tells
+-- what it has told
 pub done-tells : (how : ControlEnd) (a : Agent) (retired : SeatedSide) (ends : List RetiredEnd) (done : AgentDone) → IsOver how a → last_view retired ≡ view a.control.port.end → done.control ≡ how
     → done.ends.items ≡ record { place = Control a.given.domain; retired = Laid retired } ∷ ends → TellsAll (plan_of a.given) done
 done-tells how a retired ends done over control control_is ends_is =
@@ -303,6 +305,12 @@ done-tells how a retired ends done over control control_is ends_is =
     same_heard =
         ap (λ (o : ℕ). hears o to_agent (view port.end).got) (sym stands.port.own) ∙ ap (λ (k : Talker). hears port.own (may_hear k) (view port.end).got) (sym stands.port.talker)
 
+    messages : over.heard ≡ (heard_on plan (view port.end)).messages
+    messages = sym (ap (λ (h : Heard). h.messages) (same_heard ∙ over.all))
+
+    told : IsPartOf (filter_map session_told over.said) (sessions_owed (answers plan over.heard).asked over.heard)
+    told = kept-told a.over a.slots.called (answers plan over.heard).asked a.control.unsaid.items a.slots.opened over.heard over.said stands.answers.called over.keeps
+
     is_fault : (f : SessionFault) → how ≡ Fault f → (heard_on plan (view port.end)).fault ≡ Some f
     is_fault f is =
         let at : ControlOver (view port.end) (heard_at port) (Fault f) = subst (λ (x : ControlEnd). ControlOver (view port.end) (heard_at port) x) is over.how_is in
@@ -310,6 +318,9 @@ done-tells how a retired ends done over control control_is ends_is =
 
     tells : TellsOf plan (view port.end) how
     tells = record {
+      said = over.said;
+      says = is-said port over.said a.given.version stands.port.own stands.port.talker stands.speaks.said_is;
+      told = subst (λ (l : List Message). IsPartOf (filter_map session_told over.said) (sessions_owed (answers plan l).asked l)) messages told;
       fault = λ f. (is_fault f, λ is. over.fault_is f (sym (ap (λ (h : Heard). h.fault) same_heard) ∙ is));
     }
 

@@ -85,6 +85,7 @@ greets-up a port sent payload up end opened view_is said heard same =
         heard = h.heard;
         said = h.said;
         stands = port-stands a port h.heard h.said (record { end = end; own = same.1; talker = same.0; version = kept-same a.control.port port same.2; said_is = said h.said h.stands.speaks.said_is }) h.stands;
+        keeps = h.keeps;
         hears = heard h.heard h.hears;
         sound = record { fine = same.3 ∙ h.sound.fine; is_open = opened; up = h.sound.up };
       };
@@ -109,6 +110,7 @@ drains-hearing a port up end opened said heard same =
       heard = h.heard;
       said = h.said;
       stands = port-stands a port h.heard h.said (record { end = end; own = same.1; talker = same.0; version = kept-same a.control.port port same.3; said_is = said h.said h.stands.speaks.said_is }) h.stands;
+      keeps = h.keeps;
       hears = heard h.heard h.hears;
       sound = record { fine = same.4 ∙ h.sound.fine; is_open = opened; up = h.sound.up };
     }
@@ -139,6 +141,7 @@ handed-one a port m h only hands =
       heard = h.heard;
       said = h.said;
       stands = port-stands a port h.heard h.said (hears-keeps a.control.port port h.said only (kept-at-next a.control.port port h.heard m h.hears only one) h.stands.speaks.said_is) h.stands;
+      keeps = h.keeps;
       hears = one.0;
       sound = record { fine = one.3; is_open = still-open a.control.port port only h.sound.is_open; up = h.sound.up };
     }
@@ -150,6 +153,7 @@ handed-all a port h only hands =
       heard = h.heard;
       said = h.said;
       stands = port-stands a port h.heard h.said (hears-keeps a.control.port port h.said only (kept-at-end a.control.port port h.heard h.hears only none) h.stands.speaks.said_is) h.stands;
+      keeps = h.keeps;
       all = none.0;
       hears = none.1;
       is_open = still-open a.control.port port only h.sound.is_open;

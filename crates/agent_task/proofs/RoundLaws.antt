@@ -22,6 +22,7 @@ use Rattle.agent_task.specs.declared.agent.Agent.{Agent}
 use Rattle.agent_task.specs.Standing.{HasHeardOut, IsUp}
 use Rattle.agent_task.specs.Ending.{HasEnded, end_by, over_by, IsDrained, heard_at, IsOver, IsRunning, RunsAs}
 use Rattle.agent_task.proofs.PortLaws.{with_port, PortKeeps, port-stands, same-end-then}
+use Rattle.agent_task.proofs.KeptLaws.{kept-said, kept-still}
 
 -- ---- open or over
 
@@ -63,6 +64,7 @@ says-up a control calls up more =
           speaks = speaks.1;
           quiet = λ none. let some : control.port.version ≡ Some more.can.version = more.can.version_is in cc;
         };
+        keeps = kept-said a.over a.slots.called a.control.unsaid.items control.unsaid.items more.told a.slots.opened h.heard h.said speaks.0 calls more.unsaid speaks.2 h.keeps;
         hears = more.heard h.heard h.hears;
         sound = record { fine = ap (λ (p : PortState). p.fault) more.port.0 ∙ h.sound.fine; is_open = more.can.is_open; up = h.sound.up };
       };
@@ -85,6 +87,7 @@ goes-on a drained out ended over = going (none-over a.control.port.fault drained
         heard = out.heard;
         said = out.said;
         stands = out.stands;
+        keeps = out.keeps;
         hears = out.hears fine;
         sound = record { fine = fine; is_open = out.is_open; up = out.up };
       };
@@ -148,6 +151,7 @@ is-over a port drained how hung out ended over =
       heard = out.heard;
       said = out.said;
       stands = record { port = stands.port; calls = stands.calls; slots = stands.slots; answers = stands.answers; asked_for = stands.asked_for; speaks = stands.speaks; quiet = stands.quiet };
+      keeps = kept-still a.over how a.slots.called a.control.unsaid.items a.slots.opened out.heard out.said out.keeps;
       all = all-hung_up a.control.port port out.heard hung out.all;
       how_is = control-over a port drained how a.control.port.fault hung out ended refl over;
       fault_is = λ f is. fault-over drained how f a.control.port.fault (sym (ap (λ (h : Heard). h.fault) (heard-hung_up a.control.port port hung ∙ out.all)) ∙ is) over;

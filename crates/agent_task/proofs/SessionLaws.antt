@@ -1,6 +1,6 @@
 -- What a turn of its sessions makes of an agent.
 use Rattle.std.proofs.Common.{◌≡◌, ℕ, List, [], ◌∷◌, ◌++◌, refl, ap, sym, ◌∙◌, Some, None, Option, subst, inl, inr}
-use Rattle.std.specs.Prelude.{true, false, map, slice_get, ◌==◌, ◌&&◌, is_some}
+use Rattle.std.specs.Prelude.{true, false, map, slice_get, ◌==◌, ◌&&◌, is_some, IsPermutation}
 use Rattle.std.proofs.Common.{arith}
 use Rattle.std.proofs.lemmas.Bool.Decides.{nat_tests}
 use Rattle.qrexec_frame.specs.declared.message.Message.{Message}
@@ -19,16 +19,18 @@ use Rattle.agent_control.specs.declared.control.SessionEnd.{SessionEnd}
 use Rattle.agent_control.specs.Speaking.{MayTell, IsTellable, HasCall, CanSpeak}
 use Rattle.agent_task.specs.declared.agent.Agent.{Agent}
 use Rattle.agent_task.specs.Standing.{Stands, AreAskedFor, IsUp, OnlyTells, called_by, called_of, end_of}
-use Rattle.agent_task.specs.Ending.{IsOver, IsRunning, RunsAs}
+use Rattle.agent_task.specs.Ending.{IsOver, IsRunning}
 use Rattle.agent_task.proofs.ListLaws.{each-mapped, each-to}
-use Rattle.agent_task.proofs.RoundLaws.{running-up, up-running}
+use Rattle.agent_task.specs.Ends.{AreKept}
+use Rattle.agent_task.proofs.KeptLaws.{kept-over, kept-lost}
+use Rattle.agent_task.proofs.RoundLaws.{running-up, up-running, running-over, over-running}
 use Rattle.agent_task.proofs.StepLaws.{tells-stand}
 
 abbrev pub with_slots : Agent → SlotsState → Agent
 with_slots a s = record a { slots = s }
 
 -- only fewer sessions are open
-slots-stand : (a : Agent) (s : SlotsState) (heard said : List Message) → s ≡ record a.slots { open_count = s.open_count } → Stands a heard said → Stands (with_slots a s) heard said
+slots-stand : (a : Agent) (s : SlotsState) (heard said : List Message) → s ≡ record a.slots { opened = s.opened } → Stands a heard said → Stands (with_slots a s) heard said
 slots-stand a s heard said is stands = subst (λ (x : SlotsState). Stands (with_slots a x) heard said) (sym is) (record {
   port = stands.port;
   calls = stands.calls;
@@ -39,19 +41,16 @@ slots-stand a s heard said is stands = subst (λ (x : SlotsState). Stands (with_
   quiet = stands.quiet;
 })
 
-pub slots-up : (a : Agent) (s : SlotsState) → s ≡ record a.slots { open_count = s.open_count } → IsUp a → IsUp (with_slots a s)
-slots-up a s is up =
-    let h = up.hearing in
-    record {
-      hearing = record { heard = h.heard; said = h.said; stands = slots-stand a s h.heard h.said is h.stands; hears = h.hears; sound = record { fine = h.sound.fine; is_open = h.sound.is_open; up = h.sound.up } };
-      going = up.going;
-    }
-
-pub slots-over : (how : ControlEnd) (a : Agent) (s : SlotsState) → s ≡ record a.slots { open_count = s.open_count } → IsOver how a → IsOver how (with_slots a s)
-slots-over how a s is over = record {
+-- the control channel is over, and what is over now is lost
+slots-over : (how : ControlEnd) (a : Agent) (s : SlotsState) (told : List SessionOver) → s ≡ record a.slots { opened = s.opened } → IsPermutation (told ++ s.opened) a.slots.opened → a.over ≡ Some how → IsOver how a → IsOver how (with_slots a s)
+slots-over how a s told is p over_is over = record {
   heard = over.heard;
   said = over.said;
   stands = slots-stand a s over.heard over.said is over.stands;
+  keeps = subst (λ (c : List (Option Called)). AreKept a.over c a.control.unsaid.items s.opened over.heard over.said) (sym (ap (λ (x : SlotsState). x.called) is))
+      (subst (λ (o : Option ControlEnd). AreKept o a.slots.called a.control.unsaid.items s.opened over.heard over.said) (sym over_is)
+      (kept-lost how a.slots.called a.control.unsaid.items a.slots.opened s.opened told over.heard over.said p
+      (subst (λ (o : Option ControlEnd). AreKept o a.slots.called a.control.unsaid.items a.slots.opened over.heard over.said) over_is over.keeps)));
   all = over.all;
   how_is = over.how_is;
   fault_is = over.fault_is;
@@ -60,12 +59,12 @@ slots-over how a s is over = record {
   retired = over.retired;
 }
 
-pub slots-running : (a : Agent) (s : SlotsState) → s ≡ record a.slots { open_count = s.open_count } → IsRunning a → IsRunning (with_slots a s)
-slots-running a s is running = by_over a.over running
+pub slots-running : (a : Agent) (s : SlotsState) (told : List SessionOver) → IsRunning a → is_some a.over ≡ true → s ≡ record a.slots { opened = s.opened } → IsPermutation (told ++ s.opened) a.slots.opened → IsRunning (with_slots a s)
+slots-running a s told running some is p = by_over a.over refl some
   where
-    by_over : (o : Option ControlEnd) → RunsAs o a → RunsAs o (with_slots a s)
-    by_over None up = slots-up a s is up
-    by_over (Some how) over = slots-over how a s is over
+    by_over : (o : Option ControlEnd) → a.over ≡ o → is_some o ≡ true → IsRunning (with_slots a s)
+    by_over None over_is some = cc
+    by_over (Some how) over_is some = over-running (with_slots a s) how (slots-over how a s told is p over_is (running-over a how running over_is))
 
 -- ---- sessions that are over
 
@@ -96,17 +95,21 @@ over-tellable a heard said over stands begun = by_call over.number begun
         (got.0, got.1, subst (λ (n : ℕ). is_at n over.port got.0.answer ≡ true) own.2 (subst (λ (n : ℕ). is_at own.0.to n got.0.answer ≡ true) own.3 (called-at got.0.call got.0.answer own.0 got.2)))
     by_call None served = asked-to-serve heard a.slots.served over.domain over.port stands.asked_for served
 
-pub notes-up : (old new : Agent) (over : List SessionOver) → IsUp old → OnlyTells old new → new.control.unsaid.items ≡ old.control.unsaid.items ++ map end_of over → Each (IsToldOver old.slots) over → IsUp new
-notes-up old new over up only told each =
+-- sessions that are over are to be told
+pub notes-up : (a : Agent) (s : SlotsState) (new : Agent) (over : List SessionOver) → IsUp a → s ≡ record a.slots { opened = s.opened } → OnlyTells (with_slots a s) new → new.control.unsaid.items ≡ a.control.unsaid.items ++ map end_of over
+    → IsPermutation (over ++ s.opened) a.slots.opened → Each (IsToldOver a.slots) over → IsUp new
+notes-up a s new over up is only told p each =
     let h = up.hearing in
-    let tellable = each-mapped (IsToldOver old.slots) (IsTellable (asked_by old.control.queue) h.heard) end_of over (λ x begun. over-tellable old h.heard h.said x h.stands begun) each in
+    let tellable = each-mapped (IsToldOver a.slots) (IsTellable (asked_by a.control.queue) h.heard) end_of over (λ x begun. over-tellable a h.heard h.said x h.stands begun) each in
     let P : Agent → Type 0 = λ x. Stands x h.heard h.said in
     let Q : Agent → Type 0 = λ x. IsUp x in
     subst Q (sym only) (record {
       hearing = record {
         heard = h.heard;
         said = h.said;
-        stands = subst P only (tells-stand old new (map end_of over) h.heard h.said only told tellable h.stands);
+        stands = subst P only (tells-stand (with_slots a s) new (map end_of over) h.heard h.said only told tellable (slots-stand a s h.heard h.said is h.stands));
+        keeps = subst (λ (c : List (Option Called)). AreKept a.over c new.control.unsaid.items s.opened h.heard h.said) (sym (ap (λ (x : SlotsState). x.called) is))
+            (kept-over a.over a.slots.called a.control.unsaid.items new.control.unsaid.items a.slots.opened s.opened over h.heard h.said told p h.keeps);
         hears = h.hears;
         sound = record { fine = h.sound.fine; is_open = h.sound.is_open; up = h.sound.up };
       };
@@ -117,23 +120,13 @@ none-of : (o : Option ControlEnd) → is_some o ≡ false → o ≡ None
 none-of None is = refl
 none-of (Some how) is = cc
 
--- what is over is to be reported
-pub noted-running : (a : Agent) (s : SlotsState) (new : Agent) (over : List SessionOver) → IsRunning a → is_some a.over ≡ false → s ≡ record a.slots { open_count = s.open_count } → OnlyTells (with_slots a s) new
-    → new.control.unsaid.items ≡ a.control.unsaid.items ++ map end_of over → Each (IsToldOver a.slots) over → IsRunning new
-noted-running a s new over running none is only told each =
-    let up = slots-up a s is (running-up a running (none-of a.over none)) in
-    up-running new (notes-up (with_slots a s) new over up only told (subst (λ (x : SlotsState). Each (IsToldOver x) over) (sym is) (each-to (IsToldOver a.slots) (IsToldOver (record a.slots { open_count = s.open_count })) over (λ x h. still-told x h) each)))
-  where
-    still-told : (x : SessionOver) → IsToldOver a.slots x → IsToldOver (record a.slots { open_count = s.open_count }) x
-    still-told x h = by_number x.number h
-      where
-        by_number : (o : Option ℕ) → IsBegun a.slots o x.domain x.port → IsBegun (record a.slots { open_count = s.open_count }) o x.domain x.port
-        by_number (Some n) h = h
-        by_number None h = h
+pub noted-running : (a : Agent) (s : SlotsState) (new : Agent) (over : List SessionOver) → IsRunning a → is_some a.over ≡ false → s ≡ record a.slots { opened = s.opened } → OnlyTells (with_slots a s) new
+    → new.control.unsaid.items ≡ a.control.unsaid.items ++ map end_of over → IsPermutation (over ++ s.opened) a.slots.opened → Each (IsToldOver a.slots) over → IsRunning new
+noted-running a s new over running none is only told p each = up-running new (notes-up a s new over (running-up a running (none-of a.over none)) is only told p each)
 
--- all that was reported, if nothing was before
-pub told-first : (s : SlotsState) (now : List SessionOver) → TellsMore s [] now → Each (IsToldOver s) now
-told-first s now tells = subst (λ l. Each (IsToldOver s) l) (sym tells.1) tells.2
+-- what was told where nothing was before
+pub told-first : (old new : SlotsState) (now : List SessionOver) → TellsMore old new [] now → IsPermutation (now ++ new.opened) old.opened × Each (IsToldOver old) now
+told-first old new now tells = (subst (λ l. IsPermutation (l ++ new.opened) old.opened) (sym tells.1) tells.2, subst (λ l. Each (IsToldOver old) l) (sym tells.1) tells.3)
 
 -- ---- what is sent
 

@@ -23,6 +23,10 @@ use Rattle.task_duties.specs.Pairwise.{EachPair}
 use Rattle.agent_task.specs.Standing.{called_of, IsServedBy, AreAskedFor}
 use Rattle.agent_task.specs.Ending.{IsRunning}
 use Rattle.agent_task.proofs.PortLaws.{same-end-is}
+use Rattle.task_duties.specs.declared.done.ControlEnd.{ControlEnd}
+use Rattle.data_slots.specs.Sides.{late_places}
+use Rattle.agent_task.specs.Ends.{AreKept}
+use Rattle.agent_task.proofs.KeptLaws.{kept-first}
 use Rattle.agent_task.proofs.RoundLaws.{up-running}
 
 fresh-asked : (calls : List CallPlan) → map asked_as (map fresh calls) ≡ map (λ call. record { call = call; answer = Waits }) calls
@@ -43,7 +47,7 @@ open-first e unused server = (unused.idle, unused.state ∙ ap state_at_first se
 pub starts : (a : Agent) (count : ℕ) → (a.control.port.end ≡ a.given.control.value) × (a.control.port.talker ≡ OfAgent) × (a.control.port.own ≡ a.given.version) → (a.control.port.version ≡ None) × (a.control.port.fault ≡ None)
     → HasSaid a.control.port [] → HasHeard a.control.port [] → a.control.queue ≡ record { calls = map fresh a.given.calls.value.items; next = 0 } → Asks a.control.queue []
     → AreDifferent (map (λ x. ident_of x.call.number) (asked_by a.control.queue)) → a.control.unsaid.items ≡ []
-    → a.slots ≡ record { domain = a.given.domain; version = a.given.version; held = map held_at (data_ends a.given); unused = places_in (data_ends a.given); called = replicate count None; served = []; open_count = 0; spent = false }
+    → a.slots ≡ record { domain = a.given.domain; version = a.given.version; held = map held_at (data_ends a.given); unused = places_in (data_ends a.given); late = late_places a.given.payload.value.items; called = replicate count None; served = []; opened = []; spent = false }
     → count ≡ length a.given.calls.value.items → IsUnused (view a.given.control.value) → (view a.given.control.value).role ≡ Server → AreApart (places_in (data_ends a.given)) → a.over ≡ None → IsRunning a
 starts a count port new said heard queue asks differ unsaid slots many unused server apart over = up-running a (record {
   hearing = record {
@@ -69,6 +73,8 @@ starts a count port new said heard queue asks differ unsaid slots many unused se
       speaks = record { said_is = said; asks = asks; of_version = tt; told = tt; unsaid = subst (λ l. Each (IsTellable (asked_by a.control.queue) []) l) (sym unsaid) tt };
       quiet = λ none. refl;
     };
+    keeps = subst (λ (o : Option ControlEnd). AreKept o a.slots.called a.control.unsaid.items a.slots.opened [] []) (sym over)
+        (kept-first calls a.slots.called a.control.unsaid.items a.slots.opened (ap (λ (s : SlotsState). s.called) slots ∙ ap (λ (n : ℕ). replicate n None) many ∙ fresh-called calls) unsaid (ap (λ (s : SlotsState). s.opened) slots));
     hears = heard;
     sound = record { fine = new.1; is_open = subst (λ (e : SeatedEnd). IsOpen e) (sym port.0) (open-first a.given.control.value unused server); up = over };
   };
@@ -83,10 +89,10 @@ pub starts-with : (a : Agent) (count : ℕ) (calls : List CallPlan) (control : S
     → (a.control.port.end ≡ control) × (a.control.port.talker ≡ OfAgent) × (a.control.port.own ≡ a.given.version) → (a.control.port.version ≡ None) × (a.control.port.fault ≡ None)
     → HasSaid a.control.port [] → HasHeard a.control.port [] → a.control.queue ≡ record { calls = map fresh calls; next = 0 } → Asks a.control.queue []
     → AreDifferent (map (λ x. ident_of x.call.number) (asked_by a.control.queue)) → a.control.unsaid.items ≡ []
-    → a.slots ≡ record { domain = a.given.domain; version = a.given.version; held = map held_at (all_given payload); unused = places_in (all_given payload); called = replicate count None; served = []; open_count = 0; spent = false }
+    → a.slots ≡ record { domain = a.given.domain; version = a.given.version; held = map held_at (all_given payload); unused = places_in (all_given payload); late = late_places payload; called = replicate count None; served = []; opened = []; spent = false }
     → count ≡ length calls → IsUnused (view control) → (view control).role ≡ Server → AreApart (places_in (all_given payload)) → a.over ≡ None → IsRunning a
 starts-with a count calls control payload calls_are control_is payload_is port new said heard queue asks differ unsaid slots many unused server apart over =
     starts a count (port.0 ∙ sym control_is, port.1, port.2) new said heard (queue ∙ ap (λ (l : List CallPlan). record { calls = map fresh l; next = 0 }) (sym calls_are)) asks differ unsaid
-    (slots ∙ ap (λ (es : List DataEnd). record { domain = a.given.domain; version = a.given.version; held = map held_at (all_given es); unused = places_in (all_given es); called = replicate count None; served = []; open_count = 0; spent = false }) (sym payload_is))
+    (slots ∙ ap (λ (es : List DataEnd). record { domain = a.given.domain; version = a.given.version; held = map held_at (all_given es); unused = places_in (all_given es); late = late_places es; called = replicate count None; served = []; opened = []; spent = false }) (sym payload_is))
     (many ∙ ap (λ (l : List CallPlan). length l) (sym calls_are)) (subst (λ (e : SeatedEnd). IsUnused (view e)) (sym control_is) unused) (ap (λ (e : SeatedEnd). (view e).role) control_is ∙ server)
     (subst (λ (es : List DataEnd). AreApart (places_in (all_given es))) (sym payload_is) apart) over

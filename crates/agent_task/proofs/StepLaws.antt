@@ -1,5 +1,5 @@
 -- What an agent makes of one message more.
-use Rattle.std.proofs.Common.{◌≡◌, ℕ, ◌+◌, List, [], ◌∷◌, ◌++◌, refl, ap, sym, ◌∙◌, Some, None, Option, subst}
+use Rattle.std.proofs.Common.{◌≡◌, ℕ, List, [], ◌∷◌, ◌++◌, refl, ap, sym, ◌∙◌, Some, None, Option, subst}
 use Rattle.std.specs.Prelude.{Bool, true, false, map, slice_get, slice_set, ◌&&◌}
 use Rattle.std.specs.List.{list_any}
 use Rattle.service_gate.specs.declared.builtin.Builtin.{Builtin}
@@ -21,11 +21,13 @@ use Rattle.agent_control.specs.Speaking.{IsTellable, Speaks}
 use Rattle.agent_task.specs.declared.agent.Agent.{Agent}
 use Rattle.agent_task.specs.Given.{plan_of}
 use Rattle.agent_task.specs.Lines.{IsNamed}
+use Rattle.agent_task.specs.Ends.{session_asked, AreKept}
 use Rattle.agent_task.specs.Standing.{Stands, AreAnswers, AreCallsOf, AreSlotsOf, AreAskedFor, IsServedBy, IsHearing, Awaits, OnlyTells, called_of}
 use Rattle.agent_task.proofs.ListLaws.{each-to, some-more, some-last, and-right-false}
 use Rattle.agent_task.proofs.SpeakLaws.{hears-more, answers-more, tells-more}
 use Rattle.agent_task.proofs.AnswerLaws.{takes-last, asked-answered, still-calls, called-refused, called-answered, some-waits, waits-none}
 use Rattle.agent_task.proofs.ListLaws.{and-parts}
+use Rattle.agent_task.proofs.KeptLaws.{kept-passed, kept-called, kept-served, kept-unserved}
 
 -- ---- what one message makes of the answers
 
@@ -68,11 +70,13 @@ stands-on a q s heard said w stands calls slots are asked_for speaks = record {
   quiet = stands.quiet;
 }
 
-acts : (a : Agent) (q : QueueState) (s : SlotsState) (w : Message) (awaits : Awaits a w) → Stands (with_answers a q s) (awaits.heard ++ w ∷ []) awaits.said → IsHearing (with_answers a q s)
-acts a q s w awaits stands = record {
+acts : (a : Agent) (q : QueueState) (s : SlotsState) (w : Message) (awaits : Awaits a w) → Stands (with_answers a q s) (awaits.heard ++ w ∷ []) awaits.said
+    → AreKept a.over s.called a.control.unsaid.items s.opened (awaits.heard ++ w ∷ []) awaits.said → IsHearing (with_answers a q s)
+acts a q s w awaits stands keeps = record {
   heard = awaits.heard ++ w ∷ [];
   said = awaits.said;
   stands = stands;
+  keeps = keeps;
   hears = awaits.hears;
   sound = record { fine = awaits.sound.fine; is_open = awaits.sound.is_open; up = awaits.sound.up };
 }
@@ -87,12 +91,29 @@ passed-stands a heard said w stands same =
     stands-on a a.control.queue a.slots heard said w stands stands.calls stands.slots (subst (λ (x : Answers). AreAnswers x a.control.queue a.slots) (sym same) stands.answers)
     (asked-for-more heard (w ∷ []) a.slots.served stands.asked_for) (hears-more a.control heard (w ∷ []) said stands.speaks)
 
-pub passes : (a : Agent) (w : Message) (awaits : Awaits a w) → takes a.given.domain (made_of a awaits.heard) w ≡ made_of a awaits.heard → IsHearing a
-passes a w awaits same = acts a a.control.queue a.slots w awaits (passed-stands a awaits.heard awaits.said w awaits.stands same)
+pub passes : (a : Agent) (w : Message) (awaits : Awaits a w) → takes a.given.domain (made_of a awaits.heard) w ≡ made_of a awaits.heard → session_asked w ≡ None → IsHearing a
+passes a w awaits same none =
+    acts a a.control.queue a.slots w awaits (passed-stands a awaits.heard awaits.said w awaits.stands same)
+    (kept-passed a.over a.slots.called a.control.unsaid.items a.slots.opened awaits.heard awaits.said w none awaits.keeps)
 
-pub passes-other : (a : Agent) (w : Message) → Awaits a w → ((d p : ℕ) (i : List ℕ) → w ≡ m.Connect d p i → ⊥) → ((i : List ℕ) → w ≡ m.Refused i → ⊥) → ((d p : ℕ) (l : List ℕ) → w ≡ m.Exec d p l → ⊥) → IsHearing a
-passes-other a w awaits connect refused exec = passes a w awaits (same w connect refused exec (made_of a awaits.heard))
+pub passes-other : (a : Agent) (w : Message) → Awaits a w → ((d p : ℕ) (i : List ℕ) → w ≡ m.Connect d p i → ⊥) → ((i : List ℕ) → w ≡ m.Refused i → ⊥) → ((d p : ℕ) (l : List ℕ) → w ≡ m.Exec d p l → ⊥)
+    → ((d p : ℕ) (l : List ℕ) → w ≡ m.JustExec d p l → ⊥) → IsHearing a
+passes-other a w awaits connect refused exec just_exec = passes a w awaits (same w connect refused exec (made_of a awaits.heard)) (asks-none w exec just_exec)
   where
+    asks-none : (w : Message) → ((d p : ℕ) (l : List ℕ) → w ≡ m.Exec d p l → ⊥) → ((d p : ℕ) (l : List ℕ) → w ≡ m.JustExec d p l → ⊥) → session_asked w ≡ None
+    asks-none (m.Exec d p l) e j = absurd (e d p l refl)
+    asks-none (m.JustExec d p l) e j = absurd (j d p l refl)
+    asks-none (m.Connect d p i) e j = refl
+    asks-none (m.Refused i) e j = refl
+    asks-none (m.Hello v) e j = refl
+    asks-none (m.Stdin b) e j = refl
+    asks-none (m.Stdout b) e j = refl
+    asks-none (m.Stderr b) e j = refl
+    asks-none (m.ExitCode k) e j = refl
+    asks-none (m.Terminated d p) e j = refl
+    asks-none (m.Trigger3 t i s) e j = refl
+    asks-none (m.Trigger t i s) e j = refl
+
     same : (w : Message) → ((d p : ℕ) (i : List ℕ) → w ≡ m.Connect d p i → ⊥) → ((i : List ℕ) → w ≡ m.Refused i → ⊥) → ((d p : ℕ) (l : List ℕ) → w ≡ m.Exec d p l → ⊥) → (x : Answers) → takes a.given.domain x w ≡ x
     same (m.Connect d p i) c r e x = absurd (c d p i refl)
     same (m.Refused i) c r e x = absurd (r i refl)
@@ -113,7 +134,7 @@ pub connect-no_call : (a : Agent) (to port : ℕ) (ident : List ℕ) → Awaits 
 connect-no_call a to port ident awaits none =
     let made = made_of a awaits.heard in
     let no : list_any (waits_as ident) made.asked ≡ false = ap (λ l. list_any (waits_as ident) l) (sym awaits.stands.answers.asked) ∙ none in
-    passes a (m.Connect to port ident) awaits (takes-connect-not a.given.domain to port ident made (ap (λ (b : Bool). b && has_place (Payload a.given.domain to port) made.unused) no))
+    passes a (m.Connect to port ident) awaits (takes-connect-not a.given.domain to port ident made (ap (λ (b : Bool). b && has_place (Payload a.given.domain to port) made.unused) no)) refl
 
 -- what the data ends have at a place
 place-there : (a : Agent) (heard said : List Message) (to port : ℕ) (b : Bool) → Stands a heard said → b ≡ has_place (Payload a.slots.domain to port) a.slots.unused → has_place (Payload a.given.domain to port) (made_of a heard).unused ≡ b
@@ -128,7 +149,7 @@ pub connect-no_end : (a : Agent) (to port : ℕ) (ident : List ℕ) → Awaits a
 connect-no_end a to port ident awaits none =
     let made = made_of a awaits.heard in
     passes a (m.Connect to port ident) awaits (takes-connect-not a.given.domain to port ident made
-    (and-right-false (list_any (waits_as ident) made.asked) (has_place (Payload a.given.domain to port) made.unused) (place-there a awaits.heard awaits.said to port false awaits.stands none)))
+    (and-right-false (list_any (waits_as ident) made.asked) (has_place (Payload a.given.domain to port) made.unused) (place-there a awaits.heard awaits.said to port false awaits.stands none))) refl
 
 -- a call that waits has no session
 pub call-number : (a : Agent) (w : Message) (place : ℕ) (ident : List ℕ) → Awaits a w → IsWaitingAt a.control.queue place ident → slice_get a.slots.called place ≡ Some None
@@ -141,12 +162,12 @@ call-number a w place ident awaits waiting =
 pub connect-taken : (a : Agent) (to port : ℕ) (ident : List ℕ) (place : ℕ) (input : List ℕ) (q : QueueState) (s : SlotsState) → Awaits a (m.Connect to port ident) → IsWaitingAt a.control.queue place ident
     → true ≡ has_place (Payload a.slots.domain to port) a.slots.unused → q ≡ after_answer a.control.queue ident (At to port) → ((said : List Message) → Asks a.control.queue said → Asks q said)
     → ((c : Queued) → slice_get a.control.queue.calls place ≡ Some c → input ≡ c.call.stdin)
-    → s ≡ record a.slots { unused = without (Payload a.slots.domain to port) a.slots.unused; called = slice_set a.slots.called place (Some (record { to = to; port = port; input = input })); open_count = a.slots.open_count + 1 }
+    → s ≡ record a.slots { unused = without (Payload a.slots.domain to port) a.slots.unused; called = slice_set a.slots.called place (Some (record { to = to; port = port; input = input })); opened = a.slots.opened ++ record { domain = to; port = port; number = Some place } ∷ [] }
     → IsHearing (with_answers a q s)
 connect-taken a to port ident place input q s awaits waiting there q_is asks stdin s_is =
     acts a q s w awaits (stands-on a q s heard said w stands (still-calls a.given a.control.queue q ident (At to port) asked stands.calls) slots are
     (subst (λ l. AreAskedFor (heard ++ w ∷ []) l) (sym (ap (λ (x : SlotsState). x.served) s_is)) (asked-for-more heard (w ∷ []) a.slots.served stands.asked_for))
-    (hears-more (record a.control { queue = q }) heard (w ∷ []) said (answers-more a.control q ident (At to port) heard said asked asks stands.speaks)))
+    (hears-more (record a.control { queue = q }) heard (w ∷ []) said (answers-more a.control q ident (At to port) heard said asked asks stands.speaks))) keeps
   where
     w : Message
     w = m.Connect to port ident
@@ -190,6 +211,11 @@ connect-taken a to port ident place input q s awaits waiting there q_is asks std
     unused : s.unused ≡ without (Payload a.given.domain to port) made.unused
     unused = ap (λ (x : SlotsState). x.unused) s_is ∙ ap (λ (d : ℕ). without (Payload d to port) a.slots.unused) stands.slots.domain ∙ ap (λ l. without (Payload a.given.domain to port) l) stands.answers.unused
 
+    keeps : AreKept a.over s.called a.control.unsaid.items s.opened (heard ++ w ∷ []) said
+    keeps =
+        subst (λ (x : SlotsState). AreKept a.over x.called a.control.unsaid.items x.opened (heard ++ w ∷ []) said) (sym s_is)
+        (kept-called a.over a.slots.called a.control.unsaid.items a.slots.opened heard said w place (record { to = to; port = port; input = input }) (call-number a w place ident awaits waiting) refl awaits.keeps)
+
     are : AreAnswers (takes a.given.domain made w) q s
     are = subst (λ (x : Answers). AreAnswers x q s) (sym takes_is) (record {
       asked = asked ∙ ap (λ l. answered ident (At to port) l) stands.answers.asked;
@@ -216,6 +242,7 @@ refuse-taken a ident q awaits q_is asks =
     })
     (asked-for-more heard (w ∷ []) a.slots.served stands.asked_for)
     (hears-more (record a.control { queue = q }) heard (w ∷ []) said (answers-more a.control q ident IsRefused heard said asked asks stands.speaks)))
+    (kept-passed a.over a.slots.called a.control.unsaid.items a.slots.opened heard said w refl awaits.keeps)
 
 -- ---- MSG_EXEC_CMDLINE
 
@@ -231,7 +258,7 @@ asked-last heard (y ∷ served) x each last = (each.0, asked-last heard served x
 
 pub serve-taken : (a : Agent) (from port : ℕ) (line : List ℕ) (service : Builtin) (s : SlotsState) → Awaits a (m.Exec from port line) → IsNamed (service_of_line line) (Some service)
     → true ≡ has_place (Payload from a.slots.domain port) a.slots.unused
-    → s ≡ record a.slots { unused = without (Payload from a.slots.domain port) a.slots.unused; served = a.slots.served ++ record { from = from; port = port; service = service } ∷ []; open_count = a.slots.open_count + 1 }
+    → s ≡ record a.slots { unused = without (Payload from a.slots.domain port) a.slots.unused; served = a.slots.served ++ record { from = from; port = port; service = service } ∷ []; opened = a.slots.opened ++ record { domain = from; port = port; number = None } ∷ [] }
     → IsHearing (with_answers a a.control.queue s)
 serve-taken a from port line service s awaits named there s_is = by_name (service_of_line line) refl named
   where
@@ -253,6 +280,11 @@ serve-taken a from port line service s awaits named there s_is = by_name (servic
     slots : AreSlotsOf a.given s
     slots = subst (λ (x : SlotsState). AreSlotsOf a.given x) (sym s_is) (record { domain = stands.slots.domain; version = stands.slots.version; held = stands.slots.held; whole = stands.slots.whole; apart = stands.slots.apart })
 
+    keeps : AreKept a.over s.called a.control.unsaid.items s.opened (heard ++ w ∷ []) said
+    keeps =
+        subst (λ (x : SlotsState). AreKept a.over x.called a.control.unsaid.items x.opened (heard ++ w ∷ []) said) (sym s_is)
+        (kept-served a.over a.slots.called a.control.unsaid.items a.slots.opened heard said w (record { domain = from; port = port; number = None }) refl awaits.keeps)
+
     by_name : (o : Option (List ℕ)) → service_of_line line ≡ o → IsNamed o (Some service) → IsHearing (with_answers a a.control.queue s)
     by_name None is named = absurd named
     by_name (Some name) is is_service =
@@ -269,7 +301,7 @@ serve-taken a from port line service s awaits named there s_is = by_name (servic
         acts a a.control.queue s w awaits (stands-on a a.control.queue s heard said w stands stands.calls slots are
         (subst (λ l. AreAskedFor (heard ++ w ∷ []) l) (sym served_is)
         (asked-last (heard ++ w ∷ []) a.slots.served (record { from = from; port = port; service = service }) (asked-for-more heard (w ∷ []) a.slots.served stands.asked_for) (some-last (AsksToServe from port) heard w (refl, refl))))
-        (hears-more a.control heard (w ∷ []) said stands.speaks))
+        (hears-more a.control heard (w ∷ []) said stands.speaks)) keeps
 
 -- ---- which ends are to be reported
 
@@ -285,29 +317,31 @@ tells-stand old new ends heard said only told each stands = subst (λ (x : Agent
   quiet = stands.quiet;
 })
 
--- the end of what isn't served is to be reported
-unserved : (old new : Agent) (d p : ℕ) (w : Message) (awaits : Awaits old w) → AsksToServe d p w → takes old.given.domain (made_of old awaits.heard) w ≡ made_of old awaits.heard → OnlyTells old new
+-- what isn't served is told to have ended
+unserved : (old new : Agent) (d p : ℕ) (w : Message) (awaits : Awaits old w) → AsksToServe d p w → session_asked w ≡ Some (d, p) → takes old.given.domain (made_of old awaits.heard) w ≡ made_of old awaits.heard → OnlyTells old new
     → new.control.unsaid.items ≡ old.control.unsaid.items ++ record { domain = d; port = p; call = None } ∷ [] → IsHearing new
-unserved old new d p w awaits asks same only told =
+unserved old new d p w awaits asks names same only told =
     let stands = passed-stands old awaits.heard awaits.said w awaits.stands same in
     let after = tells-stand old new (record { domain = d; port = p; call = None } ∷ []) (awaits.heard ++ w ∷ []) awaits.said only told (some-last (AsksToServe d p) awaits.heard w asks, tt) stands in
     let P : Agent → Type 0 = λ x. Stands x (awaits.heard ++ w ∷ []) awaits.said in
     let Q : Agent → Type 0 = λ x. IsHearing x in
+    let keeps = kept-unserved old.over old.slots.called old.control.unsaid.items old.slots.opened awaits.heard awaits.said w (record { domain = d; port = p; call = None }) names awaits.keeps in
     subst Q (sym only) (record {
       heard = awaits.heard ++ w ∷ [];
       said = awaits.said;
       stands = subst P only after;
+      keeps = subst (λ l. AreKept old.over old.slots.called l old.slots.opened (awaits.heard ++ w ∷ []) awaits.said) (sym told) keeps;
       hears = awaits.hears;
       sound = record { fine = awaits.sound.fine; is_open = awaits.sound.is_open; up = awaits.sound.up };
     })
 
 pub just_exec-unserved : (old new : Agent) (d p : ℕ) (line : List ℕ) → Awaits old (m.JustExec d p line) → OnlyTells old new → new.control.unsaid.items ≡ old.control.unsaid.items ++ record { domain = d; port = p; call = None } ∷ [] → IsHearing new
-just_exec-unserved old new d p line awaits only told = unserved old new d p (m.JustExec d p line) awaits (refl, refl) refl only told
+just_exec-unserved old new d p line awaits only told = unserved old new d p (m.JustExec d p line) awaits (refl, refl) refl refl only told
 
 pub exec-unnamed : (old new : Agent) (d p : ℕ) (line : List ℕ) → Awaits old (m.Exec d p line) → IsNamed (service_of_line line) None → OnlyTells old new
     → new.control.unsaid.items ≡ old.control.unsaid.items ++ record { domain = d; port = p; call = None } ∷ [] → IsHearing new
 exec-unnamed old new d p line awaits named only told =
-    unserved old new d p (m.Exec d p line) awaits (refl, refl) (takes-exec-unnamed old.given.domain d p line (made_of old awaits.heard) (by_name (service_of_line line) named)) only told
+    unserved old new d p (m.Exec d p line) awaits (refl, refl) refl (takes-exec-unnamed old.given.domain d p line (made_of old awaits.heard) (by_name (service_of_line line) named)) only told
   where
     by_name : (o : Option (List ℕ)) → IsNamed o None → o ≡ None
     by_name None named = refl
@@ -316,5 +350,5 @@ exec-unnamed old new d p line awaits named only told =
 pub exec-no_end : (old new : Agent) (d p : ℕ) (line : List ℕ) → Awaits old (m.Exec d p line) → false ≡ has_place (Payload d old.slots.domain p) old.slots.unused → OnlyTells old new
     → new.control.unsaid.items ≡ old.control.unsaid.items ++ record { domain = d; port = p; call = None } ∷ [] → IsHearing new
 exec-no_end old new d p line awaits none only told =
-    unserved old new d p (m.Exec d p line) awaits (refl, refl)
+    unserved old new d p (m.Exec d p line) awaits (refl, refl) refl
     (serves-no_end old.given.domain d p (service_of_line line) (made_of old awaits.heard) (place-here old awaits.heard awaits.said d p false awaits.stands none)) only told

@@ -15,7 +15,7 @@ use Rattle.task_duties.specs.Agent.Owes.{ControlOver}
 use Rattle.control_port.specs.Port.{PortState, HasHeardAll}
 use Rattle.control_port.specs.Talking.{may_hear}
 use Rattle.agent_task.specs.declared.agent.Agent.{Agent}
-use Rattle.agent_task.specs.Standing.{Stands, IsUp}
+use Rattle.agent_task.specs.Standing.{Stands, KeepsEnds, IsUp}
 
 -- how a drain shows that the channel is over
 abbrev pub end_by : DrainAnswer → Option ControlEnd
@@ -48,6 +48,7 @@ pub record IsOver (how : ControlEnd) (a : Agent) : Type 0 where
   pub heard : List Message
   pub said : List Message
   pub stands : Stands a heard said
+  pub keeps : KeepsEnds a heard said
   pub all : HasHeardAll a.control.port heard
   pub how_is : ControlOver (view a.control.port.end) (heard_at a.control.port) how
   pub fault_is : (fault : SessionFault) → (heard_at a.control.port).fault ≡ Some fault → how ≡ Fault fault

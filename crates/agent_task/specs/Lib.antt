@@ -1,5 +1,6 @@
 pub mod Given
 pub mod Lines
+pub mod Ends
 pub mod Standing
 pub mod Ending
 pub mod Finishing

@@ -25,6 +25,7 @@ use Rattle.agent_control.specs.Speaking.{Speaks}
 use Rattle.agent_task.specs.declared.given.Given.{Given}
 use Rattle.agent_task.specs.declared.agent.Agent.{Agent}
 use Rattle.agent_task.specs.Given.{data_ends, plan_of}
+use Rattle.agent_task.specs.Ends.{AreKept}
 
 -- ---- what it makes of what it heard
 
@@ -85,6 +86,10 @@ pub record Stands (a : Agent) (heard said : List Message) : Type 0 where
   -- before the broker's greeting it sends nothing but its own
   pub quiet : a.control.port.version ≡ None → said ≡ []
 
+-- what becomes of each end of a session that it owes to tell
+abbrev pub KeepsEnds : Agent → List Message → List Message → Type 0
+KeepsEnds a heard said = AreKept a.over a.slots.called a.control.unsaid.items a.slots.opened heard said
+
 -- its control channel is open, and nothing wrong was heard
 pub record IsSound (a : Agent) : Type 0 where
   pub fine : a.control.port.fault ≡ None
@@ -96,6 +101,7 @@ pub record IsHearing (a : Agent) : Type 0 where
   pub heard : List Message
   pub said : List Message
   pub stands : Stands a heard said
+  pub keeps : KeepsEnds a heard said
   pub hears : HasHeard a.control.port heard
   pub sound : IsSound a
 
@@ -104,6 +110,7 @@ pub record Awaits (a : Agent) (m : Message) : Type 0 where
   pub heard : List Message
   pub said : List Message
   pub stands : Stands a heard said
+  pub keeps : KeepsEnds a heard said
   pub hears : HasHeard a.control.port (heard ++ m ∷ [])
   pub sound : IsSound a
 
@@ -112,6 +119,7 @@ pub record HasHeardOut (a : Agent) : Type 0 where
   pub heard : List Message
   pub said : List Message
   pub stands : Stands a heard said
+  pub keeps : KeepsEnds a heard said
   pub all : HasHeardAll a.control.port heard
   pub hears : a.control.port.fault ≡ None → HasHeard a.control.port heard
   pub is_open : IsOpen a.control.port.end

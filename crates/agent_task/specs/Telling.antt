@@ -1,16 +1,20 @@
--- What an agent that is done tells of its control channel, beside what it owes.
+-- What an agent that is done has told, beside what it owes.
 -- Source: this project's own.
-use Rattle.std.specs.Prelude.{◌≡◌, ◌↔◌, slice_get, Some}
+use Rattle.std.specs.Prelude.{◌≡◌, ◌↔◌, List, filter_map, slice_get, Some}
+use Rattle.qrexec_frame.specs.declared.message.Message.{Message}
 use Rattle.end_view.specs.EndView.{EndView}
 use Rattle.qrexec_data.specs.declared.fault.SessionFault.{SessionFault}
 use Rattle.task_duties.specs.declared.place.PagePlace.TheVariants.{Control}
 use Rattle.task_duties.specs.declared.done.ControlEnd.{ControlEnd}
 use Rattle.task_duties.specs.declared.done.ControlEnd.TheVariants.{Fault}
-use Rattle.task_duties.specs.Hearing.{to_agent, Heard, hears}
+use Rattle.task_duties.specs.Pairwise.{IsPartOf}
+use Rattle.task_duties.specs.Hearing.{to_agent, to_broker, IsSaid, Heard, hears}
 use Rattle.task_duties.specs.TaskOwes.{EndAt}
 use Rattle.task_duties.specs.GivenEnds.{all_retired}
 use Rattle.task_duties.specs.Agent.Given.{AgentPlan}
+use Rattle.task_duties.specs.Agent.Answers.{answers}
 use Rattle.agent_task.specs.declared.task.AgentDone.{AgentDone}
+use Rattle.agent_task.specs.Ends.{session_told, sessions_owed}
 
 -- what it heard at its control end
 abbrev pub heard_on : AgentPlan → EndView → Heard
@@ -18,6 +22,10 @@ heard_on plan control = hears plan.version to_agent control.got
 
 -- by its control end and what it reports of that
 pub record TellsOf (plan : AgentPlan) (control : EndView) (how : ControlEnd) : Type 0 where
+  -- the end of each session that it owes to tell was told at most once, and of no other
+  pub said : List Message
+  pub says : IsSaid plan.version to_broker said control.sent
+  pub told : IsPartOf (filter_map session_told said) (sessions_owed (answers plan (heard_on plan control).messages).asked (heard_on plan control).messages)
   -- a fault is reported if and only if what it heard is wrong in that way
   pub fault : (fault : SessionFault) → (how ≡ Fault fault) ↔ ((heard_on plan control).fault ≡ Some fault)
 

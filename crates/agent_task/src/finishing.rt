@@ -1,5 +1,5 @@
 //! What an agent reports, and how it gives up.
-ghost use Rattle.std.specs.Prelude.{◌≡◌, ◌<◌, Some, None, IfOk, length, slice_get};
+ghost use Rattle.std.specs.Prelude.{◌≡◌, ◌<◌, [], Some, None, IfOk, length, slice_get};
 ghost use Rattle.task_duties.specs.Agent.Answers.{Asked};
 ghost use Rattle.call_queue.specs.Queue.{answer_of, asked_by};
 ghost use Rattle.agent_task.specs.Standing.{CanGiveUp};
@@ -25,7 +25,7 @@ impl<'p> Agent<'p> {
     /// Returns `Memory` if memory runs out; all ends are retired and dropped then.
     pub(crate) fn finish(self, over: ControlEnd) -> Result<AgentDone, Memory>
         requires over { IsOver over self }
-        requires idle { self.slots.open_count ≡ 0 }
+        requires idle { self.slots.opened ≡ [] }
         ensures owed { IfOk result (λ done. IsOwed self.entry.given done) }
         ensures tells { IfOk result (λ done. TellsAll (plan_of self.entry.given) done) }
     {

@@ -69,7 +69,7 @@ pub struct AgentDone {
 }
 
 impl<'p> AgentTask<'p> {
-    ghost use Rattle.std.specs.Prelude.{◌≡◌, ◌≤◌, map, IfOk};
+    ghost use Rattle.std.specs.Prelude.{◌≡◌, ◌≤◌, [], map, IfOk};
     ghost use Rattle.ring_words.specs.declared.page.Role.TheVariants.{Server};
     ghost use Rattle.end_view.specs.EndView.{IsUnused};
     ghost use Rattle.vchan_rule.specs.Seated.{view};
@@ -170,7 +170,7 @@ impl<'p> AgentTask<'p> {
     // Gives the report. Everything is over.
     fn finish(agent: Agent<'p>, over: ControlEnd) -> AgentTurn<'p>
         requires over { IsOver over agent }
-        requires idle { agent.slots.open_count ≡ 0 }
+        requires idle { agent.slots.opened ≡ [] }
         ensures pays { Pays (given_of agent.entry.given) result }
         ensures tells { Tells (given_of agent.entry.given) result }
     {

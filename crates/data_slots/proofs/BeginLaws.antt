@@ -9,6 +9,7 @@ use Rattle.qrexec_frame.specs.Streams.{Each}
 use Rattle.task_duties.specs.declared.place.PagePlace.{PagePlace}
 use Rattle.task_duties.specs.declared.place.PagePlace.TheVariants.{Payload}
 use Rattle.data_slots.specs.declared.slot.Slot.{Slot}
+use Rattle.data_slots.specs.declared.done.SessionOver.{SessionOver}
 use Rattle.data_slots.specs.declared.slot.Stage.{Stage}
 use Rattle.data_slots.specs.declared.slot.Stage.TheVariants.{Unused, Calls, Awaits, Serves, CallIsOver, ServingIsOver, Taken}
 use Rattle.data_slots.specs.Slots.{Held, Called, Serves as ServedHere, SlotsState, IsEndOf}
@@ -24,7 +25,7 @@ pub record IsFree (slots : List Slot) (at : ℕ) (place : PagePlace) (slot : Slo
 
 pub is-free : (slots : List Slot) (at : ℕ) (place : PagePlace) (slot : Slot) → IsUsedAt (frames slots) at place ForNothing → slot ≡ get_or slots at slot → IsFree slots at place slot
 is-free slots at place slot used read =
-    let back = get-map-back frame_of slots at (record { held = used.held; used = ForNothing }) used.is in
+    let back = get-map-back frame_of slots at (record { held = used.held; used = ForNothing; late = used.late }) used.is in
     let same : slot ≡ back.0 = read ∙ get_or_from_slice_get slots at back.0 slot back.1 in
     record {
       here = back.1 ∙ ap Some (sym same);
@@ -85,13 +86,13 @@ free-client domain version from port slots at slot stages ends free =
     (client-role domain slot.from slot.to slot.port (end_of slot.stage).role (to-is slot.from slot.to slot.port from domain port free.lies)
     (each-get (λ h. IsEndOf domain h.place h.role) (held_in slots) at (frame_of slot).held ends (get-map (λ s. (frame_of s).held) slots at slot free.here)))
 
--- two states are the same if their lists are
-pub same-state : (domain version : ℕ) (held held' : List Held) (unused unused' : List PagePlace) (called called' : List (Option Called)) (served served' : List ServedHere) (count count' : ℕ) (spent : Bool)
-    → held ≡ held' → unused ≡ unused' → called ≡ called' → served ≡ served' → count ≡ count'
-    → ◌≡◌ {A = SlotsState} (record { domain = domain; version = version; held = held; unused = unused; called = called; served = served; open_count = count; spent = spent })
-    (record { domain = domain; version = version; held = held'; unused = unused'; called = called'; served = served'; open_count = count'; spent = spent })
-same-state domain version held held' unused unused' called called' served served' count count' spent a b c d e =
-    λ i. record { domain = domain; version = version; held = a i; unused = b i; called = c i; served = d i; open_count = e i; spent = spent }
+-- two states are the same where their lists are
+pub same-state : (domain version : ℕ) (held held' : List Held) (unused unused' late late' : List PagePlace) (called called' : List (Option Called)) (served served' : List ServedHere) (opened opened' : List SessionOver) (spent : Bool)
+    → held ≡ held' → unused ≡ unused' → late ≡ late' → called ≡ called' → served ≡ served' → opened ≡ opened'
+    → ◌≡◌ {A = SlotsState} (record { domain = domain; version = version; held = held; unused = unused; late = late; called = called; served = served; opened = opened; spent = spent })
+    (record { domain = domain; version = version; held = held'; unused = unused'; late = late'; called = called'; served = served'; opened = opened'; spent = spent })
+same-state domain version held held' unused unused' late late' called called' served served' opened opened' spent a b l c d o =
+    λ i. record { domain = domain; version = version; held = a i; unused = b i; late = l i; called = c i; served = d i; opened = o i; spent = spent }
 
 pub call-used : (number : ℕ) (input : List ℕ) → ForCall number input ≡ ForNothing → ⊥
 call-used number input e = cc

@@ -79,13 +79,13 @@ record At (version : ℕ) (place : PagePlace) (used : Use) (at : ℕ) (ends : Li
   pub report_is : slice_get reports at ≡ Some report
   pub is : IsReportOf version place used end.view report
 
-reported-at : (version : ℕ) (fs : List Frame) (ends : List EndAt) (reports : List Report) (at : ℕ) (held : Held) (used : Use) → AreReported version fs ends reports
-    → slice_get fs at ≡ Some (record { held = held; used = used }) → At version held.place used at ends reports
-reported-at version [] ends reports at held used h is = cc
-reported-at version (f ∷ fs) [] reports at held used h is = absurd h
-reported-at version (f ∷ fs) (e ∷ ends) [] at held used h is = absurd h
-reported-at version (f ∷ fs) (e ∷ ends) (r ∷ reports) zero held used h is =
-    let same : f ≡ record { held = held; used = used } = cc in
+reported-at : (version : ℕ) (fs : List Frame) (ends : List EndAt) (reports : List Report) (at : ℕ) (here : Frame) → AreReported version fs ends reports
+    → slice_get fs at ≡ Some here → At version here.held.place here.used at ends reports
+reported-at version [] ends reports at here h is = cc
+reported-at version (f ∷ fs) [] reports at here h is = absurd h
+reported-at version (f ∷ fs) (e ∷ ends) [] at here h is = absurd h
+reported-at version (f ∷ fs) (e ∷ ends) (r ∷ reports) zero here h is =
+    let same : f ≡ here = cc in
     record {
       end = e;
       report = r;
@@ -94,13 +94,13 @@ reported-at version (f ∷ fs) (e ∷ ends) (r ∷ reports) zero held used h is 
       report_is = refl;
       is = subst (λ (g : Frame). IsReportOf version g.held.place g.used e.view r) same h.1;
     }
-reported-at version (f ∷ fs) (e ∷ ends) (r ∷ reports) (suc at) held used h is =
-    let a = reported-at version fs ends reports at held used h.2 is in
+reported-at version (f ∷ fs) (e ∷ ends) (r ∷ reports) (suc at) here h is =
+    let a = reported-at version fs ends reports at here h.2 is in
     record { end = a.end; report = a.report; end_is = a.end_is; lies = a.lies; report_is = a.report_is; is = a.is }
 
 used-at : (version : ℕ) (fs : List Frame) (ends : List EndAt) (reports : List Report) (at : ℕ) (place : PagePlace) (used : Use) → AreReported version fs ends reports → IsUsedAt fs at place used
     → At version place used at ends reports
-used-at version fs ends reports at place used h u = subst (λ p. At version p used at ends reports) u.lies (reported-at version fs ends reports at u.held used h u.is)
+used-at version fs ends reports at place used h u = subst (λ p. At version p used at ends reports) u.lies (reported-at version fs ends reports at (record { held = u.held; used = used; late = u.late }) h u.is)
 
 call-report : (version from to port number : ℕ) (input : List ℕ) (end : EndView) (r : Report) → IsReportOf version (Payload from to port) (ForCall number input) end r → (over : CallOver) × (r ≡ Call number over)
 call-report version from to port number input end (Call n over) h = (over, ap (λ k. Call k over) h.0)

@@ -2,6 +2,8 @@
 use Rattle.std.proofs.Common.{◌≡◌, ℕ, zero, suc, List, [], ◌∷◌, map, replicate, refl, ap, sym, Option, Some, None}
 use Rattle.std.specs.Prelude.{false, Bool, ◌≤◌, slice_get, unwrap_or, option_map, if◌then◌else◌}
 use Rattle.qrexec_frame.specs.Streams.{Each}
+use Rattle.std.specs.List.{cons_option}
+use Rattle.task_duties.specs.declared.place.PagePlace.TheVariants.{Payload}
 use Rattle.task_duties.specs.declared.ends.DataEnd.{DataEnd}
 use Rattle.task_duties.specs.TaskOwes.{places_in}
 use Rattle.task_duties.specs.GivenEnds.{given_at, all_given}
@@ -11,7 +13,8 @@ use Rattle.data_slots.specs.Slots.{Called, held_at, IsEndOf, IsGiven}
 use Rattle.data_slots.specs.Stages.{IsStage, CanRetire}
 use Rattle.data_slots.specs.Index.{PlaceIndex, IsIndexOf}
 use Rattle.data_slots.specs.Given.{unused_slots}
-use Rattle.data_slots.specs.Whole.{frames, held_in, places, sessions, unused_in, called_of, IsNoted, AreWhole}
+use Rattle.data_slots.specs.Sides.{is_late_unused, late_places}
+use Rattle.data_slots.specs.Whole.{frames, held_in, places, sessions, unused_in, late_in, called_of, IsNoted, AreWhole}
 
 pub given-places : (ends : List DataEnd) → places (unused_slots ends) ≡ places_in (all_given ends)
 given-places [] = refl
@@ -24,6 +27,10 @@ given-held (d ∷ ends) = ap (λ hs. held_at (given_at d) ∷ hs) (given-held en
 pub given-unused : (ends : List DataEnd) → unused_in (frames (unused_slots ends)) ≡ places_in (all_given ends)
 given-unused [] = refl
 given-unused (d ∷ ends) = ap (λ ps. (given_at d).place ∷ ps) (given-unused ends)
+
+pub given-late : (ends : List DataEnd) → late_in (frames (unused_slots ends)) ≡ late_places ends
+given-late [] = refl
+given-late (d ∷ ends) = ap (λ ps. cons_option (if is_late_unused d.end then Some (Payload d.from d.to d.port) else None) ps) (given-late ends)
 
 pub given-retire : (domain : ℕ) (ends : List DataEnd) → Each (IsGiven domain) (all_given ends) → Each (λ s. CanRetire s.stage) (unused_slots ends)
 given-retire domain [] each = tt

@@ -4,6 +4,7 @@ mod PlaceLaws
 mod OpenLaws
 mod SideLaws
 mod WholeLaws
+mod OpenedLaws
 mod GivenLaws
 mod BeginLaws
 mod TurnLaws

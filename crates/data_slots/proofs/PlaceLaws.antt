@@ -116,7 +116,9 @@ pub used-there : (slots : List Slot) (index : PlaceIndex) (at f t p : ℕ) (slot
     → is_nothing (use_of slot.stage) ≡ true → IsUsedAt (frames slots) at (Payload f t p) ForNothing
 used-there slots index at f t p slot indexed is read nothing = record {
   held = (frame_of slot).held;
-  is = get-map frame_of slots at slot (slot-here slots index at f t p slot indexed is read) ∙ ap (λ u. Some (record { held = (frame_of slot).held; used = u })) (unused (use_of slot.stage) nothing);
+  late = (frame_of slot).late;
+  is = get-map frame_of slots at slot (slot-here slots index at f t p slot indexed is read)
+      ∙ ap (λ u. Some (record { held = (frame_of slot).held; used = u; late = (frame_of slot).late })) (unused (use_of slot.stage) nothing);
   lies = lies;
 }
   where

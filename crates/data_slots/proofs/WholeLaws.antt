@@ -30,19 +30,20 @@ used-stays : (fs : List Frame) (i at : ℕ) (f f' : Frame) (place : PagePlace) (
     → IsUsedAt (set fs i f') at place used
 used-stays fs i at f f' place used here unused is_used h = record {
   held = h.held;
+  late = h.late;
   is = get-set-other fs i at f' apart ∙ h.is;
   lies = h.lies;
 }
   where
     apart : at ≢ i
     apart e =
-        let k : Some (record { held = h.held; used = used }) ≡ Some f = sym h.is ∙ (ap (slice_get fs) e ∙ here) in
-        let k' : record { held = h.held; used = used } ≡ f = cc in
+        let k : Some (record { held = h.held; used = used; late = h.late }) ≡ Some f = sym h.is ∙ (ap (slice_get fs) e ∙ here) in
+        let k' : record { held = h.held; used = used; late = h.late } ≡ f = cc in
         is_used (ap (λ (x : Frame). x.used) k' ∙ unused)
 
 -- the one that is put to use is used
 now-used : (fs : List Frame) (i : ℕ) (f : Frame) (place : PagePlace) (used : Use) → slice_get fs i ≡ Some f → f.held.place ≡ place → IsUsedAt (set fs i (record f { used = used })) i place used
-now-used fs i f place used here lies = record { held = f.held; is = get-set-same fs i f (record f { used = used }) here; lies = lies }
+now-used fs i f place used here lies = record { held = f.held; late = f.late; is = get-set-same fs i f (record f { used = used }) here; lies = lies }
 
 -- ---- a call of the agent's own
 
@@ -133,7 +134,7 @@ pub record IsPutTo (version : ℕ) (slot slot' : Slot) (used : Use) : Type 0 whe
   pub stage : IsStage version slot'.stage
   pub session : is_session slot'.stage ≡ true
 
-is-shut : (stage : Stage) → use_of stage ≡ ForNothing → is_session stage ≡ false
+pub is-shut : (stage : Stage) → use_of stage ≡ ForNothing → is_session stage ≡ false
 is-shut (Unused end) h = refl
 is-shut (Calls number input side session) h = absurd (never-call number input.value.items h)
   where
@@ -251,25 +252,27 @@ unused-without (g ∷ fs) (suc i) f used here unused is_used apart = by_use g.us
     by_use (ForCall n input) is more = rw is more
     by_use (ForServing n service) is more = rw is more
 
--- the same in the frames of ends with an index
+-- no other end of those in an index lies at the same place
+pub places-apart : (slots : List Slot) (index : PlaceIndex) (at : ℕ) (slot : Slot) → IsIndexOf (places slots) index → slice_get slots at ≡ Some slot
+    → (j : ℕ) (g : Frame) → slice_get (frames slots) j ≡ Some g → j ≢ at → is_place (place_of slot) g.held.place ≡ false
+places-apart slots index at slot indexed here j g is ne = by_test (is_place (place_of slot) g.held.place) refl
+  where
+    some-same : (a b : ℕ) → Some a ≡ Some b → a ≡ b
+    some-same a b e = cc
+
+    by_test : (b : Bool) → is_place (place_of slot) g.held.place ≡ b → is_place (place_of slot) g.held.place ≡ false
+    by_test false h = h
+    by_test true h =
+        let back = get-map-back frame_of slots j g is in
+        let one : slice_get (places slots) j ≡ Some (place_of slot) = get-map place_of slots j back.0 back.1 ∙ ap Some (ap (λ (x : Frame). x.held.place) back.2 ∙ sym (same-place (place_of slot) g.held.place h)) in
+        let two : slice_get (places slots) at ≡ Some (place_of slot) = get-map place_of slots at slot here in
+        let k : Some j ≡ Some at = sym (indexed.has j slot.from slot.to slot.port one) ∙ indexed.has at slot.from slot.to slot.port two in
+        absurd (ne (some-same j at k))
+
+-- in the frames of ends with an index
 pub unused-now : (slots : List Slot) (index : PlaceIndex) (at f t p : ℕ) (slot slot' : Slot) (used : Use) → IsIndexOf (places slots) index → slice_get slots at ≡ Some slot → place_of slot ≡ Payload f t p
     → use_of slot.stage ≡ ForNothing → (used ≡ ForNothing → ⊥) → frame_of slot' ≡ record (frame_of slot) { used = used }
     → unused_in (frames (set slots at slot')) ≡ without (Payload f t p) (unused_in (frames slots))
 unused-now slots index at f t p slot slot' used indexed here lies unused is_used put =
     ap unused_in (frames-set slots at slot slot' used put)
-    ∙ (unused-without (frames slots) at (frame_of slot) used (get-map frame_of slots at slot here) unused is_used apart ∙ ap (λ q. without q (unused_in (frames slots))) lies)
-  where
-    apart : (j : ℕ) (g : Frame) → slice_get (frames slots) j ≡ Some g → j ≢ at → is_place (place_of slot) g.held.place ≡ false
-    apart j g is ne = by_test (is_place (place_of slot) g.held.place) refl
-      where
-        by_test : (b : Bool) → is_place (place_of slot) g.held.place ≡ b → is_place (place_of slot) g.held.place ≡ false
-        by_test false h = h
-        by_test true h =
-            let back = get-map-back frame_of slots j g is in
-            let one : slice_get (places slots) j ≡ Some (Payload f t p) = get-map place_of slots j back.0 back.1 ∙ ap Some (ap (λ (x : Frame). x.held.place) back.2 ∙ (sym (same-place (place_of slot) g.held.place h) ∙ lies)) in
-            let two : slice_get (places slots) at ≡ Some (Payload f t p) = get-map place_of slots at slot here ∙ ap Some lies in
-            let k : Some j ≡ Some at = sym (indexed.has j f t p one) ∙ indexed.has at f t p two in
-            absurd (ne (some-same j at k))
-          where
-            some-same : (a b : ℕ) → Some a ≡ Some b → a ≡ b
-            some-same a b e = cc
+    ∙ (unused-without (frames slots) at (frame_of slot) used (get-map frame_of slots at slot here) unused is_used (places-apart slots index at slot indexed here) ∙ ap (λ q. without q (unused_in (frames slots))) lies)

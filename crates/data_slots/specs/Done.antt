@@ -1,6 +1,6 @@
 -- What is given back of data ends that are done with.
 -- Source: this project's own.
-use Rattle.std.specs.Prelude.{◌≡◌, ℕ, List, ◌++◌, Option, Some, None, slice_get}
+use Rattle.std.specs.Prelude.{◌≡◌, ℕ, List, ◌++◌, Option, Some, None, slice_get, IsPermutation}
 use Rattle.service_gate.specs.Owing.{builtin_owes}
 use Rattle.end_view.specs.EndView.{EndView}
 use Rattle.task_duties.specs.declared.place.PagePlace.{PagePlace}
@@ -43,6 +43,6 @@ IsBegun s None domain port = SomeOf (λ x. (x.from ≡ domain) × (x.port ≡ po
 abbrev pub IsToldOver : SlotsState → SessionOver → Type 0
 IsToldOver s over = IsBegun s over.number over.domain over.port
 
--- sessions that are reported over come after those before
-abbrev pub TellsMore : SlotsState → List SessionOver → List SessionOver → Type 0
-TellsMore s before now = (told : List SessionOver) × (now ≡ before ++ told) × Each (IsToldOver s) told
+-- sessions that are told to be over are put behind those before: just those that were open and aren't any more, each once
+abbrev pub TellsMore : SlotsState → SlotsState → List SessionOver → List SessionOver → Type 0
+TellsMore old new before now = (told : List SessionOver) × (now ≡ before ++ told) × IsPermutation (told ++ new.opened) old.opened × Each (IsToldOver old) told

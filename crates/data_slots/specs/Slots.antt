@@ -1,6 +1,6 @@
 -- The data ends of an agent, as contracts see them.
 -- Source: this project's own.
-use Rattle.std.specs.Prelude.{◌≡◌, ◌≢◌, ℕ, Bool, List, Option, Some, slice_get}
+use Rattle.std.specs.Prelude.{◌≡◌, ◌≢◌, ℕ, Bool, List, Option, Some, None, count_by, slice_get}
 use Rattle.atomic_table.specs.Seated.{TableId}
 use Rattle.ring_words.specs.declared.page.Role.{Role}
 use Rattle.ring_words.specs.declared.page.Role.TheVariants.{Server, Client}
@@ -9,6 +9,8 @@ use Rattle.end_view.specs.EndView.{EndView, IsUnused}
 use Rattle.task_duties.specs.declared.place.PagePlace.{PagePlace}
 use Rattle.task_duties.specs.declared.place.PagePlace.TheVariants.{Control, Payload}
 use Rattle.task_duties.specs.TaskOwes.{EndAt}
+use Rattle.task_duties.specs.Places.{has_place}
+use Rattle.data_slots.specs.declared.done.SessionOver.{SessionOver}
 
 -- what stays the same of an end: its place, and which end of which page it is
 pub record Held : Type 0 where
@@ -41,14 +43,25 @@ pub record SlotsState : Type 0 where
   -- the ends, and the places of those that are still unused, each in the order in which the ends were given
   pub held : List Held
   pub unused : List PagePlace
-  -- the session of each of the agent's own calls, if it has one
+  -- where the ends lie whose pages are laid when they are first used
+  pub late : List PagePlace
+  -- the session of each of the agent's own calls, where it has one
   pub called : List (Option Called)
   -- what it serves, in the order in which that began
   pub served : List Serves
-  -- how many sessions are open
-  pub open_count : ℕ
-  -- memory ran out in a turn, and the ends can only be given up
+  -- the sessions that are open, each as it is told once it is over, in no order that matters
+  pub opened : List SessionOver
+  -- memory didn't suffice for a turn, and the ends can only be given up
   pub spent : Bool
+
+-- where the page of a session lies, of a call of the agent's own or of one that it serves
+abbrev pub place_at : ℕ → Option ℕ → ℕ → ℕ → PagePlace
+place_at own (Some number) domain port = Payload own domain port
+place_at own None domain port = Payload domain own port
+
+-- how many open sessions are on pages that are laid when they are first used
+abbrev pub late_count : SlotsState → ℕ
+late_count s = count_by (λ o. has_place (place_at s.domain o.number o.domain o.port) s.late) s.opened
 
 -- ---- what is given
 

@@ -26,7 +26,7 @@ use Rattle.data_slots.specs.declared.report.Report.{Report}
 use Rattle.data_slots.specs.declared.report.Report.TheVariants.{Call, Serving}
 use Rattle.data_slots.specs.Done.{caller_done}
 use Rattle.data_slots.specs.Slots.{Held, held_of}
-use Rattle.data_slots.specs.Sides.{HasLaid, IsSideOf, seen_under}
+use Rattle.data_slots.specs.Sides.{HasLaid, IsSideOf, seen_under, is_late_unused, is_late_side, is_late_done}
 
 -- what an end is used for: nothing, a call of the agent's own by its number, or what it serves by its number
 pub data Use : Type 0 where
@@ -55,6 +55,16 @@ end_of (Serves number service side session) = seen_under side (view session.end)
 end_of (CallIsOver number input came end) = done_view end
 end_of (ServingIsOver number service came end) = done_view end
 end_of Taken = no_end
+
+-- whether its page is laid when it is first used
+abbrev pub is_late : Stage → Bool
+is_late (Unused end) = is_late_unused end
+is_late (Calls number input side session) = is_late_side side
+is_late (Awaits number service serving side) = true
+is_late (Serves number service side session) = is_late_side side
+is_late (CallIsOver number input came end) = is_late_done end
+is_late (ServingIsOver number service came end) = is_late_done end
+is_late Taken = false
 
 -- whether a session is open
 abbrev pub is_session : Stage → Bool
@@ -126,11 +136,11 @@ HasComeOut outcome (Calls number input side session) = IsCalling session.caller 
 HasComeOut outcome (Serves number service side session) = IsAtWork session.serving session.end × (session.serving.answering.outcome ≡ Some outcome)
 HasComeOut outcome _ = ⊥
 
--- what the broker is told of a session at this place
-abbrev pub Tells : PagePlace → Use → SessionOver → Type 0
-Tells (Payload from to port) (ForCall number input) told = told ≡ record { domain = to; port = port; number = Some number }
-Tells (Payload from to port) (ForServing number service) told = told ≡ record { domain = from; port = port; number = None }
-Tells place used told = ⊥
+-- what the broker is told of a session at this place, once it is over
+abbrev pub told_of : PagePlace → Use → Option SessionOver
+told_of (Payload from to port) (ForCall number input) = Some (record { domain = to; port = port; number = Some number })
+told_of (Payload from to port) (ForServing number service) = Some (record { domain = from; port = port; number = None })
+told_of place used = None
 
 -- a report is that of an end at this place, with this use and this view
 abbrev pub IsReportOf : ℕ → PagePlace → Use → EndView → Report → Type 0
@@ -143,16 +153,17 @@ IsReportOf version place used end report = ⊥
 
 -- ---- with its place
 
--- what no turn changes of an end: which it is, and what it is used for
+-- what no turn changes of an end: which it is, what it is used for, and whether its page is laid when it is first used
 pub record Frame : Type 0 where
   pub held : Held
   pub used : Use
+  pub late : Bool
 
 abbrev pub place_of : Slot → PagePlace
 place_of s = Payload s.from s.to s.port
 
 abbrev pub framed : PagePlace → Stage → Frame
-framed place stage = record { held = held_of place (end_of stage); used = use_of stage }
+framed place stage = record { held = held_of place (end_of stage); used = use_of stage; late = is_late stage }
 
 abbrev pub frame_of : Slot → Frame
 frame_of s = framed (place_of s) s.stage

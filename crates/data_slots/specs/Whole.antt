@@ -9,7 +9,7 @@ use Rattle.data_slots.specs.declared.note.CallNote.{CallNote}
 use Rattle.data_slots.specs.declared.note.ServedNote.{ServedNote}
 use Rattle.data_slots.specs.declared.ends.Ends.{Ends}
 use Rattle.data_slots.specs.Slots.{Held, Called, Serves, SlotsState, IsEndOf}
-use Rattle.data_slots.specs.Stages.{Use, ForNothing, ForCall, ForServing, Frame, place_of, frame_of, is_session, IsStage}
+use Rattle.data_slots.specs.Stages.{Use, ForNothing, ForCall, ForServing, Frame, place_of, frame_of, told_of, is_session, IsStage}
 use Rattle.data_slots.specs.declared.done.SessionOver.{SessionOver}
 use Rattle.data_slots.specs.Done.{TellsMore}
 use Rattle.data_slots.specs.Index.{PlaceIndex, IsIndexOf}
@@ -36,6 +36,30 @@ unused_at place used = None
 abbrev pub unused_in : List Frame → List PagePlace
 unused_in fs = filter_map (λ f. unused_at f.held.place f.used) fs
 
+-- where an end lies whose page is laid when it is first used
+abbrev pub late_in : List Frame → List PagePlace
+late_in fs = filter_map (λ f. if f.late then Some f.held.place else None) fs
+
+-- the session of the end of a number, as it is told once it is over
+abbrev pub told_by : Option Frame → Option SessionOver
+told_by (Some f) = told_of f.held.place f.used
+told_by None = None
+
+abbrev pub session_at : List Frame → ℕ → SessionOver
+session_at fs at = unwrap_or (told_by (slice_get fs at)) (record { domain = 0; port = 0; number = None })
+
+-- those of the ends of these numbers
+abbrev pub opened_in : List Frame → List ℕ → List SessionOver
+opened_in fs numbers = map (session_at fs) numbers
+
+-- whether the page of the end of a number is laid when it is first used
+abbrev pub late_by : Option Frame → Bool
+late_by (Some f) = f.late
+late_by None = false
+
+abbrev pub is_late_at : List Frame → ℕ → Bool
+is_late_at fs at = late_by (slice_get fs at)
+
 abbrev pub called_of : CallNote → Called
 called_of n = record { to = n.to; port = n.port; input = n.input.value.items }
 
@@ -57,7 +81,8 @@ AreOpen are_sessions numbers = (i : ℕ) → times i numbers ≡ (if unwrap_or (
 -- the end with this number lies there, and has this use
 pub record IsUsedAt (fs : List Frame) (at : ℕ) (place : PagePlace) (used : Use) : Type 0 where
   pub held : Held
-  pub is : slice_get fs at ≡ Some (record { held = held; used = used })
+  pub late : Bool
+  pub is : slice_get fs at ≡ Some (record { held = held; used = used; late = late })
   pub lies : held.place ≡ place
 
 -- each noted call and each served session has its end
@@ -92,9 +117,10 @@ state_of e spent = record {
   version = e.version;
   held = held_in e.slots.items;
   unused = unused_in (frames e.slots.items);
+  late = late_in (frames e.slots.items);
   called = map (option_map called_of) e.calls.items;
   served = map serves_of e.served.items;
-  open_count = length e.busy.items;
+  opened = opened_in (frames e.slots.items) e.busy.items;
   spent = spent;
 }
 
@@ -103,9 +129,8 @@ state_of e spent = record {
 -- after the turn all ends are whole, and the only sessions that are no longer open are those that were reported
 pub record IsTurned (old new : Ends) (before now : List SessionOver) : Type 0 where
   pub whole : IsWhole new
-  pub state : state_of new false ≡ record (state_of old false) { open_count = length new.busy.items }
-  pub count : length new.busy.items + length now ≡ length old.busy.items + length before
-  pub told : TellsMore (state_of old false) before now
+  pub state : state_of new false ≡ record (state_of old false) { opened = (state_of new false).opened }
+  pub told : TellsMore (state_of old false) (state_of new false) before now
 
 -- it has the same ends
 abbrev pub HasSameEnds : Ends → Ends → Type 0

@@ -6,7 +6,8 @@ ghost use Rattle.task_duties.specs.Places.{has_place, without};
 ghost use Rattle.task_duties.specs.Pairwise.{EachPair};
 ghost use Rattle.task_duties.specs.TaskOwes.{places_in};
 ghost use Rattle.task_duties.specs.GivenEnds.{all_given, all_retired};
-ghost use Rattle.data_slots.specs.Slots.{held_at, IsGiven, AreApart};
+ghost use Rattle.data_slots.specs.Slots.{held_at, late_count, IsGiven, AreApart};
+ghost use Rattle.data_slots.specs.Sides.{late_places};
 ghost use Rattle.data_slots.specs.Done.{ReportsCalled, ReportsServes};
 ghost use Rattle.data_slots.specs.Stages.{ForNothing, CanRetire, IsStage};
 ghost use Rattle.data_slots.specs.Given.{unused_slots};
@@ -66,9 +67,10 @@ impl<'p> Ends<'p> {
           version = version;
           held = map held_at (all_given ends.entry.items);
           unused = places_in (all_given ends.entry.items);
+          late = late_places ends.entry.items;
           called = replicate calls None;
           served = [];
-          open_count = 0;
+          opened = [];
           spent = false;
         }) }
         ensures retire { IfOk result (λ e. Each (λ s. CanRetire s.stage) e.slots.items) }
@@ -114,7 +116,7 @@ impl<'p> Ends<'p> {
         ensures ok { OnOk result (state_of self.new false ≡ record (state_of self.old false) {
           unused = without (Payload self.old.domain to port) (unused_in (frames self.old.slots.items));
           called = slice_set (state_of self.old false).called number (Some (record { to = to; port = port; input = input.items }));
-          open_count = length self.old.busy.items + 1;
+          opened = (state_of self.old false).opened ++ record { domain = to; port = port; number = Some number } ∷ [];
         }) }
         ensures err { OnErr result (state_of self.new false ≡ state_of self.old false) }
     {
@@ -147,7 +149,7 @@ impl<'p> Ends<'p> {
         ensures ok { OnOk result (state_of self.new false ≡ record (state_of self.old false) {
           unused = without (Payload from self.old.domain port) (unused_in (frames self.old.slots.items));
           served = (state_of self.old false).served ++ record { from = from; port = port; service = service } ∷ [];
-          open_count = length self.old.busy.items + 1;
+          opened = (state_of self.old false).opened ++ record { domain = from; port = port; number = None } ∷ [];
         }) }
         ensures err { OnErr result (state_of self.new false ≡ state_of self.old false) }
     {
@@ -224,14 +226,15 @@ impl<'p> Ends<'p> {
         Ok(moved)
     }
 
-    /// Returns how many open sessions are on pages that are laid at their first use.
-    pub(crate) fn pages_in_use(&self) -> usize {
-        let mut count: usize = 0;
+    /// How many open sessions are on pages that are laid when they are first used.
+    pub(crate) fn pages_in_use(&self) -> usize
+        requires whole { IsWhole self.now }
+        ensures { result ≡ late_count (state_of self.now false) }
+    {
+        let mut count = 0;
         for at in &self.busy {
-            if let Some(slot) = self.slots.get(*at) {
-                if slot.is_offered() {
-                    count = count.saturating_add(1);
-                }
+            if self.slots[*at].is_late() {
+                count += 1;
             }
         }
         count

@@ -5,7 +5,7 @@ ghost use Rattle.end_view.specs.EndView.{IsUnused};
 ghost use Rattle.vchan_rule.specs.Seated.{view, last_view};
 ghost use Rattle.vchan_lifecycle.specs.Lifecycle.{retired_view};
 ghost use Rattle.task_duties.specs.GivenEnds.{done_view, fresh_view};
-ghost use Rattle.data_slots.specs.Sides.{HasLaid, IsSideOf, seen_under};
+ghost use Rattle.data_slots.specs.Sides.{HasLaid, IsSideOf, seen_under, is_late_unused, is_late_side, is_late_done};
 
 use page_offer::{LaidPage, OpenClient, OpenServer};
 use task_duties::{DoneEnd, UnusedEnd};
@@ -25,8 +25,10 @@ pub(crate) enum Side {
 }
 
 impl Side {
-    /// Returns whether the page is one that is laid at its first use.
-    pub(crate) fn is_offered(&self) -> bool {
+    /// Whether the page is one that is laid when it is first used.
+    pub(crate) fn is_late(&self) -> bool
+        ensures { result ≡ is_late_side self.now }
+    {
         match self {
             Side::Laid => false,
             Side::Server(_) | Side::Client(_) => true,
@@ -47,7 +49,8 @@ impl Side {
     /// Returns the end after it was retired.
     pub(crate) fn finish(self, retired: Retired) -> DoneEnd
         requires { IsSideOf self (last_view retired) }
-        ensures { done_view result ≡ seen_under self (last_view retired) }
+        ensures view { done_view result ≡ seen_under self (last_view retired) }
+        ensures late { is_late_done result ≡ is_late_side self }
     {
         match self {
             Side::Laid => DoneEnd::Laid(retired),
@@ -64,6 +67,7 @@ pub(crate) fn open_server<'p>(end: UnusedEnd<'p>, laid: Option<LaidPage>) -> (En
     ensures unused { IsUnused (view result.0) × ((view result.0).role ≡ Server) }
     ensures seen { seen_under result.1 (view result.0) ≡ fresh_view end.entry }
     ensures side { IsSideOf result.1 (view result.0) }
+    ensures late { is_late_side result.1 ≡ is_late_unused end.entry }
 {
     match end {
         UnusedEnd::Laid(end) => (end, Side::Laid),

@@ -15,8 +15,8 @@ ghost use Rattle.channel_session.specs.Answering.{IsAnswering, IsAtWork};
 ghost use Rattle.channel_session.specs.Ended.{done_of};
 ghost use Rattle.data_slots.specs.Slots.{held_of, held_at};
 ghost use Rattle.data_slots.specs.Done.{caller_done};
-ghost use Rattle.data_slots.specs.Sides.{HasLaid, IsSideOf, seen_under};
-ghost use Rattle.data_slots.specs.Stages.{ForCall, ForServing, IsStage, CanRetire, CanTurn, IsUnusedBy, IsNewCaller, IsNewServing, HasComeOut, IsReportOf, Tells, HasPage, is_nothing, is_session, use_of, result_of, framed, place_of, frame_of};
+ghost use Rattle.data_slots.specs.Sides.{HasLaid, IsSideOf, seen_under, is_late_unused, is_late_side, is_late_done};
+ghost use Rattle.data_slots.specs.Stages.{ForCall, ForServing, IsStage, CanRetire, CanTurn, IsUnusedBy, IsNewCaller, IsNewServing, HasComeOut, IsReportOf, HasPage, is_nothing, is_session, is_late, use_of, told_of, result_of, framed, place_of, frame_of};
 
 use crate::done::{CallOver, SessionOver};
 use crate::report::Report;
@@ -173,7 +173,7 @@ impl<'p> Slot<'p> {
         ensures frame { frame_of self.new ≡ frame_of self.old }
         ensures stage { (version : ℕ) → IsStage version self.old.stage → OnOk result (IsStage version self.new.stage) }
         ensures session { IfOk result (λ over. is_session self.new.stage ≡ is_none over) }
-        ensures told { IfOk result (λ over. IfSome over (λ told. Tells (place_of self.old) (use_of self.old.stage) told)) }
+        ensures told { IfOk result (λ over. IfSome over (λ told. told_of (place_of self.old) (use_of self.old.stage) ≡ Some told)) }
         ensures long { length scratch.new ≡ length scratch.old }
         ensures retire { CanRetire self.new.stage }
     {
@@ -202,11 +202,13 @@ impl<'p> Slot<'p> {
         }
     }
 
-    /// Returns whether a session is open on a page that is laid at its first use.
-    pub(crate) fn is_offered(&self) -> bool {
+    /// Whether the session that is open is on a page that is laid when it is first used.
+    pub(crate) fn is_late(&self) -> bool
+        ensures { is_session self.now.stage ≡ true → result ≡ is_late self.now.stage }
+    {
         match &self.stage {
-            Stage::Calls { side, .. } => side.is_offered(),
-            Stage::Serves { side, .. } => side.is_offered(),
+            Stage::Calls { side, .. } => side.is_late(),
+            Stage::Serves { side, .. } => side.is_late(),
             Stage::Awaits { .. } => true,
             _ => false,
         }
@@ -226,7 +228,7 @@ impl<'p> Slot<'p> {
     // What the broker is told of a session.
     fn told(&self) -> SessionOver
         requires session { is_session self.now.stage ≡ true }
-        ensures { Tells (place_of self.now) (use_of self.now.stage) result }
+        ensures { told_of (place_of self.now) (use_of self.now.stage) ≡ Some result }
     {
         match &self.stage {
             Stage::Calls { number, .. } => SessionOver {
@@ -322,7 +324,7 @@ impl<'p> Stage<'p> {
         requires laid { HasPage self laid }
         requires caller { IsNewCaller caller }
         requires input { caller.requests.input ≡ input.value.items }
-        ensures frame { (place : PagePlace) → framed place result ≡ record { held = (framed place self.entry).held; used = ForCall number input.value.items } }
+        ensures frame { (place : PagePlace) → framed place result ≡ record (framed place self.entry) { used = ForCall number input.value.items } }
         ensures stage { IsStage caller.replies.own result }
         ensures session { is_session result ≡ true }
         ensures retire { CanRetire result }
@@ -351,7 +353,7 @@ impl<'p> Stage<'p> {
         requires unused { IsUnusedBy Client self }
         requires serving { IsNewServing serving }
         requires service { ServingStandsFor builtin_owes (builtin_owes service.value) serving [] }
-        ensures frame { (place : PagePlace) → framed place result ≡ record { held = (framed place self.entry).held; used = ForServing number service.value } }
+        ensures frame { (place : PagePlace) → framed place result ≡ record (framed place self.entry) { used = ForServing number service.value } }
         ensures stage { IsStage serving.answering.own result }
         ensures session { is_session result ≡ true }
         ensures retire { CanRetire result }
@@ -510,7 +512,7 @@ fn serve_unused<'p>(
     requires unused { IsUnused (fresh_view end) × ((fresh_view end).role ≡ Client) }
     requires serving { IsNewServing serving }
     requires service { ServingStandsFor builtin_owes (builtin_owes service.value) serving [] }
-    ensures frame { (place : PagePlace) → framed place result ≡ record { held = held_of place (fresh_view end.entry); used = ForServing number service.value } }
+    ensures frame { (place : PagePlace) → framed place result ≡ record { held = held_of place (fresh_view end.entry); used = ForServing number service.value; late = is_late_unused end.entry } }
     ensures stage { IsStage serving.answering.own result }
     ensures session { is_session result ≡ true }
     ensures retire { CanRetire result }
@@ -537,7 +539,7 @@ fn open_awaited<'p>(
     requires { IsNewServing serving }
     ensures open { CanTurn result }
     ensures retire { CanRetire result }
-    ensures frame { (place : PagePlace) → framed place result ≡ record { held = held_of place (unused_view side Client); used = ForServing number service.value } }
+    ensures frame { (place : PagePlace) → framed place result ≡ record { held = held_of place (unused_view side Client); used = ForServing number service.value; late = true } }
     ensures stage { ServingStandsFor builtin_owes (builtin_owes service.value) serving [] → IsStage serving.answering.own result }
 {
     match side.open() {
@@ -565,7 +567,7 @@ fn serve_at<'p>(
     ensures open { CanTurn result }
     ensures session { is_session result ≡ true }
     ensures retire { CanRetire result }
-    ensures frame { (place : PagePlace) → framed place result ≡ record { held = held_of place (seen_under side (view end.entry)); used = ForServing number service.value } }
+    ensures frame { (place : PagePlace) → framed place result ≡ record { held = held_of place (seen_under side (view end.entry)); used = ForServing number service.value; late = is_late_side side } }
     ensures stage { ServingStandsFor builtin_owes (builtin_owes service.value) serving [] → IsStage serving.answering.own result }
 {
     Stage::Serves {
@@ -581,6 +583,7 @@ fn caller_result(ended: CallerEnd, side: Side) -> (CallerResult, DoneEnd)
     requires { IsSideOf side (last_view ended.retired) }
     ensures result { result_of result.0 ≡ done_of ended }
     ensures end { done_view result.1 ≡ seen_under side (last_view ended.retired) }
+    ensures late { is_late_done result.1 ≡ is_late_side side }
 {
     let CallerEnd {
         outcome,
@@ -603,6 +606,7 @@ fn serving_result(ended: ServingEnd, side: Side) -> (ServingResult, DoneEnd)
     requires { IsSideOf side (last_view ended.retired) }
     ensures result { result.0 ≡ record { outcome = ended.outcome; got = ended.got } }
     ensures end { done_view result.1 ≡ seen_under side (last_view ended.retired) }
+    ensures late { is_late_done result.1 ≡ is_late_side side }
 {
     let ServingEnd {
         outcome,

@@ -46,7 +46,8 @@ impl<'p> Model for DataSlots<'p> {
 }
 
 impl<'p> DataSlots<'p> {
-    ghost use Rattle.data_slots.specs.Slots.{held_at, IsGiven, AreApart};
+    ghost use Rattle.data_slots.specs.Slots.{held_at, late_count, IsGiven, AreApart};
+    ghost use Rattle.data_slots.specs.Sides.{late_places};
     ghost use Rattle.data_slots.specs.Done.{ReportsCalled, ReportsServes, TellsMore};
 
     /// Makes the data ends of an agent of this domain and version, 2 or 3, which has `calls` calls of its
@@ -69,9 +70,10 @@ impl<'p> DataSlots<'p> {
           version = version;
           held = map held_at (all_given ends.entry.items);
           unused = places_in (all_given ends.entry.items);
+          late = late_places ends.entry.items;
           called = replicate calls None;
           served = [];
-          open_count = 0;
+          opened = [];
           spent = false;
         }) }
     {
@@ -113,7 +115,7 @@ impl<'p> DataSlots<'p> {
         ensures ok { OnOk result (self.new ≡ record self.old {
           unused = without (Payload self.old.domain to port) self.old.unused;
           called = slice_set self.old.called number (Some (record { to = to; port = port; input = input.items }));
-          open_count = self.old.open_count + 1;
+          opened = self.old.opened ++ record { domain = to; port = port; number = Some number } ∷ [];
         }) }
         ensures err { OnErr result (self.new ≡ self.old) }
     {
@@ -130,25 +132,24 @@ impl<'p> DataSlots<'p> {
         ensures ok { OnOk result (self.new ≡ record self.old {
           unused = without (Payload from self.old.domain port) self.old.unused;
           served = self.old.served ++ record { from = from; port = port; service = service } ∷ [];
-          open_count = self.old.open_count + 1;
+          opened = self.old.opened ++ record { domain = from; port = port; number = None } ∷ [];
         }) }
         ensures err { OnErr result (self.new ≡ self.old) }
     {
         self.ends.serve(from, port, service)
     }
 
-    /// Makes one turn of each open session, and appends those that are over now to `over`. Returns whether
-    /// any moved bytes or is over; nothing is promised of that answer. A session waits if the server of its
-    /// page hasn't offered the page yet.
+    /// One turn of each open session. Those that are over now are put behind `over`, each once, and are open
+    /// no more. It answers whether any moved bytes or is over, of which nothing is promised. A session whose page its server hasn't
+    /// offered yet awaits that.
     ///
     /// Returns `Memory` if memory runs out; the ends can only be given up then, and nothing is promised of
     /// `over`.
     pub fn turn(&mut self, scratch: &mut [u8], over: &mut Vec<SessionOver>) -> Result<bool, Memory>
         requires whole { self.old.spent ≡ false }
         requires some { 0 < length scratch.old }
-        ensures ok { OnOk result (self.new ≡ record self.old { open_count = self.new.open_count }) }
-        ensures count { OnOk result (self.new.open_count + length over.new.items ≡ self.old.open_count + length over.old.items) }
-        ensures told { OnOk result (TellsMore self.old over.old.items over.new.items) }
+        ensures ok { OnOk result (self.new ≡ record self.old { opened = self.new.opened }) }
+        ensures told { OnOk result (TellsMore self.old self.new over.old.items over.new.items) }
         ensures held { (self.new.held ≡ self.old.held) × (self.new.domain ≡ self.old.domain) × (self.new.version ≡ self.old.version) }
         ensures long { length scratch.new ≡ length scratch.old }
     {
@@ -157,15 +158,17 @@ impl<'p> DataSlots<'p> {
         turned
     }
 
-    /// Returns how many open sessions are on pages that are laid at their first use. Nothing is promised of
-    /// the answer.
-    pub fn pages_in_use(&self) -> usize {
+    /// How many open sessions are on pages that are laid when they are first used.
+    pub fn pages_in_use(&self) -> usize
+        requires whole { self.now.spent ≡ false }
+        ensures { result ≡ late_count self.now }
+    {
         self.ends.pages_in_use()
     }
 
     /// Returns whether no session is open.
     pub fn is_idle(&self) -> bool
-        ensures { IsTrue result ↔ (self.now.open_count ≡ 0) }
+        ensures { IsTrue result ↔ (self.now.opened ≡ []) }
     {
         self.ends.busy.is_empty()
     }
@@ -176,7 +179,7 @@ impl<'p> DataSlots<'p> {
     /// Returns `Memory` if memory runs out; all ends are retired and dropped then.
     pub fn finish(self) -> Result<DataDone, Memory>
         requires whole { self.spent ≡ false }
-        requires idle { self.open_count ≡ 0 }
+        requires idle { self.opened ≡ [] }
         ensures held { IfOk result (λ done. map held_at (all_retired done.ends.items) ≡ self.entry.held) }
         ensures honest { IfOk result (λ done. Each (λ e. e.view.turned ≡ false) (all_retired done.ends.items)) }
         ensures calls { IfOk result (λ done. EachPair (ReportsCalled self.entry.domain self.entry.version (all_retired done.ends.items)) self.entry.called done.calls.items) }

@@ -1,4 +1,5 @@
 use Rattle.std.proofs.Common.{ap, ◌∙◌}
+use Rattle.std.specs.Prelude.{true}
 use Rattle.atomic_table.specs.Seated.{TableId}
 use Rattle.end_view.specs.EndView.{EndView}
 use Rattle.vchan_rule.specs.Seated.{view}
@@ -9,6 +10,6 @@ use Rattle.data_slots.proofs.slot.open_awaited.Goals as goal
 
 pub returns-in-Ok-clause-frame : goal.returns-in-Ok-clause-frame
 returns-in-Ok-clause-frame c = λ place.
-    let at : EndView → Frame = λ e. record { held = held_of place e; used = ForServing c.args.number c.args.service.value } in
+    let at : EndView → Frame = λ e. record { held = held_of place e; used = ForServing c.args.number c.args.service.value; late = true } in
     let under : TableId → Frame = λ name. at (named name (view c.in-Ok.end)) in
     c.serve_at.ensures.frame place ∙ (ap under c.in-Ok.ensures.side.0 ∙ ap at c.in-Ok.ensures.end.1)

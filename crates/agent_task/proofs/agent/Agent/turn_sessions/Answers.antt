@@ -9,11 +9,14 @@ use Rattle.agent_task.proofs.agent.Agent.turn_sessions.Goals.{then-is_none+in_ok
 
 pub returns-clause-running : goal.returns-clause-running
 returns-clause-running c =
+    let over = c.turn.new.over.items in
+    let first = told-first c.args.self.now.slots c.turn.new.self over (subst (λ l. TellsMore c.args.self.now.slots c.turn.new.self l over) c.requires.empty c.in_ok-moved.ensures.told) in
     elim c.if-is_none.branch [
       | then-is_none+in_ok-note_over w ↦
           subst (λ a. IsRunning a) (sym w.self-is)
-          (noted-running c.args.self.now c.turn.new.self w.note_over.new.self c.turn.new.over.items c.requires.running (c.is_none.ensures ∙ ap not w.if-is_none.true) c.in_ok-moved.ensures.ok w.note_over.ensures.same
-          (w.in_ok-note_over.ensures.told ∙ ap (λ l. c.args.self.now.control.unsaid.items ++ map end_of l) w.deref.ensures.value)
-          (told-first c.args.self.now.slots c.turn.new.over.items (subst (λ l. TellsMore c.args.self.now.slots l c.turn.new.over.items) c.requires.empty c.in_ok-moved.ensures.told)))
-      | else-is_none w ↦ subst (λ a. IsRunning a) (sym w.self-is) (slots-running c.args.self.now c.turn.new.self c.in_ok-moved.ensures.ok c.requires.running)
+          (noted-running c.args.self.now c.turn.new.self w.note_over.new.self over c.requires.running (c.is_none.ensures ∙ ap not w.if-is_none.true) c.in_ok-moved.ensures.ok w.note_over.ensures.same
+          (w.in_ok-note_over.ensures.told ∙ ap (λ l. c.args.self.now.control.unsaid.items ++ map end_of l) w.deref.ensures.value) first.0 first.1)
+      | else-is_none w ↦
+          subst (λ a. IsRunning a) (sym w.self-is)
+          (slots-running c.args.self.now c.turn.new.self over c.requires.running (c.is_none.ensures ∙ ap not w.if-is_none.false) c.in_ok-moved.ensures.ok first.0)
     ]

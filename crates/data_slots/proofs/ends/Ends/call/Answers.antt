@@ -1,14 +1,16 @@
-use Rattle.std.proofs.Common.{◌+◌, ap, sym, ◌∙◌, subst, ◌∷◌, [], length, refl, arith, map, set, length-append}
+use Rattle.std.proofs.Common.{◌≡◌, ap, sym, ◌∙◌, subst, ◌∷◌, ◌++◌, [], refl, arith, map, set}
 use Rattle.std.specs.Prelude.{None, Some, false, option_map}
 use Rattle.std.proofs.lemmas.Option.{slice_get_within}
 use Rattle.std.proofs.lemmas.List.{map-set}
 use Rattle.task_duties.specs.declared.place.PagePlace.TheVariants.{Payload}
 use Rattle.data_slots.specs.declared.note.CallNote.{CallNote}
 use Rattle.data_slots.specs.declared.slot.Slot.{Slot}
-use Rattle.data_slots.specs.Stages.{ForNothing, ForCall, HasPage, frame_of, IsStage}
-use Rattle.data_slots.specs.Whole.{frames, called_of, IsUsedAt}
-use Rattle.data_slots.proofs.ListLaws.{same-read}
-use Rattle.data_slots.proofs.WholeLaws.{IsPutTo, begins-call, held-set, unused-now}
+use Rattle.data_slots.specs.declared.done.SessionOver.{SessionOver}
+use Rattle.data_slots.specs.Stages.{ForNothing, ForCall, HasPage, place_of, frame_of, told_of, is_session, IsStage}
+use Rattle.data_slots.specs.Whole.{frames, sessions, late_in, opened_in, called_of, IsUsedAt}
+use Rattle.data_slots.proofs.ListLaws.{get-map, same-read}
+use Rattle.data_slots.proofs.OpenedLaws.{late-set, opened-more}
+use Rattle.data_slots.proofs.WholeLaws.{IsPutTo, begins-call, frames-set, held-set, is-shut, unused-now}
 use Rattle.data_slots.proofs.BeginLaws.{is-free, free-server, same-state, call-used}
 use Rattle.data_slots.proofs.ends.Ends.call.Goals as goal
 
@@ -51,11 +53,21 @@ returns-clause-ok c =
     let e = c.args.self.now in
     let note : CallNote = record { at = c.in-Some.at; to = c.args.to; port = c.args.port; input = c.of.result } in
     let free = is-free e.slots.items c.in-Some.at (Payload e.domain c.args.to c.args.port) c.index_mut.result.now (subst (λ ss. IsUsedAt (frames ss) c.in-Some.at (Payload e.domain c.args.to c.args.port) ForNothing) c.deref.ensures.value c.in-Some.ensures.found) c.index_mut.ensures.value in
-    same-state e.domain e.version _ _ _ _ _ _ _ _ _ _ false
+    let used = ForCall c.args.number c.of-seen.result.value.items in
+    let here = get-map frame_of e.slots.items c.in-Some.at c.index_mut.result.now free.here in
+    let put = frames-set e.slots.items c.in-Some.at c.index_mut.result.now c.call.new.self used c.call.ensures.frame in
+    let told : SessionOver = record { domain = c.args.to; port = c.args.port; number = Some c.args.number } in
+    let tells : told_of (place_of c.index_mut.result.now) used ≡ Some told = ap (λ p. told_of p used) free.lies in
+    let busy : c.push_within.new.list.items ≡ e.busy.items ++ c.in-Some.at ∷ [] = c.push_within.ensures.items ∙ ap (λ b. b ++ c.in-Some.at ∷ []) c.in_ok-reserve.ensures.items in
+    same-state e.domain e.version _ _ _ _ _ _ _ _ _ _ _ _ false
     (held-set e.slots.items c.in-Some.at c.index_mut.result.now c.call.new.self free.here (ap (λ f. f.held) c.call.ensures.frame))
-    (unused-now e.slots.items e.index c.in-Some.at e.domain c.args.to c.args.port c.index_mut.result.now c.call.new.self (ForCall c.args.number c.of-seen.result.value.items) c.requires.whole.indexed free.here free.lies free.unused
+    (unused-now e.slots.items e.index c.in-Some.at e.domain c.args.to c.args.port c.index_mut.result.now c.call.new.self used c.requires.whole.indexed free.here free.lies free.unused
     (call-used c.args.number c.of-seen.result.value.items) c.call.ensures.frame)
+    (ap late_in put ∙ late-set (frames e.slots.items) c.in-Some.at (frame_of c.index_mut.result.now) used here)
     (map-set (option_map called_of) e.calls.items c.args.number (Some note)
     ∙ ap (λ v. set (map (option_map called_of) e.calls.items) c.args.number (Some (record { to = c.args.to; port = c.args.port; input = v.items }))) c.of.ensures)
     refl
-    (ap length c.push_within.ensures.items ∙ (length-append c.reserve.new.self.items (c.in-Some.at ∷ []) ∙ ap (λ b. length b + 1) c.in_ok-reserve.ensures.items))
+    (ap (λ fs. opened_in fs c.push_within.new.list.items) put
+    ∙ (ap (λ b. opened_in (set (frames e.slots.items) c.in-Some.at (record (frame_of c.index_mut.result.now) { used = used })) b) busy
+    ∙ opened-more (frames e.slots.items) (sessions e.slots.items) e.busy.items c.in-Some.at (frame_of c.index_mut.result.now) (record (frame_of c.index_mut.result.now) { used = used }) told c.requires.whole.are_open
+    (get-map (λ (s : Slot). is_session s.stage) e.slots.items c.in-Some.at c.index_mut.result.now free.here ∙ ap Some (is-shut c.index_mut.result.now.stage free.unused)) here tells))

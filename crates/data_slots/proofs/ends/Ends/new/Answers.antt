@@ -1,12 +1,12 @@
-use Rattle.std.proofs.Common.{◌≡◌, ap, sym, ◌∙◌, subst, replicate, length, map}
+use Rattle.std.proofs.Common.{◌≡◌, [], ap, sym, ◌∙◌, subst, replicate, map}
 use Rattle.std.specs.Prelude.{None, false, option_map}
 use Rattle.qrexec_frame.specs.Streams.{Each}
 use Rattle.data_slots.specs.Slots.{AreApart}
 use Rattle.data_slots.specs.Stages.{place_of, CanRetire}
 use Rattle.data_slots.specs.Given.{unused_slots}
 use Rattle.data_slots.specs.Index.{IsIndexOf}
-use Rattle.data_slots.specs.Whole.{frames, held_in, unused_in, called_of, serves_of}
-use Rattle.data_slots.proofs.GivenLaws.{given-places, given-held, given-unused, given-retire, given-whole, called-none}
+use Rattle.data_slots.specs.Whole.{frames, held_in, unused_in, late_in, opened_in, called_of, serves_of}
+use Rattle.data_slots.proofs.GivenLaws.{given-places, given-held, given-unused, given-late, given-retire, given-whole, called-none}
 use Rattle.data_slots.proofs.BeginLaws.{same-state}
 use Rattle.data_slots.proofs.ends.Ends.new.Goals as goal
 
@@ -29,12 +29,14 @@ pub returns-clause-state : goal.returns-clause-state
 returns-clause-state c =
     let slots : c.in_ok-slots.slots.items ≡ unused_slots c.args.ends.items = c.in_ok-slots.ensures in
     let none : c.in_ok-no_notes.field-0.items ≡ replicate c.args.calls None = c.in_ok-no_notes.ensures in
-    same-state c.args.domain c.args.version _ _ _ _ _ _ _ _ _ _ false
+    let empty : c.new.result.items ≡ [] = c.new.ensures.items in
+    same-state c.args.domain c.args.version _ _ _ _ _ _ _ _ _ _ _ _ false
     (ap held_in slots ∙ given-held c.args.ends.items)
     (ap (λ ss. unused_in (frames ss)) slots ∙ given-unused c.args.ends.items)
+    (ap (λ ss. late_in (frames ss)) slots ∙ given-late c.args.ends.items)
     (ap (λ ns. map (option_map called_of) ns) none ∙ called-none c.args.calls)
     (ap (λ ns. map serves_of ns) c.new-2.ensures.items)
-    (ap length c.new.ensures.items)
+    (ap (λ b. opened_in (frames c.in_ok-slots.slots.items) b) empty)
 
 pub returns-clause-retire : goal.returns-clause-retire
 returns-clause-retire c =

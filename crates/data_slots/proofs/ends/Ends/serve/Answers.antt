@@ -1,11 +1,15 @@
-use Rattle.std.proofs.Common.{◌≡◌, ◌+◌, ap, sym, ◌∙◌, subst, ◌∷◌, ◌++◌, [], length, refl, arith, map, length-append}
-use Rattle.std.specs.Prelude.{false}
+use Rattle.std.proofs.Common.{◌≡◌, ap, sym, ◌∙◌, subst, ◌∷◌, ◌++◌, [], length, refl, arith, map, set}
+use Rattle.std.specs.Prelude.{false, Some, None}
 use Rattle.std.proofs.lemmas.List.{map-append}
 use Rattle.task_duties.specs.declared.place.PagePlace.TheVariants.{Payload}
 use Rattle.data_slots.specs.declared.note.ServedNote.{ServedNote}
-use Rattle.data_slots.specs.Stages.{ForNothing, ForServing, frame_of, IsStage}
-use Rattle.data_slots.specs.Whole.{frames, serves_of, IsUsedAt}
-use Rattle.data_slots.proofs.WholeLaws.{IsPutTo, begins-serving, held-set, unused-now}
+use Rattle.data_slots.specs.declared.slot.Slot.{Slot}
+use Rattle.data_slots.specs.declared.done.SessionOver.{SessionOver}
+use Rattle.data_slots.specs.Stages.{ForNothing, ForServing, place_of, frame_of, told_of, is_session, IsStage}
+use Rattle.data_slots.specs.Whole.{frames, sessions, late_in, opened_in, serves_of, IsUsedAt}
+use Rattle.data_slots.proofs.ListLaws.{get-map}
+use Rattle.data_slots.proofs.OpenedLaws.{late-set, opened-more}
+use Rattle.data_slots.proofs.WholeLaws.{IsPutTo, begins-serving, frames-set, held-set, is-shut, unused-now}
 use Rattle.data_slots.proofs.BeginLaws.{is-free, free-client, same-state, serving-used}
 use Rattle.data_slots.proofs.ends.Ends.serve.Goals as goal
 
@@ -35,11 +39,21 @@ returns-clause-ok c =
     let e = c.args.self.now in
     let note : ServedNote = record { at = c.in-Some.at; from = c.args.from; port = c.args.port; service = c.of.result } in
     let free = is-free e.slots.items c.in-Some.at (Payload c.args.from e.domain c.args.port) c.index_mut.result.now (subst (λ ss. IsUsedAt (frames ss) c.in-Some.at (Payload c.args.from e.domain c.args.port) ForNothing) c.deref.ensures.value c.in-Some.ensures.found) c.index_mut.ensures.value in
-    same-state e.domain e.version _ _ _ _ _ _ _ _ _ _ false
+    let used = ForServing c.len-number.result c.of-seen.result.value in
+    let here = get-map frame_of e.slots.items c.in-Some.at c.index_mut.result.now free.here in
+    let put = frames-set e.slots.items c.in-Some.at c.index_mut.result.now c.serve.new.self used c.serve.ensures.frame in
+    let told : SessionOver = record { domain = c.args.from; port = c.args.port; number = None } in
+    let tells : told_of (place_of c.index_mut.result.now) used ≡ Some told = ap (λ p. told_of p used) free.lies in
+    let busy : c.push_within.new.list.items ≡ e.busy.items ++ c.in-Some.at ∷ [] = c.push_within.ensures.items ∙ ap (λ b. b ++ c.in-Some.at ∷ []) c.in_ok-reserve.ensures.items in
+    same-state e.domain e.version _ _ _ _ _ _ _ _ _ _ _ _ false
     (held-set e.slots.items c.in-Some.at c.index_mut.result.now c.serve.new.self free.here (ap (λ f. f.held) c.serve.ensures.frame))
-    (unused-now e.slots.items e.index c.in-Some.at c.args.from e.domain c.args.port c.index_mut.result.now c.serve.new.self (ForServing c.len-number.result c.of-seen.result.value) c.requires.whole.indexed free.here free.lies free.unused
+    (unused-now e.slots.items e.index c.in-Some.at c.args.from e.domain c.args.port c.index_mut.result.now c.serve.new.self used c.requires.whole.indexed free.here free.lies free.unused
     (serving-used c.len-number.result c.of-seen.result.value) c.serve.ensures.frame)
+    (ap late_in put ∙ late-set (frames e.slots.items) c.in-Some.at (frame_of c.index_mut.result.now) used here)
     refl
     (ap (λ ns. map serves_of ns) c.in_ok-push.ensures.items
     ∙ (map-append serves_of e.served.items (note ∷ []) ∙ ap (λ v. map serves_of e.served.items ++ record { from = c.args.from; port = c.args.port; service = v } ∷ []) c.of.ensures))
-    (ap length c.push_within.ensures.items ∙ (length-append c.reserve.new.self.items (c.in-Some.at ∷ []) ∙ ap (λ b. length b + 1) c.in_ok-reserve.ensures.items))
+    (ap (λ fs. opened_in fs c.push_within.new.list.items) put
+    ∙ (ap (λ b. opened_in (set (frames e.slots.items) c.in-Some.at (record (frame_of c.index_mut.result.now) { used = used })) b) busy
+    ∙ opened-more (frames e.slots.items) (sessions e.slots.items) e.busy.items c.in-Some.at (frame_of c.index_mut.result.now) (record (frame_of c.index_mut.result.now) { used = used }) told c.requires.whole.are_open
+    (get-map (λ (s : Slot). is_session s.stage) e.slots.items c.in-Some.at c.index_mut.result.now free.here ∙ ap Some (is-shut c.index_mut.result.now.stage free.unused)) here tells))

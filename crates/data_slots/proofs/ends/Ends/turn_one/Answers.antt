@@ -1,9 +1,10 @@
-use Rattle.std.proofs.Common.{ap, sym, ◌∙◌, subst, ◌∷◌, [], length, refl, arith, set, length-append}
-use Rattle.std.specs.Prelude.{false, is_none, IfSome}
+use Rattle.std.proofs.Common.{◌≡◌, ap, sym, ◌∙◌, subst, ◌∷◌, [], refl, arith, set}
+use Rattle.std.specs.Prelude.{false, is_none, Some, IfSome, IsPermutation}
 use Rattle.std.specs.List.{swap_remove}
-use Rattle.data_slots.specs.Stages.{CanRetire, IsStage, Tells, place_of, use_of, frame_of}
-use Rattle.data_slots.specs.Whole.{AreWhole, unused_in, state_of}
-use Rattle.data_slots.proofs.ListLaws.{each-get, map-set-same, same-read}
+use Rattle.data_slots.specs.Stages.{CanRetire, IsStage, told_of, place_of, use_of, frame_of}
+use Rattle.data_slots.specs.Whole.{AreWhole, frames, unused_in, late_in, opened_in, state_of}
+use Rattle.data_slots.proofs.ListLaws.{each-get, get-map, map-set-same, same-read}
+use Rattle.data_slots.proofs.OpenedLaws.{opened-less}
 use Rattle.data_slots.proofs.WholeLaws.{held-set}
 use Rattle.data_slots.proofs.BeginLaws.{same-state}
 use Rattle.data_slots.proofs.TurnLaws.{busy-within, busy-slot, can-turn, turns-on, turns-over, tells-begun, tells-none}
@@ -41,14 +42,14 @@ returns-in_default-clause-turned c =
     let slot = c.index_mut.result.now in
     let is = busy-slot e.slots.items e.busy.items c.args.next c.index-at.result.now slot c.requires.whole.are_open c.requires.next c.index-at.ensures c.index_mut.ensures.value in
     let was = each-get (λ s. IsStage e.version s.stage) e.slots.items c.index-at.result.now slot c.requires.whole.stages is.here in
+    let frames_are = map-set-same frame_of e.slots.items c.index-at.result.now slot c.turn.new.self is.here c.turn.ensures.frame in
     record {
       whole = turns-on e.domain e.version e.slots.items e.index e.busy.items e.calls.items e.served.items c.index-at.result.now slot c.turn.new.self c.requires.whole is c.turn.ensures.frame
           (c.in_ok-told.ensures.stage e.version was) (c.in_ok-told.ensures.session ∙ ap is_none c.in_default.is);
-      state = same-state e.domain e.version _ _ _ _ _ _ _ _ _ _ false
+      state = same-state e.domain e.version _ _ _ _ _ _ _ _ _ _ _ _ false
           (held-set e.slots.items c.index-at.result.now slot c.turn.new.self is.here (ap (λ f. f.held) c.turn.ensures.frame))
-          (ap unused_in (map-set-same frame_of e.slots.items c.index-at.result.now slot c.turn.new.self is.here c.turn.ensures.frame)) refl refl refl;
-      count = refl;
-      told = tells-none (state_of e false) c.args.over.now.items;
+          (ap unused_in frames_are) (ap late_in frames_are) refl refl refl;
+      told = tells-none (state_of e false) (opened_in (frames (set e.slots.items c.index-at.result.now c.turn.new.self)) e.busy.items) c.args.over.now.items (ap (λ fs. opened_in fs e.busy.items) frames_are);
     }
 
 pub returns-in_default-clause-same : goal.returns-in_default-clause-same
@@ -73,14 +74,21 @@ returns-clause-turned c =
     let removed = c.swap_remove.ensures.items ∙ ap (swap_remove e.busy.items c.args.next) (same-read e.busy.items c.args.next c.swap_remove.result at c.requires.next c.swap_remove.ensures.value c.index-at.ensures) in
     let whole = turns-over e.domain e.version e.slots.items e.index e.busy.items c.args.next e.calls.items e.served.items at slot c.turn.new.self c.requires.whole is c.requires.next c.index-at.ensures c.turn.ensures.frame
     (c.in_ok-told.ensures.stage e.version was) (c.in_ok-told.ensures.session ∙ ap is_none c.in-Some.is) in
-    let tells = subst (λ o. IfSome o (λ t. Tells (place_of slot) (use_of slot.stage) t)) c.in-Some.is c.in_ok-told.ensures.told in
+    let tells = subst (λ o. IfSome o (λ t. told_of (place_of slot) (use_of slot.stage) ≡ Some t)) c.in-Some.is c.in_ok-told.ensures.told in
+    let frames_are = map-set-same frame_of e.slots.items at slot c.turn.new.self is.here c.turn.ensures.frame in
+    let less = opened-less (frames e.slots.items) e.busy.items c.args.next at (frame_of slot) c.in-Some.told c.requires.next c.index-at.ensures (get-map frame_of e.slots.items at slot is.here) tells in
     record {
       whole = subst (λ b. AreWhole e.domain e.version (set e.slots.items at c.turn.new.self) e.index b e.calls.items e.served.items) (sym removed) whole;
-      state = same-state e.domain e.version _ _ _ _ _ _ _ _ _ _ false
+      state = same-state e.domain e.version _ _ _ _ _ _ _ _ _ _ _ _ false
           (held-set e.slots.items at slot c.turn.new.self is.here (ap (λ f. f.held) c.turn.ensures.frame))
-          (ap unused_in (map-set-same frame_of e.slots.items at slot c.turn.new.self is.here c.turn.ensures.frame)) refl refl refl;
-      count = omega (arith, c.swap_remove.ensures.len, e.busy.ok.0, c.swap_remove.new.self.ok.0, ap length c.in_ok-push.ensures.items, length-append c.args.over.now.items (c.in-Some.told ∷ []));
-      told = (c.in-Some.told ∷ [], c.in_ok-push.ensures.items, (tells-begun e at slot c.in-Some.told c.requires.whole is.here tells, tt));
+          (ap unused_in frames_are) (ap late_in frames_are) refl refl refl;
+      told = (
+        c.in-Some.told ∷ [],
+        c.in_ok-push.ensures.items,
+        subst (λ fs. IsPermutation (c.in-Some.told ∷ opened_in fs c.swap_remove.new.self.items) (opened_in (frames e.slots.items) e.busy.items)) (sym frames_are)
+            (subst (λ b. IsPermutation (c.in-Some.told ∷ opened_in (frames e.slots.items) b) (opened_in (frames e.slots.items) e.busy.items)) (sym removed) less),
+        (tells-begun e at slot c.in-Some.told c.requires.whole is.here tells, tt),
+      );
     }
 
 pub returns-clause-same : goal.returns-clause-same

@@ -1,5 +1,9 @@
-use Rattle.data_slots.proofs.TurnLaws.{turning-on}
+use Rattle.std.proofs.Common.{refl}
+use Rattle.data_slots.proofs.TurnLaws.{turned-not, turning-on}
 use Rattle.data_slots.proofs.ends.Ends.turn_open.Goals as goal
+
+pub loop-next-init : goal.loop-next-init
+loop-next-init c = record { turned = turned-not c.args.self.now c.args.over.now.items c.requires.whole; same = (refl, refl, refl); retire = c.requires.retire }
 
 pub loop-next-preserved : goal.loop-next-preserved
 loop-next-preserved c =

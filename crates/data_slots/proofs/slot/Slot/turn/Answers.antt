@@ -1,6 +1,6 @@
-use Rattle.std.proofs.Common.{ap, sym, ◌∙◌, subst}
+use Rattle.std.proofs.Common.{◌≡◌, ap, sym, ◌∙◌, subst, Some}
 use Rattle.task_duties.specs.declared.place.PagePlace.TheVariants.{Payload}
-use Rattle.data_slots.specs.Stages.{Frame, Tells, framed, IsStage}
+use Rattle.data_slots.specs.Stages.{Frame, told_of, framed, IsStage}
 use Rattle.data_slots.specs.declared.slot.Stage.{Stage}
 use Rattle.data_slots.proofs.slot.Slot.turn.Goals as goal
 
@@ -35,4 +35,4 @@ returns-in-Some-clause-stage c = λ version stage.
 pub returns-in-Some-clause-told : goal.returns-in-Some-clause-told
 returns-in-Some-clause-told c =
     let place = Payload c.args.self.now.from c.args.self.now.to c.args.self.now.port in
-    subst (λ (f : Frame). Tells place f.used c.told-told.result) (c.turn.ensures.frame place) c.told-told.ensures
+    subst (λ (f : Frame). told_of place f.used ≡ Some c.told-told.result) (c.turn.ensures.frame place) c.told-told.ensures

@@ -2,13 +2,14 @@ use Rattle.std.proofs.Common.{ap, sym, ◌∙◌, subst}
 use Rattle.vchan_rule.specs.Seated.{view}
 use Rattle.data_slots.specs.declared.slot.Stage.{Stage}
 use Rattle.data_slots.specs.Slots.{Held}
+use Rattle.data_slots.specs.Sides.{is_late_side}
 use Rattle.data_slots.specs.Stages.{ForCall, ForServing, Frame, framed, IsStage}
 use Rattle.data_slots.proofs.SideLaws.{same-held, calls-on, serves-on}
 use Rattle.data_slots.proofs.slot.Stage.turn.Goals as goal
 
 pub returns-in-Calls-clause-frame : goal.returns-in-Calls-clause-frame
 returns-in-Calls-clause-frame c = λ place.
-    let used : Held → Frame = λ h. record { held = h; used = ForCall c.in-Calls.number c.in-Calls.input.value.items } in
+    let used : Held → Frame = λ h. record { held = h; used = ForCall c.in-Calls.number c.in-Calls.input.value.items; late = is_late_side c.in-Calls.side } in
     ap used (same-held c.in-Calls.side place (view c.in-Calls.session.end) (view c.turn_caller.new.session.end) c.turn_caller.ensures.end.0 c.turn_caller.ensures.end.1)
     ∙ (ap (framed place) (sym c.in-Calls.is) ∙ c.open_offered.ensures.frame place)
 
@@ -20,7 +21,7 @@ returns-in-Calls-clause-stage c = λ version stage.
 
 pub returns-in-Serves-clause-frame : goal.returns-in-Serves-clause-frame
 returns-in-Serves-clause-frame c = λ place.
-    let used : Held → Frame = λ h. record { held = h; used = ForServing c.in-Serves.number c.in-Serves.service.value } in
+    let used : Held → Frame = λ h. record { held = h; used = ForServing c.in-Serves.number c.in-Serves.service.value; late = is_late_side c.in-Serves.side } in
     ap used (same-held c.in-Serves.side place (view c.in-Serves.session.end) (view c.turn_serving.new.session.end) c.turn_serving.ensures.end.0 c.turn_serving.ensures.end.1)
     ∙ (ap (framed place) (sym c.in-Serves.is) ∙ c.open_offered.ensures.frame place)
 

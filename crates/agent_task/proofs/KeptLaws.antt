@@ -1,0 +1,308 @@
+-- What becomes of the ends of sessions that an agent owes to tell, through each step.
+use Rattle.std.proofs.Common.{◌≡◌, ℕ, zero, suc, List, [], ◌∷◌, ◌++◌, refl, ap, sym, ◌∙◌, append_assoc, Some, None, Option, subst}
+use Rattle.std.specs.Prelude.{true, map, filter_map, option_map, is_some, slice_get, slice_set, IsPermutation}
+use Rattle.std.specs.List.{cons_option}
+use Rattle.std.proofs.lemmas.List.{append-nil, map-append}
+use Rattle.std.proofs.lemmas.List.Elements.{filter_map-append}
+use Rattle.std.proofs.lemmas.List.Sorted.{IsPermutation-refl, IsPermutation-sym, IsPermutation-trans, IsPermutation-map, IsPermutation-cons, IsPermutation-middle, IsPermutation-to_front, IsPermutation-append_comm, IsPermutation-append_left, IsPermutation-append_right}
+use Rattle.qrexec_frame.specs.declared.message.Message.{Message}
+use Rattle.qrexec_frame.specs.declared.message.Message.TheVariants as m
+use Rattle.qrexec_frame.specs.Streams.{Each}
+use Rattle.scenario_file.specs.declared.scenario.CallPlan.{CallPlan}
+use Rattle.task_duties.specs.declared.done.ControlEnd.{ControlEnd}
+use Rattle.task_duties.specs.Pairwise.{IsPartOf}
+use Rattle.task_duties.specs.Agent.Answers.{Answer, Waits, IsRefused, At, Asked}
+use Rattle.task_duties.specs.Agent.Saying.{asking}
+use Rattle.data_slots.specs.Slots.{Called}
+use Rattle.data_slots.specs.declared.done.SessionOver.{SessionOver}
+use Rattle.agent_control.specs.declared.control.SessionEnd.{SessionEnd}
+use Rattle.agent_control.specs.Speaking.{IsSpoken, terminated}
+use Rattle.agent_task.specs.Ends.{session_of_answer, session_asked, session_told, sessions_owed, session_called, session_unsaid, session_over, sessions_known, sessions_held, AreKept}
+use Rattle.agent_task.specs.Standing.{called_by, called_of, end_of}
+
+-- ---- one that is owed more
+
+front : {A : Type 0} (xs : List A) (x : A) (ys : List A) → IsPermutation (x ∷ (xs ++ ys)) (xs ++ x ∷ ys)
+front xs x ys = IsPermutation-sym (xs ++ x ∷ ys) (x ∷ (xs ++ ys)) (IsPermutation-middle xs x ys)
+
+-- nothing more is asked for
+known-passed : (called : List (Option Called)) (heard : List Message) (w : Message) → session_asked w ≡ None → sessions_known called (heard ++ w ∷ []) ≡ sessions_known called heard
+known-passed called heard w none =
+    ap (λ l. filter_map (option_map session_called) called ++ l)
+    (filter_map-append session_asked heard (w ∷ []) ∙ (ap (λ (o : Option (ℕ × ℕ)). filter_map session_asked heard ++ cons_option o []) none ∙ append-nil (filter_map session_asked heard)))
+
+-- a message asks to serve
+known-asked : (called : List (Option Called)) (heard : List Message) (w : Message) (e : ℕ × ℕ) → session_asked w ≡ Some e → IsPermutation (e ∷ sessions_known called heard) (sessions_known called (heard ++ w ∷ []))
+known-asked called heard w e is =
+    let known = sessions_known called heard in
+    let more : sessions_known called (heard ++ w ∷ []) ≡ known ++ e ∷ [] =
+    ap (λ l. filter_map (option_map session_called) called ++ l) (filter_map-append session_asked heard (w ∷ []) ∙ ap (λ (o : Option (ℕ × ℕ)). filter_map session_asked heard ++ cons_option o []) is)
+    ∙ sym (append_assoc (filter_map (option_map session_called) called) (filter_map session_asked heard) (e ∷ [])) in
+    subst (λ l. IsPermutation (e ∷ known) l) (sym more) (IsPermutation-sym (known ++ e ∷ []) (e ∷ known) (IsPermutation-to_front known e))
+
+set-more : (called : List (Option Called)) (place : ℕ) (c : Called) → slice_get called place ≡ Some None
+    → IsPermutation (session_called c ∷ filter_map (option_map session_called) called) (filter_map (option_map session_called) (slice_set called place (Some c)))
+set-more [] place c free = cc
+set-more (None ∷ called) zero c free = IsPermutation-refl (session_called c ∷ filter_map (option_map session_called) called)
+set-more (Some d ∷ called) zero c free = absurd (bad free)
+  where
+    bad : ◌≡◌ {A = Option (Option Called)} (Some (Some d)) (Some None) → ⊥
+    bad e = cc
+set-more (None ∷ called) (suc place) c free = set-more called place c free
+set-more (Some d ∷ called) (suc place) c free =
+    let rest = filter_map (option_map session_called) called in
+    let rest' = filter_map (option_map session_called) (slice_set called place (Some c)) in
+    IsPermutation-trans (session_called c ∷ session_called d ∷ rest) (session_called d ∷ session_called c ∷ rest) (session_called d ∷ rest') (front (session_called d ∷ []) (session_called c) rest)
+    (IsPermutation-cons (session_called d) (session_called c ∷ rest) rest' (set-more called place c free))
+
+-- a call is let through
+known-called : (called : List (Option Called)) (place : ℕ) (c : Called) (heard : List Message) (w : Message) → slice_get called place ≡ Some None → session_asked w ≡ None
+    → IsPermutation (session_called c ∷ sessions_known called heard) (sessions_known (slice_set called place (Some c)) (heard ++ w ∷ []))
+known-called called place c heard w free none =
+    subst (λ l. IsPermutation (session_called c ∷ sessions_known called heard) l) (sym (known-passed (slice_set called place (Some c)) heard w none))
+    (IsPermutation-append_left (filter_map session_asked heard) (session_called c ∷ filter_map (option_map session_called) called) (filter_map (option_map session_called) (slice_set called place (Some c))) (set-more called place c free))
+
+-- ---- one that is held more
+
+at-opened : {A : Type 0} (f u o l : List A) (e : A) → f ++ ((u ++ (o ++ e ∷ [])) ++ l) ≡ (f ++ (u ++ o)) ++ e ∷ l
+at-opened f u o l e = simp append_assoc
+
+at-unsaid : {A : Type 0} (f u o l : List A) (e : A) → f ++ (((u ++ e ∷ []) ++ o) ++ l) ≡ (f ++ u) ++ e ∷ (o ++ l)
+at-unsaid f u o l e = simp append_assoc
+
+without-one : {A : Type 0} (f u o l : List A) → (f ++ u) ++ (o ++ l) ≡ f ++ ((u ++ o) ++ l)
+without-one f u o l = simp append_assoc
+
+held-opened : (said : List Message) (unsaid : List SessionEnd) (opened : List SessionOver) (lost : List (ℕ × ℕ)) (o : SessionOver)
+    → IsPermutation (session_over o ∷ sessions_held said unsaid opened lost) (sessions_held said unsaid (opened ++ o ∷ []) lost)
+held-opened said unsaid opened lost o =
+    let f = filter_map session_told said in
+    let u = map session_unsaid unsaid in
+    let os = map session_over opened in
+    let now : sessions_held said unsaid (opened ++ o ∷ []) lost ≡ (f ++ (u ++ os)) ++ session_over o ∷ lost =
+    ap (λ l. f ++ ((u ++ l) ++ lost)) (map-append session_over opened (o ∷ [])) ∙ at-opened f u os lost (session_over o) in
+    subst (λ l. IsPermutation (session_over o ∷ sessions_held said unsaid opened lost) l) (sym now)
+    (subst (λ l. IsPermutation (session_over o ∷ l) ((f ++ (u ++ os)) ++ session_over o ∷ lost)) (append_assoc f (u ++ os) lost) (front (f ++ (u ++ os)) (session_over o) lost))
+
+held-unsaid : (said : List Message) (unsaid : List SessionEnd) (opened : List SessionOver) (lost : List (ℕ × ℕ)) (e : SessionEnd)
+    → IsPermutation (session_unsaid e ∷ sessions_held said unsaid opened lost) (sessions_held said (unsaid ++ e ∷ []) opened lost)
+held-unsaid said unsaid opened lost e =
+    let f = filter_map session_told said in
+    let u = map session_unsaid unsaid in
+    let os = map session_over opened in
+    let now : sessions_held said (unsaid ++ e ∷ []) opened lost ≡ (f ++ u) ++ session_unsaid e ∷ (os ++ lost) =
+    ap (λ l. f ++ ((l ++ os) ++ lost)) (map-append session_unsaid unsaid (e ∷ [])) ∙ at-unsaid f u os lost (session_unsaid e) in
+    subst (λ l. IsPermutation (session_unsaid e ∷ sessions_held said unsaid opened lost) l) (sym now)
+    (subst (λ l. IsPermutation (session_unsaid e ∷ l) ((f ++ u) ++ session_unsaid e ∷ (os ++ lost))) (without-one f u os lost) (front (f ++ u) (session_unsaid e) (os ++ lost)))
+
+-- one more on both sides
+both-more : {A : Type 0} (e : A) (held held' known known' : List A) → IsPermutation (e ∷ held) held' → IsPermutation (e ∷ known) known' → IsPermutation held known → IsPermutation held' known'
+both-more e held held' known known' p q h =
+    IsPermutation-trans held' (e ∷ held) known' (IsPermutation-sym (e ∷ held) held' p) (IsPermutation-trans (e ∷ held) (e ∷ known) known' (IsPermutation-cons e held known h) q)
+
+-- ---- a message is heard
+
+pub kept-passed : (over : Option ControlEnd) (called : List (Option Called)) (unsaid : List SessionEnd) (opened : List SessionOver) (heard said : List Message) (w : Message) → session_asked w ≡ None
+    → AreKept over called unsaid opened heard said → AreKept over called unsaid opened (heard ++ w ∷ []) said
+kept-passed over called unsaid opened heard said w none k = record {
+  lost = k.lost;
+  none_lost = k.none_lost;
+  are = subst (λ l. IsPermutation (sessions_held said unsaid opened k.lost) l) (sym (known-passed called heard w none)) k.are;
+}
+
+pub kept-called : (over : Option ControlEnd) (called : List (Option Called)) (unsaid : List SessionEnd) (opened : List SessionOver) (heard said : List Message) (w : Message) (place : ℕ) (c : Called) → slice_get called place ≡ Some None
+    → session_asked w ≡ None → AreKept over called unsaid opened heard said
+    → AreKept over (slice_set called place (Some c)) unsaid (opened ++ record { domain = c.to; port = c.port; number = Some place } ∷ []) (heard ++ w ∷ []) said
+kept-called over called unsaid opened heard said w place c free none k =
+    let o : SessionOver = record { domain = c.to; port = c.port; number = Some place } in
+    record {
+      lost = k.lost;
+      none_lost = k.none_lost;
+      are = both-more (session_called c) (sessions_held said unsaid opened k.lost) (sessions_held said unsaid (opened ++ o ∷ []) k.lost) (sessions_known called heard) (sessions_known (slice_set called place (Some c)) (heard ++ w ∷ []))
+          (held-opened said unsaid opened k.lost o) (known-called called place c heard w free none) k.are;
+    }
+
+pub kept-served : (over : Option ControlEnd) (called : List (Option Called)) (unsaid : List SessionEnd) (opened : List SessionOver) (heard said : List Message) (w : Message) (o : SessionOver) → session_asked w ≡ Some (session_over o)
+    → AreKept over called unsaid opened heard said → AreKept over called unsaid (opened ++ o ∷ []) (heard ++ w ∷ []) said
+kept-served over called unsaid opened heard said w o asks k = record {
+  lost = k.lost;
+  none_lost = k.none_lost;
+  are = both-more (session_over o) (sessions_held said unsaid opened k.lost) (sessions_held said unsaid (opened ++ o ∷ []) k.lost) (sessions_known called heard) (sessions_known called (heard ++ w ∷ []))
+      (held-opened said unsaid opened k.lost o) (known-asked called heard w (session_over o) asks) k.are;
+}
+
+pub kept-unserved : (over : Option ControlEnd) (called : List (Option Called)) (unsaid : List SessionEnd) (opened : List SessionOver) (heard said : List Message) (w : Message) (e : SessionEnd) → session_asked w ≡ Some (session_unsaid e)
+    → AreKept over called unsaid opened heard said → AreKept over called (unsaid ++ e ∷ []) opened (heard ++ w ∷ []) said
+kept-unserved over called unsaid opened heard said w e asks k = record {
+  lost = k.lost;
+  none_lost = k.none_lost;
+  are = both-more (session_unsaid e) (sessions_held said unsaid opened k.lost) (sessions_held said (unsaid ++ e ∷ []) opened k.lost) (sessions_known called heard) (sessions_known called (heard ++ w ∷ []))
+      (held-unsaid said unsaid opened k.lost e) (known-asked called heard w (session_unsaid e) asks) k.are;
+}
+
+-- ---- more is said
+
+ends-told : (told : List SessionEnd) → filter_map session_told (map terminated told) ≡ map session_unsaid told
+ends-told [] = refl
+ends-told (e ∷ told) = ap (λ l. session_unsaid e ∷ l) (ends-told told)
+
+none-told : (m : Message) → is_some (asking m) ≡ true → session_told m ≡ None
+none-told (m.Terminated d p) h = cc
+none-told (m.Hello v) h = refl
+none-told (m.Stdin b) h = refl
+none-told (m.Stdout b) h = refl
+none-told (m.Stderr b) h = refl
+none-told (m.ExitCode c) h = refl
+none-told (m.Exec d p l) h = refl
+none-told (m.JustExec d p l) h = refl
+none-told (m.Connect d p i) h = refl
+none-told (m.Refused i) h = refl
+none-told (m.Trigger3 t i s) h = refl
+none-told (m.Trigger t i s) h = refl
+
+triggers-told : (ms : List Message) → Each (λ m. is_some (asking m) ≡ true) ms → filter_map session_told ms ≡ []
+triggers-told [] each = refl
+triggers-told (x ∷ ms) each = ap (λ (o : Option (ℕ × ℕ)). cons_option o (filter_map session_told ms)) (none-told x each.0) ∙ triggers-told ms each.1
+
+spoken-told : (calls : ℕ) (told waiting : List SessionEnd) (more : List Message) → IsSpoken calls told waiting more → filter_map session_told more ≡ map session_unsaid told
+spoken-told calls told waiting more h =
+    ap (λ l. filter_map session_told l) h.is
+    ∙ (filter_map-append session_told (map terminated told) h.triggers
+    ∙ (ap (λ l. filter_map session_told (map terminated told) ++ l) (triggers-told h.triggers h.each) ∙ (append-nil (filter_map session_told (map terminated told)) ∙ ends-told told)))
+
+move-told : {A : Type 0} (f t n o l : List A) → (f ++ t) ++ ((n ++ o) ++ l) ≡ f ++ (((t ++ n) ++ o) ++ l)
+move-told f t n o l = simp append_assoc
+
+pub kept-said : (over : Option ControlEnd) (called : List (Option Called)) (old new told : List SessionEnd) (opened : List SessionOver) (heard said more : List Message) (calls : ℕ) → old ≡ told ++ new → IsSpoken calls told new more
+    → AreKept over called old opened heard said → AreKept over called new opened heard (said ++ more)
+kept-said over called old new told opened heard said more calls split spoken k = record {
+  lost = k.lost;
+  none_lost = k.none_lost;
+  are = subst (λ l. IsPermutation l (sessions_known called heard)) (sym same) k.are;
+}
+  where
+    f : List (ℕ × ℕ)
+    f = filter_map session_told said
+
+    same : sessions_held (said ++ more) new opened k.lost ≡ sessions_held said old opened k.lost
+    same =
+        ap (λ l. l ++ ((map session_unsaid new ++ map session_over opened) ++ k.lost)) (filter_map-append session_told said more ∙ ap (λ l. f ++ l) (spoken-told calls told new more spoken))
+        ∙ (move-told f (map session_unsaid told) (map session_unsaid new) (map session_over opened) k.lost
+        ∙ ap (λ l. f ++ ((l ++ map session_over opened) ++ k.lost)) (sym (ap (λ l. map session_unsaid l) split ∙ map-append session_unsaid told new)))
+
+-- ---- sessions are over
+
+same-sessions : (told : List SessionOver) → map session_unsaid (map end_of told) ≡ map session_over told
+same-sessions [] = refl
+same-sessions (o ∷ told) = ap (λ l. session_over o ∷ l) (same-sessions told)
+
+overs : (told opened opened' : List SessionOver) → IsPermutation (told ++ opened') opened → IsPermutation (map session_over told ++ map session_over opened') (map session_over opened)
+overs told opened opened' p = subst (λ l. IsPermutation l (map session_over opened)) (map-append session_over told opened') (IsPermutation-map session_over (told ++ opened') opened p)
+
+move-over : {A : Type 0} (f u t o l : List A) → f ++ (((u ++ t) ++ o) ++ l) ≡ f ++ ((u ++ (t ++ o)) ++ l)
+move-over f u t o l = simp append_assoc
+
+move-lost : {A : Type 0} (f u o t l : List A) → f ++ ((u ++ o) ++ (t ++ l)) ≡ f ++ ((u ++ (o ++ t)) ++ l)
+move-lost f u o t l = simp append_assoc
+
+inside : {A : Type 0} (f u l xs ys : List A) → IsPermutation xs ys → IsPermutation (f ++ ((u ++ xs) ++ l)) (f ++ ((u ++ ys) ++ l))
+inside f u l xs ys p = IsPermutation-append_right f ((u ++ xs) ++ l) ((u ++ ys) ++ l) (IsPermutation-append_left l (u ++ xs) (u ++ ys) (IsPermutation-append_right u xs ys p))
+
+-- and are to be told
+pub kept-over : (over : Option ControlEnd) (called : List (Option Called)) (unsaid unsaid' : List SessionEnd) (opened opened' told : List SessionOver) (heard said : List Message) → unsaid' ≡ unsaid ++ map end_of told
+    → IsPermutation (told ++ opened') opened → AreKept over called unsaid opened heard said → AreKept over called unsaid' opened' heard said
+kept-over over called unsaid unsaid' opened opened' told heard said more p k = record {
+  lost = k.lost;
+  none_lost = k.none_lost;
+  are = subst (λ l. IsPermutation l (sessions_known called heard)) (sym same)
+      (IsPermutation-trans (f ++ ((u ++ (t ++ o')) ++ k.lost)) (sessions_held said unsaid opened k.lost) (sessions_known called heard) (inside f u k.lost (t ++ o') (map session_over opened) (overs told opened opened' p)) k.are);
+}
+  where
+    f : List (ℕ × ℕ)
+    f = filter_map session_told said
+
+    u : List (ℕ × ℕ)
+    u = map session_unsaid unsaid
+
+    t : List (ℕ × ℕ)
+    t = map session_over told
+
+    o' : List (ℕ × ℕ)
+    o' = map session_over opened'
+
+    same : sessions_held said unsaid' opened' k.lost ≡ f ++ ((u ++ (t ++ o')) ++ k.lost)
+    same =
+        ap (λ l. f ++ ((l ++ o') ++ k.lost)) (ap (λ l. map session_unsaid l) more ∙ (map-append session_unsaid unsaid (map end_of told) ∙ ap (λ l. u ++ l) (same-sessions told)))
+        ∙ move-over f u t o' k.lost
+
+-- or are lost, where the control channel is over
+pub kept-lost : (how : ControlEnd) (called : List (Option Called)) (unsaid : List SessionEnd) (opened opened' told : List SessionOver) (heard said : List Message) → IsPermutation (told ++ opened') opened
+    → AreKept (Some how) called unsaid opened heard said → AreKept (Some how) called unsaid opened' heard said
+kept-lost how called unsaid opened opened' told heard said p k = record {
+  lost = t ++ k.lost;
+  none_lost = λ none. absurd (never none);
+  are = subst (λ l. IsPermutation l (sessions_known called heard)) (sym (move-lost f u o' t k.lost))
+      (IsPermutation-trans (f ++ ((u ++ (o' ++ t)) ++ k.lost)) (sessions_held said unsaid opened k.lost) (sessions_known called heard)
+      (inside f u k.lost (o' ++ t) (map session_over opened) (IsPermutation-trans (o' ++ t) (t ++ o') (map session_over opened) (IsPermutation-append_comm o' t) (overs told opened opened' p))) k.are);
+}
+  where
+    never : Some how ≡ None → ⊥
+    never e = cc
+
+    f : List (ℕ × ℕ)
+    f = filter_map session_told said
+
+    u : List (ℕ × ℕ)
+    u = map session_unsaid unsaid
+
+    t : List (ℕ × ℕ)
+    t = map session_over told
+
+    o' : List (ℕ × ℕ)
+    o' = map session_over opened'
+
+-- the control channel is over
+pub kept-still : (over : Option ControlEnd) (how : ControlEnd) (called : List (Option Called)) (unsaid : List SessionEnd) (opened : List SessionOver) (heard said : List Message) → AreKept over called unsaid opened heard said
+    → AreKept (Some how) called unsaid opened heard said
+kept-still over how called unsaid opened heard said k = record { lost = k.lost; none_lost = λ none. absurd (never none); are = k.are }
+  where
+    never : Some how ≡ None → ⊥
+    never e = cc
+
+-- ---- what is told
+
+owed-known : (asked : List Asked) → filter_map (option_map session_called) (map called_of asked) ≡ filter_map (λ a. session_of_answer a.answer) asked
+owed-known [] = refl
+owed-known (a ∷ asked) = ap (λ (o : Option (ℕ × ℕ)). cons_option o (filter_map (option_map session_called) (map called_of asked))) (by_answer a.call a.answer) ∙ ap (λ l. cons_option (session_of_answer a.answer) l) (owed-known asked)
+  where
+    by_answer : (call : CallPlan) (x : Answer) → option_map session_called (called_by call x) ≡ session_of_answer x
+    by_answer call Waits = refl
+    by_answer call IsRefused = refl
+    by_answer call (At to port) = refl
+
+-- at most once for each that is owed
+pub kept-told : (over : Option ControlEnd) (called : List (Option Called)) (asked : List Asked) (unsaid : List SessionEnd) (opened : List SessionOver) (heard said : List Message) → called ≡ map called_of asked
+    → AreKept over called unsaid opened heard said → IsPartOf (filter_map session_told said) (sessions_owed asked heard)
+kept-told over called asked unsaid opened heard said is k = (
+  (map session_unsaid unsaid ++ map session_over opened) ++ k.lost,
+  subst (λ l. IsPermutation (sessions_held said unsaid opened k.lost) l) (ap (λ (l : List (Option Called)). sessions_known l heard) is ∙ ap (λ l. l ++ filter_map session_asked heard) (owed-known asked)) k.are,
+)
+
+-- before anything is heard
+pub kept-first : (calls : List CallPlan) (called : List (Option Called)) (unsaid : List SessionEnd) (opened : List SessionOver) → called ≡ map called_of (map (λ call. record { call = call; answer = Waits }) calls) → unsaid ≡ [] → opened ≡ []
+    → AreKept None called unsaid opened [] []
+kept-first calls called unsaid opened called_is none shut = record {
+  lost = [];
+  none_lost = λ h. refl;
+  are = subst (λ (l : List (ℕ × ℕ)). IsPermutation l (sessions_known called [])) (sym held) (subst (λ (l : List (ℕ × ℕ)). IsPermutation [] l) (sym known) (IsPermutation-refl []));
+}
+  where
+    held : sessions_held [] unsaid opened [] ≡ []
+    held = ap (λ (l : List SessionEnd). (map session_unsaid l ++ map session_over opened) ++ []) none ∙ ap (λ (l : List SessionOver). map session_over l ++ []) shut
+
+    none-yet : (calls : List CallPlan) → filter_map (option_map session_called) (map called_of (map (λ call. record { call = call; answer = Waits }) calls)) ≡ []
+    none-yet [] = refl
+    none-yet (c ∷ calls) = none-yet calls
+
+    known : sessions_known called [] ≡ []
+    known = append-nil (filter_map (option_map session_called) called) ∙ (ap (λ (l : List (Option Called)). filter_map (option_map session_called) l) called_is ∙ none-yet calls)

@@ -1,0 +1,10 @@
+use Rattle.data_slots.proofs.TurnLaws.{turned-after, turned-ok}
+use Rattle.data_slots.proofs.ends.Ends.turn.Goals as goal
+
+pub turn_open-requires-clause-whole : goal.turn_open-requires-clause-whole
+turn_open-requires-clause-whole c = (c.give_back.ensures.turned c.args.over.now.items).whole
+
+pub returns-clause-turned : goal.returns-clause-turned
+returns-clause-turned c =
+    turned-ok c.turn_open.result _ _
+    (turned-after c.args.self.now c.give_back.new.self c.turn_open.new.self c.args.over.now.items c.args.over.now.items c.turn_open.new.over.items (c.give_back.ensures.turned c.args.over.now.items)) c.turn_open.ensures.turned
