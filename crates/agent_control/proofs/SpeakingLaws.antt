@@ -1,4 +1,4 @@
--- What an agent has said, through each message more.
+-- What an agent has sent, through one message more.
 use Rattle.std.proofs.Common.{◌≡◌, ℕ, ◌+◌, ◌<◌, ◌≤◌, List, [], ◌∷◌, ◌++◌, length, length-append, refl, ap, sym, ◌∙◌, inl, inr, Option, Some, None, subst, append_assoc, zero, suc, arith, drop, Bor}
 use Rattle.std.specs.Prelude.{◌⊎◌, Bool, true, false, map, is_some, nat_lt, slice_get, slice_set, if◌then◌else◌}
 use Rattle.std.specs.Slice.{IsItemAt}
@@ -95,7 +95,7 @@ each-both : {A : Type 0} (P : A → Type 0) (xs ys : List A) → Each P xs → E
 each-both P [] ys a b = b
 each-both P (x ∷ xs) ys a b = (a.0, each-both P xs ys a.1 b)
 
--- ends and then more, or triggers where no end waits and then more
+-- ends and then more, or, if no end waits, triggers and then more
 spoken-then : (n k : ℕ) (told mid told' rest : List SessionEnd) (more more' : List Message) → mid ≡ told' ++ rest → (n ≡ 0) ⊎ (mid ≡ []) → IsSpoken n told mid more → IsSpoken k told' rest more'
     → IsSpoken (n + k) (told ++ told') rest (more ++ more')
 spoken-then n k told mid told' rest more more' split (inl nought) p q =
@@ -135,7 +135,7 @@ says-then n k a b c first p q = record {
       (x.0 ++ y.0, subst (λ l. Speaks c heard l) (append_assoc said x.0 y.0) y.1, spoken-then n k p.told b.unsaid.items q.told c.unsaid.items x.0 y.0 q.unsaid first x.2 y.2);
 }
 
--- with leave for more calls
+-- the same if more calls are allowed
 pub says-few : (n k : ℕ) (a b : AgentControl) → n ≤ k → SaysMore n a b → SaysMore k a b
 says-few n k a b less p = record {
   end = p.end;
@@ -150,7 +150,7 @@ says-few n k a b less p = record {
       (x.0, x.1, record { triggers = x.2.triggers; is = x.2.is; each = x.2.each; few = omega (arith, x.2.few, less); last = x.2.last });
 }
 
--- where no end waited none waits
+-- if no end waited, none waits
 pub says-none : (n : ℕ) (a b : AgentControl) → SaysMore n a b → a.unsaid.items ≡ [] → b.unsaid.items ≡ []
 says-none n a b p none = (both-empty p.told b.unsaid.items (sym none ∙ p.unsaid)).1
 
@@ -279,7 +279,7 @@ within-queue old mid e place w has own s =
     let there : place < length (asked_by mid.queue) = subst (λ q. place < length (asked_by q)) (sym s.queue) here in
     subst (λ n. place < n) (length-map mid.queue.calls asked_as) there
 
--- the first end that was unsaid was told, and is taken out
+-- the first end that wasn't reported was reported, and is removed
 pub tells-first : (old mid new : AgentControl) (e : SessionEnd) (rest : List SessionEnd) → Tells old mid e true → mid.unsaid.items ≡ e ∷ rest → new.unsaid.items ≡ rest → new ≡ record mid { unsaid = new.unsaid } → SaysMore 0 old new
 tells-first old mid new e rest t first rest_is new_is =
     let was : old.unsaid.items ≡ e ∷ rest = ap (λ u. u.items) (sym t.unsaid) ∙ first in
@@ -313,7 +313,7 @@ tells-first old mid new e rest t first rest_is new_is =
           );
     })
 
--- and where it had no room it is unsaid still
+-- if there was no room for it, it still isn't reported
 pub tells-not : (old mid : AgentControl) (e : SessionEnd) (rest : List SessionEnd) → Tells old mid e false → old.unsaid.items ≡ e ∷ rest → SaysMore 0 old mid
 tells-not old mid e rest t first = record {
   end = t.end;

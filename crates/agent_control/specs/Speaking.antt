@@ -48,11 +48,11 @@ pub record CanSpeak (c : AgentControl) : Type 0 where
   pub version_is : c.port.version ≡ Some version
   pub calls : Each (λ e. HasCall (asked_by c.queue) e.call) c.unsaid.items
 
--- the message that tells the end of a session
+-- the message that reports the end of a session
 abbrev pub terminated : SessionEnd → Message
 terminated e = Terminated e.domain e.port
 
--- what goes out at once: the ends of these sessions, in their order, and behind them triggers of at most so many calls, but none while an end of a session waits
+-- what is sent in one go: the ends of these sessions, in order, and after them triggers of at most `calls` calls, and none while the end of a session waits
 pub record IsSpoken (calls : ℕ) (told waiting : List SessionEnd) (more : List Message) : Type 0 where
   pub triggers : List Message
   pub is : more ≡ map terminated told ++ triggers
@@ -64,7 +64,7 @@ pub record IsSpoken (calls : ℕ) (told waiting : List SessionEnd) (more : List 
 abbrev pub OnlyTalks : PortState → PortState → Type 0
 OnlyTalks old new = OnlySends old new × ((view new.end).ended ≡ (view old.end).ended)
 
--- the agent said more, triggers of at most so many calls, and nothing else changed: the first ends of sessions were told, and the others are unsaid still
+-- the agent sent more, triggers of at most `calls` calls, and nothing else changed: the first ends of sessions were reported, and the others aren't yet
 pub record SaysMore (calls : ℕ) (old new : AgentControl) : Type 0 where
   pub end : IsSameEnd old.port.end new.port.end
   pub port : OnlyTalks old.port new.port

@@ -89,7 +89,7 @@ impl<'p> AgentControl<'p> {
         }
     }
 
-    // Sends the triggers of at most `calls` calls, as far as the limit and the room allow, where no end of a
+    // Sends the triggers of at most `calls` calls, as far as the limit and the room allow. No end of a
     // session waits.
     fn say_triggers(&mut self, alloc: Global, calls: usize) -> Result<(), Memory>
         requires can { CanSpeak self.old }

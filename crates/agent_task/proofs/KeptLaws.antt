@@ -1,4 +1,4 @@
--- What becomes of the ends of sessions that an agent owes to tell, through each step.
+-- What becomes of the ends of sessions that an agent owes to report, through each step.
 use Rattle.std.proofs.Common.{◌≡◌, ℕ, zero, suc, List, [], ◌∷◌, ◌++◌, refl, ap, sym, ◌∙◌, append_assoc, Some, None, Option, subst}
 use Rattle.std.specs.Prelude.{true, map, filter_map, option_map, is_some, slice_get, slice_set, IsPermutation}
 use Rattle.std.specs.List.{cons_option}
@@ -140,7 +140,7 @@ kept-unserved over called unsaid opened heard said w e asks k = record {
       (held-unsaid said unsaid opened k.lost e) (known-asked called heard w (session_unsaid e) asks) k.are;
 }
 
--- ---- more is said
+-- ---- more is sent
 
 ends-told : (told : List SessionEnd) → filter_map session_told (map terminated told) ≡ map session_unsaid told
 ends-told [] = refl
@@ -208,7 +208,7 @@ move-lost f u o t l = simp append_assoc
 inside : {A : Type 0} (f u l xs ys : List A) → IsPermutation xs ys → IsPermutation (f ++ ((u ++ xs) ++ l)) (f ++ ((u ++ ys) ++ l))
 inside f u l xs ys p = IsPermutation-append_right f ((u ++ xs) ++ l) ((u ++ ys) ++ l) (IsPermutation-append_left l (u ++ xs) (u ++ ys) (IsPermutation-append_right u xs ys p))
 
--- and are to be told
+-- and are to be reported
 pub kept-over : (over : Option ControlEnd) (called : List (Option Called)) (unsaid unsaid' : List SessionEnd) (opened opened' told : List SessionOver) (heard said : List Message) → unsaid' ≡ unsaid ++ map end_of told
     → IsPermutation (told ++ opened') opened → AreKept over called unsaid opened heard said → AreKept over called unsaid' opened' heard said
 kept-over over called unsaid unsaid' opened opened' told heard said more p k = record {
@@ -235,7 +235,7 @@ kept-over over called unsaid unsaid' opened opened' told heard said more p k = r
         ap (λ l. f ++ ((l ++ o') ++ k.lost)) (ap (λ l. map session_unsaid l) more ∙ (map-append session_unsaid unsaid (map end_of told) ∙ ap (λ l. u ++ l) (same-sessions told)))
         ∙ move-over f u t o' k.lost
 
--- or are lost, where the control channel is over
+-- or are lost, if the control channel is over
 pub kept-lost : (how : ControlEnd) (called : List (Option Called)) (unsaid : List SessionEnd) (opened opened' told : List SessionOver) (heard said : List Message) → IsPermutation (told ++ opened') opened
     → AreKept (Some how) called unsaid opened heard said → AreKept (Some how) called unsaid opened' heard said
 kept-lost how called unsaid opened opened' told heard said p k = record {

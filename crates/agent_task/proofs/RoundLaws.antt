@@ -1,4 +1,4 @@
--- A round of an agent: what it says, and how its control channel comes to its end.
+-- A round of an agent: what it sends, and how its control channel ends.
 use Rattle.std.proofs.Common.{◌≡◌, ℕ, List, ◌++◌, refl, ap, sym, ◌∙◌, Some, None, Option, subst}
 use Rattle.std.specs.Prelude.{map}
 use Rattle.qrexec_frame.specs.declared.message.Message.{Message}

@@ -95,7 +95,7 @@ over-tellable a heard said over stands begun = by_call over.number begun
         (got.0, got.1, subst (λ (n : ℕ). is_at n over.port got.0.answer ≡ true) own.2 (subst (λ (n : ℕ). is_at own.0.to n got.0.answer ≡ true) own.3 (called-at got.0.call got.0.answer own.0 got.2)))
     by_call None served = asked-to-serve heard a.slots.served over.domain over.port stands.asked_for served
 
--- sessions that are over are to be told
+-- the ends of sessions that are over are to be reported
 pub notes-up : (a : Agent) (s : SlotsState) (new : Agent) (over : List SessionOver) → IsUp a → s ≡ record a.slots { opened = s.opened } → OnlyTells (with_slots a s) new → new.control.unsaid.items ≡ a.control.unsaid.items ++ map end_of over
     → IsPermutation (over ++ s.opened) a.slots.opened → Each (IsToldOver a.slots) over → IsUp new
 notes-up a s new over up is only told p each =
@@ -124,7 +124,7 @@ pub noted-running : (a : Agent) (s : SlotsState) (new : Agent) (over : List Sess
     → new.control.unsaid.items ≡ a.control.unsaid.items ++ map end_of over → IsPermutation (over ++ s.opened) a.slots.opened → Each (IsToldOver a.slots) over → IsRunning new
 noted-running a s new over running none is only told p each = up-running new (notes-up a s new over (running-up a running (none-of a.over none)) is only told p each)
 
--- what was told where nothing was before
+-- all that was reported, if nothing was before
 pub told-first : (old new : SlotsState) (now : List SessionOver) → TellsMore old new [] now → IsPermutation (now ++ new.opened) old.opened × Each (IsToldOver old) now
 told-first old new now tells = (subst (λ l. IsPermutation (l ++ new.opened) old.opened) (sym tells.1) tells.2, subst (λ l. Each (IsToldOver old) l) (sym tells.1) tells.3)
 

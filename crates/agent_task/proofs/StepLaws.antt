@@ -317,7 +317,7 @@ tells-stand old new ends heard said only told each stands = subst (λ (x : Agent
   quiet = stands.quiet;
 })
 
--- what isn't served is told to have ended
+-- the end of what isn't served is to be reported
 unserved : (old new : Agent) (d p : ℕ) (w : Message) (awaits : Awaits old w) → AsksToServe d p w → session_asked w ≡ Some (d, p) → takes old.given.domain (made_of old awaits.heard) w ≡ made_of old awaits.heard → OnlyTells old new
     → new.control.unsaid.items ≡ old.control.unsaid.items ++ record { domain = d; port = p; call = None } ∷ [] → IsHearing new
 unserved old new d p w awaits asks names same only told =

@@ -86,7 +86,7 @@ pub record Stands (a : Agent) (heard said : List Message) : Type 0 where
   -- before the broker's greeting it sends nothing but its own
   pub quiet : a.control.port.version ≡ None → said ≡ []
 
--- what becomes of each end of a session that it owes to tell
+-- what becomes of each end of a session that it owes to report
 abbrev pub KeepsEnds : Agent → List Message → List Message → Type 0
 KeepsEnds a heard said = AreKept a.over a.slots.called a.control.unsaid.items a.slots.opened heard said
 

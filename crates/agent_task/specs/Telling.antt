@@ -1,4 +1,4 @@
--- What an agent that is done has told, beside what it owes.
+-- What an agent that is done has reported, beside what it owes.
 -- Source: this project's own.
 use Rattle.std.specs.Prelude.{◌≡◌, ◌↔◌, List, filter_map, slice_get, Some}
 use Rattle.qrexec_frame.specs.declared.message.Message.{Message}
@@ -22,7 +22,7 @@ heard_on plan control = hears plan.version to_agent control.got
 
 -- by its control end and what it reports of that
 pub record TellsOf (plan : AgentPlan) (control : EndView) (how : ControlEnd) : Type 0 where
-  -- the end of each session that it owes to tell was told at most once, and of no other
+  -- the end of each session that it owes to report was reported at most once, and that of no other
   pub said : List Message
   pub says : IsSaid plan.version to_broker said control.sent
   pub told : IsPartOf (filter_map session_told said) (sessions_owed (answers plan (heard_on plan control).messages).asked (heard_on plan control).messages)

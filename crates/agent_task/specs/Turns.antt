@@ -13,7 +13,7 @@ Pays given (turn.Again task) = task ≡ given
 Pays given (turn.Done done) = TaskOwes (Agent given.plan given.ends) (AgentDone (report_of done))
 Pays given turn.NoMemory = Unit {0}
 
--- and one that is done has told all this
+-- a task that is done has reported all this
 abbrev pub Tells : AgentGiven → AgentTurn → Type 0
 Tells given (turn.Again task) = Unit {0}
 Tells given (turn.Done done) = TellsAll given.plan done

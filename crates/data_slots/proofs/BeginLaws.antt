@@ -86,7 +86,7 @@ free-client domain version from port slots at slot stages ends free =
     (client-role domain slot.from slot.to slot.port (end_of slot.stage).role (to-is slot.from slot.to slot.port from domain port free.lies)
     (each-get (λ h. IsEndOf domain h.place h.role) (held_in slots) at (frame_of slot).held ends (get-map (λ s. (frame_of s).held) slots at slot free.here)))
 
--- two states are the same where their lists are
+-- two states are the same if their lists are
 pub same-state : (domain version : ℕ) (held held' : List Held) (unused unused' late late' : List PagePlace) (called called' : List (Option Called)) (served served' : List ServedHere) (opened opened' : List SessionOver) (spent : Bool)
     → held ≡ held' → unused ≡ unused' → late ≡ late' → called ≡ called' → served ≡ served' → opened ≡ opened'
     → ◌≡◌ {A = SlotsState} (record { domain = domain; version = version; held = held; unused = unused; late = late; called = called; served = served; opened = opened; spent = spent })

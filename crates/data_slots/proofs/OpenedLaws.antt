@@ -69,7 +69,7 @@ none-opened fs (n ∷ numbers) is = cc
 
 -- ---- pages that are laid when they are first used
 
--- none is another where an end is put to use
+-- an end that is put to use changes no other
 pub late-set : (fs : List Frame) (at : ℕ) (f : Frame) (used : Use) → slice_get fs at ≡ Some f → late_in (set fs at (record f { used = used })) ≡ late_in fs
 late-set [] at f used here = cc
 late-set (g ∷ fs) zero f used here =
@@ -88,7 +88,7 @@ late-none p (g ∷ fs) apart = by_late g.late refl (late-none p fs (λ j. apart 
     by_late true is more = let a = apart 0 g refl in rw (is, a) more
     by_late false is more = rw is more
 
--- the place of an end is among them where its page is laid late
+-- the place of an end is among them if its page is laid late
 late-there : (fs : List Frame) (i : ℕ) (f : Frame) → slice_get fs i ≡ Some f → ((j : ℕ) (g : Frame) → slice_get fs j ≡ Some g → j ≢ i → is_place f.held.place g.held.place ≡ false)
     → has_place f.held.place (late_in fs) ≡ f.late
 late-there [] i f here apart = cc
@@ -118,7 +118,7 @@ late-there (g ∷ fs) (suc i) f here apart = by_late g.late refl (late-there fs 
     by_late true is more = let a = apart 0 g refl (λ e. bad i e) in rw (is, a) more
     by_late false is more = rw is more
 
--- an open session is told
+-- an open session is reported
 pub session-told : (f t p : ℕ) (stage : Stage) → is_session stage ≡ true → (told : SessionOver) × (told_of (Payload f t p) (use_of stage) ≡ Some told)
 session-told f t p (Unused end) is = cc
 session-told f t p (Calls number input side session) is = (record { domain = t; port = p; number = Some number }, refl)
@@ -128,7 +128,7 @@ session-told f t p (CallIsOver number input came end) is = cc
 session-told f t p (ServingIsOver number service came end) is = cc
 session-told f t p Taken is = cc
 
--- and lies where it is told to lie
+-- and lies where it is reported to lie
 told-place : (domain : ℕ) (calls : List (Option CallNote)) (served : List ServedNote) (f t p : ℕ) (used : Use) (told : SessionOver) → IsNoted domain calls served (Payload f t p) used → told_of (Payload f t p) used ≡ Some told
     → place_at domain told.number told.domain told.port ≡ Payload f t p
 told-place domain calls served f t p ForNothing told noted is = cc
@@ -147,7 +147,7 @@ told-place domain calls served f t p (ForServing number service) told noted is =
     let own : t ≡ domain = cc in
     subst (λ (x : SessionOver). place_at domain x.number x.domain x.port ≡ Payload f t p) same (ap (λ (d : ℕ). Payload f d p) (sym own))
 
--- so many of the open sessions are on such pages
+-- how many of the open sessions are on such pages
 pub late-counted : (e : Ends) → IsWhole e → count_by (is_late_at (frames e.slots.items)) e.busy.items ≡ late_count (state_of e false)
 late-counted e whole = each e.busy.items (λ k less. open-at (sessions slots) e.busy.items k (get_or e.busy.items k 0) whole.are_open less (get_or-any e.busy.items k less))
   where

@@ -173,7 +173,7 @@ pub record IsTurning (old new : Ends) (before now : List SessionOver) : Type 0 w
   pub same : HasSameEnds old new
   pub retire : Each (λ s. CanRetire s.stage) new.slots.items
 
--- where no session is over
+-- if no session is over
 pub turned-not : (e : Ends) (over : List SessionOver) → IsWhole e → IsTurned e e over over
 turned-not e over whole = record { whole = whole; state = refl; told = tells-none (state_of e false) (state_of e false).opened over refl }
 
@@ -184,7 +184,7 @@ turned-after a b c before mid now one two = record {
   told = tells-after (state_of a false) (state_of b false) (state_of c false) before mid now (ap (λ (s : SlotsState). s.called) one.state) (ap (λ (s : SlotsState). s.served) one.state) one.told two.told;
 }
 
--- where the second call succeeds
+-- if the second call succeeds
 pub turned-ok : {A E : Type 0} (r : Result A E) (P Q : Type 0) → (P → Q) → OnOk r P → OnOk r Q
 turned-ok (Ok v) P Q go h = go h
 turned-ok (Err e) P Q go h = tt

@@ -43,6 +43,6 @@ IsBegun s None domain port = SomeOf (λ x. (x.from ≡ domain) × (x.port ≡ po
 abbrev pub IsToldOver : SlotsState → SessionOver → Type 0
 IsToldOver s over = IsBegun s over.number over.domain over.port
 
--- sessions that are told to be over are put behind those before: just those that were open and aren't any more, each once
+-- sessions that are reported over come after those before: exactly those that were open and no longer are, each once
 abbrev pub TellsMore : SlotsState → SlotsState → List SessionOver → List SessionOver → Type 0
 TellsMore old new before now = (told : List SessionOver) × (now ≡ before ++ told) × IsPermutation (told ++ new.opened) old.opened × Each (IsToldOver old) told

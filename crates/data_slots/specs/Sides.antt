@@ -51,6 +51,6 @@ is_late_done (done.Laid end) = false
 is_late_done (done.Server s) = true
 is_late_done (done.Client c) = true
 
--- where such pages lie, of ends that were given
+-- where such pages lie, for ends that were given
 abbrev pub late_places : List DataEnd → List PagePlace
 late_places ends = filter_map (λ d. if is_late_unused d.end then Some (Payload d.from d.to d.port) else None) ends

@@ -45,7 +45,7 @@ pub record SlotsState : Type 0 where
   pub unused : List PagePlace
   -- where the ends lie whose pages are laid when they are first used
   pub late : List PagePlace
-  -- the session of each of the agent's own calls, where it has one
+  -- the session of each of the agent's own calls, if it has one
   pub called : List (Option Called)
   -- what it serves, in the order in which that began
   pub served : List Serves
