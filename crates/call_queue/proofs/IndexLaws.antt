@@ -24,10 +24,6 @@ first-place names place name front last is = rw (bytes_eq-sym front name) (by_te
     by_test true = ap Some (omega arith)
     by_test false = is ∙ shifted place (suc place) (place_of names name) (omega arith)
 
-unshifted : (o : Option ℕ) → option_map (λ j. j + 0) o ≡ o
-unshifted None = refl
-unshifted (Some j) = ap Some (omega arith)
-
 pub filled-none : (places : List ℕ → Option ℕ) (all : List (List ℕ)) → ((name : List ℕ) → places name ≡ None) → IsFilled places all all
 filled-none places all none = record { names = []; whole = append-nil all; first = none }
 
@@ -40,8 +36,3 @@ filled-more places more left new all front split is f =
       whole = sym (append_assoc new (front ∷ []) f.names) ∙ (ap (λ l. l ++ f.names) (sym split) ∙ f.whole);
       first = λ name. is name ∙ first-place f.names (length new) name front (places name) (subst (λ n. places name ≡ option_map (λ j. j + n) (place_of f.names name)) long (f.first name));
     }
-
-pub filled-all : (places : List ℕ → Option ℕ) (left all : List (List ℕ)) → left ≡ [] → IsFilled places left all → (name : List ℕ) → places name ≡ place_of all name
-filled-all places left all none f name =
-    let whole : f.names ≡ all = sym (ap (λ l. l ++ f.names) none) ∙ f.whole in
-    subst (λ l. places name ≡ option_map (λ j. j + length l) (place_of f.names name)) none (f.first name) ∙ (unshifted (place_of f.names name) ∙ ap (λ l. place_of l name) whole)

@@ -6,12 +6,6 @@ pub sub-same : {A : Type 0} (xs : List A) → Sub xs xs
 sub-same [] = tt
 sub-same (x ∷ xs) = inl (refl, sub-same xs)
 
-pub sub-left : {A : Type 0} (xs ys zs : List A) → Sub xs ys → Sub xs (ys ++ zs)
-sub-left [] ys zs h = tt
-sub-left (x ∷ xs) [] zs h = absurd h
-sub-left (x ∷ xs) (y ∷ ys) zs (inl h) = inl (h.0, sub-left xs ys zs h.1)
-sub-left (x ∷ xs) (y ∷ ys) zs (inr h) = inr (sub-left (x ∷ xs) ys zs h)
-
 pub sub-right : {A : Type 0} (xs ys zs : List A) → Sub xs zs → Sub xs (ys ++ zs)
 sub-right xs [] zs h = h
 sub-right xs (y ∷ ys) zs h = sub-more y xs (ys ++ zs) (sub-right xs ys zs h)

@@ -1,22 +1,19 @@
 -- The bytes that a hostile user stores one after another.
-use Rattle.std.proofs.Common.{◌≡◌, ℕ, ◌+◌, ◌%◌, ◌^◌, ◌<◌, List, [], ◌∷◌, ◌++◌, length, take, slice_index, refl, sym, subst, ap, ◌∙◌, arith}
+use Rattle.std.proofs.Common.{◌≡◌, ℕ, ◌+◌, ◌%◌, ◌^◌, ◌<◌, List, [], ◌∷◌, ◌++◌, length, take, slice_index, refl, sym, ap, ◌∙◌, arith}
 use Rattle.std.proofs.lemmas.List.{length-take, take_more}
 use Rattle.ring_words.specs.Rings.{place}
 use Rattle.ring_words.specs.Page.{order_of}
 use Rattle.ring_words.specs.declared.order.Orders.{Orders}
 use Rattle.ring_words.specs.declared.page.Role.{Role}
-use Rattle.ring_words.specs.declared.page.Ring.{Ring}
-use Rattle.ring_words.specs.declared.page.Ring.TheVariants.{Left, Right}
-use Rattle.ring_words.specs.declared.page.WordName.{WordName}
 use Rattle.ring_words.specs.declared.page.WordName.TheVariants.{RingByte}
 use Rattle.ring_words.proofs.RingLaws.{place_wraps}
 use Rattle.vchan_protocol.specs.declared.op.Op.{Op}
 use Rattle.vchan_protocol.specs.declared.side.Side.{Side}
-use Rattle.vchan_protocol.specs.Hostile.Turned.{strays, MayPoke}
+use Rattle.vchan_protocol.specs.Hostile.Turned.{strays}
 use Rattle.vchan_protocol.specs.declared.op.Op.TheVariants.{Store}
 use Rattle.vchan_protocol.specs.declared.op.PastEvent.{PastEvent}
 use Rattle.vchan_protocol.specs.Table.Plan.{past}
-use Rattle.vchan_protocol.specs.Table.Ends.{written_ring, cons_word, prod_word}
+use Rattle.vchan_protocol.specs.Table.Ends.{written_ring}
 use Rattle.hostile_seat.specs.Hostile.{strays_along, byte_stores}
 
 -- one more byte after the others
@@ -41,15 +38,6 @@ along_role s (event ∷ events) = along_role (strays s event.op event.taken) eve
 pub along_orders : (s : Side) (events : List PastEvent) → (strays_along s events).orders ≡ s.orders
 along_orders s [] = refl
 along_orders s (event ∷ events) = along_orders (strays s event.op event.taken) events
-
--- a hostile user reaches the indices
-pub may_cons : (orders : Orders) (ring : Ring) (word : WordName) → word ≡ cons_word ring → MayPoke orders word
-may_cons orders Left word is = subst (MayPoke orders) (sym is) tt
-may_cons orders Right word is = subst (MayPoke orders) (sym is) tt
-
-pub may_prod : (orders : Orders) (ring : Ring) (word : WordName) → word ≡ prod_word ring → MayPoke orders word
-may_prod orders Left word is = subst (MayPoke orders) (sym is) tt
-may_prod orders Right word is = subst (MayPoke orders) (sym is) tt
 
 -- one more byte is stored
 pub stored_more : (s now : Side) (index at byte lies : ℕ) (bytes : List ℕ) → now ≡ strays_along s (byte_stores s.role s.orders index (take at bytes)) → at < length bytes → byte ≡ slice_index bytes at →

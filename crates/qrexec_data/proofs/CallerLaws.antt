@@ -1,6 +1,6 @@
 -- A caller keeps what it stands for.
 use Rattle.std.proofs.Common.{◌≡◌, ℕ, ◌+◌, ◌-◌, ◌<◌, ◌≤◌, ◌^◌, suc, List, [], ◌∷◌, ◌++◌, length, take, drop, refl, ap, sym, ◌∙◌, subst, arith, length-append, ◌⊎◌, inl, inr, Option, Some, None}
-use Rattle.std.proofs.lemmas.List.{append-nil, take-append-le, length-drop, length-take-le}
+use Rattle.std.proofs.lemmas.List.{append-nil, length-drop, length-take-le}
 use Rattle.std.proofs.lemmas.Bool.Decides.{nat_tests}
 use Rattle.std.proofs.lemmas.Bool.{eqb-true}
 use Rattle.std.specs.Prelude.{true, false, Bool, min, nat_lt, ◌==◌, is_none, is_some, not, if◌then◌else◌, IsSome, ◌↔◌}
@@ -18,10 +18,10 @@ use Rattle.qrexec_data.specs.Seeing.{Seen, Undecided, caller_use, sees_all}
 use Rattle.qrexec_data.specs.Sending.{agreed, most}
 use Rattle.qrexec_data.specs.Reading.{InboxState, unread, read_messages}
 use Rattle.qrexec_data.specs.Replies.{RepliesState, after_message, faulted, KnowsReplies}
-use Rattle.qrexec_data.specs.Requests.{RequestsState, next_len, laid_next, laid_on, end_if, SendsInput, SendsGreeting, SendsRequests}
+use Rattle.qrexec_data.specs.Requests.{RequestsState, next_len, laid_next, laid_on, end_if, SendsInput, SendsRequests}
 use Rattle.qrexec_data.specs.CallerSide.{CallerState, ReadsReply, NothingLeft, OneMessage, OneFault, IsReading, HasRead, CallerStandsFor, LendsRequests, IsStill}
 use Rattle.qrexec_data.proofs.SpelledLaws.{spelled, spelled-behind, each-one, take-more, written-some}
-use Rattle.qrexec_data.proofs.ReadingLaws.{ReadsNext, reading-short, reading-bad, reading-next, more-bytes}
+use Rattle.qrexec_data.proofs.ReadingLaws.{ReadsNext, reading-short, reading-bad, reading-next}
 use Rattle.qrexec_data.proofs.HearingLaws.{left-over, seen-frame, joined-piece}
 use Rattle.qrexec_data.proofs.RepliesLaws.{if-true, if-false, Heard, GoesOn, Decides, placed_at, hears}
 
@@ -158,30 +158,7 @@ none-of true (Some o) is = cc
 none-of false None is = cc
 none-of false (Some o) is = refl
 
--- more bytes came
-pub more-came : (c : CallerState) (piece : List ℕ) → IsReading c → IsReading (record c { inbox = record c.inbox { got = c.inbox.got ++ piece } })
-more-came c piece h =
-    let same : take c.inbox.read (c.inbox.got ++ piece) ≡ take c.inbox.read c.inbox.got = take-append-le c.inbox.read c.inbox.got piece h.at.within in
-    let P : List ℕ → Type 0 = λ bytes. KnowsReplies c.replies (reading Data bytes).placed (sees_all caller_use (reading Data bytes).placed (Rest 0)) in
-    record { undecided = h.undecided; at = more-bytes c.inbox piece h.at; knows = subst P (sym same) h.knows }
-
 -- ---- sending
-
--- the greeting of the other side was read
-sends-greeted : (own version : ℕ) (r : RequestsState) (sent : List ℕ) → SendsGreeting own r sent → SendsInput own (min r.chunk (most version)) r sent
-sends-greeted own version r sent g = record {
-  pieces = [];
-  each = tt;
-  all = rw g.none refl;
-  within = rw g.none (omega arith);
-  stream = g.stream ∙ rw g.unclosed (sym (append-nil (written (Hello own))));
-  done = λ yes. let no : false ≡ true = sym g.unclosed ∙ yes in cc;
-}
-
-pub sends-on : (own : ℕ) (old new : Option ℕ) (r : RequestsState) (sent : List ℕ) → ((v : ℕ) → old ≡ Some v → new ≡ Some v) → SendsRequests own old r sent → SendsRequests own new r sent
-sends-on own None None r sent kept s = s
-sends-on own None (Some v) r sent kept s = sends-greeted own v r sent s
-sends-on own (Some u) new r sent kept s = let P : Option ℕ → Type 0 = λ v. SendsRequests own v r sent in subst P (sym (kept u refl)) s
 
 -- the input goes on
 sends-piece : (own limit : ℕ) (r : RequestsState) (sent : List ℕ) (n : ℕ) → SendsInput own limit r sent → r.closed ≡ false → 0 < n → n ≤ limit → n ≤ length r.input - r.laid
@@ -293,18 +270,6 @@ lends old r piece none is lent =
       piece_is = lent ∙ sym (if-true (is_none old.replies.outcome) _ _ yes);
       new_is = ap (λ x. later x) (is ∙ sym (if-true (is_none old.replies.outcome) _ _ yes));
       stands = λ sent s. let P : RequestsState → Type 0 = λ x. CallerStandsFor (record old { requests = x }) sent in subst P (sym is) (stands-laid old sent s);
-    }
-  where
-    later : RequestsState → CallerState
-    later x = record old { requests = x }
-
-pub lends-none : (old : CallerState) (o : Outcome) → old.replies.outcome ≡ Some o → LendsRequests old old []
-lends-none old o some =
-    let no : is_none old.replies.outcome ≡ false = rw some refl in
-    record {
-      piece_is = sym (if-false (is_none old.replies.outcome) _ _ no);
-      new_is = ap (λ x. later x) (sym (if-false (is_none old.replies.outcome) _ _ no));
-      stands = λ sent s. s;
     }
   where
     later : RequestsState → CallerState

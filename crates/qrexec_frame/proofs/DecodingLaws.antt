@@ -101,10 +101,6 @@ answers-grammar old new (Err error.Memory) answer = answer.3
 
 -- ---- all bytes fed
 
--- a new decoder stands for nothing
-pub new-stands : (channel : Channel) → StandsFor (record { channel = channel; passed = 0; left = []; at = 0; fault = None }) [] []
-new-stands channel = record { before = []; after = []; fed_is = refl; at_is = refl; given_is = refl; none_after = λ _. refl; faulty = λ f is. cc }
-
 -- the reading of all bytes fed goes on from what was given
 pub stands-reading : (d : DecoderState) (fed : List ℕ) (given : List (Placed Message)) (s : StandsFor d fed given)
     → reading d.channel fed ≡ then_reading given (read_on (front d.channel) (d.left ++ s.after) (length s.before) 0)

@@ -1,8 +1,7 @@
 -- Laws of the bytes of numbers, the lowest first.
-use Rattle.std.proofs.Common.{◌≡◌, ℕ, zero, suc, ◌+◌, ◌*◌, ◌/◌, ◌%◌, ◌^◌, ◌<◌, List, [], ◌∷◌, get_or, bit_and, refl, sym, ap, ◌∙◌, arith}
+use Rattle.std.proofs.Common.{◌≡◌, ℕ, zero, suc, ◌+◌, ◌*◌, ◌/◌, ◌%◌, ◌^◌, ◌<◌, List, [], ◌∷◌, get_or, refl, sym, ap, ◌∙◌, arith}
 use Rattle.std.specs.Int.{byte_at, bytes_low_first}
 use Rattle.std.proofs.Math.Nat.{pow-suc, mul_comm, div-div-eq-div-mul, zero-div}
-use Rattle.std.proofs.lemmas.Nat.{and_mask}
 use Rattle.ring_words.specs.Image.{byte_of, number_from}
 
 -- std's byte of a number
@@ -35,7 +34,3 @@ byte_of-number_from (b ∷ bs) (suc k) fits =
 -- a number below 256 is its lowest byte
 pub byte_of-small : (n : ℕ) → n < 256 → byte_of n 0 ≡ n
 byte_of-small n h = omega arith
-
--- the lowest byte, as a mask takes it
-pub byte_of-mask : (n : ℕ) → bit_and n 255 ≡ byte_of n 0
-byte_of-mask n = and_mask n 8 ∙ omega arith

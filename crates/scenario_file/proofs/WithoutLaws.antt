@@ -1,5 +1,5 @@
 -- The lines of a scenario are those of the scenario without its hostile domains.
-use Rattle.std.proofs.Common.{◌≡◌, ℕ, ◌+◌, ◌-◌, ◌<◌, ◌≤◌, suc, zero, List, [], ◌∷◌, length, take, map, refl, ap, sym, ◌∙◌, arith, ◌⊎◌, inl, inr, Option, Some, None}
+use Rattle.std.proofs.Common.{◌≡◌, ℕ, ◌+◌, ◌-◌, ◌<◌, suc, zero, List, [], ◌∷◌, length, take, map, refl, ap, sym, ◌∙◌, arith, ◌⊎◌, inl, inr, Option, Some, None}
 use Rattle.std.specs.Prelude.{true, false, Bool, not, bytes_eq, slice_get, is_some, filter, option_map, ◌==◌, if◌then◌else◌}
 use Rattle.std.specs.Option.{option_map_or}
 use Rattle.std.specs.List.{AllByRecursion}
@@ -16,10 +16,6 @@ left domains k = length (honest (take k domains))
 -- an honest domain stands at the place
 abbrev pub IsHonestAt : List Domain → ℕ → Type 0
 IsHonestAt domains k = option_map_or is_hostile (slice_get domains k) true ≡ false
-
-left-behind : (x : Domain) (domains : List Domain) (k : ℕ) (b : Bool) → is_hostile x ≡ b → left (x ∷ domains) (suc k) ≡ (if b then left domains k else suc (left domains k))
-left-behind x domains k true is = rw is refl
-left-behind x domains k false is = rw is refl
 
 -- what a name leads to without the hostile
 abbrev pub LeftNamed : List Domain → List ℕ → Option ℕ → Type 0
@@ -194,12 +190,3 @@ lines-without s each = all-lines s.domains s.calls each
 pub number_left-pred : (domains : List Domain) (d : ℕ) → IsHonest domains d → number_left domains d ≡ length (honest (take (d - 1) domains)) + 1
 number_left-pred domains zero h = cc
 number_left-pred domains (suc k) h = let less : suc k - 1 ≡ k = omega arith in rw less (omega arith)
-
-pub number-above : (domains : List Domain) (d : ℕ) → IsHonest domains d → (1 ≤ d) × (d ≤ length domains)
-number-above domains zero h = cc
-number-above domains (suc k) h = (omega arith, within domains k h)
-  where
-    within : (ds : List Domain) (j : ℕ) → option_map_or is_hostile (slice_get ds j) true ≡ false → suc j ≤ length ds
-    within [] j e = cc
-    within (x ∷ ds) zero e = omega arith
-    within (x ∷ ds) (suc j) e = let more = within ds j e in omega (arith, more)

@@ -29,9 +29,6 @@ behind-cons : (front : List ℕ) (byte : ℕ) (o : Option (List ℕ)) → behind
 behind-cons front byte None = refl
 behind-cons front byte (Some rest) = ap Some (sym (append_assoc front (byte ∷ []) rest))
 
-behind-none : (front : List ℕ) → behind front None ≡ None
-behind-none front = refl
-
 -- what is left of the digits, at a whole pair
 drop-pair : (digits : List ℕ) (i : ℕ) → 2 * i + 1 < length digits → drop (2 * i) digits ≡ get_or digits (2 * i) 0 ∷ get_or digits (2 * i + 1) 0 ∷ drop (2 * (i + 1)) digits
 drop-pair digits i within =

@@ -1,5 +1,5 @@
 -- An input read line by line.
-use Rattle.std.proofs.Common.{◌≡◌, ◌⊎◌, inl, inr, ℕ, ◌+◌, ◌-◌, List, [], ◌++◌, length, Result, Ok, Err, refl, sym, ap, subst, ◌∙◌}
+use Rattle.std.proofs.Common.{◌≡◌, ◌⊎◌, inl, inr, ℕ, ◌+◌, ◌-◌, List, ◌++◌, length, Result, Ok, Err, refl, sym, ap, subst, ◌∙◌}
 use Rattle.std.specs.Result.{IsOk}
 use Rattle.std.proofs.lemmas.Bool.{false≢true}
 use Rattle.std.proofs.lemmas.List.{append_assoc, append-nil}
@@ -23,10 +23,6 @@ abbrev pub before : List ℕ → Result (List ℕ) (ℕ × DecodeKind) → Resul
 before fed (Ok rest) = Ok (fed ++ rest)
 before fed (Err e) = Err e
 
-before-nil : (r : Result (List ℕ) (ℕ × DecodeKind)) → r ≡ before [] r
-before-nil (Ok rest) = refl
-before-nil (Err e) = refl
-
 before-piece : (fed piece : List ℕ) (r : Result (List ℕ) (ℕ × DecodeKind)) → before fed (r >>= (λ rest. Ok (piece ++ rest))) ≡ before (fed ++ piece) r
 before-piece fed piece (Ok rest) = ap Ok (sym (append_assoc fed piece rest))
 before-piece fed piece (Err e) = refl
@@ -34,9 +30,6 @@ before-piece fed piece (Err e) = refl
 -- the bytes of the lines read so far, and those of the lines that are left, are the stream
 abbrev pub IsReadTo : List ℕ → Lines → ℕ → List ℕ → Type 0
 IsReadTo input left total fed = stream_of input ≡ before fed (stream_from left total)
-
-pub read-nothing : (input : List ℕ) → IsReadTo input (input_lines input) 0 []
-read-nothing input = before-nil (stream_of input)
 
 -- one line more
 pub read-line : (input : List ℕ) (left more : Lines) (number total : ℕ) (text : List ℕ) (fed piece : List ℕ) → left ≡ line number text more → piece_at number total text ≡ Ok piece → IsReadTo input left total fed

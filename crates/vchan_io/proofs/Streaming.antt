@@ -1,5 +1,5 @@
 -- Several takings, or several appendings, one after another.
-use Rattle.std.proofs.Common.{◌≡◌, ℕ, List, [], ◌++◌, Option, None, Some, refl, sym, ap, append_assoc, append-nil, IfSome, take, drop, ◌+◌}
+use Rattle.std.proofs.Common.{◌≡◌, ℕ, List, [], ◌++◌, Option, None, Some, refl, sym, append_assoc, append-nil, IfSome, take, drop, ◌+◌}
 use Rattle.std.proofs.Math.Seq.{take-add}
 use Rattle.std.specs.Io.KnownBytes.{IsAtEnd}
 use Rattle.vchan_io.specs.Streams.{Takes, Appends}
@@ -23,11 +23,6 @@ Takes-all old (Some bytes) taken takes at_end = rw (takes, at_end) (sym (append-
 pub Takes-filled : (old middle new : Option (List ℕ)) (before after : List ℕ) (filled count : ℕ) → take filled after ≡ take filled before → Takes old middle (take filled before) → Takes middle new (take count (drop filled after)) → Takes old new (take (filled + count) after)
 Takes-filled old middle new before after filled count kept takes more =
     rw (take-add filled count after, kept) (Takes-both old middle new _ _ takes more)
-
--- appending nothing leaves what was held
-pub Appends-none : (held : Option (List ℕ)) → Appends held held []
-Appends-none None = refl
-Appends-none (Some bytes) = sym (ap Some (append-nil bytes))
 
 -- what two appendings append, they append together
 pub Appends-both : (old middle new : Option (List ℕ)) (first second : List ℕ) → Appends old middle first → Appends middle new second → Appends old new (first ++ second)

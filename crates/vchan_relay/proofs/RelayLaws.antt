@@ -20,9 +20,6 @@ use Rattle.vchan_relay.specs.Turns.{HasDrained, HasWritten, HasTurned, by_drain}
 pub length_range : (xs : List ℕ) (a b : ℕ) → a ≤ b → b ≤ length xs → length (slice_range xs a b) ≡ b - a
 length_range xs a b order within = length-take-le (b - a) (drop a xs) (omega (arith, length-drop a xs, order, within))
 
-pub range_none : (xs : List ℕ) (a : ℕ) → slice_range xs a a ≡ []
-range_none xs a = let none : a - a ≡ 0 = omega arith in ap (λ (n : ℕ). take n (drop a xs)) none
-
 pub range_front : (xs : List ℕ) (b : ℕ) → slice_range xs 0 b ≡ take b xs
 range_front xs b = let all : b - 0 ≡ b = omega arith in ap (λ (n : ℕ). take n xs) all
 

@@ -16,7 +16,7 @@ use Rattle.vchan_relay.specs.Joints.{JoinedEnds}
 use Rattle.vchan_relay.specs.Ended.{IsEndOf}
 use Rattle.vchan_relay.specs.Given.{ReaderGiven}
 use Rattle.vchan_relay.specs.Laying.{IsLaid, AreLaid}
-use Rattle.vchan_relay.specs.Owes.{Owes, WriterHands, RelayHands, ReaderHands, FollowOn, AreTasks, AreHandedBack, AreLeft}
+use Rattle.vchan_relay.specs.Owes.{Owes, WriterHands, RelayHands, ReaderHands, FollowOn, AreTasks, AreLeft}
 
 -- ---- making pages
 
@@ -73,22 +73,6 @@ is_next words pages index page seat seats left laid is at =
     record { within = within; cut = cut; laid = both.0; rest = both.1 }
 
 -- ---- settling
-
-pub left_first : (bytes : List ℕ) (room : ℕ) (pages : List PageView) (client : SeatedSide) (dones : List HopDone) → AreHandedBack bytes room pages (Wrote client ∷ dones) → AreLeft room pages client dones
-left_first bytes room [] client dones handed = absurd handed
-left_first bytes room (page ∷ pages) client dones handed = (handed.0.0, handed.1)
-
-pub no_relay_first : (bytes : List ℕ) (room : ℕ) (pages : List PageView) (near far : SeatedSide) (joint : Option JoinedEnds) (dones : List HopDone) → AreHandedBack bytes room pages (Passed near far joint ∷ dones) → ⊥
-no_relay_first bytes room [] near far joint dones handed = handed
-no_relay_first bytes room (page ∷ pages) near far joint dones handed = handed.0
-
-pub no_reader_first : (bytes : List ℕ) (room : ℕ) (pages : List PageView) (end : SeatedSide) (got : List ℕ) (dones : List HopDone) → AreHandedBack bytes room pages (Read end got ∷ dones) → ⊥
-no_reader_first bytes room [] end got dones handed = handed
-no_reader_first bytes room (page ∷ pages) end got dones handed = handed.0
-
-pub some_first : (bytes : List ℕ) (room : ℕ) (pages : List PageView) → AreHandedBack bytes room pages [] → ⊥
-some_first bytes room [] handed = handed
-some_first bytes room (page ∷ pages) handed = handed
 
 pub passed_on : (room : ℕ) (page : PageView) (pages : List PageView) (client near far : SeatedSide) (joint : Option JoinedEnds) (dones : List HopDone) → AreLeft room (page ∷ pages) client (Passed near far joint ∷ dones) → IsEndOf page.table Server near × AreLeft room pages far dones
 passed_on room page [] client near far joint [] left = absurd left.1

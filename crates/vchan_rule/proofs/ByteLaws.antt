@@ -1,5 +1,5 @@
 -- One byte of a put or a take, as one event of an end.
-use Rattle.std.proofs.Common.{◌≡◌, ℕ, ◌+◌, ◌%◌, ◌<◌, ◌≤◌, ◌^◌, ◌||◌, Bool, false, None, List, [], ◌∷◌, ◌++◌, length, slice_index, refl, subst, sym, ap, ◌∙◌, arith}
+use Rattle.std.proofs.Common.{◌≡◌, ℕ, ◌+◌, ◌%◌, ◌<◌, ◌^◌, ◌||◌, Bool, false, None, List, [], ◌∷◌, ◌++◌, length, slice_index, refl, subst, sym, ap, ◌∙◌, arith}
 use Rattle.std.proofs.lemmas.List.{length-append}
 use Rattle.std.proofs.lemmas.Bool.{false≢true}
 use Rattle.ring_words.specs.declared.order.Order.{Order}
@@ -157,10 +157,6 @@ number_from orders Right at = omega arith
 pub number_within : (orders : Orders) (ring : Ring) (at : ℕ) → at < size (order_of orders ring) → index_of orders (RingByte ring at) < word_count orders
 number_within orders Left at within = omega (arith, within)
 number_within orders Right at within = omega (arith, within)
-
-pub base_most : (orders : Orders) (ring : Ring) → index_of orders (RingByte ring 0) ≤ 14 + size orders.left
-base_most orders Left = omega arith
-base_most orders Right = omega arith
 
 pub some_size : (order : Order) → 0 < size order
 some_size order = let h = place_within 0 order in omega (arith, h)

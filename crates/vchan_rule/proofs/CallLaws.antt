@@ -24,7 +24,6 @@ use Rattle.vchan_protocol.proofs.Honest.LifeTrails.{or_false, or_assoc}
 use Rattle.vchan_protocol.proofs.History.EventLaws.{settled-trail}
 use Rattle.vchan_core.specs.OneMachine.Phases.{IsIdle, payload_needed, buffer_needed}
 use Rattle.vchan_core.specs.Page.StandsFor.{HasPayload}
-use Rattle.vchan_protocol.specs.OneEnd.OneEndLaw.{OwnLawful}
 use Rattle.end_view.specs.EndView.{view_of}
 use Rattle.end_view.specs.AfterCall.{MayCall, answered_view, SeesAsTold}
 use Rattle.end_view.proofs.ViewLaws.{view_after}
@@ -106,9 +105,6 @@ call_along was call payload start e buffer e' buffer' count i quiet along same b
     }
 
 -- ---- what a whole call makes of the view of its end
-
-pub own_of : {start : ℕ} {was now : Side} → now ≡ was → OwnLawful start now → was.turned ≡ false
-own_of same own = ap (λ (z : Side). z.turned) (sym same) ∙ own.honest
 
 pub called_view : (was e : SeatedEnd) (call : Call) (payload start buffer : List ℕ) (answer : Answer) → was.side.turned ≡ false → MayCall (view was) call → e.page ≡ was.page → IsIdle e.machine → IsOver was.side call payload start e.side buffer answer →
     view e ≡ answered_view (view was) call payload buffer answer e.side.saw

@@ -17,17 +17,6 @@ use Rattle.vchan_rule.specs.Along.{GoesAlong}
 use Rattle.vchan_rule.specs.Going.{IsReady, Goes, InCalls, Starts}
 use Rattle.vchan_rule.proofs.CallLaws.{way_on, MakesOne, made_long, seen_now}
 
-pub goes_none : (e : SeatedEnd) (payload buffer : List ℕ) → IsReady e payload buffer → Goes e payload buffer None e buffer
-goes_none e payload buffer ready =
-    record {
-      same = (refl, refl, refl, refl);
-      agrees = ready.agrees;
-      long = refl;
-      way = λ was call given start enough w. w;
-      ready = λ quiet. ready;
-      over = λ some. absurd (false≢true some);
-    }
-
 pub goes_one : (e : SeatedEnd) (payload buffer : List ℕ) (result : Option Answer) (e' : SeatedEnd) (buffer' : List ℕ) → IsReady e payload buffer → GoesOn (plan_left (seen e payload)) → MakesOne e payload buffer e' buffer' result →
     IsSameEnd e e' → Agrees e'.start None e'.machine e'.side → e'.begun ≡ None → HasPayload e'.side payload → (IsSome result ↔ IsIdle e'.machine) → payload_needed e'.machine ≤ payload_needed e.machine → buffer_needed e'.machine ≤ buffer_needed e.machine →
     Goes e payload buffer result e' buffer'

@@ -42,10 +42,6 @@ orders_of-numbers orders =
 pub orders_of_checked : (left right : ℕ) (orders : Orders) → orders.left.number ≡ left → orders.right.number ≡ right → orders_of left right ≡ Some orders
 orders_of_checked left right orders same_left same_right = rw (← same_left, ← same_right) (orders_of-numbers orders)
 
-order_failed : (number : ℕ) (passed : Bool) (fits : passed ≡ true → (10 ≤ number) × (number ≤ 20)) → passed ≡ false → order_where number passed fits ≡ None
-order_failed number true fits is = absurd (cc)
-order_failed number false fits is = refl
-
 orders_failed : (left right : Order) (passed : Bool) (differ : passed ≡ true → left.number ≡ right.number → 12 ≤ left.number) → passed ≡ false → orders_where left right passed differ ≡ None
 orders_failed left right true differ is = absurd (cc)
 orders_failed left right false differ is = refl

@@ -29,7 +29,7 @@ use Rattle.vchan_protocol.specs.Table.Ends.{Standing, standing_after, prod_store
 use Rattle.vchan_protocol.specs.Table.Calls.{plan_of, payload_of, stored_most, loaded_most}
 use Rattle.vchan_protocol.specs.Table.Apply.{words_after, word_of, value_taken}
 use Rattle.vchan_core.specs.OneMachine.Phases.{standing, at_phase, rest, rest_at, plan_at, rest_or_answer, IsIdle}
-use Rattle.vchan_protocol.specs.History.Core.{Core, side_of, event, plan_next, begun_standing, standing_of, standing_along, plan_left, begins, side_after, made, settled, answered, answer_in, count_stored, bytes_loaded, sent_stored, sent_after, got_stored, got_after}
+use Rattle.vchan_protocol.specs.History.Core.{Core, side_of, event, plan_next, begun_standing, standing_of, standing_along, plan_left, begins, made, settled, answered, answer_in, count_stored, bytes_loaded, sent_stored, sent_after, got_stored, got_after}
 use Rattle.vchan_core.specs.Page.Counts.{capped}
 use Rattle.vchan_core.specs.WholeCall.AtPhase.{page_at, page_to}
 use Rattle.vchan_core.specs.Page.StandsFor.{IsInCall, IsMachineOf, HasPayload, StandsFor, orders_of, words_of}
@@ -121,9 +121,6 @@ made_stands s m m' result taken h busy leads idle stands = go result leads idle
         subst (λ (p : Plan). IsMachineOf (settled (made s (next_op (rest m)) taken) p) m') same there
 
 -- ---- the counts
-
-capped_twice : (count more : ℕ) → capped (capped count + more) ≡ capped (count + more)
-capped_twice count more = omega arith
 
 -- an own index that moves on by this many bytes
 moves_on : (start count value : ℕ) → start < 2 ^ 32 → count < 2 ^ 32 → value ≡ (start + count) % 2 ^ 32 → diff (value % 2 ^ 32) start ≡ count
@@ -326,16 +323,6 @@ pub begins_stands : (call : Call) (m : Machine) (s : Side) (payload : List ℕ) 
 begins_stands call m s payload busy stands plan pays =
     let led : plan_of (standing_of s) call ≡ rest m = sym (plan ∙ ap (λ (e : Standing). plan_of e call) stands) in
     record { standing_is = stands; in_call = (busy, led, pays, refl) }
-
--- after its event it stands for the end after that event, and the answer is the one that is left
-pub steps_stand : (s : Side) (m m' : Machine) (result : Option Answer) (taken : ℕ) → IsMachineOf s m → ¬ IsIdle m →
-    rest_or_answer result m' ≡ after (rest m) taken → (IsSome result ↔ IsIdle m') → standing m' ≡ standing_after (standing m) (next_op (rest m)) →
-    IsMachineOf (side_after s taken) m' × (result ≡ answer_in (after (plan_left s) taken))
-steps_stand s m m' result taken h busy leads idle stands =
-    let plan : plan_left s ≡ rest m = plan_left-is s m (in_call s m h busy) in (
-      subst (λ (p : Plan). IsMachineOf (settled (made s (next_op p) taken) (after p taken)) m') (sym plan) (made_stands s m m' result taken h busy leads idle stands),
-      sym (answer_in-rest m' result idle) ∙ ap answer_in leads ∙ ap (λ (p : Plan). answer_in (after p taken)) (sym plan),
-    )
 
 -- ---- for the code
 

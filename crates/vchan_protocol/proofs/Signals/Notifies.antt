@@ -16,7 +16,7 @@ use Rattle.vchan_protocol.specs.declared.call.Call.{Call}
 use Rattle.vchan_protocol.specs.declared.call.Call.TheVariants.{Write, Send, Read, Recv, Drain, DataReady, BufferSpace, Connect, Close, TakeEvent, Retire, PeerGone}
 use Rattle.vchan_protocol.specs.declared.call.EndState.{EndState}
 use Rattle.vchan_protocol.specs.declared.call.EndState.TheVariants.{Fresh, Open, Shut}
-use Rattle.vchan_protocol.specs.Table.Plan.{Plan, does, answers, next_op, after, rest_after}
+use Rattle.vchan_protocol.specs.Table.Plan.{Plan, does, answers, next_op, rest_after}
 use Rattle.vchan_protocol.specs.Table.Ends.{Standing, ask_word, own_live, own_pending, own_gone, mask, free_at, ready_at}
 use Rattle.vchan_protocol.specs.Table.Calls.{put_bytes, take_bytes, put, take, notify, signal, ask, look_read, look_write, write, write_open, write_looked, read, read_live, read_looked, drain_found, drain_last, drain_gone, drain_further, drain_live, drain_second, drain, connect, connect_right, close, retire, retire_shut, plan_of, send, send_open, send_looked, recv, recv_live, recv_looked}
 use Rattle.vchan_protocol.specs.Signals.SignalLaw.{own_index, test_of, signal_of}
@@ -214,12 +214,6 @@ unfolding Notifies
 Notifies-left role plan [] w = w
 Notifies-left role (answers answer) (event ∷ events) w = tt
 Notifies-left role (does op next) (event ∷ events) w = Notifies-left role (next event.taken) events (w.1 event.taken)
-
--- and so it is after one more event
-pub Notifies-after : (role : Role) (plan : Plan) (value : ℕ) → Notifies role plan → Notifies role (after plan value)
-unfolding Notifies
-Notifies-after role (answers answer) value w = tt
-Notifies-after role (does op next) value w = w.1 value
 
 -- the next event of such a plan is such a deed
 pub deed_of : (role : Role) (op : Op) (next : ℕ → Plan) → Notifies role (does op next) → Deed role op next

@@ -1,5 +1,5 @@
 -- How plans go on, and how the bytes of a PUT and of a TAKE do.
-use Rattle.std.proofs.Common.{◌≡◌, ℕ, suc, zero, ◌+◌, ◌-◌, ◌<◌, ◌≤◌, List, [], ◌∷◌, ◌++◌, refl, subst, sym, ap, ◌∙◌, arith}
+use Rattle.std.proofs.Common.{◌≡◌, ℕ, suc, zero, ◌+◌, ◌-◌, ◌<◌, ◌≤◌, List, [], ◌∷◌, ◌++◌, refl, subst, sym, ap, arith}
 use Rattle.ring_words.specs.Rings.{place}
 use Rattle.ring_words.specs.declared.page.WordName.TheVariants.{RingByte}
 use Rattle.vchan_protocol.specs.declared.op.Op.TheVariants.{StoreByte, LoadByte}
@@ -50,12 +50,6 @@ Leads-more plan [] rest value more led = subst (λ (p : Plan). Leads p (past (ne
     last (does op next) h = (refl, refl)
 Leads-more (answers answer) (event ∷ events) rest value more led = absurd led
 Leads-more (does op next) (event ∷ events) rest value more led = (led.0, Leads-more (next event.taken) events rest value more led.1)
-
--- what is left after a trail is one plan, so the trail determines the next event
-pub Leads-unique : (plan : Plan) (events : List PastEvent) (one two : Plan) → Leads plan events one → Leads plan events two → one ≡ two
-Leads-unique plan [] one two p q = sym p ∙ q
-Leads-unique (answers answer) (event ∷ events) one two p q = absurd p
-Leads-unique (does op next) (event ∷ events) one two p q = Leads-unique (next event.taken) events one two p.1 q.1
 
 -- what a trail leads to is what it leaves
 pub rest_after-Leads : (plan : Plan) (events : List PastEvent) (rest : Plan) → Leads plan events rest → rest_after plan events ≡ rest
