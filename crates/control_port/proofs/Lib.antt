@@ -1,2 +1,3 @@
 mod HearingLaws
 mod PortLaws
+pub mod DrainLaws

@@ -1,11 +1,10 @@
 -- The answers of a connect and of a drain, and the events of a close and of a retire.
-use Rattle.std.proofs.Common.{◌≡◌, ◌↔◌, ℕ, suc, zero, ◌+◌, ◌<◌, ◌≤◌, ◌==◌, ◌||◌, bit_and, if◌then◌else◌, Bool, true, false, not, min, Result, Ok, Err, List, [], ◌∷◌, ◌++◌, length, refl, sym, ap, ◌∙◌, subst, arith, append-nil}
-use Rattle.ring_words.specs.declared.page.Role.{Role}
+use Rattle.std.proofs.Common.{◌≡◌, ◌↔◌, ℕ, suc, zero, ◌+◌, ◌≤◌, ◌==◌, ◌||◌, bit_and, if◌then◌else◌, Bool, true, false, not, Result, Ok, Err, List, [], ◌∷◌, ◌++◌, refl, sym, ap, ◌∙◌, subst, arith, append-nil}
 use Rattle.vchan_protocol.specs.declared.op.Op.{Op}
 use Rattle.vchan_protocol.specs.declared.op.Op.TheVariants.{Store, Or}
 use Rattle.vchan_protocol.specs.declared.op.PastEvent.{PastEvent}
 use Rattle.vchan_protocol.specs.declared.call.Answer.{Answer}
-use Rattle.vchan_protocol.specs.declared.call.Answer.TheVariants.{Got, NotYet, AllRead, PeerGone, Connected, Done, BadOrders as Refuses}
+use Rattle.vchan_protocol.specs.declared.call.Answer.TheVariants.{Got, Done, BadOrders as Refuses}
 use Rattle.vchan_protocol.specs.declared.call.Call.{Call}
 use Rattle.vchan_protocol.specs.declared.call.Call.TheVariants.{Connect, Drain, Close, Retire}
 use Rattle.vchan_protocol.specs.declared.call.Bit.TheVariants.{Written, Consumed}
@@ -14,7 +13,7 @@ use Rattle.vchan_protocol.specs.declared.call.EndState.TheVariants.{Fresh, Open,
 use Rattle.vchan_protocol.specs.Table.Plan.{Plan, does, answers, Leads}
 use Rattle.vchan_protocol.specs.Table.Ends.{Standing, own_live, own_gone, peer_pending, ask_word, mask, ready_at, low32}
 use Rattle.vchan_protocol.specs.Table.Calls.{Trace, close, retire, retire_shut, drain, ask, signal, notify, take, take_bytes, take_index}
-use Rattle.vchan_protocol.specs.Answering.Causes.{DrainCause, drain_got, drain_all_read, drain_not_yet, drain_peer_gone, ConnectCause, connect_agrees, connect_refused, waiting_at}
+use Rattle.vchan_protocol.specs.Answering.Causes.{DrainCause, drain_got, drain_all_read, drain_not_yet, drain_peer_gone, ConnectCause, connect_agrees, connect_refused}
 use Rattle.vchan_protocol.specs.Answering.Loads.{loads_of}
 use Rattle.vchan_protocol.specs.OneEnd.EndingLaw.{tells_end}
 use Rattle.vchan_core.specs.OneMachine.Phases.{IsIdle}

@@ -1,18 +1,23 @@
 -- What a connect, a close, a retire and a drain make of the view of their end, and which signals they store and ask for.
 -- Source: libxenvchan's init.c for a connect and io.c for a close. The drain, the retire and the gone words are this project's own.
-use Rattle.std.specs.Prelude.{ℕ, min, Some, Result, Ok, Err, Bool, true, false, ◌==◌, ◌||◌, List, [], ◌∷◌, ◌++◌, length, take}
+use Rattle.std.specs.Prelude.{ℕ, ◌<◌, min, Some, Result, Ok, Err, Bool, true, false, ◌==◌, ◌||◌, List, [], ◌∷◌, ◌++◌, length, take}
 use Rattle.ring_words.specs.declared.page.Role.{Role}
 use Rattle.vchan_protocol.specs.declared.op.Op.{Op}
 use Rattle.vchan_protocol.specs.declared.op.Op.TheVariants.{Store, Or}
 use Rattle.vchan_protocol.specs.declared.op.PastEvent.{PastEvent}
+use Rattle.vchan_protocol.specs.declared.call.Call.TheVariants.{Drain}
 use Rattle.vchan_protocol.specs.declared.call.Answer.{Answer}
 use Rattle.vchan_protocol.specs.declared.call.Answer.TheVariants.{Got, NotYet, AllRead, PeerGone, Connected, BadOrders as Refuses}
 use Rattle.vchan_protocol.specs.declared.call.EndState.{EndState}
 use Rattle.vchan_protocol.specs.declared.call.EndState.TheVariants.{Open, Shut}
 use Rattle.vchan_protocol.specs.declared.side.EndedBy.TheVariants.{AllRead as ByAllRead, PeerGone as ByPeerGone}
 use Rattle.vchan_protocol.specs.Table.Ends.{Standing, own_live, own_gone, peer_pending, ready_at, low32}
-use Rattle.vchan_protocol.specs.History.Core.{first_ended}
+use Rattle.vchan_protocol.specs.Table.Calls.{Trace}
+use Rattle.vchan_protocol.specs.Answering.Causes.{DrainCause}
+use Rattle.vchan_protocol.specs.Answering.Loads.{loads_of}
+use Rattle.vchan_protocol.specs.History.Core.{first_ended, standing_of}
 use Rattle.end_view.specs.EndView.{EndView}
+use Rattle.vchan_rule.specs.Seated.{SeatedEnd}
 use Rattle.vchan_lifecycle.specs.declared.BadOrders.{BadOrders}
 use Rattle.vchan_lifecycle.specs.declared.DrainAnswer.{DrainAnswer}
 use Rattle.vchan_lifecycle.specs.declared.DrainAnswer.TheVariants.{More, NotYet as IsNotYet, AllRead as IsAllRead, PeerGone as IsPeerGone}
@@ -100,3 +105,14 @@ has_asked (op ∷ later) = asks op || has_asked later
 abbrev pub found_none_first : Standing → List PastEvent → Bool
 found_none_first e [] = false
 found_none_first e (event ∷ later) = ready_at e (low32 event.taken) == 0
+
+-- ---- a drain that moves nothing
+
+-- it asked for at least one byte and found none, and the peer was there
+pub record FindsNotYet (old new : SeatedEnd) : Type 0 where
+  pub most : ℕ
+  pub some : 0 < most
+  pub prod : ℕ
+  pub cons : ℕ
+  pub trail : Trace (standing_of old.side) (Drain most) new.side.trail (NotYet prod cons)
+  pub cause : DrainCause (standing_of old.side) most (loads_of (standing_of old.side) new.side.trail) (NotYet prod cons)

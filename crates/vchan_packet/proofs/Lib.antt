@@ -1,1 +1,2 @@
+pub mod FailingLaws
 pub mod PacketLaws

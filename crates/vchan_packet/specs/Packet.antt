@@ -1,9 +1,15 @@
 -- What a send and a recv of a packet make of the view of their end: all of its bytes, or none.
 -- Source: libxenvchan's io.c, non-blocking mode, for libxenvchan_send and libxenvchan_recv; that an answer names its two indices is this project's own.
-use Rattle.std.specs.Prelude.{ℕ, min, ◌++◌, List, length, true}
+use Rattle.std.specs.Prelude.{◌≡◌, ◌≢◌, ℕ, min, ◌++◌, List, length, true}
+use Rattle.vchan_protocol.specs.declared.call.Call.TheVariants.{Send}
 use Rattle.vchan_protocol.specs.declared.call.Answer.{Answer}
 use Rattle.vchan_protocol.specs.declared.call.Answer.TheVariants.{Sent, NoRoom, Got, Short, PeerClosed}
+use Rattle.vchan_protocol.specs.Table.Calls.{Trace}
+use Rattle.vchan_protocol.specs.Answering.Causes.{SendCause}
+use Rattle.vchan_protocol.specs.Answering.Loads.{loads_of}
+use Rattle.vchan_protocol.specs.History.Core.{standing_of}
 use Rattle.end_view.specs.EndView.{EndView}
+use Rattle.vchan_rule.specs.Seated.{SeatedEnd, view}
 use Rattle.vchan_packet.specs.declared.SendAnswer.{SendAnswer}
 use Rattle.vchan_packet.specs.declared.SendAnswer.TheVariants.{Sent as HasSent, NoRoom as HasNoRoom, PeerClosed as SendClosed}
 use Rattle.vchan_packet.specs.declared.RecvAnswer.{RecvAnswer}
@@ -59,3 +65,11 @@ abbrev pub received_from : EndView → RecvAnswer → List ℕ → EndView
 received_from e HasGot buffer = record e { got = e.got ++ buffer }
 received_from e (IsShort prod cons) buffer = e
 received_from e RecvClosed buffer = record e { saw = true }
+
+-- a send of these bytes sent none: by what it loaded there was no room for all of them, or the peer was shut
+pub record FailsToSend (bytes : List ℕ) (old new : SeatedEnd) : Type 0 where
+  pub answer : SendAnswer
+  pub refused : answer ≢ HasSent
+  pub view_is : view new ≡ sent_to (view old) answer bytes
+  pub trail : Trace (standing_of old.side) (Send (most_asked bytes)) new.side.trail (send_told (most_asked bytes) answer)
+  pub cause : SendCause (standing_of old.side) (most_asked bytes) (loads_of (standing_of old.side) new.side.trail) (send_told (most_asked bytes) answer)
