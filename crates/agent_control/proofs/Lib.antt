@@ -1,1 +1,2 @@
 pub mod SpeakingLaws
+pub mod StoppingLaws

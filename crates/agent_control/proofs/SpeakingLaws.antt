@@ -72,7 +72,7 @@ tells-nothing old new e w end s = record {
 pub says-same : (c : AgentControl) → CanSpeak c → SaysMore 0 c c
 says-same c can = record {
   end = (refl, refl, refl, refl);
-  port = (refl, refl);
+  port = (refl, refl, refl);
   can = can;
   asked = refl;
   heard = λ heard h. h;
@@ -123,7 +123,7 @@ spoken-then n k told mid told' rest more more' split (inr none) p q =
 pub says-then : (n k : ℕ) (a b c : AgentControl) → (n ≡ 0) ⊎ (b.unsaid.items ≡ []) → SaysMore n a b → SaysMore k b c → SaysMore (n + k) a c
 says-then n k a b c first p q = record {
   end = (q.end.0 ∙ p.end.0, q.end.1 ∙ p.end.1, q.end.2 ∙ p.end.2, q.end.3 ∙ p.end.3);
-  port = (q.port.0 ∙ ap (λ (x : PortState). record x { end = c.port.end }) p.port.0, q.port.1 ∙ p.port.1);
+  port = (q.port.0 ∙ ap (λ (x : PortState). record x { end = c.port.end }) p.port.0, q.port.1 ∙ p.port.1, q.port.2 ∙ p.port.2);
   can = q.can;
   asked = q.asked ∙ p.asked;
   heard = λ heard h. q.heard heard (p.heard heard h);

@@ -1,1 +1,2 @@
 pub mod Speaking
+pub mod Stopping

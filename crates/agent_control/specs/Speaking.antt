@@ -60,9 +60,9 @@ pub record IsSpoken (calls : ℕ) (told waiting : List SessionEnd) (more : List 
   pub few : length triggers ≤ calls
   pub last : (triggers ≡ []) ⊎ (waiting ≡ [])
 
--- only the end of the port moved, and by no drain
+-- only the end of the port moved, which got nothing and came to no end
 abbrev pub OnlyTalks : PortState → PortState → Type 0
-OnlyTalks old new = OnlySends old new × ((view new.end).ended ≡ (view old.end).ended)
+OnlyTalks old new = OnlySends old new × ((view new.end).ended ≡ (view old.end).ended) × ((view new.end).got ≡ (view old.end).got)
 
 -- the agent sent more, triggers of at most `calls` calls, and nothing else changed: the first ends of sessions were reported, and the others aren't yet
 pub record SaysMore (calls : ℕ) (old new : AgentControl) : Type 0 where

@@ -1,12 +1,14 @@
 //! What an agent sends.
-ghost use Rattle.std.specs.Prelude.{◌≡◌, ◌<◌, [], true, false, Some, OnOk, IfOk, length};
-ghost use Rattle.qrexec_frame.specs.Messages.{IsSpellable as Fits};
+ghost use Rattle.std.specs.Prelude.{◌≡◌, ◌⊎◌, ◌<◌, ◌+◌, [], ℕ, true, false, Some, None, OnOk, IfOk, length, if◌then◌else◌};
+ghost use Rattle.qrexec_frame.specs.Messages.{written, IsSpellable as Fits};
 ghost use Rattle.qrexec_frame.specs.declared.message.Message.{Message as Said};
 ghost use Rattle.task_duties.specs.Hearing.{to_broker};
 ghost use Rattle.vchan_rule.specs.Seated.{IsOpen};
 ghost use Rattle.vchan_rule.specs.Ends.{IsSameEnd};
+ghost use Rattle.vchan_packet.specs.Packet.{FailsToSend};
 ghost use Rattle.call_queue.specs.Queue.{asked_by};
-ghost use Rattle.agent_control.specs.Speaking.{CanSpeak, HasCall, SaysMore, Tells, Says};
+ghost use Rattle.agent_control.specs.Speaking.{CanSpeak, HasCall, SaysMore, Tells, Says, terminated};
+ghost use Rattle.agent_control.specs.Stopping.{FindsLess, EndWaits, HoldsBack, Stops, Unless};
 
 use crate::control::{AgentControl, SessionEnd};
 use qrexec_frame::Message;
@@ -16,13 +18,15 @@ use vchan_packet::SendAnswer;
 
 impl<'p> AgentControl<'p> {
     /// Sends what there is to send, as far as there is room: the ends of sessions, and then the triggers of
-    /// at most `calls` calls. Returns `Memory` if memory runs out; the end can still be retired then, and
+    /// at most `calls` calls. It stops at the first message for which the end finds no room, or whose send
+    /// finds the peer shut. Returns `Memory` if memory runs out; the end can still be retired then, and
     /// nothing is promised of what was sent.
     pub fn say_on(&mut self, alloc: Global, calls: usize) -> Result<(), Memory>
         requires can { CanSpeak self.old }
         ensures end { IsSameEnd self.old.port.end self.new.port.end }
         ensures open { IsOpen self.new.port.end }
         ensures more { OnOk result (SaysMore calls self.old self.new) }
+        ensures why { OnOk result (Stops calls self.old self.new) }
     {
         if !self.say_ends()? {
             return Ok(());
@@ -38,6 +42,8 @@ impl<'p> AgentControl<'p> {
         ensures open { IsOpen self.new.port.end }
         ensures more { OnOk result (SaysMore 0 self.old self.new) }
         ensures all { IfOk result (λ all. all ≡ true → self.new.unsaid.items ≡ []) }
+        ensures why { IfOk result (λ all. Unless all (EndWaits self.old self.new)) }
+        ensures next { OnOk result (self.new.queue.next ≡ self.old.queue.next) }
     {
         'ends: while !self.unsaid.is_empty() {
             if !self.say_end()? {
@@ -54,6 +60,8 @@ impl<'p> AgentControl<'p> {
         ensures open { IsOpen self.new.port.end }
         ensures more { OnOk result (SaysMore 0 self.old self.new) }
         ensures fewer { IfOk result (λ gone. gone ≡ true → length self.new.unsaid.items < length self.old.unsaid.items) }
+        ensures why { IfOk result (λ gone. Unless gone ((self.old.unsaid.items ≡ []) ⊎ EndWaits self.old self.new)) }
+        ensures next { OnOk result (self.new.queue.next ≡ self.old.queue.next) }
     {
         let Some(end) = self.unsaid.front().copied() else {
             return Ok(false);
@@ -72,6 +80,8 @@ impl<'p> AgentControl<'p> {
         ensures end { IsSameEnd self.old.port.end self.new.port.end }
         ensures open { IsOpen self.new.port.end }
         ensures tells { IfOk result (λ gone. Tells self.old self.new end gone) }
+        ensures why { IfOk result (λ gone. Unless gone (FailsToSend (written (terminated end)) self.old.port.end self.new.port.end)) }
+        ensures next { OnOk result (self.new.queue.next ≡ self.old.queue.next) }
     {
         let message = Message::Terminated {
             domain: end.domain,
@@ -97,6 +107,7 @@ impl<'p> AgentControl<'p> {
         ensures end { IsSameEnd self.old.port.end self.new.port.end }
         ensures open { IsOpen self.new.port.end }
         ensures more { OnOk result (SaysMore calls self.old self.new) }
+        ensures why { OnOk result (Stops calls self.old self.new) }
     {
         'triggers: for _call in 0..calls {
             if !self.say_trigger(alloc)? {
@@ -114,6 +125,8 @@ impl<'p> AgentControl<'p> {
         ensures end { IsSameEnd self.old.port.end self.new.port.end }
         ensures open { IsOpen self.new.port.end }
         ensures more { OnOk result (SaysMore 1 self.old self.new) }
+        ensures why { IfOk result (λ gone. Unless gone (HoldsBack self.old self.new)) }
+        ensures next { IfOk result (λ gone. gone ≡ true → self.new.queue.next ≡ self.old.queue.next + 1) }
     {
         let Some(version) = self.port.version() else {
             return Ok(false);
@@ -133,6 +146,7 @@ impl<'p> AgentControl<'p> {
         ensures end { IsSameEnd self.old.port.end self.new.port.end }
         ensures open { IsOpen self.new.port.end }
         ensures none { (m : Said) → Says self.old self.new m false }
+        ensures less { Unless result (FindsLess self.old.port.end self.new.port.end len) }
     {
         len <= self.port.room() as usize
     }
@@ -145,6 +159,8 @@ impl<'p> AgentControl<'p> {
         ensures end { IsSameEnd self.old.port.end self.new.port.end }
         ensures open { IsOpen self.new.port.end }
         ensures more { OnOk result (SaysMore 1 self.old self.new) }
+        ensures why { IfOk result (λ gone. Unless gone (HoldsBack self.old self.new)) }
+        ensures next { IfOk result (λ gone. gone ≡ true → self.new.queue.next ≡ self.old.queue.next + 1) }
     {
         let Some(message) = self.queue.front(alloc, version)? else {
             return Ok(false);
@@ -164,11 +180,13 @@ impl<'p> AgentControl<'p> {
         ensures end { IsSameEnd self.old.port.end self.new.port.end }
         ensures open { IsOpen self.new.port.end }
         ensures says { IfOk result (λ gone. Says self.old self.new message.now gone) }
+        ensures why { IfOk result (λ gone. Unless gone (FailsToSend (written message.now) self.old.port.end self.new.port.end)) }
     {
         match self.port.say(message)? {
             SendAnswer::Sent => Ok(true),
-            // There is no room, or the peer has shut, which a later drain finds.
-            SendAnswer::NoRoom { .. } | SendAnswer::PeerClosed => Ok(false),
+            SendAnswer::NoRoom { .. } => Ok(false),
+            // A later drain finds that the peer is shut.
+            SendAnswer::PeerClosed => Ok(false),
         }
     }
 }

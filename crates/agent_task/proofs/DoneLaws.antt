@@ -1,11 +1,7 @@
 -- What an agent that is done owes.
-use Rattle.std.proofs.Common.{◌≡◌, ℕ, zero, suc, List, [], ◌∷◌, ◌++◌, length, drop, length-append, append_assoc, refl, ap, sym, ◌∙◌, arith, Some, None, Option, subst, inl, inr}
-use Rattle.std.specs.Prelude.{Bool, true, false, map, filter_map, slice_get, if◌then◌else◌, ◌⊎◌, ◌==◌}
-use Rattle.std.specs.List.{flat_map}
+use Rattle.std.proofs.Common.{◌≡◌, ℕ, zero, suc, List, [], ◌∷◌, ◌++◌, length, drop, length-append, append_assoc, refl, ap, sym, ◌∙◌, arith, Some, None, Option, subst}
+use Rattle.std.specs.Prelude.{Bool, true, false, map, filter_map, slice_get, if◌then◌else◌, ◌==◌}
 use Rattle.std.proofs.lemmas.List.{length-map}
-use Rattle.qrexec_frame.specs.declared.message.Message.{Message}
-use Rattle.qrexec_frame.specs.declared.message.Message.TheVariants.{Hello}
-use Rattle.qrexec_frame.specs.Messages.{written, IsSpellable}
 use Rattle.qrexec_frame.specs.Streams.{Each, IsPrefixOf}
 use Rattle.vchan_rule.specs.Seated.{SeatedSide, view, last_view}
 use Rattle.vchan_rule.specs.Ends.{IsSameEnd as IsSameSeat}
@@ -19,12 +15,10 @@ use Rattle.task_duties.specs.declared.done.ControlEnd.{ControlEnd}
 use Rattle.task_duties.specs.declared.done.ControlEnd.TheVariants.{Fault}
 use Rattle.qrexec_data.specs.declared.fault.SessionFault.{SessionFault}
 use Rattle.task_duties.specs.declared.ends.DataEnd.{DataEnd}
-use Rattle.task_duties.specs.declared.ends.DoneEnd.TheVariants.{Laid}
-use Rattle.task_duties.specs.declared.ends.RetiredEnd.{RetiredEnd}
-use Rattle.task_duties.specs.Pairwise.{EachPair, IsPartOf}
+use Rattle.task_duties.specs.Pairwise.{EachPair}
 use Rattle.task_duties.specs.Places.{is_place}
 use Rattle.task_duties.specs.Hearing.{to_agent, to_broker, IsSaid, Heard, hears}
-use Rattle.task_duties.specs.TaskOwes.{EndAt, AreEnds, EndsOwed, places_in}
+use Rattle.task_duties.specs.TaskOwes.{EndAt, AreEnds, EndsOwed, AreGivenBack, places_in}
 use Rattle.task_duties.specs.GivenEnds.{all_retired, all_given}
 use Rattle.task_duties.specs.Agent.Given.{AgentPlan}
 use Rattle.task_duties.specs.Agent.Answers.{Answer, Waits, IsRefused, At, Asked, Served, Answers, answers, answer_in}
@@ -33,25 +27,23 @@ use Rattle.task_duties.specs.Agent.Sessions.{CallerOwes, IsService, ServingOwes}
 use Rattle.task_duties.specs.declared.done.CallDone.{CallDone}
 use Rattle.task_duties.specs.Agent.Owes.{AgentOwes, ReportsAnswer, ReportsCall, ReportsServed, ControlOver, heard_by, answers_of}
 use Rattle.task_duties.proofs.ServedLaw.{same-place}
-use Rattle.control_port.specs.Port.{PortState, HasSaid, SentWhole}
-use Rattle.control_port.specs.Talking.{may_say, may_hear}
+use Rattle.control_port.specs.Port.{PortState}
+use Rattle.control_port.specs.Talking.{may_hear}
 use Rattle.control_port.specs.declared.talk.Talker.{Talker}
-use Rattle.control_port.specs.declared.talk.Talker.TheVariants.{Agent as OfAgent}
 use Rattle.call_queue.specs.Queue.{Queued, QueueState, asked_as, asked_by}
 use Rattle.call_queue.proofs.AskingLaws.{asks-in-order, asks-within}
 use Rattle.data_slots.specs.Slots.{Called, Serves, Held, held_at, AreApart}
-use Rattle.data_slots.specs.Done.{ReportsCalled, ReportsServes}
+use Rattle.data_slots.specs.Done.{AreBack, ReportsCalled, ReportsServes}
 use Rattle.data_slots.specs.declared.done.CallOver.{CallOver}
 use Rattle.data_slots.proofs.AgentLaws.{same-ends, end-there}
 use Rattle.agent_task.specs.declared.agent.Agent.{Agent}
 use Rattle.agent_task.specs.declared.given.Given.{Given}
 use Rattle.agent_task.specs.declared.task.AgentDone.{AgentDone}
 use Rattle.agent_task.specs.Given.{data_ends, plan_of, ends_of}
-use Rattle.agent_task.specs.Standing.{Stands, IsServedBy, called_by, called_of}
+use Rattle.agent_task.specs.Standing.{Stands, IsServedBy, CanGiveUp, called_by, called_of}
 use Rattle.agent_task.specs.Ending.{IsOver, heard_at}
-use Rattle.agent_task.specs.Ends.{session_told, sessions_owed}
 use Rattle.agent_task.specs.Telling.{heard_on, TellsOf, TellsAll}
-use Rattle.agent_task.proofs.KeptLaws.{kept-told}
+use Rattle.agent_task.proofs.TellingLaws.{is-said, heard-at, tells-once}
 use Rattle.agent_task.specs.Finishing.{call_end_of, call_done_of, call_dones}
 use Rattle.agent_task.specs.Owing.{IsOwed}
 
@@ -158,41 +150,34 @@ asking-calls q = each q.calls
     each [] = refl
     each (c ∷ calls) = ap (λ l. asking_of c.call ∷ l) (each calls)
 
-said-whole : (greeted : Bool) (own : ℕ) (said : List Message) (sent : List ℕ) → SentWhole greeted own said sent → ((sent ≡ []) × (said ≡ [])) ⊎ (sent ≡ flat_map written (Hello own ∷ said))
-said-whole false own said sent h = inl h
-said-whole true own said sent h = inr h
-
-is-said : (p : PortState) (said : List Message) (own : ℕ) → p.own ≡ own → p.talker ≡ OfAgent → HasSaid p said → IsSaid own to_broker said (view p.end).sent
-is-said p said own own_is talker h = record {
-  each = subst (λ (k : Talker). Each (λ m. (may_say k m ≡ true) × IsSpellable m) said) talker h.each;
-  whole = subst (λ (o : ℕ). (((view p.end).sent ≡ []) × (said ≡ [])) ⊎ ((view p.end).sent ≡ flat_map written (Hello o ∷ said))) own_is (said-whole p.greeted p.own said (view p.end).sent h.whole);
-}
-
 -- ---- all of it
 
+-- the end of its control page, which is retired
+abbrev pub first_end : Agent → SeatedSide → EndAt
+first_end a retired = record { place = Control a.given.domain; view = last_view retired }
+
 -- what is left of an agent that retires its ends
-pub record IsFinished (a : Agent) (retired : SeatedSide) (ends : List RetiredEnd) (calls : List (Option CallOver)) (served : List ServedDone) : Type 0 where
+pub record IsFinished (a : Agent) (retired : SeatedSide) (ends : List EndAt) (calls : List (Option CallOver)) (served : List ServedDone) : Type 0 where
   pub control : last_view retired ≡ view a.control.port.end
   pub control_honest : (last_view retired).turned ≡ false
-  pub held : map held_at (all_retired ends) ≡ a.slots.held
-  pub honest : Each (λ e. e.view.turned ≡ false) (all_retired ends)
-  pub calls_are : EachPair (ReportsCalled a.slots.domain a.slots.version (all_retired ends)) a.slots.called calls
-  pub served_are : EachPair (ReportsServes a.slots.domain a.slots.version (all_retired ends)) a.slots.served served
+  pub back : AreBack (first_end a retired) a.slots.held ends
+  pub calls_are : EachPair (ReportsCalled a.slots.domain a.slots.version ends) a.slots.called calls
+  pub served_are : EachPair (ReportsServes a.slots.domain a.slots.version ends) a.slots.served served
 
-pub done-owes : (how : ControlEnd) (a : Agent) (retired : SeatedSide) (ends : List RetiredEnd) (calls : List (Option CallOver)) (served : List ServedDone) (done : AgentDone) → IsOver how a → IsFinished a retired ends calls served
-    → done.domain ≡ a.given.domain → done.calls.items ≡ call_dones (asked_by a.control.queue) calls → done.served.items ≡ served → done.control ≡ how
-    → done.ends.items ≡ record { place = Control a.given.domain; retired = Laid retired } ∷ ends → IsOwed a.given done
-done-owes how a retired ends calls served done over finished domain_is calls_is served_is control_is ends_is = (
+pub done-owes : (how : ControlEnd) (a : Agent) (retired : SeatedSide) (calls : List (Option CallOver)) (done : AgentDone) → IsOver how a → IsFinished a retired (all_retired done.ends.items) calls done.served.items
+    → done.domain ≡ a.given.domain → done.calls.items ≡ call_dones (asked_by a.control.queue) calls → done.control ≡ how → IsOwed a.given done
+done-owes how a retired calls done over finished domain_is calls_is control_is = (
   end,
   domain_is,
-  subst (λ (es : List RetiredEnd). EndsOwed false (ends_of g) (all_retired es) end) (sym ends_is) (record {
-    same = (record { place = refl; page = ap (λ (v : EndView). v.page) finished.control ∙ same.0; role = ap (λ (v : EndView). v.role) finished.control ∙ same.1 }, same-ends (data_ends g) (all_retired ends) held);
+  subst (λ (es : List EndAt). EndsOwed false (ends_of g) es end) (sym finished.back.are) (record {
+    back = record {
+      same = (record { place = refl; page = ap (λ (v : EndView). v.page) finished.control ∙ same.0; role = ap (λ (v : EndView). v.role) finished.control ∙ same.1 }, same-ends (data_ends g) rest held);
+      turned_are = (finished.control_honest, finished.back.honest);
+    };
     are = are;
-    turned_are = (finished.control_honest, finished.honest);
   }),
-  subst (λ (cs : List CallDone). AgentOwes plan end cs done.served.items done.control) (sym calls_is)
-      (subst (λ (ss : List ServedDone). AgentOwes plan end (call_dones (asked_by a.control.queue) calls) ss done.control) (sym served_is)
-      (subst (λ (h : ControlEnd). AgentOwes plan end (call_dones (asked_by a.control.queue) calls) served h) (sym control_is) owes)),
+  subst (λ (cs : List CallDone). AgentOwes plan end cs served done.control) (sym calls_is)
+      (subst (λ (h : ControlEnd). AgentOwes plan end (call_dones (asked_by a.control.queue) calls) served h) (sym control_is) owes),
 )
   where
     g : Given
@@ -210,14 +195,20 @@ done-owes how a retired ends calls served done over finished domain_is calls_is 
     same : IsSameSeat g.control.value port.end
     same = stands.port.end
 
+    served : List ServedDone
+    served = done.served.items
+
+    rest : List EndAt
+    rest = finished.back.rest
+
     all : List EndAt
-    all = record { place = Control g.domain; view = last_view retired } ∷ all_retired ends
+    all = first_end a retired ∷ rest
 
-    held : map held_at (all_retired ends) ≡ map held_at (data_ends g)
-    held = finished.held ∙ stands.slots.held
+    held : map held_at rest ≡ map held_at (data_ends g)
+    held = finished.back.held_are ∙ stands.slots.held
 
-    places : places_in (all_retired ends) ≡ places_in (data_ends g)
-    places = same-places (data_ends g) (all_retired ends) held
+    places : places_in rest ≡ places_in (data_ends g)
+    places = same-places (data_ends g) rest held
 
     apart : Differ (places_in all)
     apart = subst (λ (ps : List PagePlace). Differ (Control g.domain ∷ ps)) (sym places) (no-control g.domain g.payload.value.items, differ-places (places_in (data_ends g)) stands.slots.apart)
@@ -251,17 +242,19 @@ done-owes how a retired ends calls served done over finished domain_is calls_is 
     reports =
         subst (λ (x : Answers). EachPair (ReportsCall plan end) x.asked (call_dones (asked_by a.control.queue) calls)) (sym answers_are)
         (subst (λ (l : List Asked). EachPair (ReportsCall plan end) made.asked (call_dones l calls)) (sym stands.answers.asked)
-        (reports-all plan end (all_retired ends) made.asked calls are.1
-        (subst (λ (l : List (Option Called)). EachPair (ReportsCalled g.domain g.version (all_retired ends)) l calls) stands.answers.called
-        (subst (λ (v : ℕ). EachPair (ReportsCalled g.domain v (all_retired ends)) a.slots.called calls) stands.slots.version
-        (subst (λ (d : ℕ). EachPair (ReportsCalled d a.slots.version (all_retired ends)) a.slots.called calls) stands.slots.domain finished.calls_are)))))
+        (reports-all plan end all made.asked calls are
+        (subst (λ (l : List (Option Called)). EachPair (ReportsCalled g.domain g.version all) l calls) stands.answers.called
+        (subst (λ (v : ℕ). EachPair (ReportsCalled g.domain v all) a.slots.called calls) stands.slots.version
+        (subst (λ (d : ℕ). EachPair (ReportsCalled d a.slots.version all) a.slots.called calls) stands.slots.domain
+        (subst (λ (es : List EndAt). EachPair (ReportsCalled a.slots.domain a.slots.version es) a.slots.called calls) finished.back.are finished.calls_are))))))
 
     serves : EachPair (ReportsServed plan end) (answers_of plan end).served served
     serves =
         subst (λ (x : Answers). EachPair (ReportsServed plan end) x.served served) (sym answers_are)
-        (served-all plan end (all_retired ends) made.served a.slots.served served are.1 stands.answers.served
-        (subst (λ (v : ℕ). EachPair (ReportsServes g.domain v (all_retired ends)) a.slots.served served) stands.slots.version
-        (subst (λ (d : ℕ). EachPair (ReportsServes d a.slots.version (all_retired ends)) a.slots.served served) stands.slots.domain finished.served_are)))
+        (served-all plan end all made.served a.slots.served served are stands.answers.served
+        (subst (λ (v : ℕ). EachPair (ReportsServes g.domain v all) a.slots.served served) stands.slots.version
+        (subst (λ (d : ℕ). EachPair (ReportsServes d a.slots.version all) a.slots.served served) stands.slots.domain
+        (subst (λ (es : List EndAt). EachPair (ReportsServes a.slots.domain a.slots.version es) a.slots.served served) finished.back.are finished.served_are))))
 
     over_is : ControlOver (end (Control g.domain)) (heard_by plan end) how
     over_is =
@@ -286,11 +279,11 @@ done-owes how a retired ends calls served done over finished domain_is calls_is 
     }
 
 -- what it has told
-pub done-tells : (how : ControlEnd) (a : Agent) (retired : SeatedSide) (ends : List RetiredEnd) (done : AgentDone) → IsOver how a → last_view retired ≡ view a.control.port.end → done.control ≡ how
-    → done.ends.items ≡ record { place = Control a.given.domain; retired = Laid retired } ∷ ends → TellsAll (plan_of a.given) done
-done-tells how a retired ends done over control control_is ends_is =
-    subst (λ (es : List RetiredEnd). (e : EndAt) × (slice_get (all_retired es) 0 ≡ Some e) × (e.place ≡ Control a.given.domain) × TellsOf plan e.view done.control) (sym ends_is)
-    (record { place = Control a.given.domain; view = last_view retired }, refl, refl, subst (λ (h : ControlEnd). TellsOf plan (last_view retired) h) (sym control_is) (subst (λ (v : EndView). TellsOf plan v how) (sym control) tells))
+pub done-tells : (how : ControlEnd) (a : Agent) (retired : SeatedSide) (done : AgentDone) → IsOver how a → last_view retired ≡ view a.control.port.end → done.control ≡ how
+    → AreBack (first_end a retired) a.slots.held (all_retired done.ends.items) → TellsAll (plan_of a.given) done
+done-tells how a retired done over control control_is back =
+    subst (λ (es : List EndAt). (e : EndAt) × (slice_get es 0 ≡ Some e) × (e.place ≡ Control a.given.domain) × TellsOf plan e.view done.control) (sym back.are)
+    (first_end a retired, refl, refl, subst (λ (h : ControlEnd). TellsOf plan (last_view retired) h) (sym control_is) (subst (λ (v : EndView). TellsOf plan v how) (sym control) tells))
   where
     plan : AgentPlan
     plan = plan_of a.given
@@ -302,14 +295,7 @@ done-tells how a retired ends done over control control_is ends_is =
     stands = over.stands
 
     same_heard : heard_on plan (view port.end) ≡ heard_at port
-    same_heard =
-        ap (λ (o : ℕ). hears o to_agent (view port.end).got) (sym stands.port.own) ∙ ap (λ (k : Talker). hears port.own (may_hear k) (view port.end).got) (sym stands.port.talker)
-
-    messages : over.heard ≡ (heard_on plan (view port.end)).messages
-    messages = sym (ap (λ (h : Heard). h.messages) (same_heard ∙ over.all))
-
-    told : IsPartOf (filter_map session_told over.said) (sessions_owed (answers plan over.heard).asked over.heard)
-    told = kept-told a.over a.slots.called (answers plan over.heard).asked a.control.unsaid.items a.slots.opened over.heard over.said stands.answers.called over.keeps
+    same_heard = heard-at a over.heard over.said stands
 
     is_fault : (f : SessionFault) → how ≡ Fault f → (heard_on plan (view port.end)).fault ≡ Some f
     is_fault f is =
@@ -318,11 +304,18 @@ done-tells how a retired ends done over control control_is ends_is =
 
     tells : TellsOf plan (view port.end) how
     tells = record {
-      said = over.said;
-      says = is-said port over.said a.given.version stands.port.own stands.port.talker stands.speaks.said_is;
-      told = subst (λ (l : List Message). IsPartOf (filter_map session_told over.said) (sessions_owed (answers plan l).asked l)) messages told;
+      once = tells-once a over.heard over.said stands over.keeps over.all;
       fault = λ f. (is_fault f, λ is. over.fault_is f (sym (ap (λ (h : Heard). h.fault) same_heard) ∙ is));
     }
+
+-- ---- where memory ran out
+
+pub given-back : (a : Agent) (retired : SeatedSide) (ends : List EndAt) → CanGiveUp a → (last_view retired).page ≡ (view a.control.port.end).page → (last_view retired).role ≡ (view a.control.port.end).role
+    → (last_view retired).turned ≡ false → AreBack (first_end a retired) a.slots.held ends → AreGivenBack false (ends_of a.given) ends
+given-back a retired ends can page role honest back = subst (λ (es : List EndAt). AreGivenBack false (ends_of a.given) es) (sym back.are) (record {
+  same = (record { place = refl; page = page ∙ can.control.0; role = role ∙ can.control.1 }, same-ends (data_ends a.given) back.rest (back.held_are ∙ can.held));
+  turned_are = (honest, back.honest);
+})
 
 -- ---- calls one by one
 

@@ -280,13 +280,25 @@ owed-known (a ∷ asked) = ap (λ (o : Option (ℕ × ℕ)). cons_option o (filt
     by_answer call IsRefused = refl
     by_answer call (At to port) = refl
 
+known-owed : (called : List (Option Called)) (asked : List Asked) (heard : List Message) → called ≡ map called_of asked → sessions_known called heard ≡ sessions_owed asked heard
+known-owed called asked heard is = ap (λ (l : List (Option Called)). sessions_known l heard) is ∙ ap (λ l. l ++ filter_map session_asked heard) (owed-known asked)
+
 -- at most once for each that is owed
 pub kept-told : (over : Option ControlEnd) (called : List (Option Called)) (asked : List Asked) (unsaid : List SessionEnd) (opened : List SessionOver) (heard said : List Message) → called ≡ map called_of asked
     → AreKept over called unsaid opened heard said → IsPartOf (filter_map session_told said) (sessions_owed asked heard)
-kept-told over called asked unsaid opened heard said is k = (
-  (map session_unsaid unsaid ++ map session_over opened) ++ k.lost,
-  subst (λ l. IsPermutation (sessions_held said unsaid opened k.lost) l) (ap (λ (l : List (Option Called)). sessions_known l heard) is ∙ ap (λ l. l ++ filter_map session_asked heard) (owed-known asked)) k.are,
-)
+kept-told over called asked unsaid opened heard said is k =
+    ((map session_unsaid unsaid ++ map session_over opened) ++ k.lost, subst (λ l. IsPermutation (sessions_held said unsaid opened k.lost) l) (known-owed called asked heard is) k.are)
+
+-- while the control channel is up, each that wasn't reported waits or is open
+pub kept-waits : (called : List (Option Called)) (asked : List Asked) (unsaid : List SessionEnd) (opened : List SessionOver) (heard said : List Message) → called ≡ map called_of asked → AreKept None called unsaid opened heard said
+    → IsPermutation (filter_map session_told said ++ (map session_unsaid unsaid ++ map session_over opened)) (sessions_owed asked heard)
+kept-waits called asked unsaid opened heard said is k = subst (λ l. IsPermutation l (sessions_owed asked heard)) none (subst (λ l. IsPermutation (sessions_held said unsaid opened k.lost) l) (known-owed called asked heard is) k.are)
+  where
+    waiting : List (ℕ × ℕ)
+    waiting = map session_unsaid unsaid ++ map session_over opened
+
+    none : sessions_held said unsaid opened k.lost ≡ filter_map session_told said ++ waiting
+    none = ap (λ l. filter_map session_told said ++ (waiting ++ l)) (k.none_lost refl) ∙ ap (λ l. filter_map session_told said ++ l) (append-nil waiting)
 
 -- before anything is heard
 pub kept-first : (calls : List CallPlan) (called : List (Option Called)) (unsaid : List SessionEnd) (opened : List SessionOver) → called ≡ map called_of (map (λ call. record { call = call; answer = Waits }) calls) → unsaid ≡ [] → opened ≡ []

@@ -8,4 +8,6 @@ mod StepLaws
 mod SessionLaws
 mod RoundLaws
 mod StartLaws
+mod TellingLaws
+mod MovingLaws
 mod DoneLaws

@@ -1,6 +1,6 @@
 -- Elements of lists, and places.
-use Rattle.std.proofs.Common.{◌≡◌, List, [], ◌∷◌, ◌++◌, map, refl, inl, inr}
-use Rattle.std.specs.Prelude.{Bool, true, false, ◌&&◌, Result, Ok, Err, OnOk}
+use Rattle.std.proofs.Common.{◌≡◌, List, [], ◌∷◌, ◌++◌, map, refl, sym, subst, inl, inr}
+use Rattle.std.specs.Prelude.{Bool, true, false, ◌&&◌, Result, Ok, Err, OnOk, OnErr, Option, Some, IsSomeAnd}
 use Rattle.qrexec_frame.specs.Streams.{Each}
 use Rattle.task_duties.specs.Pairwise.{SomeOf}
 
@@ -38,3 +38,12 @@ and-right-false false b is = refl
 pub on-ok : {A E : Type 0} (r : Result A E) (P Q : Type 0) → (P → Q) → OnOk r P → OnOk r Q
 on-ok (Ok v) P Q go h = go h
 on-ok (Err e) P Q go h = tt
+
+-- what a call leaves as it is, whether it succeeds or fails
+pub either-way : {A E S : Type 0} (r : Result A E) (P : S → Type 0) (old next new : S) → OnOk r (new ≡ next) → OnErr r (new ≡ old) → P next → P old → P new
+either-way (Ok v) P old next new ok err p q = subst P (sym ok) p
+either-way (Err e) P old next new ok err p q = subst P (sym err) q
+
+-- what holds of a value that is there
+pub some-and : {A : Type 0} (o : Option A) (x : A) (P : A → Type 0) → o ≡ Some x → IsSomeAnd o P → P x
+some-and {A} o x P is h = subst (λ (y : Option A). IsSomeAnd y P) is h

@@ -16,8 +16,11 @@ use Rattle.vchan_protocol.specs.History.Core.{first_ended}
 use Rattle.vchan_protocol.specs.declared.side.EndedBy.TheVariants as by
 use Rattle.end_view.specs.EndView.{EndView}
 use Rattle.task_duties.specs.Agent.Saying.{IsOfVersion}
-use Rattle.control_port.specs.Port.{PortState, HasSaid, HasHeard, SentWhole, OnlyHears, Hands}
-use Rattle.control_port.specs.Talking.{may_say}
+use Rattle.control_port.specs.Port.{PortState, HasSaid, HasHeard, HasHeardAll, SentWhole, OnlyHears, Hands}
+use Rattle.control_port.specs.Talking.{may_say, may_hear}
+use Rattle.control_port.specs.declared.talk.Talker.{Talker}
+use Rattle.qrexec_data.specs.declared.fault.SessionFault.{SessionFault}
+use Rattle.task_duties.specs.Hearing.{hears}
 use Rattle.agent_task.specs.declared.agent.Agent.{Agent}
 use Rattle.agent_task.specs.Standing.{Stands, IsHearing, Awaits, HasHeardOut, IsUp}
 use Rattle.agent_task.specs.Ending.{HasEnded, end_by}
@@ -75,6 +78,19 @@ ended-sent e Sent payload = refl
 ended-sent e (NoRoom prod cons) payload = refl
 ended-sent e PeerClosed payload = refl
 
+pub got-sent : (e : EndView) (sent : SendAnswer) (payload : List ℕ) → (sent_to e sent payload).got ≡ e.got
+got-sent e Sent payload = refl
+got-sent e (NoRoom prod cons) payload = refl
+got-sent e PeerClosed payload = refl
+
+-- no bytes came, so all that came were handed out as before
+pub still-all : (old new : PortState) (heard : List Message) → (view new.end).got ≡ (view old.end).got
+    → (new.talker ≡ old.talker) × (new.own ≡ old.own) × (new.version ≡ old.version) × (new.fault ≡ old.fault) → HasHeardAll old heard → HasHeardAll new heard
+still-all old new heard got same all =
+    ap (λ (bytes : List ℕ). hears new.own (may_hear new.talker) bytes) got ∙ ap (λ (o : ℕ). hears o (may_hear new.talker) (view old.end).got) same.1
+    ∙ ap (λ (k : Talker). hears old.own (may_hear k) (view old.end).got) same.0 ∙ all
+    ∙ sym (ap (λ (v : Option ℕ). record { version = v; messages = heard; fault = new.fault }) same.2 ∙ ap (λ (f : Option SessionFault). record { version = old.version; messages = heard; fault = f }) same.3)
+
 pub greets-up : (a : Agent) (port : PortState) (sent : SendAnswer) (payload : List ℕ) → IsUp a → IsSameEnd a.control.port.end port.end → IsOpen port.end → view port.end ≡ sent_to (view a.control.port.end) sent payload
     → ((said : List Message) → HasSaid a.control.port said → HasSaid port said) → ((heard : List Message) → HasHeard a.control.port heard → HasHeard port heard)
     → (port.talker ≡ a.control.port.talker) × (port.own ≡ a.control.port.own) × (port.version ≡ a.control.port.version) × (port.fault ≡ a.control.port.fault) → IsUp (with_port a port)
@@ -89,6 +105,7 @@ greets-up a port sent payload up end opened view_is said heard same =
         hears = heard h.heard h.hears;
         sound = record { fine = same.3 ∙ h.sound.fine; is_open = opened; up = h.sound.up };
       };
+      all = still-all a.control.port port h.heard (ap (λ e. e.got) view_is ∙ got-sent (view a.control.port.end) sent payload) same up.all;
       going = ap (λ e. e.ended) view_is ∙ ended-sent (view a.control.port.end) sent payload ∙ up.going;
     }
 

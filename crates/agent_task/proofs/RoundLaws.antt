@@ -3,7 +3,7 @@ use Rattle.std.proofs.Common.{◌≡◌, ℕ, List, ◌++◌, refl, ap, sym, ◌
 use Rattle.std.specs.Prelude.{map}
 use Rattle.qrexec_frame.specs.declared.message.Message.{Message}
 use Rattle.qrexec_data.specs.declared.fault.SessionFault.{SessionFault}
-use Rattle.vchan_rule.specs.Seated.{view}
+use Rattle.vchan_rule.specs.Seated.{view, IsOpen}
 use Rattle.vchan_rule.specs.Ends.{IsSameEnd}
 use Rattle.vchan_lifecycle.specs.Lifecycle.{retired_view}
 use Rattle.vchan_lifecycle.specs.declared.DrainAnswer.{DrainAnswer}
@@ -18,10 +18,13 @@ use Rattle.control_port.specs.Port.{PortState, HasSaid, HasHeardAll, OnlySends}
 use Rattle.control_port.specs.Talking.{may_hear}
 use Rattle.agent_control.specs.declared.control.AgentControl.{AgentControl}
 use Rattle.agent_control.specs.Speaking.{SaysMore}
+use Rattle.data_slots.specs.Slots.{held_at}
 use Rattle.agent_task.specs.declared.agent.Agent.{Agent}
-use Rattle.agent_task.specs.Standing.{HasHeardOut, IsUp}
+use Rattle.agent_task.specs.declared.given.Given.{Given}
+use Rattle.agent_task.specs.Given.{data_ends}
+use Rattle.agent_task.specs.Standing.{IsHearing, HasHeardOut, IsUp, HasSameEnds, KeepsPort, CanRest, CanGiveUp}
 use Rattle.agent_task.specs.Ending.{HasEnded, end_by, over_by, IsDrained, heard_at, IsOver, IsRunning, RunsAs}
-use Rattle.agent_task.proofs.PortLaws.{with_port, PortKeeps, port-stands, same-end-then}
+use Rattle.agent_task.proofs.PortLaws.{with_port, PortKeeps, port-stands, same-end-then, still-all}
 use Rattle.agent_task.proofs.KeptLaws.{kept-said, kept-still}
 
 -- ---- open or over
@@ -37,6 +40,49 @@ running-over a how running is = subst (λ (o : Option ControlEnd). RunsAs o a) i
 
 pub over-running : (a : Agent) (how : ControlEnd) → IsOver how a → IsRunning a
 over-running a how over = subst (λ (o : Option ControlEnd). RunsAs o a) (sym over.over_is) over
+
+-- ---- what can be given up
+
+pub hearing-rests : (a : Agent) → IsHearing a → CanGiveUp a
+hearing-rests a h = record {
+  control = h.stands.port.end;
+  held = h.stands.slots.held;
+  idle = h.sound.is_open.0;
+  rests = subst (λ (o : Option ControlEnd). CanRest o (view a.control.port.end)) (sym h.sound.up) tt;
+}
+
+pub over-rests : (how : ControlEnd) (a : Agent) → IsOver how a → CanGiveUp a
+over-rests how a over = record {
+  control = over.stands.port.end;
+  held = over.stands.slots.held;
+  idle = over.idle;
+  rests = subst (λ (o : Option ControlEnd). CanRest o (view a.control.port.end)) (sym over.over_is) over.retired;
+}
+
+pub running-rests : (a : Agent) → IsRunning a → CanGiveUp a
+running-rests a running = by_over a.over refl
+  where
+    by_over : (o : Option ControlEnd) → a.over ≡ o → CanGiveUp a
+    by_over None is = hearing-rests a (running-up a running is).hearing
+    by_over (Some how) is = over-rests how a (running-over a how running is)
+
+-- it has the same ends, and its control end is open
+pub still-rests : (old new : Agent) → IsHearing old → HasSameEnds old new → IsSameEnd old.control.port.end new.control.port.end → IsOpen new.control.port.end → CanGiveUp new
+still-rests old new h same end opened = record {
+  control = subst (λ (g : Given). IsSameEnd g.control.value new.control.port.end) (sym same.0) (same-end-then old.given.control.value old.control.port.end new.control.port.end h.stands.port.end end);
+  held = same.2 ∙ h.stands.slots.held ∙ ap (λ (g : Given). map held_at (data_ends g)) (sym same.0);
+  idle = opened.0;
+  rests = subst (λ (o : Option ControlEnd). CanRest o (view new.control.port.end)) (sym (same.1 ∙ h.sound.up)) tt;
+}
+
+-- its port is as it was
+pub kept-rests : (old new : Agent) → CanGiveUp old → KeepsPort old new → CanGiveUp new
+kept-rests old new can keeps = record {
+  control = subst (λ (g : Given). IsSameEnd g.control.value new.control.port.end) (sym keeps.1.0) (subst (λ (p : PortState). IsSameEnd old.given.control.value p.end) (sym keeps.0) can.control);
+  held = keeps.1.2 ∙ can.held ∙ ap (λ (g : Given). map held_at (data_ends g)) (sym keeps.1.0);
+  idle = ap (λ (p : PortState). (view p.end).idle) keeps.0 ∙ can.idle;
+  rests = subst (λ (o : Option ControlEnd). CanRest o (view new.control.port.end)) (sym keeps.1.1) (subst (λ (p : PortState). CanRest old.over (view p.end)) (sym keeps.0) can.rests);
+}
 
 -- ---- what is sent
 
@@ -68,12 +114,13 @@ says-up a control calls up more =
         hears = more.heard h.heard h.hears;
         sound = record { fine = ap (λ (p : PortState). p.fault) more.port.0 ∙ h.sound.fine; is_open = more.can.is_open; up = h.sound.up };
       };
+      all = still-all a.control.port control.port h.heard more.port.2 (ap (λ (p : PortState). p.talker) more.port.0, ap (λ (p : PortState). p.own) more.port.0, ap (λ (p : PortState). p.version) more.port.0, ap (λ (p : PortState). p.fault) more.port.0) up.all;
       going = more.port.1 ∙ up.going;
     }
 
 -- ---- the end of the channel
 
-none-over : (fault : Option SessionFault) (drained : DrainAnswer) → over_by fault drained ≡ None → (fault ≡ None) × (end_by drained ≡ None)
+pub none-over : (fault : Option SessionFault) (drained : DrainAnswer) → over_by fault drained ≡ None → (fault ≡ None) × (end_by drained ≡ None)
 none-over (Some f) drained is = cc
 none-over None drained is = (refl, is)
 
@@ -91,6 +138,7 @@ goes-on a drained out ended over = going (none-over a.control.port.fault drained
         hears = out.hears fine;
         sound = record { fine = fine; is_open = out.is_open; up = out.up };
       };
+      all = out.all;
       going = subst (λ (o : Option ControlEnd). HasEnded o (view a.control.port.end)) none ended;
     }
 

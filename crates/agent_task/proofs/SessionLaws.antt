@@ -12,25 +12,40 @@ use Rattle.task_duties.specs.Agent.Answers.{Answer, Waits, IsRefused, At, Asked}
 use Rattle.task_duties.specs.Agent.Saying.{is_at, AsksToServe}
 use Rattle.call_queue.specs.Queue.{asked_by}
 use Rattle.call_queue.proofs.Places.{map-got, within-get}
+use Rattle.data_slots.specs.Sessions.{AllTakeTurns, session_at}
 use Rattle.data_slots.specs.Slots.{Called, Serves, SlotsState}
 use Rattle.data_slots.specs.Done.{IsBegun, IsToldOver, TellsMore}
 use Rattle.data_slots.specs.declared.done.SessionOver.{SessionOver}
 use Rattle.agent_control.specs.declared.control.SessionEnd.{SessionEnd}
 use Rattle.agent_control.specs.Speaking.{MayTell, IsTellable, HasCall, CanSpeak}
 use Rattle.agent_task.specs.declared.agent.Agent.{Agent}
-use Rattle.agent_task.specs.Standing.{Stands, AreAskedFor, IsUp, OnlyTells, called_by, called_of, end_of}
+use Rattle.agent_task.specs.Standing.{Stands, AreAskedFor, IsUp, KeepsOpen, OnlyTells, called_by, called_of, end_of}
+use Rattle.agent_task.specs.State.{TurnsEach}
 use Rattle.agent_task.specs.Ending.{IsOver, IsRunning}
-use Rattle.agent_task.proofs.ListLaws.{each-mapped, each-to}
+use Rattle.agent_task.proofs.ListLaws.{each-mapped}
 use Rattle.agent_task.specs.Ends.{AreKept}
 use Rattle.agent_task.proofs.KeptLaws.{kept-over, kept-lost}
 use Rattle.agent_task.proofs.RoundLaws.{running-up, up-running, running-over, over-running}
 use Rattle.agent_task.proofs.StepLaws.{tells-stand}
 
+-- ---- the sessions that were open
+
+pub keeps-then : (a b c : Agent) → KeepsOpen a b → KeepsOpen b c → KeepsOpen a c
+keeps-then a b c first second i is_open = second i (λ shut. is_open (sym (first i is_open) ∙ shut)) ∙ first i is_open
+
+pub keeps-same : (a b : Agent) → b.slots ≡ a.slots → KeepsOpen a b
+keeps-same a b same i is_open = ap (λ (s : SlotsState). session_at s.sessions i) same
+
+pub turns-each : (a b c d : Agent) → KeepsOpen a b → AllTakeTurns b.slots.sessions c.slots.sessions → d.slots ≡ c.slots → TurnsEach a.slots.sessions d.slots.sessions
+turns-each a b c d kept turns same = (b.slots.sessions, kept, subst (λ (s : SlotsState). AllTakeTurns b.slots.sessions s.sessions) (sym same) turns)
+
+-- ---- sessions that are over
+
 abbrev pub with_slots : Agent → SlotsState → Agent
 with_slots a s = record a { slots = s }
 
 -- only fewer sessions are open
-slots-stand : (a : Agent) (s : SlotsState) (heard said : List Message) → s ≡ record a.slots { opened = s.opened } → Stands a heard said → Stands (with_slots a s) heard said
+slots-stand : (a : Agent) (s : SlotsState) (heard said : List Message) → s ≡ record a.slots { opened = s.opened; sessions = s.sessions } → Stands a heard said → Stands (with_slots a s) heard said
 slots-stand a s heard said is stands = subst (λ (x : SlotsState). Stands (with_slots a x) heard said) (sym is) (record {
   port = stands.port;
   calls = stands.calls;
@@ -42,7 +57,7 @@ slots-stand a s heard said is stands = subst (λ (x : SlotsState). Stands (with_
 })
 
 -- the control channel is over, and what is over now is lost
-slots-over : (how : ControlEnd) (a : Agent) (s : SlotsState) (told : List SessionOver) → s ≡ record a.slots { opened = s.opened } → IsPermutation (told ++ s.opened) a.slots.opened → a.over ≡ Some how → IsOver how a → IsOver how (with_slots a s)
+slots-over : (how : ControlEnd) (a : Agent) (s : SlotsState) (told : List SessionOver) → s ≡ record a.slots { opened = s.opened; sessions = s.sessions } → IsPermutation (told ++ s.opened) a.slots.opened → a.over ≡ Some how → IsOver how a → IsOver how (with_slots a s)
 slots-over how a s told is p over_is over = record {
   heard = over.heard;
   said = over.said;
@@ -59,14 +74,12 @@ slots-over how a s told is p over_is over = record {
   retired = over.retired;
 }
 
-pub slots-running : (a : Agent) (s : SlotsState) (told : List SessionOver) → IsRunning a → is_some a.over ≡ true → s ≡ record a.slots { opened = s.opened } → IsPermutation (told ++ s.opened) a.slots.opened → IsRunning (with_slots a s)
+pub slots-running : (a : Agent) (s : SlotsState) (told : List SessionOver) → IsRunning a → is_some a.over ≡ true → s ≡ record a.slots { opened = s.opened; sessions = s.sessions } → IsPermutation (told ++ s.opened) a.slots.opened → IsRunning (with_slots a s)
 slots-running a s told running some is p = by_over a.over refl some
   where
     by_over : (o : Option ControlEnd) → a.over ≡ o → is_some o ≡ true → IsRunning (with_slots a s)
     by_over None over_is some = cc
     by_over (Some how) over_is some = over-running (with_slots a s) how (slots-over how a s told is p over_is (running-over a how running over_is))
-
--- ---- sessions that are over
 
 same-numbers : (x y : ℕ) → (x == x && y == y) ≡ true
 same-numbers x y = grind (arith, nat_tests)
@@ -96,7 +109,7 @@ over-tellable a heard said over stands begun = by_call over.number begun
     by_call None served = asked-to-serve heard a.slots.served over.domain over.port stands.asked_for served
 
 -- the ends of sessions that are over are to be reported
-pub notes-up : (a : Agent) (s : SlotsState) (new : Agent) (over : List SessionOver) → IsUp a → s ≡ record a.slots { opened = s.opened } → OnlyTells (with_slots a s) new → new.control.unsaid.items ≡ a.control.unsaid.items ++ map end_of over
+pub notes-up : (a : Agent) (s : SlotsState) (new : Agent) (over : List SessionOver) → IsUp a → s ≡ record a.slots { opened = s.opened; sessions = s.sessions } → OnlyTells (with_slots a s) new → new.control.unsaid.items ≡ a.control.unsaid.items ++ map end_of over
     → IsPermutation (over ++ s.opened) a.slots.opened → Each (IsToldOver a.slots) over → IsUp new
 notes-up a s new over up is only told p each =
     let h = up.hearing in
@@ -113,14 +126,15 @@ notes-up a s new over up is only told p each =
         hears = h.hears;
         sound = record { fine = h.sound.fine; is_open = h.sound.is_open; up = h.sound.up };
       };
+      all = up.all;
       going = up.going;
     })
 
-none-of : (o : Option ControlEnd) → is_some o ≡ false → o ≡ None
+pub none-of : (o : Option ControlEnd) → is_some o ≡ false → o ≡ None
 none-of None is = refl
 none-of (Some how) is = cc
 
-pub noted-running : (a : Agent) (s : SlotsState) (new : Agent) (over : List SessionOver) → IsRunning a → is_some a.over ≡ false → s ≡ record a.slots { opened = s.opened } → OnlyTells (with_slots a s) new
+pub noted-running : (a : Agent) (s : SlotsState) (new : Agent) (over : List SessionOver) → IsRunning a → is_some a.over ≡ false → s ≡ record a.slots { opened = s.opened; sessions = s.sessions } → OnlyTells (with_slots a s) new
     → new.control.unsaid.items ≡ a.control.unsaid.items ++ map end_of over → IsPermutation (over ++ s.opened) a.slots.opened → Each (IsToldOver a.slots) over → IsRunning new
 noted-running a s new over running none is only told p each = up-running new (notes-up a s new over (running-up a running (none-of a.over none)) is only told p each)
 

@@ -9,16 +9,19 @@ use Rattle.scenario_file.specs.declared.scenario.CallPlan.{CallPlan}
 use Rattle.task_duties.specs.declared.ends.DataEnd.{DataEnd}
 use Rattle.task_duties.specs.GivenEnds.{all_given}
 use Rattle.task_duties.specs.TaskOwes.{places_in}
-use Rattle.task_duties.specs.Words.{ident_of}
 use Rattle.task_duties.specs.Agent.Answers.{Waits, Asked}
-use Rattle.control_port.specs.Port.{HasSaid, HasHeard}
+use Rattle.control_port.specs.Port.{PortState, HasSaid, HasHeard, HasHeardAll}
+use Rattle.control_port.specs.Talking.{may_hear}
+use Rattle.qrexec_data.specs.declared.fault.SessionFault.{SessionFault}
+use Rattle.task_duties.specs.Hearing.{hears}
 use Rattle.control_port.specs.declared.talk.Talker.TheVariants.{Agent as OfAgent}
-use Rattle.call_queue.specs.Queue.{QueueState, fresh, asked_as, asked_by, AreDifferent}
-use Rattle.call_queue.specs.Asking.{Asks}
+use Rattle.call_queue.specs.Queue.{QueueState, fresh, asked_as, asked_by}
+use Rattle.data_slots.specs.Sessions.{NotOpen}
 use Rattle.data_slots.specs.Slots.{Called, SlotsState, held_at, AreApart}
 use Rattle.agent_control.specs.Speaking.{IsTellable}
 use Rattle.agent_task.specs.declared.agent.Agent.{Agent}
-use Rattle.agent_task.specs.Given.{data_ends}
+use Rattle.agent_task.specs.declared.given.Given.{Given}
+use Rattle.agent_task.specs.Starting.{IsNewQueue, IsNew}
 use Rattle.task_duties.specs.Pairwise.{EachPair}
 use Rattle.agent_task.specs.Standing.{called_of, IsServedBy, AreAskedFor}
 use Rattle.agent_task.specs.Ending.{IsRunning}
@@ -44,55 +47,71 @@ fresh-called (c ∷ calls) = ap (λ (l : List (Option Called)). None ∷ l) (fre
 open-first : (e : SeatedEnd) → IsUnused (view e) → (view e).role ≡ Server → IsOpen e
 open-first e unused server = (unused.idle, unused.state ∙ ap state_at_first server)
 
-pub starts : (a : Agent) (count : ℕ) → (a.control.port.end ≡ a.given.control.value) × (a.control.port.talker ≡ OfAgent) × (a.control.port.own ≡ a.given.version) → (a.control.port.version ≡ None) × (a.control.port.fault ≡ None)
-    → HasSaid a.control.port [] → HasHeard a.control.port [] → a.control.queue ≡ record { calls = map fresh a.given.calls.value.items; next = 0 } → Asks a.control.queue []
-    → AreDifferent (map (λ x. ident_of x.call.number) (asked_by a.control.queue)) → a.control.unsaid.items ≡ []
-    → a.slots ≡ record { domain = a.given.domain; version = a.given.version; held = map held_at (data_ends a.given); unused = places_in (data_ends a.given); late = late_places a.given.payload.value.items; called = replicate count None; served = []; opened = []; spent = false }
-    → count ≡ length a.given.calls.value.items → IsUnused (view a.given.control.value) → (view a.given.control.value).role ≡ Server → AreApart (places_in (data_ends a.given)) → a.over ≡ None → IsRunning a
-starts a count port new said heard queue asks differ unsaid slots many unused server apart over = up-running a (record {
+-- where no bytes came, no message was heard
+none-heard : (p : PortState) → (view p.end).got ≡ [] → p.version ≡ None → p.fault ≡ None → HasHeardAll p []
+none-heard p got version fault =
+    ap (λ (bytes : List ℕ). hears p.own (may_hear p.talker) bytes) got
+    ∙ sym (ap (λ (v : Option ℕ). record { version = v; messages = []; fault = p.fault }) version ∙ ap (λ (f : Option SessionFault). record { version = None; messages = []; fault = f }) fault)
+
+pub starts : (a : Agent) → IsNew a.given a.control.queue a.control.port a.slots → a.control.unsaid.items ≡ [] → a.over ≡ None → IsRunning a
+starts a new unsaid over = up-running a (record {
   hearing = record {
     heard = [];
     said = [];
     stands = record {
-      port = record { own = port.2; talker = port.1; end = same-end-is a.given.control.value a.control.port.end port.0 };
-      calls = record { calls = ap (λ (q : QueueState). map (λ x. x.call) (asked_by q)) queue ∙ fresh-calls calls; apart = differ };
+      port = record { own = new.port.own; talker = new.port.talker; end = same-end-is a.given.control.value a.control.port.end new.port.end };
+      calls = record { calls = ap (λ (q : QueueState). map (λ x. x.call) (asked_by q)) new.queue.queue_is ∙ fresh-calls calls; apart = new.queue.apart };
       slots = record {
-        domain = ap (λ (s : SlotsState). s.domain) slots;
-        version = ap (λ (s : SlotsState). s.version) slots;
-        held = ap (λ (s : SlotsState). s.held) slots;
-        whole = ap (λ (s : SlotsState). s.spent) slots;
-        apart = apart;
+        domain = ap (λ (s : SlotsState). s.domain) new.slots;
+        version = ap (λ (s : SlotsState). s.version) new.slots;
+        held = ap (λ (s : SlotsState). s.held) new.slots;
+        whole = ap (λ (s : SlotsState). s.spent) new.slots;
+        apart = new.apart;
       };
       answers = record {
-        asked = ap asked_by queue ∙ fresh-asked calls;
-        unused = ap (λ (s : SlotsState). s.unused) slots;
-        called = ap (λ (s : SlotsState). s.called) slots ∙ ap (λ (n : ℕ). replicate n None) many ∙ fresh-called calls;
-        served = subst (λ l. EachPair IsServedBy [] l) (sym (ap (λ (s : SlotsState). s.served) slots)) tt;
+        asked = ap asked_by new.queue.queue_is ∙ fresh-asked calls;
+        unused = ap (λ (s : SlotsState). s.unused) new.slots;
+        called = ap (λ (s : SlotsState). s.called) new.slots ∙ fresh-called calls;
+        served = subst (λ l. EachPair IsServedBy [] l) (sym (ap (λ (s : SlotsState). s.served) new.slots)) tt;
       };
-      asked_for = subst (λ l. AreAskedFor [] l) (sym (ap (λ (s : SlotsState). s.served) slots)) tt;
-      speaks = record { said_is = said; asks = asks; of_version = tt; told = tt; unsaid = subst (λ l. Each (IsTellable (asked_by a.control.queue) []) l) (sym unsaid) tt };
+      asked_for = subst (λ l. AreAskedFor [] l) (sym (ap (λ (s : SlotsState). s.served) new.slots)) tt;
+      speaks = record { said_is = new.port.said; asks = new.queue.asks; of_version = tt; told = tt; unsaid = subst (λ l. Each (IsTellable (asked_by a.control.queue) []) l) (sym unsaid) tt };
       quiet = λ none. refl;
     };
     keeps = subst (λ (o : Option ControlEnd). AreKept o a.slots.called a.control.unsaid.items a.slots.opened [] []) (sym over)
-        (kept-first calls a.slots.called a.control.unsaid.items a.slots.opened (ap (λ (s : SlotsState). s.called) slots ∙ ap (λ (n : ℕ). replicate n None) many ∙ fresh-called calls) unsaid (ap (λ (s : SlotsState). s.opened) slots));
-    hears = heard;
-    sound = record { fine = new.1; is_open = subst (λ (e : SeatedEnd). IsOpen e) (sym port.0) (open-first a.given.control.value unused server); up = over };
+        (kept-first calls a.slots.called a.control.unsaid.items a.slots.opened (ap (λ (s : SlotsState). s.called) new.slots ∙ fresh-called calls) unsaid (ap (λ (s : SlotsState). s.opened) new.slots));
+    hears = new.port.heard;
+    sound = record { fine = new.port.fine; is_open = subst (λ (e : SeatedEnd). IsOpen e) (sym new.port.end) (open-first a.given.control.value new.port.unused new.port.server); up = over };
   };
-  going = ap (λ (e : SeatedEnd). (view e).ended) port.0 ∙ unused.ended;
+  all = none-heard a.control.port (ap (λ (e : SeatedEnd). (view e).got) new.port.end ∙ new.port.unused.got) new.port.version new.port.fine;
+  going = ap (λ (e : SeatedEnd). (view e).ended) new.port.end ∙ new.port.unused.ended;
 })
   where
     calls : List CallPlan
     calls = a.given.calls.value.items
 
--- the same, if what was given is known by its parts
-pub starts-with : (a : Agent) (count : ℕ) (calls : List CallPlan) (control : SeatedEnd) (payload : List DataEnd) → a.given.calls.value.items ≡ calls → a.given.control.value ≡ control → a.given.payload.value.items ≡ payload
-    → (a.control.port.end ≡ control) × (a.control.port.talker ≡ OfAgent) × (a.control.port.own ≡ a.given.version) → (a.control.port.version ≡ None) × (a.control.port.fault ≡ None)
-    → HasSaid a.control.port [] → HasHeard a.control.port [] → a.control.queue ≡ record { calls = map fresh calls; next = 0 } → Asks a.control.queue []
-    → AreDifferent (map (λ x. ident_of x.call.number) (asked_by a.control.queue)) → a.control.unsaid.items ≡ []
-    → a.slots ≡ record { domain = a.given.domain; version = a.given.version; held = map held_at (all_given payload); unused = places_in (all_given payload); late = late_places payload; called = replicate count None; served = []; opened = []; spent = false }
-    → count ≡ length calls → IsUnused (view control) → (view control).role ≡ Server → AreApart (places_in (all_given payload)) → a.over ≡ None → IsRunning a
-starts-with a count calls control payload calls_are control_is payload_is port new said heard queue asks differ unsaid slots many unused server apart over =
-    starts a count (port.0 ∙ sym control_is, port.1, port.2) new said heard (queue ∙ ap (λ (l : List CallPlan). record { calls = map fresh l; next = 0 }) (sym calls_are)) asks differ unsaid
-    (slots ∙ ap (λ (es : List DataEnd). record { domain = a.given.domain; version = a.given.version; held = map held_at (all_given es); unused = places_in (all_given es); late = late_places es; called = replicate count None; served = []; opened = []; spent = false }) (sym payload_is))
-    (many ∙ ap (λ (l : List CallPlan). length l) (sym calls_are)) (subst (λ (e : SeatedEnd). IsUnused (view e)) (sym control_is) unused) (ap (λ (e : SeatedEnd). (view e).role) control_is ∙ server)
-    (subst (λ (es : List DataEnd). AreApart (places_in (all_given es))) (sym payload_is) apart) over
+-- the data ends of this domain and version, all unused, with this many calls
+abbrev made : ℕ → ℕ → ℕ → List DataEnd → SlotsState
+made domain version count ends = record { domain = domain; version = version; held = map held_at (all_given ends); unused = places_in (all_given ends); late = late_places ends; called = replicate count None; served = []; opened = []; sessions = replicate (length ends) NotOpen; spent = false }
+
+-- what was given is known by its parts
+pub is-new : (g : Given) (q : QueueState) (p : PortState) (s : SlotsState) (count : ℕ) (calls : List CallPlan) (control : SeatedEnd) (payload : List DataEnd)
+    → g.calls.value.items ≡ calls → g.control.value ≡ control → g.payload.value.items ≡ payload → IsNewQueue calls q
+    → (p.end ≡ control) × (p.talker ≡ OfAgent) × (p.own ≡ g.version) → (p.version ≡ None) × (p.fault ≡ None) → HasSaid p [] → HasHeard p []
+    → s ≡ made g.domain g.version count payload → count ≡ length calls → IsUnused (view control) → (view control).role ≡ Server → AreApart (places_in (all_given payload)) → IsNew g q p s
+is-new g q p s count calls control payload calls_are control_is payload_is queue port new said heard slots many unused server apart = record {
+  queue = subst (λ (l : List CallPlan). IsNewQueue l q) (sym calls_are) queue;
+  port = record {
+    end = port.0 ∙ sym control_is;
+    talker = port.1;
+    own = port.2;
+    version = new.0;
+    fine = new.1;
+    said = said;
+    heard = heard;
+    unused = subst (λ (e : SeatedEnd). IsUnused (view e)) (sym control_is) unused;
+    server = ap (λ (e : SeatedEnd). (view e).role) control_is ∙ server;
+  };
+  slots = slots ∙ ap (λ (n : ℕ). made g.domain g.version n payload) (many ∙ ap (λ (l : List CallPlan). length l) (sym calls_are)) ∙ ap (λ (es : List DataEnd). made g.domain g.version (length g.calls.value.items) es) (sym payload_is);
+  apart = subst (λ (es : List DataEnd). AreApart (places_in (all_given es))) (sym payload_is) apart;
+}

@@ -162,7 +162,7 @@ call-number a w place ident awaits waiting =
 pub connect-taken : (a : Agent) (to port : ℕ) (ident : List ℕ) (place : ℕ) (input : List ℕ) (q : QueueState) (s : SlotsState) → Awaits a (m.Connect to port ident) → IsWaitingAt a.control.queue place ident
     → true ≡ has_place (Payload a.slots.domain to port) a.slots.unused → q ≡ after_answer a.control.queue ident (At to port) → ((said : List Message) → Asks a.control.queue said → Asks q said)
     → ((c : Queued) → slice_get a.control.queue.calls place ≡ Some c → input ≡ c.call.stdin)
-    → s ≡ record a.slots { unused = without (Payload a.slots.domain to port) a.slots.unused; called = slice_set a.slots.called place (Some (record { to = to; port = port; input = input })); opened = a.slots.opened ++ record { domain = to; port = port; number = Some place } ∷ [] }
+    → s ≡ record a.slots { unused = without (Payload a.slots.domain to port) a.slots.unused; called = slice_set a.slots.called place (Some (record { to = to; port = port; input = input })); opened = a.slots.opened ++ record { domain = to; port = port; number = Some place } ∷ []; sessions = s.sessions }
     → IsHearing (with_answers a q s)
 connect-taken a to port ident place input q s awaits waiting there q_is asks stdin s_is =
     acts a q s w awaits (stands-on a q s heard said w stands (still-calls a.given a.control.queue q ident (At to port) asked stands.calls) slots are
@@ -258,7 +258,7 @@ asked-last heard (y ∷ served) x each last = (each.0, asked-last heard served x
 
 pub serve-taken : (a : Agent) (from port : ℕ) (line : List ℕ) (service : Builtin) (s : SlotsState) → Awaits a (m.Exec from port line) → IsNamed (service_of_line line) (Some service)
     → true ≡ has_place (Payload from a.slots.domain port) a.slots.unused
-    → s ≡ record a.slots { unused = without (Payload from a.slots.domain port) a.slots.unused; served = a.slots.served ++ record { from = from; port = port; service = service } ∷ []; opened = a.slots.opened ++ record { domain = from; port = port; number = None } ∷ [] }
+    → s ≡ record a.slots { unused = without (Payload from a.slots.domain port) a.slots.unused; served = a.slots.served ++ record { from = from; port = port; service = service } ∷ []; opened = a.slots.opened ++ record { domain = from; port = port; number = None } ∷ []; sessions = s.sessions }
     → IsHearing (with_answers a a.control.queue s)
 serve-taken a from port line service s awaits named there s_is = by_name (service_of_line line) refl named
   where

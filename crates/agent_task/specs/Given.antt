@@ -3,7 +3,7 @@
 use Rattle.std.specs.Prelude.{List}
 use Rattle.vchan_rule.specs.Seated.{view}
 use Rattle.task_duties.specs.Agent.Given.{AgentPlan}
-use Rattle.task_duties.specs.TaskOwes.{EndAt, places_in, all_ends}
+use Rattle.task_duties.specs.TaskOwes.{TaskGiven, EndAt, Agent as AgentWith, places_in, all_ends}
 use Rattle.task_duties.specs.GivenEnds.{all_given}
 use Rattle.agent_task.specs.declared.given.Given.{Given}
 
@@ -18,10 +18,5 @@ plan_of g = record { domain = g.domain; version = g.version; calls = g.calls.val
 abbrev pub ends_of : Given → List EndAt
 ends_of g = all_ends g.domain (view g.control.value) (data_ends g)
 
--- what a task was given
-pub record AgentGiven : Type 0 where
-  pub plan : AgentPlan
-  pub ends : List EndAt
-
-abbrev pub given_of : Given → AgentGiven
-given_of g = record { plan = plan_of g; ends = ends_of g }
+abbrev pub given_of : Given → TaskGiven
+given_of g = AgentWith (plan_of g) (ends_of g)

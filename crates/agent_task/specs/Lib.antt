@@ -1,9 +1,12 @@
 pub mod Given
 pub mod Lines
 pub mod Ends
+pub mod Starting
 pub mod Standing
 pub mod Ending
 pub mod Finishing
 pub mod Owing
 pub mod Telling
+pub mod Moving
+pub mod State
 pub mod Turns

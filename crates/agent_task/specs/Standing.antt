@@ -18,6 +18,7 @@ use Rattle.task_duties.specs.Agent.Saying.{AsksToServe}
 use Rattle.control_port.specs.Port.{PortState, HasHeard, HasHeardAll}
 use Rattle.control_port.specs.declared.talk.Talker.TheVariants.{Agent as OfAgent}
 use Rattle.call_queue.specs.Queue.{QueueState, asked_by, AreDifferent}
+use Rattle.data_slots.specs.Sessions.{KeepsSessions}
 use Rattle.data_slots.specs.Slots.{Called, Serves, SlotsState, held_at, AreApart}
 use Rattle.data_slots.specs.declared.done.SessionOver.{SessionOver}
 use Rattle.agent_control.specs.declared.control.SessionEnd.{SessionEnd}
@@ -130,18 +131,24 @@ abbrev pub HearsOn : Bool → Agent → Type 0
 HearsOn true a = IsHearing a
 HearsOn false a = HasHeardOut a
 
--- between two turns: no drain has found the end of what the broker sends
+-- between two turns: all messages in the bytes that came were acted on, and no drain has found the end of what the broker sends
 pub record IsUp (a : Agent) : Type 0 where
   pub hearing : IsHearing a
+  pub all : HasHeardAll a.control.port hearing.heard
   pub going : (view a.control.port.end).ended ≡ None
 
 -- ---- what a call leaves as it is
 
-abbrev pub IsSameAgent : Agent → Agent → Type 0
-IsSameAgent old new = (new.given ≡ old.given) × (new.over ≡ old.over)
+-- it has the same ends, and its channel is over or not as before
+abbrev pub HasSameEnds : Agent → Agent → Type 0
+HasSameEnds old new = (new.given ≡ old.given) × (new.over ≡ old.over) × (new.slots.held ≡ old.slots.held)
 
 abbrev pub KeepsPort : Agent → Agent → Type 0
-KeepsPort old new = (new.control.port ≡ old.control.port) × (new.given ≡ old.given) × (new.over ≡ old.over)
+KeepsPort old new = (new.control.port ≡ old.control.port) × HasSameEnds old new
+
+-- the sessions that were open are as they were
+abbrev pub KeepsOpen : Agent → Agent → Type 0
+KeepsOpen old new = KeepsSessions old.slots.sessions new.slots.sessions
 
 -- only the ends to be reported differ
 abbrev pub OnlyTells : Agent → Agent → Type 0
@@ -156,5 +163,9 @@ abbrev pub CanRest : Option ControlEnd → EndView → Type 0
 CanRest None end = Unit {0}
 CanRest (Some how) end = end.retired ≡ true
 
-abbrev pub CanGiveUp : Agent → Type 0
-CanGiveUp a = ((view a.control.port.end).idle ≡ true) × CanRest a.over (view a.control.port.end)
+-- it has the ends that were given, and its control end can rest
+pub record CanGiveUp (a : Agent) : Type 0 where
+  pub control : IsSameEnd a.given.control.value a.control.port.end
+  pub held : a.slots.held ≡ map held_at (data_ends a.given)
+  pub idle : (view a.control.port.end).idle ≡ true
+  pub rests : CanRest a.over (view a.control.port.end)

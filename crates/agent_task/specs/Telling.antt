@@ -1,6 +1,6 @@
 -- What an agent that is done has reported, beside what it owes.
 -- Source: this project's own.
-use Rattle.std.specs.Prelude.{◌≡◌, ◌↔◌, List, filter_map, slice_get, Some}
+use Rattle.std.specs.Prelude.{◌≡◌, ◌↔◌, ℕ, List, filter_map, slice_get, Some}
 use Rattle.qrexec_frame.specs.declared.message.Message.{Message}
 use Rattle.end_view.specs.EndView.{EndView}
 use Rattle.qrexec_data.specs.declared.fault.SessionFault.{SessionFault}
@@ -20,12 +20,19 @@ use Rattle.agent_task.specs.Ends.{session_told, sessions_owed}
 abbrev pub heard_on : AgentPlan → EndView → Heard
 heard_on plan control = hears plan.version to_agent control.got
 
--- by its control end and what it reports of that
-pub record TellsOf (plan : AgentPlan) (control : EndView) (how : ControlEnd) : Type 0 where
-  -- the end of each session that it owes to report was reported at most once, and that of no other
+-- the sessions whose end it owes to report, by what it heard there
+abbrev pub owed_on : AgentPlan → EndView → List (ℕ × ℕ)
+owed_on plan control = sessions_owed (answers plan (heard_on plan control).messages).asked (heard_on plan control).messages
+
+-- the end of each of them was reported at most once, and that of no other
+pub record TellsOnce (plan : AgentPlan) (control : EndView) : Type 0 where
   pub said : List Message
   pub says : IsSaid plan.version to_broker said control.sent
-  pub told : IsPartOf (filter_map session_told said) (sessions_owed (answers plan (heard_on plan control).messages).asked (heard_on plan control).messages)
+  pub told : IsPartOf (filter_map session_told said) (owed_on plan control)
+
+-- by its control end and what it reports of that
+pub record TellsOf (plan : AgentPlan) (control : EndView) (how : ControlEnd) : Type 0 where
+  pub once : TellsOnce plan control
   -- a fault is reported if and only if what it heard is wrong in that way
   pub fault : (fault : SessionFault) → (how ≡ Fault fault) ↔ ((heard_on plan control).fault ≡ Some fault)
 

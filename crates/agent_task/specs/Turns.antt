@@ -1,20 +1,30 @@
 -- What a turn of the task of an agent returns.
-use Rattle.std.specs.Prelude.{◌≡◌}
-use Rattle.task_duties.specs.TaskOwes.{TaskOwes, Agent, AgentDone}
-use Rattle.agent_task.specs.Given.{AgentGiven}
+use Rattle.std.specs.Prelude.{◌≡◌, ◌≢◌, ◌⊎◌, [], None}
+use Rattle.task_duties.specs.TaskOwes.{TaskOwes, TaskGiven, AgentDone, NoMemory}
+use Rattle.task_duties.specs.GivenEnds.{all_retired}
+use Rattle.task_duties.specs.Agent.Given.{AgentPlan}
 use Rattle.agent_task.specs.Owing.{report_of}
 use Rattle.agent_task.specs.Telling.{TellsAll}
+use Rattle.agent_task.specs.Moving.{TurnsChannel}
+use Rattle.agent_task.specs.State.{AgentState, task_given, TellsSoFar, TurnsEach}
 use Rattle.agent_task.specs.declared.task.AgentTurn.{AgentTurn}
 use Rattle.agent_task.specs.declared.task.AgentTurn.TheVariants as turn
 
--- a task that goes on owes what it owed, and a task that is done gives that
-abbrev pub Pays : AgentGiven → AgentTurn → Type 0
-Pays given (turn.Again task) = task ≡ given
-Pays given (turn.Done done) = TaskOwes (Agent given.plan given.ends) (AgentDone (report_of done))
-Pays given turn.NoMemory = Unit {0}
+-- a task that goes on owes what it owed, and a task that is done, or that memory ran out for, gives that
+abbrev pub Pays : TaskGiven → AgentTurn → Type 0
+Pays given (turn.Again task) = task_given task ≡ given
+Pays given (turn.Done done) = TaskOwes given (AgentDone (report_of done))
+Pays given (turn.NoMemory ends) = TaskOwes given (NoMemory (all_retired ends.items))
 
--- a task that is done has reported all this
-abbrev pub Tells : AgentGiven → AgentTurn → Type 0
-Tells given (turn.Again task) = Unit {0}
-Tells given (turn.Done done) = TellsAll given.plan done
-Tells given turn.NoMemory = Unit {0}
+-- what a task has reported, one that goes on so far
+abbrev pub Tells : AgentPlan → AgentTurn → Type 0
+Tells plan (turn.Again task) = TellsSoFar task
+Tells plan (turn.Done done) = TellsAll plan done
+Tells plan (turn.NoMemory ends) = Unit {0}
+
+-- a task goes on only while its control channel is up or a session is open. Each of its sessions took its turn; and if the channel is up, bytes came on it or none were there, and what wasn't said has its reason
+abbrev pub GoesOn : AgentState → AgentTurn → Type 0
+GoesOn before (turn.Again task) = ((task.over ≡ None) ⊎ (task.opened ≢ [])) × TurnsEach before.sessions task.sessions
+    × (task.over ≡ None → TurnsChannel task.pages before.channel task.channel)
+GoesOn before (turn.Done done) = Unit {0}
+GoesOn before (turn.NoMemory ends) = Unit {0}

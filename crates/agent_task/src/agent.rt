@@ -1,6 +1,10 @@
 //! An agent between two turns.
-ghost use Rattle.std.specs.Prelude.{◌≡◌, ◌<◌, ◌++◌, [], OnOk, length, map};
-ghost use Rattle.agent_task.specs.Standing.{IsUp, CanGiveUp, IsSameAgent, KeepsPort, OnlyTells, end_of};
+ghost use Rattle.std.specs.Prelude.{◌≡◌, ◌≢◌, ◌⊎◌, ◌<◌, ◌++◌, [], Some, None, IfSome, OnOk, length, map};
+ghost use Rattle.agent_task.specs.Standing.{IsUp, CanGiveUp, HasSameEnds, KeepsPort, OnlyTells, end_of};
+ghost use Rattle.data_slots.specs.Slots.{late_count};
+ghost use Rattle.data_slots.specs.Sessions.{AllTakeTurns};
+ghost use Rattle.agent_task.specs.Moving.{SaysNoMore, TurnsControl, asked_at_most};
+ghost use Rattle.agent_task.specs.State.{TurnsEach};
 ghost use Rattle.agent_task.specs.Ending.{IsRunning};
 
 use crate::given::Given;
@@ -46,6 +50,8 @@ impl<'p> Agent<'p> {
         ensures running { OnOk result (IsRunning self.new) }
         ensures empty { OnOk result (over.new.items ≡ []) }
         ensures given { self.new.given ≡ self.old.given }
+        ensures turns { OnOk result (TurnsEach self.old.slots.sessions self.new.slots.sessions) }
+        ensures control { OnOk result (self.new.over ≡ None → TurnsControl (asked_at_most (late_count self.new.slots)) self.old.control self.new.control) }
         ensures retire { CanGiveUp self.new }
         ensures long { length scratch.new ≡ length scratch.old }
     {
@@ -58,6 +64,18 @@ impl<'p> Agent<'p> {
             self.say()?;
         }
         Ok(moved || self.control.port.moves() != before)
+    }
+
+    /// Returns how the control channel ended, once all sessions are over too.
+    pub(crate) fn ended(&self) -> Option<ControlEnd>
+        ensures some { IfSome result (λ over. (self.now.over ≡ Some over) × (self.now.slots.opened ≡ [])) }
+        ensures none { result ≡ None → (self.now.over ≡ None) ⊎ (self.now.slots.opened ≢ []) }
+    {
+        if self.slots.is_idle() {
+            self.over
+        } else {
+            None
+        }
     }
 
     // Makes one turn of each open session. Those that are over are noted to be reported, unless the control
@@ -73,6 +91,7 @@ impl<'p> Agent<'p> {
         ensures running { OnOk result (IsRunning self.new) }
         ensures empty { OnOk result (over.new.items ≡ []) }
         ensures same { KeepsPort self.old self.new }
+        ensures turns { OnOk result (AllTakeTurns self.old.slots.sessions self.new.slots.sessions) }
         ensures long { length scratch.new ≡ length scratch.old }
     {
         let moved = self.slots.turn(scratch, over)?;
@@ -103,8 +122,10 @@ impl<'p> Agent<'p> {
     fn say(&mut self) -> Result<(), Memory>
         requires up { IsUp self.old }
         ensures up { OnOk result (IsUp self.new) }
-        ensures same { IsSameAgent self.old self.new }
+        ensures says { OnOk result (SaysNoMore (asked_at_most (late_count self.old.slots)) self.old.control self.new.control) }
         ensures retire { CanGiveUp self.new }
+        ensures same { HasSameEnds self.old self.new }
+        ensures slots { self.new.slots ≡ self.old.slots }
     {
         if self.control.port.greeted() && self.control.port.version().is_some() {
             let more = MOST_PAGES.saturating_sub(self.slots.pages_in_use());

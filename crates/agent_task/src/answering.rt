@@ -1,7 +1,7 @@
 //! What an agent does on each message.
 ghost use Rattle.std.specs.Prelude.{◌≡◌, ◌++◌, ◌∷◌, [], None, OnOk};
 ghost use Rattle.qrexec_frame.specs.declared.message.Message.TheVariants.{Connect, Refused, Exec};
-ghost use Rattle.agent_task.specs.Standing.{IsHearing, Awaits, KeepsPort, OnlyTells};
+ghost use Rattle.agent_task.specs.Standing.{IsHearing, Awaits, KeepsPort, KeepsOpen, OnlyTells};
 
 use crate::agent::Agent;
 use crate::line::service_of;
@@ -16,6 +16,7 @@ impl<'p> Agent<'p> {
         requires { Awaits self.old message }
         ensures hearing { OnOk result (IsHearing self.new) }
         ensures same { KeepsPort self.old self.new }
+        ensures kept { KeepsOpen self.old self.new }
     {
         match message {
             Message::Connect {
@@ -40,6 +41,7 @@ impl<'p> Agent<'p> {
         requires { Awaits self.old (Connect to port ident.now) }
         ensures hearing { OnOk result (IsHearing self.new) }
         ensures same { KeepsPort self.old self.new }
+        ensures kept { KeepsOpen self.old self.new }
     {
         let Some(place) = self.control.queue.waiting(ident.bytes()) else {
             return Ok(());
@@ -56,6 +58,7 @@ impl<'p> Agent<'p> {
         requires { Awaits self.old (Refused ident.now) }
         ensures hearing { OnOk result (IsHearing self.new) }
         ensures same { KeepsPort self.old self.new }
+        ensures kept { KeepsOpen self.old self.new }
     {
         self.control.queue.refused(ident.bytes());
         Ok(())
@@ -67,6 +70,7 @@ impl<'p> Agent<'p> {
         requires { Awaits self.old (Exec from port line.now) }
         ensures hearing { OnOk result (IsHearing self.new) }
         ensures same { KeepsPort self.old self.new }
+        ensures kept { KeepsOpen self.old self.new }
     {
         let Some(service) = service_of(line.bytes()) else {
             return self.end_unserved(from, port);

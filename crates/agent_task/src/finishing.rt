@@ -1,11 +1,15 @@
 //! What an agent reports, and how it gives up.
-ghost use Rattle.std.specs.Prelude.{◌≡◌, ◌<◌, [], Some, None, IfOk, length, slice_get};
+ghost use Rattle.std.specs.Prelude.{◌≡◌, ◌<◌, [], true, false, Some, None, IfOk, IfErr, length, slice_get};
+ghost use Rattle.vchan_rule.specs.Seated.{view, last_view};
+ghost use Rattle.task_duties.specs.declared.place.PagePlace.TheVariants.{Control};
+ghost use Rattle.task_duties.specs.TaskOwes.{AreGivenBack};
+ghost use Rattle.task_duties.specs.GivenEnds.{all_retired, retired_at};
 ghost use Rattle.task_duties.specs.Agent.Answers.{Asked};
 ghost use Rattle.call_queue.specs.Queue.{answer_of, asked_by};
-ghost use Rattle.agent_task.specs.Standing.{CanGiveUp};
+ghost use Rattle.agent_task.specs.Standing.{CanGiveUp, CanRest};
 ghost use Rattle.agent_task.specs.Ending.{IsOver};
 ghost use Rattle.agent_task.specs.Finishing.{call_end_of, call_done_of, call_dones};
-ghost use Rattle.agent_task.specs.Given.{plan_of};
+ghost use Rattle.agent_task.specs.Given.{plan_of, ends_of};
 ghost use Rattle.agent_task.specs.Owing.{IsOwed};
 ghost use Rattle.agent_task.specs.Telling.{TellsAll};
 
@@ -13,21 +17,24 @@ use crate::agent::Agent;
 use crate::task::AgentDone;
 use agent_control::AgentControl;
 use call_queue::{CallAnswer, CallQueue};
+use control_port::ControlPort;
 use data_slots::{CallOver, DataDone};
 use std::alloc::Global;
 use task_duties::{CallDone, CallEnd, ControlEnd, DoneEnd, PagePlace, RetiredEnd};
 use vchan_io::Memory;
+use vchan_rule::Retired;
 
 impl<'p> Agent<'p> {
     /// Retires the data ends that were never used, and returns what came of all calls. The control channel is
     /// over, and no session is open.
     ///
-    /// Returns `Memory` if memory runs out; all ends are retired and dropped then.
-    pub(crate) fn finish(self, over: ControlEnd) -> Result<AgentDone, Memory>
+    /// Returns all ends, retired and in the order in which they were given, if memory runs out.
+    pub(crate) fn finish(self, over: ControlEnd) -> Result<AgentDone, Vec<RetiredEnd>>
         requires over { IsOver over self }
         requires idle { self.slots.opened ≡ [] }
         ensures owed { IfOk result (λ done. IsOwed self.entry.given done) }
         ensures tells { IfOk result (λ done. TellsAll (plan_of self.entry.given) done) }
+        ensures err { IfErr result (λ ends. AreGivenBack false (ends_of self.entry.given) (all_retired ends.items)) }
     {
         let Agent {
             alloc,
@@ -37,17 +44,20 @@ impl<'p> Agent<'p> {
             ..
         } = self;
         let AgentControl { port, queue, .. } = control;
-        let retired = port.rest();
+        let domain = given.domain;
+        let first = control_end(domain, port.rest());
+        let came = match slots.finish(first) {
+            Ok(came) => came,
+            Err(ends) => return Err(ends),
+        };
         let DataDone {
-            mut ends,
+            ends,
             calls,
             served,
-        } = slots.finish()?;
-        let calls = call_dones(alloc, &queue, calls)?;
-        let domain = given.domain;
-        let place = PagePlace::Control { domain };
-        let retired = DoneEnd::Laid(retired);
-        ends.insert(0, RetiredEnd { place, retired })?;
+        } = came;
+        let Ok(calls) = call_dones(alloc, &queue, calls) else {
+            return Err(ends);
+        };
         Ok(AgentDone {
             domain,
             calls,
@@ -57,22 +67,46 @@ impl<'p> Agent<'p> {
         })
     }
 
-    /// Retires all ends.
-    pub(crate) fn give_up(self)
+    /// Retires all ends, and returns them in the order in which they were given.
+    pub(crate) fn give_up(self) -> Vec<RetiredEnd>
         requires { CanGiveUp self }
+        ensures { AreGivenBack false (ends_of self.entry.given) (all_retired result.items) }
     {
         let Agent {
+            given,
             control,
             slots,
             over,
             ..
         } = self;
         let AgentControl { port, .. } = control;
-        let _ = slots.give_up();
-        let _ = match over {
-            Some(_) => port.rest(),
-            None => port.retire(),
-        };
+        let domain = given.domain;
+        let first = control_end(domain, retired_port(port, over));
+        slots.give_up(first)
+    }
+}
+
+// Retires the end of a port, unless it was retired when the channel was over.
+fn retired_port(port: ControlPort, over: Option<ControlEnd>) -> Retired
+    requires idle { (view port.end).idle ≡ true }
+    requires rests { CanRest over (view port.end) }
+    ensures page { (last_view result).page ≡ (view port.entry.end).page }
+    ensures role { (last_view result).role ≡ (view port.entry.end).role }
+    ensures honest { (last_view result).turned ≡ false }
+{
+    match over {
+        Some(_) => port.rest(),
+        None => port.retire(),
+    }
+}
+
+// The retired end of the control page of a domain.
+fn control_end(domain: u32, retired: Retired) -> RetiredEnd
+    ensures { retired_at result ≡ record { place = Control domain; view = last_view retired } }
+{
+    RetiredEnd {
+        place: PagePlace::Control { domain },
+        retired: DoneEnd::Laid(retired),
     }
 }
 

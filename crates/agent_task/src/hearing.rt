@@ -1,8 +1,10 @@
 //! What an agent does on its control channel.
-ghost use Rattle.std.specs.Prelude.{◌≡◌, ◌<◌, true, OnOk, IfOk, length};
-ghost use Rattle.vchan_rule.specs.Seated.{IsOpen};
+ghost use Rattle.std.specs.Prelude.{◌≡◌, ◌<◌, true, None, OnOk, IfOk, length};
+ghost use Rattle.vchan_rule.specs.Seated.{view, IsOpen};
+ghost use Rattle.vchan_rule.specs.Ends.{IsSameEnd};
 ghost use Rattle.control_port.specs.Port.{HasFewerLeft};
-ghost use Rattle.agent_task.specs.Standing.{IsUp, IsHearing, HearsOn, HasHeardOut, IsSameAgent, CanGiveUp};
+ghost use Rattle.agent_task.specs.Standing.{IsUp, IsHearing, HearsOn, HasHeardOut, HasSameEnds, KeepsOpen, CanGiveUp};
+ghost use Rattle.agent_task.specs.Moving.{Greets, Drains, Listens};
 ghost use Rattle.agent_task.specs.Ending.{IsDrained, IsRunning, end_by, over_by};
 
 use crate::agent::Agent;
@@ -19,6 +21,8 @@ impl<'p> Agent<'p> {
         requires some { 0 < length scratch.old }
         ensures running { OnOk result (IsRunning self.new) }
         ensures given { self.new.given ≡ self.old.given }
+        ensures kept { OnOk result (KeepsOpen self.old self.new) }
+        ensures listens { OnOk result (self.new.over ≡ None → Listens self.old.control.port self.new.control.port.end) }
         ensures retire { CanGiveUp self.new }
         ensures long { length scratch.new ≡ length scratch.old }
     {
@@ -33,7 +37,11 @@ impl<'p> Agent<'p> {
     fn greet(&mut self) -> Result<(), Memory>
         requires up { IsUp self.old }
         ensures up { OnOk result (IsUp self.new) }
-        ensures same { IsSameAgent self.old self.new }
+        ensures greets { OnOk result (Greets self.old.control.port self.new.control.port) }
+        ensures got { OnOk result ((view self.new.control.port.end).got ≡ (view self.old.control.port.end).got) }
+        ensures same { HasSameEnds self.old self.new }
+        ensures slots { self.new.slots ≡ self.old.slots }
+        ensures end { IsSameEnd self.old.control.port.end self.new.control.port.end }
         ensures open { IsOpen self.new.control.port.end }
     {
         if !self.control.port.greeted() {
@@ -48,7 +56,10 @@ impl<'p> Agent<'p> {
         requires some { 0 < length scratch.old }
         ensures hearing { OnOk result (IsHearing self.new) }
         ensures drained { IfOk result (λ drained. IsDrained drained self.new) }
-        ensures same { IsSameAgent self.old self.new }
+        ensures drains { IfOk result (λ drained. Drains drained self.old.control.port.end self.new.control.port.end) }
+        ensures same { HasSameEnds self.old self.new }
+        ensures slots { self.new.slots ≡ self.old.slots }
+        ensures end { IsSameEnd self.old.control.port.end self.new.control.port.end }
         ensures open { IsOpen self.new.control.port.end }
         ensures long { length scratch.new ≡ length scratch.old }
     {
@@ -60,7 +71,8 @@ impl<'p> Agent<'p> {
         requires hearing { IsHearing self.old }
         ensures out { OnOk result (HasHeardOut self.new) }
         ensures end { self.new.control.port.end ≡ self.old.control.port.end }
-        ensures same { IsSameAgent self.old self.new }
+        ensures same { HasSameEnds self.old self.new }
+        ensures kept { KeepsOpen self.old self.new }
     {
         'messages: while self.hear_next()? {}
         Ok(())
@@ -72,7 +84,8 @@ impl<'p> Agent<'p> {
         ensures hears { IfOk result (λ more. HearsOn more self.new) }
         ensures fewer { result ≡ Ok true → HasFewerLeft self.old.control.port self.new.control.port }
         ensures end { self.new.control.port.end ≡ self.old.control.port.end }
-        ensures same { IsSameAgent self.old self.new }
+        ensures same { HasSameEnds self.old self.new }
+        ensures kept { KeepsOpen self.old self.new }
     {
         match self.control.port.next()? {
             Some(message) => {
@@ -89,6 +102,8 @@ impl<'p> Agent<'p> {
         requires drained { IsDrained drained self.old }
         ensures running { IsRunning self.new }
         ensures given { self.new.given ≡ self.old.given }
+        ensures slots { self.new.slots ≡ self.old.slots }
+        ensures up { self.new.over ≡ None → (self.new.control ≡ self.old.control) × (end_by drained ≡ None) }
         ensures retire { CanGiveUp self.new }
     {
         match over_by(self.control.port.fault(), drained) {

@@ -7,6 +7,7 @@
 
 mod agent;
 mod answering;
+mod boxed;
 mod finishing;
 mod given;
 mod hearing;

@@ -1,5 +1,11 @@
 //! The task of an agent.
+ghost use Rattle.std.specs.Prelude.{◌<◌, IfOk, length, map};
+ghost use Rattle.qrexec_frame.specs.Streams.{Each};
+ghost use Rattle.call_queue.specs.Queue.{AreDifferent, FitsTrigger};
+ghost use Rattle.agent_task.specs.Starting.{IsNewQueue};
+
 use crate::agent::Agent;
+use crate::boxed::{go_round, over_at, taken};
 use crate::given::Given;
 use agent_control::AgentControl;
 use call_queue::CallQueue;
@@ -10,18 +16,20 @@ use std::alloc::Global;
 use std::collections::VecDeque;
 use std::marker::Model;
 use std::snapshot::Snapshot;
-use task_duties::{CallDone, ControlEnd, DataEnd, RetiredEnd, ServedDone};
+use task_duties::{CallDone, ControlEnd, DataEnd, RetiredEnd, ServedDone, UnmadeEnds};
 use vchan_io::Memory;
 use vchan_rule::End;
 
 /// The most bytes that a turn takes of one channel. Source: this project's own.
 const SCRATCH: usize = 8_192;
 
-/// The agent of a domain. Contracts see what the task was given, which no turn changes.
+/// The agent of a domain. Contracts see what the task was given, which no turn changes, its control end, and
+/// its sessions.
 #[derive(Drop)]
 pub struct AgentTask<'p> {
-    // Boxed because it is large, and the workers that turn tasks move them.
-    agent: Box<Agent<'p>>,
+    // The agent, which is there between two turns. Boxed because it is large, and the workers that turn tasks
+    // move them.
+    agent: Box<Option<Agent<'p>>>,
     // The buffer through which all bytes are read.
     scratch: Vec<u8>,
     // The sessions that were over in a turn. The list is kept for its room.
@@ -31,16 +39,16 @@ pub struct AgentTask<'p> {
 }
 
 impl<'p> Model for AgentTask<'p> {
-    ghost use Rattle.std.specs.Prelude.{◌≡◌, ◌<◌, [], length};
-    ghost use Rattle.agent_task.specs.Given.{AgentGiven, given_of};
+    ghost use Rattle.std.specs.Prelude.{◌≡◌, ◌<◌, [], IsSomeAnd, length};
+    ghost use Rattle.agent_task.specs.State.{AgentState, state_in};
 
-    ghost Value = { AgentGiven };
+    ghost Value = { AgentState };
 
     ghost use Rattle.agent_task.specs.Ending.{IsRunning};
 
-    ghost view = { λ t. given_of t.agent.value.given };
+    ghost view = { λ t. state_in t.agent.value };
 
-    ghost invariant = { λ t. IsRunning t.agent.value × (0 < length t.scratch.items) × (t.ended.items ≡ []) };
+    ghost invariant = { λ t. IsSomeAnd t.agent.value IsRunning × (0 < length t.scratch.items) × (t.ended.items ≡ []) };
 }
 
 /// What a turn of an agent's task returns.
@@ -49,8 +57,20 @@ pub enum AgentTurn<'p> {
     Again(AgentTask<'p>),
     /// The control channel is over, and so are all sessions.
     Done(AgentDone),
-    /// Memory ran out. All ends are retired.
-    NoMemory,
+    /// Memory ran out.
+    NoMemory {
+        /// The ends, all of them retired, in the order in which they were given, with the end of the control
+        /// page first.
+        ends: Vec<RetiredEnd>,
+    },
+}
+
+/// The memory of a task that has no ends yet.
+#[derive(Drop)]
+struct TaskRoom<'p> {
+    agent: Box<Option<Agent<'p>>>,
+    queue: CallQueue,
+    scratch: Vec<u8>,
 }
 
 /// An agent that is done.
@@ -69,25 +89,27 @@ pub struct AgentDone {
 }
 
 impl<'p> AgentTask<'p> {
-    ghost use Rattle.std.specs.Prelude.{◌≡◌, ◌≤◌, [], map, IfOk};
+    ghost use Rattle.std.specs.Prelude.{◌≡◌, ◌<◌, ◌≤◌, [], false, length, map, IfOk, IfErr};
     ghost use Rattle.ring_words.specs.declared.page.Role.TheVariants.{Server};
     ghost use Rattle.end_view.specs.EndView.{IsUnused};
     ghost use Rattle.vchan_rule.specs.Seated.{view};
     ghost use Rattle.qrexec_frame.specs.Streams.{Each};
-    ghost use Rattle.task_duties.specs.TaskOwes.{Agent as AgentWith, agent_given, places_in};
-    ghost use Rattle.task_duties.specs.GivenEnds.{all_given};
+    ghost use Rattle.task_duties.specs.TaskOwes.{Agent as AgentWith, AreGivenBack, agent_given, places_in};
+    ghost use Rattle.task_duties.specs.GivenEnds.{all_given, all_retired};
     ghost use Rattle.call_queue.specs.Queue.{AreDifferent, FitsTrigger};
     ghost use Rattle.data_slots.specs.Slots.{IsGiven, AreApart};
-    ghost use Rattle.agent_task.specs.Given.{given_of};
+    ghost use Rattle.agent_task.specs.Given.{given_of, plan_of};
+    ghost use Rattle.agent_task.specs.State.{AgentState, task_given};
     ghost use Rattle.agent_task.specs.Ending.{IsOver};
-    ghost use Rattle.agent_task.specs.Turns.{Pays, Tells};
+    ghost use Rattle.agent_task.specs.Starting.{IsNew};
+    ghost use Rattle.agent_task.specs.Turns.{Pays, Tells, GoesOn};
 
     /// Makes the task of the agent of a domain, of version 2 or 3, with its calls and its ends. All ends are
     /// unused. The end of the control page is the server's. A data end is the server's if the domain calls on
     /// its page, and the client's otherwise; no two lie at one place. The numbers of the calls differ, and
     /// their texts fit a trigger: a target of at most 31 bytes, and a service of at most 63.
     ///
-    /// Returns `Memory` if memory runs out; all that it took is dropped then, and the ends aren't retired.
+    /// Returns the ends as they were given if memory runs out.
     pub fn new(
         alloc: Global,
         domain: u32,
@@ -95,14 +117,15 @@ impl<'p> AgentTask<'p> {
         calls: Vec<CallPlan>,
         control: End<'p>,
         payload: Vec<DataEnd<'p>>,
-    ) -> Result<AgentTask<'p>, Memory>
+    ) -> Result<AgentTask<'p>, UnmadeEnds<'p>>
         requires version { (2 ≤ version) × (version ≤ 3) }
         requires different { AreDifferent (map (λ c. c.number) calls.items) }
         requires short { Each FitsTrigger calls.items }
         requires control { IsUnused (view control) × ((view control).role ≡ Server) }
         requires payload { Each (IsGiven domain) (all_given payload.items) }
         requires apart { AreApart (places_in (all_given payload.items)) }
-        ensures { IfOk result (λ task. AgentWith task.plan task.ends ≡ agent_given domain version calls.items (view control.entry) (all_given payload.entry.items)) }
+        ensures made { IfOk result (λ task. AgentWith task.plan task.ends ≡ agent_given domain version calls.items (view control.entry) (all_given payload.entry.items)) }
+        ensures unmade { IfErr result (λ unmade. unmade ≡ record { control = control.entry; payload = payload.entry }) }
     {
         let given = Given {
             domain,
@@ -111,25 +134,56 @@ impl<'p> AgentTask<'p> {
             control: Snapshot::of(&control),
             payload: Snapshot::of(&payload),
         };
-        let slots = DataSlots::new(alloc, domain, version, payload, calls.len())?;
-        let queue = CallQueue::new(alloc, calls)?;
-        let agent = Agent {
-            alloc,
-            given,
-            control: AgentControl {
-                port: ControlPort::new(alloc, control, Talker::Agent, version),
-                queue,
-                unsaid: VecDeque::new(alloc),
-            },
-            slots,
-            over: None,
+        let count = calls.len();
+        let Ok(room) = room_for(alloc, calls) else {
+            return Err(UnmadeEnds { control, payload });
         };
-        Ok(AgentTask {
-            agent: Box::new(alloc, agent)?,
-            scratch: vec![in alloc; 0u8; SCRATCH]?,
+        let slots = match DataSlots::new(alloc, domain, version, payload, count) {
+            Ok(slots) => slots,
+            Err(payload) => return Err(UnmadeEnds { control, payload }),
+        };
+        let port = ControlPort::new(alloc, control, Talker::Agent, version);
+        Ok(AgentTask::of(alloc, given, room, port, slots))
+    }
+
+    // Puts the task of an agent together, in memory that is there.
+    fn of(
+        alloc: Global,
+        given: Given<'p>,
+        room: TaskRoom<'p>,
+        port: ControlPort<'p>,
+        slots: DataSlots<'p>,
+    ) -> AgentTask<'p>
+        requires running { IsNew given room.queue port slots }
+        requires some { 0 < length room.scratch.items }
+        ensures { task_given result ≡ given_of given.entry }
+    {
+        let TaskRoom {
+            mut agent,
+            queue,
+            scratch,
+        } = room;
+        let control = AgentControl {
+            port,
+            queue,
+            unsaid: VecDeque::new(alloc),
+        };
+        Box::replace(
+            &mut agent,
+            Some(Agent {
+                alloc,
+                given,
+                control,
+                slots,
+                over: None,
+            }),
+        );
+        AgentTask {
+            agent,
+            scratch,
             ended: Vec::new(alloc),
             moved: true,
-        })
+        }
     }
 
     /// Returns whether the last turn moved anything that another task may wait for, or whether there was no
@@ -139,10 +193,11 @@ impl<'p> AgentTask<'p> {
     }
 
     /// Makes one turn, which is a round over all channels. Once the control channel and all sessions are
-    /// over, it gives the report.
+    /// over, it gives the report. If memory runs out, it gives all ends back.
     pub fn turn(self) -> AgentTurn<'p>
-        ensures pays { Pays self.entry result }
-        ensures tells { Tells self.entry result }
+        ensures pays { Pays (task_given self.entry) result }
+        ensures tells { Tells self.entry.plan result }
+        ensures goes { GoesOn self.entry result }
     {
         let AgentTask {
             mut agent,
@@ -150,15 +205,13 @@ impl<'p> AgentTask<'p> {
             mut ended,
             ..
         } = self;
-        let Ok(moved) = agent.go_round(&mut scratch, &mut ended) else {
-            Box::into_inner(agent).give_up();
-            return AgentTurn::NoMemory;
+        let Ok(moved) = go_round(&mut agent, &mut scratch, &mut ended) else {
+            let ends = taken(agent).give_up();
+            return AgentTurn::NoMemory { ends };
         };
-        match agent.over {
-            Some(over) if agent.slots.is_idle() => {
-                AgentTask::finish(Box::into_inner(agent), over)
-            }
-            _ => AgentTurn::Again(AgentTask {
+        match over_at(&agent) {
+            Some(over) => AgentTask::finish(taken(agent), over),
+            None => AgentTurn::Again(AgentTask {
                 agent,
                 scratch,
                 ended,
@@ -167,16 +220,40 @@ impl<'p> AgentTask<'p> {
         }
     }
 
+    /// Retires all ends, and returns them in the order in which they were given, with the end of the control
+    /// page first. It takes no memory.
+    pub fn give_up(self) -> Vec<RetiredEnd>
+        ensures { AreGivenBack false self.entry.ends (all_retired result.items) }
+    {
+        let AgentTask { agent, .. } = self;
+        taken(agent).give_up()
+    }
+
     // Gives the report. Everything is over.
     fn finish(agent: Agent<'p>, over: ControlEnd) -> AgentTurn<'p>
         requires over { IsOver over agent }
         requires idle { agent.slots.opened ≡ [] }
         ensures pays { Pays (given_of agent.entry.given) result }
-        ensures tells { Tells (given_of agent.entry.given) result }
+        ensures tells { Tells (plan_of agent.entry.given) result }
+        ensures done { (before : AgentState) → GoesOn before result }
     {
         match agent.finish(over) {
             Ok(done) => AgentTurn::Done(done),
-            Err(Memory) => AgentTurn::NoMemory,
+            Err(ends) => AgentTurn::NoMemory { ends },
         }
     }
+}
+
+// Takes the memory of a task that has these calls.
+fn room_for<'p>(alloc: Global, calls: Vec<CallPlan>) -> Result<TaskRoom<'p>, Memory>
+    requires different { AreDifferent (map (λ c. c.number) calls.items) }
+    requires short { Each FitsTrigger calls.items }
+    ensures queue { IfOk result (λ room. IsNewQueue calls.items room.queue) }
+    ensures some { IfOk result (λ room. 0 < length room.scratch.items) }
+{
+    Ok(TaskRoom {
+        agent: Box::new(alloc, None)?,
+        queue: CallQueue::new(alloc, calls)?,
+        scratch: vec![in alloc; 0u8; SCRATCH]?,
+    })
 }

@@ -220,19 +220,21 @@ owes s ready settled = record {
 
 pub done-pays : (s : Switchboard) (result : BrokerTurn) → IsReady s → EachAt (IsSettled s.broker.hub s.broker.journal (length s.daemons.items)) s.daemons.items → Finishes s result → Pays (given_now s) result
 done-pays s (turn.Again task) ready settled finishes = absurd finishes
-done-pays s turn.NoMemory ready settled finishes = tt
+done-pays s (turn.NoMemory ends) ready settled finishes = absurd finishes
 done-pays s (turn.Done done) ready settled finishes = (
   end_in s.daemons.items,
   ap (λ (b : Brokered). b.hub) finishes.0,
   record {
-    same = ends-same 1 s.daemons.items done.ends.items (λ i x at. (ready.posting.lines i x at).number) finishes.1;
+    back = record {
+      same = ends-same 1 s.daemons.items done.ends.items (λ i x at. (ready.posting.lines i x at).number) finishes.1;
+      turned_are = ends-honest s.daemons.items done.ends.items finishes.1;
+    };
     are = ends-are s.daemons.items 0 s.daemons.items done.ends.items (λ i x at. in-at s.daemons.items x.domain i x at (ready.posting.lines i x at).number) finishes.1;
-    turned_are = ends-honest s.daemons.items done.ends.items finishes.1;
   },
   subst (λ (b : Brokered). BrokerOwes s.broker.hub (map (λ x. x.awaited) s.daemons.items) b.journal (λ d. end_in s.daemons.items (Control d))) (sym finishes.0) (owes s ready settled),
 )
 
 pub done-stands : (s : Switchboard) (result : BrokerTurn) → IsReady s → Finishes s result → StandsAfter result
 done-stands s (turn.Again task) ready finishes = absurd finishes
-done-stands s turn.NoMemory ready finishes = tt
+done-stands s (turn.NoMemory ends) ready finishes = absurd finishes
 done-stands s (turn.Done done) ready finishes = subst (λ (b : Brokered). Stands b.hub b.journal (map retired_end done.ends.items)) (sym finishes.0) (stands-done s done.ends.items ready finishes.1)

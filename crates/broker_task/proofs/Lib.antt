@@ -9,6 +9,9 @@ pub mod SendingSteps
 pub mod ReleaseSteps
 pub mod DropSteps
 pub mod RoundSteps
+pub mod KeepingSteps
+pub mod MovingLaws
+pub mod MovingCalls
 pub mod SettledLaws
 pub mod StartLaws
 pub mod StandingLaws

@@ -16,6 +16,7 @@ use Rattle.task_duties.specs.TaskOwes.{EndAt, TaskGiven, Broker, broker_ends}
 use Rattle.broker_task.specs.declared.daemon.Daemon.{Daemon}
 use Rattle.broker_task.specs.declared.switchboard.Switchboard.{Switchboard}
 use Rattle.broker_task.specs.Lines.{end_of, first_view, is_gone, BrokerEnd, broker_end}
+use Rattle.broker_task.specs.Moving.{BrokerLine, line_of}
 
 -- the task of the broker, as contracts see it
 pub record BrokerState : Type 0 where
@@ -26,6 +27,8 @@ pub record BrokerState : Type 0 where
   -- what was decided so far, and what is seen of these ends now
   pub journal : List Entry
   pub controls : List BrokerEnd
+  -- and what it keeps for each domain
+  pub lines : List BrokerLine
 
 -- what the task was given
 abbrev pub task_given : BrokerState → TaskGiven
@@ -42,6 +45,7 @@ state_of s = record {
   ends = broker_ends 1 (map (λ x. first_view (end_of x)) s.daemons.items);
   journal = s.broker.journal;
   controls = map broker_end s.daemons.items;
+  lines = map line_of s.daemons.items;
 }
 
 -- an end that a task may be given: that of a client which has done nothing
@@ -57,6 +61,13 @@ gone_word (done.Client side) = None
 -- what is seen of an end that is given back
 abbrev pub retired_end : RetiredEnd → BrokerEnd
 retired_end r = record { view = done_view r.retired; gone = gone_word r.retired }
+
+-- the end of a domain, when it is given back since memory ran out
+pub record IsGivenBack (x : Daemon) (r : RetiredEnd) : Type 0 where
+  pub place : r.place ≡ Control x.domain
+  pub page : (done_view r.retired).page ≡ (end_of x).page
+  pub role : (done_view r.retired).role ≡ (end_of x).role
+  pub honest : (done_view r.retired).turned ≡ false
 
 -- the end of a domain, when it is given back; one that was dropped has noted what it had
 pub record IsRetiredOf (x : Daemon) (r : RetiredEnd) : Type 0 where

@@ -2,6 +2,7 @@ pub mod Letters
 pub mod Lines
 pub mod Replies
 pub mod Posting
+pub mod Moving
 pub mod Given
 pub mod Standing
 pub mod Starting

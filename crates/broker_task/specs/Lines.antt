@@ -150,6 +150,12 @@ pub record IsSameDaemon (old new : Daemon) : Type 0 where
   pub awaited : new.awaited ≡ old.awaited
   pub given : first_view (end_of new) ≡ first_view (end_of old)
 
+-- its end is one of the same page with the same role, which is so even where memory ran out
+pub record KeepsEnd (old new : Daemon) : Type 0 where
+  pub domain : new.domain ≡ old.domain
+  pub page : (end_of new).page ≡ (end_of old).page
+  pub role : (end_of new).role ≡ (end_of old).role
+
 -- only its port has changed
 abbrev pub OnlyPort : Daemon → Daemon → Type 0
 OnlyPort old new = new ≡ record old { port = new.port }

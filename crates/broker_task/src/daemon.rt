@@ -1,5 +1,5 @@
 //! One domain's side of the broker.
-ghost use Rattle.std.specs.Prelude.{◌≡◌, ℕ, ◌+◌, ◌<◌, ◌≤◌, ◌++◌, ◌∷◌, List, [], false, true, None, Some, Ok, OnOk, IfOk, IfSome, length, is_none, ◌↔◌, IsTrue, IsSome};
+ghost use Rattle.std.specs.Prelude.{◌≡◌, ℕ, ◌+◌, ◌<◌, ◌≤◌, ◌++◌, ◌∷◌, List, [], false, true, None, Some, Ok, OnOk, IfOk, IfSome, length, is_none, ◌↔◌, IsTrue, IsSome, is_some};
 ghost use Rattle.ring_words.specs.declared.page.Role.TheVariants.{Client};
 ghost use Rattle.vchan_rule.specs.Seated.{view, IsOpen};
 ghost use Rattle.end_view.specs.EndView.{IsUnused};
@@ -11,7 +11,8 @@ ghost use Rattle.control_port.specs.Port.{HasSaid, HasFewerLeft};
 ghost use Rattle.control_port.specs.declared.talk.Talker.TheVariants.{Broker};
 ghost use Rattle.task_duties.specs.Hearing.{to_agent, to_broker};
 ghost use Rattle.task_duties.specs.Broker.Outbox.{event_of};
-ghost use Rattle.broker_task.specs.Lines.{end_of, broker_end, is_gone, first_view, MayDrop, IsGoing, IsLine, ReadsOn, HasRead, HandsOut, SendsOne, IsReply, IsSameDaemon, OnlyPort, more_may_come};
+ghost use Rattle.broker_task.specs.Moving.{Begins, ListensAsTold, GreetsAsTold, SendsAsTold};
+ghost use Rattle.broker_task.specs.Lines.{end_of, broker_end, is_gone, first_view, MayDrop, IsGoing, IsLine, ReadsOn, HasRead, HandsOut, SendsOne, IsReply, IsSameDaemon, KeepsEnd, OnlyPort, more_may_come};
 
 use crate::outbox::Outbox;
 use call_broker::Event;
@@ -87,11 +88,19 @@ impl<'p> Daemon<'p> {
         ensures open { result ≡ true → IsOpen self.new.port.end × (IsGoing (end_of self.old) → IsGoing (end_of self.new)) }
         ensures cause { result ≡ false → MayDrop (broker_end self.new) }
         ensures got { (end_of self.new).got ≡ (end_of self.old).got }
+        ensures sent { (end_of self.new).sent ≡ (end_of self.old).sent }
+        ensures begins { result ≡ true → Begins self.old.port.end self.new.port.end }
         ensures said { (said : List Said) → HasSaid self.old.port said → HasSaid self.new.port said }
         ensures read { (events : List Told) → ReadsOn self.old events → ReadsOn self.new events }
         ensures same { IsSameDaemon self.old self.new × (self.new.port.version ≡ self.old.port.version) }
     {
-        self.port.state() != EndState::Fresh || self.port.connect().is_ok()
+        if self.port.state() != EndState::Fresh {
+            return true;
+        }
+        match self.port.connect() {
+            Ok(()) => true,
+            Err(_orders) => false,
+        }
     }
 
     // Whether the domain isn't read because its outbox is full. A domain that hasn't greeted is still read:
@@ -111,10 +120,12 @@ impl<'p> Daemon<'p> {
         ensures port { OnlyPort self.old self.new }
         ensures long { length buf.new ≡ length buf.old }
         ensures idle { (end_of self.new).idle ≡ true }
+        ensures kept { KeepsEnd self.old self.new }
         ensures line { OnOk result (IsLine self.new.domain self.new) }
         ensures up { OnOk result (is_gone self.new ≡ false) }
         ensures open { result ≡ Ok true → IsOpen self.new.port.end × (IsGoing (end_of self.old) → IsGoing (end_of self.new)) }
         ensures cause { result ≡ Ok false → MayDrop (broker_end self.new) }
+        ensures listens { IfOk result (λ there. ListensAsTold there self.old self.new) }
         ensures full { IsSome self.old.port.version → 64 ≤ length self.old.outbox.letters.items → (end_of self.new).got ≡ (end_of self.old).got }
         ensures said { (said : List Said) → HasSaid self.old.port said → OnOk result (HasSaid self.new.port said) }
         ensures read { (events : List Told) → ReadsOn self.old events → OnOk result (ReadsOn self.new events) }
@@ -156,9 +167,11 @@ impl<'p> Daemon<'p> {
         requires letters { Each (λ l. IsReply l.message) self.old.outbox.letters.items }
         ensures same { OnOk result (IsSameDaemon self.old self.new × (self.new.answered ≡ self.old.answered)) }
         ensures idle { (end_of self.new).idle ≡ true }
+        ensures kept { KeepsEnd self.old self.new }
         ensures line { OnOk result (IsLine self.new.domain self.new) }
         ensures open { OnOk result (IsOpen self.new.port.end) }
         ensures sends { (said : List Said) → HasSaid self.old.port said → IfOk result (λ gone. SendsOne self.old self.new said gone) }
+        ensures moves { IfOk result (λ gone. SendsAsTold (is_some gone) self.old self.new) }
         ensures read { (events : List Told) → HasRead self.old events → OnOk result (HasRead self.new events) }
     {
         if !self.greet()? {
@@ -167,10 +180,10 @@ impl<'p> Daemon<'p> {
         let Some(at) = self.outbox.first_ready() else {
             return Ok(None);
         };
-        if self.port.say(self.outbox.message(at))? != SendAnswer::Sent {
-            return Ok(None);
+        match self.port.say(self.outbox.message(at))? {
+            SendAnswer::Sent => Ok(Some(self.outbox.take(at))),
+            _ => Ok(None),
         }
-        Ok(Some(self.outbox.take(at)))
     }
 
     // Sends its own greeting, once the domain's greeting was read. Returns whether it was sent.
@@ -180,9 +193,11 @@ impl<'p> Daemon<'p> {
         ensures port { OnlyPort self.old self.new }
         ensures same { OnOk result (IsSameDaemon self.old self.new) }
         ensures idle { (end_of self.new).idle ≡ true }
+        ensures kept { KeepsEnd self.old self.new }
         ensures line { OnOk result (IsLine self.new.domain self.new) }
         ensures open { IsOpen self.new.port.end }
         ensures greeted { result ≡ Ok true → self.new.port.greeted ≡ true }
+        ensures moves { IfOk result (λ greeted. GreetsAsTold greeted self.old self.new) }
         ensures said { (said : List Said) → HasSaid self.old.port said → OnOk result (HasSaid self.new.port said) }
         ensures read { (events : List Told) → HasRead self.old events → OnOk result (HasRead self.new events) }
     {
@@ -192,7 +207,10 @@ impl<'p> Daemon<'p> {
         if self.port.version().is_none() {
             return Ok(false);
         }
-        Ok(self.port.greet()? == SendAnswer::Sent)
+        match self.port.greet()? {
+            SendAnswer::Sent => Ok(true),
+            _ => Ok(false),
+        }
     }
 
     /// Puts the answer to one of the domain's triggers after its other messages.
@@ -226,7 +244,7 @@ impl<'p> Daemon<'p> {
 }
 
 impl<'p> Daemon<'p> {
-    ghost use Rattle.broker_task.specs.Given.{IsRetiredOf};
+    ghost use Rattle.broker_task.specs.Given.{IsRetiredOf, IsGivenBack};
 
     /// Returns whether all messages were sent, if calls of the domain are awaited.
     pub(crate) fn has_said_all(&self) -> bool
@@ -257,12 +275,19 @@ impl<'p> Daemon<'p> {
         }
     }
 
-    /// Retires its end and drops it.
-    pub(crate) fn give_up(self)
+    /// Retires its end and gives it back where memory ran out. An end that was retired before signals its peer
+    /// once more.
+    pub(crate) fn give_up(self) -> RetiredEnd
         requires { (end_of self).idle ≡ true }
+        ensures { IsGivenBack self.entry result }
     {
-        let Daemon { port, .. } = self;
-        let _ = port.retire();
+        let Daemon { domain, port, .. } = self;
+        let place = PagePlace::Control { domain };
+        let retired = port.retire();
+        RetiredEnd {
+            place,
+            retired: DoneEnd::Laid(retired),
+        }
     }
 }
 

@@ -1,9 +1,10 @@
 //! A round over all domains.
 ghost use Rattle.std.specs.Prelude.{◌≡◌, ◌<◌, ℕ, length, true, None, OnOk, IfOk};
 ghost use Rattle.call_broker.specs.Domains.{is_domain};
-ghost use Rattle.broker_task.specs.Lines.{broker_end, MayDrop, IsSameDaemon};
+ghost use Rattle.broker_task.specs.Lines.{broker_end, MayDrop, IsSameDaemon, KeepsEnd};
 ghost use Rattle.broker_task.specs.Posting.{EachAt, EachMoves, LetsGo, IsPosting, HasHeardOut, HaveRead, AreIdle};
 ghost use Rattle.broker_task.specs.Rounds.{IsReady, GoesOn, IsUp, HasListened};
+ghost use Rattle.broker_task.specs.Moving.{Steps, ListensAsTold, IsDropped, Turns};
 
 use crate::daemon::Daemon;
 use crate::switchboard::Switchboard;
@@ -16,7 +17,9 @@ impl<'p> Switchboard<'p> {
         requires ready { IsReady self.old }
         requires some { 0 < length buf.old }
         ensures idle { AreIdle self.new.daemons.items }
+        ensures kept { EachMoves (λ d. KeepsEnd) self.old.daemons.items self.new.daemons.items }
         ensures goes { OnOk result (GoesOn self.old self.new) }
+        ensures turns { OnOk result (EachMoves (λ d. Turns) self.old.daemons.items self.new.daemons.items) }
     {
         for at in 0..self.daemons.len() {
             let domain = self.daemons[at].domain;
@@ -32,7 +35,9 @@ impl<'p> Switchboard<'p> {
         requires number { is_domain self.old.broker.hub domain ≡ true }
         requires some { 0 < length buf.old }
         ensures idle { AreIdle self.new.daemons.items }
+        ensures kept { EachMoves (λ d. KeepsEnd) self.old.daemons.items self.new.daemons.items }
         ensures goes { OnOk result (GoesOn self.old self.new) }
+        ensures turns { OnOk result (EachMoves (Steps domain Turns) self.old.daemons.items self.new.daemons.items) }
     {
         if self.daemons[domain as usize - 1].is_gone() {
             return Ok(());
@@ -56,8 +61,10 @@ impl<'p> Switchboard<'p> {
         requires some { 0 < length buf.old }
         ensures broker { self.new.broker ≡ self.old.broker }
         ensures idle { AreIdle self.new.daemons.items }
+        ensures kept { EachMoves (λ d. KeepsEnd) self.old.daemons.items self.new.daemons.items }
         ensures listened { IfOk result (λ there. HasListened self.old.broker.hub domain self.old.broker.journal self.new.daemons.items there) }
         ensures same { OnOk result (EachMoves (λ d. IsSameDaemon) self.old.daemons.items self.new.daemons.items) }
+        ensures steps { IfOk result (λ there. EachMoves (Steps domain (ListensAsTold there)) self.old.daemons.items self.new.daemons.items) }
     {
         self.daemons[domain as usize - 1].listen(buf)
     }
@@ -71,9 +78,11 @@ impl<'p> Switchboard<'p> {
         requires cause { EachAt (λ d x. d ≡ domain → MayDrop (broker_end x)) self.old.daemons.items }
         ensures hub { self.new.broker.hub ≡ self.old.broker.hub }
         ensures idle { AreIdle self.new.daemons.items }
+        ensures kept { EachMoves (λ d. KeepsEnd) self.old.daemons.items self.new.daemons.items }
         ensures posting { OnOk result (IsPosting self.new.broker.hub self.new.broker.journal self.new.daemons.items) }
         ensures read { OnOk result (HaveRead self.new.broker.journal self.new.daemons.items) }
         ensures same { OnOk result (EachMoves (λ d. IsSameDaemon) self.old.daemons.items self.new.daemons.items) }
+        ensures steps { OnOk result (EachMoves (Steps domain IsDropped) self.old.daemons.items self.new.daemons.items) }
     {
         self.broker.event(Event::Dropped { domain })?;
         self.daemons[domain as usize - 1].hang_up();

@@ -7,9 +7,10 @@ ghost use Rattle.call_broker.specs.Domains.{Domains, is_domain};
 ghost use Rattle.task_duties.specs.Broker.Outbox.{is_from};
 ghost use Rattle.broker_task.specs.declared.daemon.Daemon.{Daemon as Attended};
 ghost use Rattle.broker_task.specs.Letters.{IsAt};
+ghost use Rattle.broker_task.specs.Moving.{Steps, StandsBy, Decides, SendsAsTold, SendsOrNot};
 ghost use Rattle.broker_task.specs.Replies.{IsReplyTo, IsWithin, AreFit, HasShortNames};
 ghost use Rattle.broker_task.specs.Posting.{EachMoves, Posts, SamePort, IsPosting, IsHearing, HasHeardOut, SameEnd, IsSending, HasGone, AreIdle, waiting_in};
-ghost use Rattle.broker_task.specs.Lines.{HasRoom, IsSameDaemon};
+ghost use Rattle.broker_task.specs.Lines.{HasRoom, IsSameDaemon, KeepsEnd};
 ghost use Rattle.call_broker.specs.Pair.{decision};
 ghost use Rattle.call_broker.specs.Journal.{events};
 
@@ -46,6 +47,7 @@ impl<'p> Switchboard<'p> {
         ensures posting { OnOk result (IsPosting self.new.broker.hub self.new.broker.journal self.new.daemons.items) }
         ensures heard { OnOk result (HasHeardOut domain self.new.broker.journal self.new.daemons.items) }
         ensures ends { EachMoves SameEnd self.old.daemons.items self.new.daemons.items }
+        ensures steps { OnOk result (EachMoves (Steps domain Decides) self.old.daemons.items self.new.daemons.items) }
     {
         while let Some(event) = self.daemons[domain as usize - 1].next()? {
             self.decide(domain, event)?;
@@ -59,8 +61,10 @@ impl<'p> Switchboard<'p> {
         requires sending { IsSending self.old.broker.hub domain self.old.broker.journal self.old.daemons.items }
         ensures broker { self.new.broker ≡ self.old.broker }
         ensures idle { AreIdle self.new.daemons.items }
+        ensures kept { EachMoves (λ d. KeepsEnd) self.old.daemons.items self.new.daemons.items }
         ensures sending { OnOk result (IsSending self.new.broker.hub domain self.new.broker.journal self.new.daemons.items) }
         ensures same { OnOk result (EachMoves (λ d. IsSameDaemon) self.old.daemons.items self.new.daemons.items) }
+        ensures steps { OnOk result (EachMoves (Steps domain SendsOrNot) self.old.daemons.items self.new.daemons.items) }
     {
         'letters: while self.send_one(domain)? {}
         Ok(())
@@ -72,8 +76,10 @@ impl<'p> Switchboard<'p> {
         requires sending { IsSending self.old.broker.hub domain self.old.broker.journal self.old.daemons.items }
         ensures broker { self.new.broker ≡ self.old.broker }
         ensures idle { AreIdle self.new.daemons.items }
+        ensures kept { EachMoves (λ d. KeepsEnd) self.old.daemons.items self.new.daemons.items }
         ensures sending { OnOk result (IsSending self.new.broker.hub domain self.new.broker.journal self.new.daemons.items) }
         ensures same { OnOk result (EachMoves (λ d. IsSameDaemon) self.old.daemons.items self.new.daemons.items) }
+        ensures steps { IfOk result (λ more. EachMoves (Steps domain (SendsAsTold more)) self.old.daemons.items self.new.daemons.items) }
         ensures fewer { result ≡ Ok true → waiting_in self.new.daemons.items (domain - 1) < waiting_in self.old.daemons.items (domain - 1) }
     {
         match self.daemons[domain as usize - 1].send()? {
@@ -91,6 +97,7 @@ impl<'p> Switchboard<'p> {
         ensures broker { self.new.broker ≡ self.old.broker }
         ensures sending { IsSending self.old.broker.hub domain self.old.broker.journal self.new.daemons.items }
         ensures same { EachMoves (λ d. IsSameDaemon) self.old.daemons.items self.new.daemons.items }
+        ensures by { EachMoves (λ d. StandsBy) self.old.daemons.items self.new.daemons.items }
         ensures waiting { (i : ℕ) → i < length self.old.daemons.items → waiting_in self.new.daemons.items i ≡ waiting_in self.old.daemons.items i }
     {
         match gone {
@@ -113,6 +120,7 @@ impl<'p> Switchboard<'p> {
         requires own { is_from from event ≡ true }
         requires room { HasRoom event }
         ensures ports { EachMoves SamePort self.old.daemons.items self.new.daemons.items }
+        ensures by { OnOk result (EachMoves (λ d. StandsBy) self.old.daemons.items self.new.daemons.items) }
         ensures hub { self.new.broker.hub ≡ self.old.broker.hub }
         ensures entry { OnOk result (self.new.broker.journal ≡ self.old.broker.journal ++ record { event = event; decision = decision self.old.broker.hub (events self.old.broker.journal) event } ∷ []) }
         ensures posting { OnOk result (IsPosting self.new.broker.hub self.new.broker.journal self.new.daemons.items) }

@@ -1,5 +1,5 @@
 //! The task of the broker.
-ghost use Rattle.std.specs.Prelude.{◌≡◌, ◌<◌, ◌^◌, ℕ, [], length, map, IfOk};
+ghost use Rattle.std.specs.Prelude.{◌≡◌, ◌≤◌, ◌<◌, ◌^◌, ℕ, [], length, map, vec_capacity, IfOk, IfErr};
 
 use crate::ends::{daemons_of, give_up, retire_all};
 use crate::switchboard::Switchboard;
@@ -17,16 +17,17 @@ const CHUNK: usize = 4_096;
 /// turn changes, its journal, and its ends as they are now.
 #[derive(Drop)]
 pub struct BrokerTask<'p> {
-    alloc: Global,
     switchboard: Switchboard<'p>,
     // The bytes taken from a control channel at once.
     buf: Vec<u8>,
+    // Room for all ends when they are retired, so that this takes no memory.
+    retired: Vec<RetiredEnd>,
     // Whether the last turn moved anything.
     moved: bool,
 }
 
 impl<'p> Model for BrokerTask<'p> {
-    ghost use Rattle.std.specs.Prelude.{◌<◌, length};
+    ghost use Rattle.std.specs.Prelude.{◌≡◌, ◌≤◌, ◌<◌, [], length, vec_capacity};
     ghost use Rattle.broker_task.specs.Rounds.{IsReady};
     ghost use Rattle.broker_task.specs.Given.{BrokerState, state_of};
 
@@ -34,7 +35,8 @@ impl<'p> Model for BrokerTask<'p> {
 
     ghost view = { λ t. state_of t.switchboard };
 
-    ghost invariant = { λ t. IsReady t.switchboard × (0 < length t.buf.items) };
+    ghost invariant = { λ t. IsReady t.switchboard × (0 < length t.buf.items)
+        × (t.retired.items ≡ []) × (length t.switchboard.daemons.items ≤ vec_capacity t.retired) };
 }
 
 /// What a turn of the task returns.
@@ -44,7 +46,10 @@ pub enum BrokerTurn<'p> {
     /// All domains are settled or dropped.
     Done(BrokerDone),
     /// Memory ran out. All ends are retired.
-    NoMemory,
+    NoMemory {
+        /// The ends, in the order in which they were given, which is that of the domains.
+        ends: Vec<RetiredEnd>,
+    },
 }
 
 /// A broker that is done.
@@ -60,12 +65,13 @@ ghost use Rattle.qrexec_frame.specs.Streams.{Each};
 ghost use Rattle.broker_task.specs.Lines.{IsLine};
 ghost use Rattle.broker_task.specs.Rounds.{IsReady};
 ghost use Rattle.broker_task.specs.Given.{given_now};
-ghost use Rattle.broker_task.specs.Turns.{Pays, StandsAfter, Finishes};
+ghost use Rattle.broker_task.specs.Turns.{Pays, StandsAfter, TurnsEach, KeepsLines, Finishes};
 
 impl<'p> BrokerTask<'p> {
     ghost use Rattle.call_broker.specs.Domains.{count_of};
     ghost use Rattle.vchan_rule.specs.Seated.{view};
-    ghost use Rattle.task_duties.specs.TaskOwes.{broker_given};
+    ghost use Rattle.task_duties.specs.TaskOwes.{NoMemory, TaskOwes, broker_given};
+    ghost use Rattle.task_duties.specs.GivenEnds.{all_retired};
     ghost use Rattle.broker_task.specs.Replies.{HasShortNames};
     ghost use Rattle.broker_task.specs.Given.{IsNewClient, task_given};
 
@@ -73,27 +79,37 @@ impl<'p> BrokerTask<'p> {
     /// each domain, and `controls` the broker's end of each domain's control page, both in the order of the
     /// domains.
     ///
-    /// Returns `Memory` if memory runs out; all that it took is dropped then, and the ends aren't retired.
+    /// If memory runs out, it returns the ends as they were given, and drops the rest. There is no other
+    /// error.
     pub fn new(
         alloc: Global,
         broker: Broker,
         awaited: Vec<u32>,
         controls: Vec<End<'p>>,
-    ) -> Result<BrokerTask<'p>, Memory>
+    ) -> Result<BrokerTask<'p>, Vec<End<'p>>>
         requires first { broker.journal ≡ [] }
         requires names { HasShortNames broker.hub }
         requires few { count_of broker.hub < 2 ^ 32 }
         requires awaited { length awaited.items ≡ count_of broker.hub }
         requires controls { length controls.items ≡ count_of broker.hub }
         requires unused { Each IsNewClient controls.items }
-        ensures { IfOk result (λ task. task_given task ≡ broker_given broker.hub awaited.items (map view controls.entry.items)) }
+        ensures made { IfOk result (λ task. task_given task ≡ broker_given broker.hub awaited.items (map view controls.entry.items)) }
+        ensures unmade { IfErr result (λ ends. ends ≡ controls.entry) }
     {
-        let buf = vec![in alloc; 0u8; CHUNK]?;
-        let daemons = daemons_of(alloc, awaited.as_slice(), controls)?;
+        let Ok(buf) = vec![in alloc; 0u8; CHUNK] else {
+            return Err(controls);
+        };
+        let Ok(retired) = Vec::with_capacity(alloc, controls.len()) else {
+            return Err(controls);
+        };
+        let Ok(room) = Vec::with_capacity(alloc, controls.len()) else {
+            return Err(controls);
+        };
+        let daemons = daemons_of(alloc, awaited.as_slice(), controls, room);
         Ok(BrokerTask {
-            alloc,
             switchboard: Switchboard { broker, daemons },
             buf,
+            retired,
             moved: true,
         })
     }
@@ -104,67 +120,86 @@ impl<'p> BrokerTask<'p> {
         self.moved
     }
 
-    /// Makes one turn, which is a round over all domains. Once all of them are settled or dropped, the ends
-    /// retire.
+    /// Makes one turn, which is a round over all domains. Once all of them are settled or dropped, or if memory
+    /// runs out, the ends retire and are given back, which takes no memory.
     ///
     /// After each turn every domain that must be dropped is dropped, and no other without a cause. No domain
     /// was greeted before it greeted. If a Connect was sent, the Exec of its call was sent too, or the target
     /// was dropped. A task that wants another turn isn't settled.
+    ///
+    /// Of each domain that isn't dropped something was heard in the turn, or something said to it; or there was
+    /// nothing to hear, and nothing that could be said: all that waits is held, or there was no room.
     pub fn turn(self) -> BrokerTurn<'p>
         ensures pays { Pays (task_given self.entry) result }
         ensures stands { StandsAfter result }
+        ensures turns { TurnsEach self.entry.lines result }
     {
         let BrokerTask {
-            alloc,
             mut switchboard,
             mut buf,
+            retired,
             ..
         } = self;
         let before = switchboard.moves();
         match switchboard.round(buf.as_mut_slice()) {
             Ok(()) => {
                 let moved = switchboard.moves() != before;
-                after_round(alloc, switchboard, buf, moved)
+                after_round(switchboard, buf, retired, moved)
             }
             Err(Memory) => {
-                give_up(switchboard.daemons);
-                BrokerTurn::NoMemory
+                let ends = give_up(switchboard.daemons, retired);
+                BrokerTurn::NoMemory { ends }
             }
         }
+    }
+
+    /// Retires all ends, and gives them back in the order of the domains. It takes no memory.
+    pub fn give_up(self) -> Vec<RetiredEnd>
+        ensures { TaskOwes (task_given self.entry) (NoMemory (all_retired result.items)) }
+    {
+        let BrokerTask {
+            switchboard,
+            retired,
+            ..
+        } = self;
+        give_up(switchboard.daemons, retired)
     }
 }
 
 // The task after a round, which may have moved something.
 fn after_round<'p>(
-    alloc: Global,
     switchboard: Switchboard<'p>,
     buf: Vec<u8>,
+    retired: Vec<RetiredEnd>,
     moved: bool,
 ) -> BrokerTurn<'p>
     requires ready { IsReady switchboard }
     requires some { 0 < length buf.items }
+    requires empty { retired.items ≡ [] }
+    requires room { length switchboard.daemons.items ≤ vec_capacity retired }
     ensures pays { Pays (given_now switchboard.entry) result }
     ensures stands { StandsAfter result }
+    ensures lines { KeepsLines switchboard.entry result }
 {
     if switchboard.is_settled() {
-        return finish(alloc, switchboard);
+        return finish(switchboard, retired);
     }
     BrokerTurn::Again(BrokerTask {
-        alloc,
         switchboard,
         buf,
+        retired,
         moved,
     })
 }
 
 // Gives the broker and all ends back.
-fn finish<'p>(alloc: Global, switchboard: Switchboard<'p>) -> BrokerTurn<'p>
-    requires { Each (λ x. IsLine x.domain x) switchboard.daemons.items }
+fn finish<'p>(switchboard: Switchboard<'p>, retired: Vec<RetiredEnd>) -> BrokerTurn<'p>
+    requires lines { Each (λ x. IsLine x.domain x) switchboard.daemons.items }
+    requires empty { retired.items ≡ [] }
+    requires room { length switchboard.daemons.items ≤ vec_capacity retired }
     ensures { Finishes switchboard.entry result }
 {
     let Switchboard { broker, daemons } = switchboard;
-    match retire_all(alloc, daemons) {
-        Ok(ends) => BrokerTurn::Done(BrokerDone { broker, ends }),
-        Err(Memory) => BrokerTurn::NoMemory,
-    }
+    let ends = retire_all(daemons, retired);
+    BrokerTurn::Done(BrokerDone { broker, ends })
 }

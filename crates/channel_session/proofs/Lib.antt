@@ -1,3 +1,4 @@
 mod CallingLaws
 mod AnsweringLaws
+mod TurningLaws
 pub mod Sent

@@ -1,5 +1,5 @@
 -- A side that serves a call with the end of its data channel.
-use Rattle.std.specs.Prelude.{◌≡◌, ◌⊎◌, ℕ, true, List, [], Option, Some, None}
+use Rattle.std.specs.Prelude.{◌≡◌, ◌⊎◌, ℕ, ◌<◌, Bool, true, false, List, [], length, Option, Some, None, IsSome}
 use Rattle.ring_words.specs.declared.page.Role.TheVariants.{Client}
 use Rattle.vchan_protocol.specs.declared.call.EndState.TheVariants.{Fresh, Open}
 use Rattle.service_gate.specs.Triple.{Triple}
@@ -7,14 +7,19 @@ use Rattle.service_gate.specs.Owing.{builtin_owes}
 use Rattle.service_gate.specs.declared.builtin.Builtin.{Builtin}
 use Rattle.qrexec_data.specs.declared.outcome.Outcome.{Outcome}
 use Rattle.qrexec_data.specs.declared.outcome.Outcome.TheVariants.{Done, Fault, Closed, Gone}
-use Rattle.qrexec_data.specs.ServingSide.{ServingState, ServingStandsFor}
+use Rattle.qrexec_data.specs.ServingSide.{ServingState, ServingStandsFor, IsStill}
 use Rattle.vchan_rule.specs.Seated.{SeatedEnd, view, IsOpen}
 use Rattle.end_view.specs.EndView.{EndView}
 use Rattle.task_duties.specs.Agent.Sessions.{chunk, IsClosed, IsGone}
+use Rattle.channel_session.specs.declared.turned.Turned.{Turned}
+use Rattle.channel_session.specs.declared.turned.Turned.TheVariants.{Moved, Quiet, Passed}
+use Rattle.vchan_lifecycle.specs.Lifecycle.{FindsNotYet}
+use Rattle.channel_session.specs.Turning.{Pace, IsMade, HasMoved, HasRested, SendsNone, IsQuiet, IsPassed}
 
 pub record ServingAt : Type 0 where
   pub serving : ServingState Builtin
   pub end : SeatedEnd
+  pub pace : Pace
 
 -- nothing was read or sent yet, and the end isn't connected
 pub record IsFreshCall (serving : ServingState Builtin) (end : SeatedEnd) : Type 0 where
@@ -56,3 +61,27 @@ pub record IsAtWork (serving : ServingState Builtin) (end : SeatedEnd) : Type 0 
   pub chunk_is : serving.answering.chunk ≡ chunk
   pub idle : (view end).idle ≡ true
   pub ends : EndsBy serving.answering.outcome (view end)
+
+-- ---- a turn
+
+-- nothing can go out of a side that stands for what its end sent
+abbrev pub HasNothing : ServingAt → Type 0
+HasNothing s = (owed : List ℕ → Triple) → IsAnswering owed s.serving s.end → IsStill s.serving.answering
+
+-- a turn that moved something: bytes, or the call is over; one that was quiet; and one that was passed over
+abbrev pub ServingTurns : Turned → ServingAt → ServingAt → Type 0
+ServingTurns Moved old new = HasMoved (view old.end) (view new.end) new.serving.answering.outcome × IsMade false new.pace
+ServingTurns Quiet old new = HasRested (view old.end) (view new.end) new.serving.answering.outcome × IsMade true new.pace
+    × IsQuiet (HasNothing old) new.serving.answering.waiting old.pace.peer_shut old.end new.end
+ServingTurns Passed old new = (new.serving ≡ old.serving) × IsPassed old.pace new.pace old.end new.end
+
+-- its first half: bytes came, or the call is over; or the drain found nothing
+abbrev pub ServingReads : Bool → ServingAt → ServingAt → Type 0
+ServingReads true old new = (length (view old.end).got < length (view new.end).got) ⊎ IsSome new.serving.answering.outcome
+ServingReads false old new = (new.serving ≡ old.serving) × ((view new.end).got ≡ (view old.end).got) × FindsNotYet old.end new.end
+
+-- its second half
+abbrev pub ServingWrites : Bool → ServingAt → ServingAt → Type 0
+ServingWrites true old new = length (view old.end).sent < length (view new.end).sent
+ServingWrites false old new = ((view new.end).sent ≡ (view old.end).sent) × (new.serving.answering.outcome ≡ old.serving.answering.outcome)
+    × SendsNone (HasNothing old) new.serving.answering.waiting old.pace.peer_shut old.end new.end

@@ -1,3 +1,4 @@
 pub mod Calling
 pub mod Answering
 pub mod Ended
+pub mod Turning

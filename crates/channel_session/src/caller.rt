@@ -1,12 +1,14 @@
 //! A caller with the end of its channel.
-ghost use Rattle.std.specs.Prelude.{◌≡◌, ◌<◌, None, Some, OnOk, false, length};
+ghost use Rattle.std.specs.Prelude.{◌≡◌, ◌<◌, not, None, Some, OnOk, IfOk, false, length};
 ghost use Rattle.vchan_rule.specs.Seated.{view, last_view, IsOpen};
 ghost use Rattle.vchan_rule.specs.Ends.{IsSameEnd};
 ghost use Rattle.task_duties.specs.Agent.Sessions.{CallerOwes};
-ghost use Rattle.channel_session.specs.Calling.{IsCalling, IsSameCall, IsRetired};
+ghost use Rattle.channel_session.specs.Calling.{IsCalling, IsSameCall, IsRetired, CallerTurns, CallerReads, CallerWrites, IsDueOrPasses};
 ghost use Rattle.channel_session.specs.Ended.{done_of};
+ghost use Rattle.channel_session.specs.Turning.{first_pace, KeepsShut};
 
 use crate::pause::Pause;
+use crate::turned::Turned;
 use qrexec_data::{Caller, CallerParts, Outcome};
 use qrexec_frame::Bytes;
 use std::marker::Model;
@@ -31,7 +33,7 @@ impl<'p> Model for CallerSession<'p> {
 
     ghost Value = { CallerAt };
 
-    ghost view = { λ s. record { caller = s.caller; end = s.end } };
+    ghost view = { λ s. record { caller = s.caller; end = s.end; pace = record { peer_shut = s.peer_shut; quiet = s.pause.quiet; passed = s.pause.passed } } };
 }
 
 impl<'p> CallerSession<'p> {
@@ -39,7 +41,7 @@ impl<'p> CallerSession<'p> {
     /// nothing.
     pub fn new(caller: Caller, end: End<'p>) -> CallerSession<'p>
         requires { IsCalling caller end }
-        ensures { (result.caller ≡ caller) × (result.end ≡ end.entry) }
+        ensures { (result.caller ≡ caller) × (result.end ≡ end.entry) × (result.pace ≡ first_pace) }
     {
         CallerSession {
             caller,
@@ -50,12 +52,16 @@ impl<'p> CallerSession<'p> {
     }
 
     /// Makes one turn: takes what has come, and writes what goes out next. After a turn that moved
-    /// nothing, turns are skipped while the peer hasn't signalled, up to seven.
+    /// nothing, turns are passed over while the peer hasn't signalled, up to seven.
+    ///
+    /// The turn moved something if and only if bytes came or went or the call is over. It was quiet if
+    /// its drain found no byte and the peer there, and there was nothing to send, no room for it, or
+    /// the peer was found shut.
     ///
     /// # Errors
     ///
     /// `Memory` if memory runs out; the session is spent then, but its end can still be retired.
-    pub fn turn(&mut self, buf: &mut [u8]) -> Result<(), Memory>
+    pub fn turn(&mut self, buf: &mut [u8]) -> Result<Turned, Memory>
         requires calling { IsCalling self.old.caller self.old.end }
         requires undecided { self.old.caller.replies.outcome ≡ None }
         requires some { 0 < length buf.old }
@@ -64,25 +70,31 @@ impl<'p> CallerSession<'p> {
         ensures open { IsOpen self.new.end }
         ensures long { length buf.new ≡ length buf.old }
         ensures calling { OnOk result (IsCalling self.new.caller self.new.end) }
+        ensures turned { IfOk result (λ turned. CallerTurns turned self.old self.new) }
+        ensures shut { OnOk result (KeepsShut self.old.pace self.new.pace self.new.end) }
     {
         if !self.is_due() {
             self.pause.pass();
-            return Ok(());
+            return Ok(Turned::Passed);
         }
         let came = self.read_on(buf)?;
         let went = self.write_on()?;
-        self.pause.note(came || went);
-        Ok(())
+        Ok(self.pause.note(came, went))
     }
 
     // Whether a turn must be made.
     fn is_due(&mut self) -> bool
         requires calling { IsCalling self.old.caller self.old.end }
         ensures end { IsSameEnd self.old.end self.new.end }
-        ensures same { self.new.caller ≡ self.old.caller }
+        ensures same { (self.new.caller ≡ self.old.caller) × (self.new.pace ≡ self.old.pace) }
+        ensures view { view self.new.end ≡ view self.old.end }
         ensures calling { IsCalling self.new.caller self.new.end }
+        ensures due { IsDueOrPasses result self.old.pace self.old.end self.new.end }
     {
-        self.pause.is_over() || take_event(&mut self.end)
+        if self.pause.is_over() {
+            return true;
+        }
+        take_event(&mut self.end)
     }
 
     // Takes what has come, or learns that no more comes. Returns whether it did either.
@@ -95,6 +107,8 @@ impl<'p> CallerSession<'p> {
         ensures open { IsOpen self.new.end }
         ensures long { length buf.new ≡ length buf.old }
         ensures calling { OnOk result (IsCalling self.new.caller self.new.end) }
+        ensures came { IfOk result (λ came. CallerReads came self.old self.new) }
+        ensures kept { OnOk result ((self.new.pace ≡ self.old.pace) × ((view self.new.end).sent ≡ (view self.old.end).sent)) }
     {
         match drain(&mut self.end, buf) {
             DrainAnswer::More { count } => self.caller.take(&buf[..count as usize])?,
@@ -113,8 +127,15 @@ impl<'p> CallerSession<'p> {
         ensures same { OnOk result (IsSameCall self.old self.new) }
         ensures open { IsOpen self.new.end }
         ensures calling { OnOk result (IsCalling self.new.caller self.new.end) }
+        ensures went { IfOk result (λ went. CallerWrites went self.old self.new) }
+        ensures kept { OnOk result ((view self.new.end).got ≡ (view self.old.end).got) }
+        ensures outcome { OnOk result (self.new.caller.replies.outcome ≡ self.old.caller.replies.outcome) }
+        ensures shut { OnOk result (KeepsShut self.old.pace self.new.pace self.new.end) }
     {
-        if self.peer_shut || self.caller.outcome().is_some() {
+        if self.peer_shut {
+            return Ok(false);
+        }
+        if self.caller.outcome().is_some() {
             return Ok(false);
         }
         let piece = self.caller.front()?;
@@ -134,9 +155,11 @@ impl<'p> CallerSession<'p> {
         }
     }
 
-    /// Returns whether the last turn moved bytes, or there was no turn yet. No contract relies on
-    /// it; a worker that has nothing to do yields.
-    pub fn moved(&self) -> bool {
+    /// Returns whether the last turn that was made moved something, or there was none yet. A worker
+    /// that has nothing to do yields.
+    pub fn moved(&self) -> bool
+        ensures { result ≡ not self.now.pace.quiet }
+    {
         self.pause.moved()
     }
 

@@ -2,13 +2,16 @@
 //! from the end, and what it sends goes there.
 //!
 //! It serves the tasks of a run. A turn drains the end once and writes what is at the front of the
-//! session, and waits for nothing; a turn that most likely would move nothing is skipped. Which
-//! side is the vchan server is this project's own choice.
+//! session, and waits for nothing; a turn that most likely would move nothing is passed over. Each
+//! turn answers which of these it was, and by what it found. Which side is the vchan server is this
+//! project's own choice.
 #![tactic(auto)]
 
 mod caller;
 mod pause;
 mod serving;
+mod turned;
 
 pub use caller::{CallerEnd, CallerSession};
 pub use serving::{ServingEnd, ServingSession};
+pub use turned::Turned;

@@ -1,24 +1,28 @@
-//! Which turns a session skips.
+//! Which turns a session passes over.
+ghost use Rattle.std.specs.Prelude.{◌≡◌, ◌↔◌, ◌+◌, ◌<◌, ◌||◌, not, IsTrue, true, false};
+ghost use Rattle.channel_session.specs.Turning.{turned_by};
 
-/// The greatest number of turns that are skipped between two. Source: this project's own.
+use crate::turned::Turned;
+
+/// The greatest number of turns that are passed over between two. Source: this project's own.
 const MOST: u8 = 7;
 
-/// Which turns a session skips: none while turns move bytes, and then those in which its peer
+/// Which turns a session passes over: none while turns move bytes, and then those in which its peer
 /// hasn't signalled, up to seven between two. A peer that signals when it must has nothing to tell
 /// without a signal; one that doesn't is heard in every eighth turn.
-///
-/// No contract speaks of it: a skipped turn is one that moves nothing.
 #[derive(Drop)]
 pub(crate) struct Pause {
     // Whether the last turn that was made moved nothing.
     quiet: bool,
-    // How many turns were skipped since then.
+    // How many turns were passed over since then.
     passed: u8,
 }
 
 impl Pause {
-    /// Returns a pause that skips no turn.
-    pub(crate) fn none() -> Pause {
+    /// Returns a pause that passes over no turn.
+    pub(crate) fn none() -> Pause
+        ensures { (result.quiet ≡ false) × (result.passed ≡ 0) }
+    {
         Pause {
             quiet: false,
             passed: 0,
@@ -26,23 +30,38 @@ impl Pause {
     }
 
     /// Returns whether the next turn is made even if the peer hasn't signalled.
-    pub(crate) fn is_over(&self) -> bool {
+    pub(crate) fn is_over(&self) -> bool
+        ensures { result ≡ false → (self.now.quiet ≡ true) × (self.now.passed < 7) }
+    {
         !self.quiet || self.passed >= MOST
     }
 
-    /// Notes a skipped turn.
-    pub(crate) fn pass(&mut self) {
-        self.passed = self.passed.saturating_add(1);
+    /// Notes a turn that was passed over, of at most seven.
+    pub(crate) fn pass(&mut self)
+        requires { self.old.passed < 7 }
+        ensures { self.new ≡ record self.old { passed = self.old.passed + 1 } }
+    {
+        self.passed += 1;
     }
 
-    /// Returns whether the last turn moved bytes, or there was no turn yet.
-    pub(crate) fn moved(&self) -> bool {
+    /// Returns whether the last turn that was made moved something, or there was none yet.
+    pub(crate) fn moved(&self) -> bool
+        ensures { result ≡ not self.now.quiet }
+    {
         !self.quiet
     }
 
-    /// Notes a turn that wasn't skipped, and whether it moved bytes.
-    pub(crate) fn note(&mut self, moved: bool) {
-        self.quiet = !moved;
+    /// Notes a turn that was made, and whether bytes came or the stream ended, and whether bytes
+    /// went.
+    pub(crate) fn note(&mut self, came: bool, went: bool) -> Turned
+        ensures made { (self.new.quiet ≡ not (came || went)) × (self.new.passed ≡ 0) }
+        ensures turned { result ≡ turned_by (came || went) }
+    {
         self.passed = 0;
+        self.quiet = !(came || went);
+        if self.quiet {
+            return Turned::Quiet;
+        }
+        Turned::Moved
     }
 }

@@ -1,15 +1,18 @@
 //! A side that serves a call, with the end of its channel.
-ghost use Rattle.std.specs.Prelude.{◌≡◌, ◌<◌, ℕ, List, [], None, Some, OnOk, true, false, length};
+ghost use Rattle.std.specs.Prelude.{◌≡◌, ◌<◌, ℕ, List, [], not, None, Some, IsSome, OnOk, IfOk, true, false, length};
 ghost use Rattle.service_gate.specs.Triple.{Triple};
 ghost use Rattle.service_gate.specs.Owing.{builtin_owes};
 ghost use Rattle.qrexec_data.specs.ServingSide.{ServingStandsFor};
 ghost use Rattle.vchan_rule.specs.Seated.{view, last_view};
 ghost use Rattle.vchan_rule.specs.Ends.{IsSameEnd};
 ghost use Rattle.channel_session.specs.Calling.{IsRetired};
-ghost use Rattle.channel_session.specs.Answering.{IsFreshCall, IsOpenCall, IsAnswering, IsAtWork};
+ghost use Rattle.channel_session.specs.Answering.{IsFreshCall, IsOpenCall, IsAnswering, IsAtWork, ServingTurns, ServingReads, ServingWrites};
+ghost use Rattle.channel_session.specs.Calling.{IsDueOrPasses};
+ghost use Rattle.channel_session.specs.Turning.{first_pace, KeepsShut};
 ghost use Rattle.task_duties.specs.Agent.Sessions.{IsService, ServingOwes};
 
 use crate::pause::Pause;
+use crate::turned::Turned;
 use qrexec_data::{Outcome, Serving};
 use qrexec_frame::Bytes;
 use service_gate::Builtin;
@@ -35,7 +38,7 @@ impl<'p> Model for ServingSession<'p> {
 
     ghost Value = { ServingAt };
 
-    ghost view = { λ s. record { serving = s.serving; end = s.end } };
+    ghost view = { λ s. record { serving = s.serving; end = s.end; pace = record { peer_shut = s.peer_shut; quiet = s.pause.quiet; passed = s.pause.passed } } };
 }
 
 impl<'p> ServingSession<'p> {
@@ -45,6 +48,7 @@ impl<'p> ServingSession<'p> {
         requires fresh { IsFreshCall serving end }
         ensures end { IsSameEnd end.entry result.end }
         ensures own { result.serving.answering.own ≡ serving.answering.own }
+        ensures pace { result.pace ≡ first_pace }
         ensures work { IsAtWork result.serving result.end }
         ensures answering { (owed : List ℕ → Triple) → ServingStandsFor builtin_owes owed serving [] → IsAnswering owed result.serving result.end }
     {
@@ -63,7 +67,7 @@ impl<'p> ServingSession<'p> {
     /// nothing, as the server of a page has.
     pub fn of_open(serving: Serving<Builtin>, end: End<'p>) -> ServingSession<'p>
         requires open { IsOpenCall serving end }
-        ensures parts { (result.serving ≡ serving) × (result.end ≡ end.entry) }
+        ensures parts { (result.serving ≡ serving) × (result.end ≡ end.entry) × (result.pace ≡ first_pace) }
         ensures work { IsAtWork result.serving result.end }
         ensures answering { (owed : List ℕ → Triple) → ServingStandsFor builtin_owes owed serving [] → IsAnswering owed result.serving result.end }
     {
@@ -76,12 +80,16 @@ impl<'p> ServingSession<'p> {
     }
 
     /// Makes one turn: takes what has come, and writes what goes out next. After a turn that moved
-    /// nothing, turns are skipped while the peer hasn't signalled, up to seven.
+    /// nothing, turns are passed over while the peer hasn't signalled, up to seven.
+    ///
+    /// The turn moved something if and only if bytes came or went or the call is over. It was quiet if
+    /// its drain found no byte and the peer there, and there was nothing to send, no room for it, or
+    /// the peer was found shut.
     ///
     /// # Errors
     ///
     /// `Memory` if memory runs out; the session is spent then, but its end can still be retired.
-    pub fn turn(&mut self, buf: &mut [u8]) -> Result<(), Memory>
+    pub fn turn(&mut self, buf: &mut [u8]) -> Result<Turned, Memory>
         requires work { IsAtWork self.old.serving self.old.end }
         requires undecided { self.old.serving.answering.outcome ≡ None }
         requires some { 0 < length buf.old }
@@ -91,15 +99,16 @@ impl<'p> ServingSession<'p> {
         ensures own { OnOk result (self.new.serving.answering.own ≡ self.old.serving.answering.own) }
         ensures work { OnOk result (IsAtWork self.new.serving self.new.end) }
         ensures answering { (owed : List ℕ → Triple) → IsAnswering owed self.old.serving self.old.end → OnOk result (IsAnswering owed self.new.serving self.new.end) }
+        ensures turned { IfOk result (λ turned. ServingTurns turned self.old self.new) }
+        ensures shut { OnOk result (KeepsShut self.old.pace self.new.pace self.new.end) }
     {
         if !self.is_due() {
             self.pause.pass();
-            return Ok(());
+            return Ok(Turned::Passed);
         }
         let came = self.read_on(buf)?;
         let went = self.write_on()?;
-        self.pause.note(came || went);
-        Ok(())
+        Ok(self.pause.note(came, went))
     }
 
     // Whether a turn must be made.
@@ -107,11 +116,16 @@ impl<'p> ServingSession<'p> {
         requires work { IsAtWork self.old.serving self.old.end }
         requires undecided { self.old.serving.answering.outcome ≡ None }
         ensures end { IsSameEnd self.old.end self.new.end }
-        ensures same { self.new.serving ≡ self.old.serving }
+        ensures same { (self.new.serving ≡ self.old.serving) × (self.new.pace ≡ self.old.pace) }
+        ensures view { view self.new.end ≡ view self.old.end }
+        ensures due { IsDueOrPasses result self.old.pace self.old.end self.new.end }
         ensures work { IsAtWork self.new.serving self.new.end }
         ensures answering { (owed : List ℕ → Triple) → IsAnswering owed self.old.serving self.old.end → IsAnswering owed self.new.serving self.new.end }
     {
-        self.pause.is_over() || take_event(&mut self.end)
+        if self.pause.is_over() {
+            return true;
+        }
+        take_event(&mut self.end)
     }
 
     // Takes what has come, or learns that no more comes. Returns whether it did either.
@@ -125,6 +139,8 @@ impl<'p> ServingSession<'p> {
         ensures own { OnOk result (self.new.serving.answering.own ≡ self.old.serving.answering.own) }
         ensures work { OnOk result (IsAtWork self.new.serving self.new.end) }
         ensures answering { (owed : List ℕ → Triple) → IsAnswering owed self.old.serving self.old.end → OnOk result (IsAnswering owed self.new.serving self.new.end) }
+        ensures came { IfOk result (λ came. ServingReads came self.old self.new) }
+        ensures kept { OnOk result ((self.new.pace ≡ self.old.pace) × ((view self.new.end).sent ≡ (view self.old.end).sent)) }
     {
         match drain(&mut self.end, buf) {
             DrainAnswer::More { count } => self.serving.take(&buf[..count as usize])?,
@@ -144,8 +160,15 @@ impl<'p> ServingSession<'p> {
         ensures own { OnOk result (self.new.serving.answering.own ≡ self.old.serving.answering.own) }
         ensures work { OnOk result (IsAtWork self.new.serving self.new.end) }
         ensures answering { (owed : List ℕ → Triple) → IsAnswering owed self.old.serving self.old.end → OnOk result (IsAnswering owed self.new.serving self.new.end) }
+        ensures went { IfOk result (λ went. ServingWrites went self.old self.new) }
+        ensures kept { OnOk result ((view self.new.end).got ≡ (view self.old.end).got) }
+        ensures outcome { OnOk result (IsSome self.old.serving.answering.outcome → IsSome self.new.serving.answering.outcome) }
+        ensures shut { OnOk result (KeepsShut self.old.pace self.new.pace self.new.end) }
     {
-        if self.peer_shut || self.serving.outcome().is_some() {
+        if self.peer_shut {
+            return Ok(false);
+        }
+        if self.serving.outcome().is_some() {
             return Ok(false);
         }
         let piece = self.serving.front()?;
@@ -165,9 +188,11 @@ impl<'p> ServingSession<'p> {
         }
     }
 
-    /// Returns whether the last turn moved bytes, or there was no turn yet. No contract relies on
-    /// it; a worker that has nothing to do yields.
-    pub fn moved(&self) -> bool {
+    /// Returns whether the last turn that was made moved something, or there was none yet. A worker
+    /// that has nothing to do yields.
+    pub fn moved(&self) -> bool
+        ensures { result ≡ not self.now.pace.quiet }
+    {
         self.pause.moved()
     }
 

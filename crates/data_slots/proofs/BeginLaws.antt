@@ -12,6 +12,7 @@ use Rattle.data_slots.specs.declared.slot.Slot.{Slot}
 use Rattle.data_slots.specs.declared.done.SessionOver.{SessionOver}
 use Rattle.data_slots.specs.declared.slot.Stage.{Stage}
 use Rattle.data_slots.specs.declared.slot.Stage.TheVariants.{Unused, Calls, Awaits, Serves, CallIsOver, ServingIsOver, Taken}
+use Rattle.data_slots.specs.Sessions.{Session}
 use Rattle.data_slots.specs.Slots.{Held, Called, Serves as ServedHere, SlotsState, IsEndOf}
 use Rattle.data_slots.specs.Stages.{ForNothing, ForCall, ForServing, Frame, place_of, frame_of, use_of, end_of, IsStage, IsUnusedBy}
 use Rattle.data_slots.specs.Whole.{frames, held_in, IsUsedAt}
@@ -87,12 +88,12 @@ free-client domain version from port slots at slot stages ends free =
     (each-get (λ h. IsEndOf domain h.place h.role) (held_in slots) at (frame_of slot).held ends (get-map (λ s. (frame_of s).held) slots at slot free.here)))
 
 -- two states are the same if their lists are
-pub same-state : (domain version : ℕ) (held held' : List Held) (unused unused' late late' : List PagePlace) (called called' : List (Option Called)) (served served' : List ServedHere) (opened opened' : List SessionOver) (spent : Bool)
-    → held ≡ held' → unused ≡ unused' → late ≡ late' → called ≡ called' → served ≡ served' → opened ≡ opened'
-    → ◌≡◌ {A = SlotsState} (record { domain = domain; version = version; held = held; unused = unused; late = late; called = called; served = served; opened = opened; spent = spent })
-    (record { domain = domain; version = version; held = held'; unused = unused'; late = late'; called = called'; served = served'; opened = opened'; spent = spent })
-same-state domain version held held' unused unused' late late' called called' served served' opened opened' spent a b l c d o =
-    λ i. record { domain = domain; version = version; held = a i; unused = b i; late = l i; called = c i; served = d i; opened = o i; spent = spent }
+pub same-state : (domain version : ℕ) (held held' : List Held) (unused unused' late late' : List PagePlace) (called called' : List (Option Called)) (served served' : List ServedHere) (opened opened' : List SessionOver) (are are' : List Session) (spent : Bool)
+    → held ≡ held' → unused ≡ unused' → late ≡ late' → called ≡ called' → served ≡ served' → opened ≡ opened' → are ≡ are'
+    → ◌≡◌ {A = SlotsState} (record { domain = domain; version = version; held = held; unused = unused; late = late; called = called; served = served; opened = opened; sessions = are; spent = spent })
+    (record { domain = domain; version = version; held = held'; unused = unused'; late = late'; called = called'; served = served'; opened = opened'; sessions = are'; spent = spent })
+same-state domain version held held' unused unused' late late' called called' served served' opened opened' are are' spent a b l c d o r =
+    λ i. record { domain = domain; version = version; held = a i; unused = b i; late = l i; called = c i; served = d i; opened = o i; sessions = r i; spent = spent }
 
 pub call-used : (number : ℕ) (input : List ℕ) → ForCall number input ≡ ForNothing → ⊥
 call-used number input e = cc

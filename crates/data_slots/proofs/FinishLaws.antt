@@ -1,5 +1,5 @@
 -- All ends while they are retired one after another, and what they report.
-use Rattle.std.proofs.Common.{◌≡◌, ◌≢◌, ℕ, ◌+◌, ◌≤◌, zero, suc, List, [], ◌∷◌, ◌++◌, map, refl, ap, sym, ◌∙◌, arith, append_assoc, subst, Option, Some, None}
+use Rattle.std.proofs.Common.{◌≡◌, ◌≢◌, ℕ, ◌+◌, ◌≤◌, zero, suc, List, [], ◌∷◌, ◌++◌, map, refl, ap, sym, ◌∙◌, arith, append_assoc, subst, Option, Some, None, inr}
 use Rattle.std.specs.Prelude.{false, slice_get, option_map, option_and_then, IsSome}
 use Rattle.std.proofs.lemmas.List.{map-append}
 use Rattle.qrexec_frame.specs.Streams.{Each}
@@ -19,11 +19,11 @@ use Rattle.data_slots.specs.declared.note.ServedNote.{ServedNote}
 use Rattle.data_slots.specs.declared.report.Report.{Report}
 use Rattle.data_slots.specs.declared.report.Report.TheVariants.{Nothing, Call, Serving}
 use Rattle.data_slots.specs.Slots.{Held, held_at}
-use Rattle.data_slots.specs.Done.{ReportsCalled, ReportsServes}
+use Rattle.data_slots.specs.Done.{AreBack, ReportsCalled, ReportsServes}
 use Rattle.data_slots.specs.Reports.{call_in, served_in}
-use Rattle.data_slots.specs.Stages.{Use, ForCall, ForServing, Frame, place_of, frame_of, use_of, CanRetire, IsReportOf}
+use Rattle.data_slots.specs.Stages.{Use, ForCall, ForServing, Frame, place_of, frame_of, use_of, is_session, CanRetire, IsStage, IsReportOf}
 use Rattle.data_slots.specs.Whole.{frames, held_in, called_of, serves_of, IsUsedAt, HaveEnds}
-use Rattle.data_slots.specs.Finished.{AreReported, AreCalls, AreServings, KeepsServings, HasCall, IsElsewhere, KeepsOthers, call_at, served_at}
+use Rattle.data_slots.specs.Finished.{AreReported, AreFinished, AreCalls, AreServings, KeepsServings, HasCall, IsElsewhere, KeepsOthers, call_at, served_at}
 use Rattle.data_slots.proofs.ListLaws.{each-push, some-get}
 
 pub append-nil : {A : Type 0} (xs : List A) → xs ++ [] ≡ xs
@@ -32,41 +32,96 @@ append-nil (x ∷ xs) = ap (λ ys. x ∷ ys) (append-nil xs)
 
 -- ---- ends that are retired one after another
 
--- some are retired, and the rest can be
-pub record AreRetiring (slots rest : List Slot) (retired : List RetiredEnd) : Type 0 where
+-- these ends are retired, and the rest can be
+pub record Retires (slots rest : List Slot) (done : List EndAt) : Type 0 where
   pub can : Each (λ s. CanRetire s.stage) rest
-  pub held : map held_at (all_retired retired) ++ held_in rest ≡ held_in slots
-  pub honest : Each (λ e. e.view.turned ≡ false) (all_retired retired)
+  pub held : map held_at done ++ held_in rest ≡ held_in slots
+  pub honest : Each (λ e. e.view.turned ≡ false) done
 
-pub one-more : (slots rest : List Slot) (slot : Slot) (retired : List RetiredEnd) (x : RetiredEnd) → held_at (retired_at x) ≡ (frame_of slot).held → (retired_at x).view.turned ≡ false
-    → AreRetiring slots (slot ∷ rest) retired → AreRetiring slots rest (retired ++ x ∷ [])
-one-more slots rest slot retired x held honest h = record {
+retires-more : (slots rest : List Slot) (slot : Slot) (done : List EndAt) (e : EndAt) → held_at e ≡ (frame_of slot).held → e.view.turned ≡ false → Retires slots (slot ∷ rest) done → Retires slots rest (done ++ e ∷ [])
+retires-more slots rest slot done e held honest h = record {
   can = h.can.1;
-  held = ap (λ hs. hs ++ held_in rest) (ap (map held_at) (map-append retired_at retired (x ∷ [])) ∙ map-append held_at (all_retired retired) (retired_at x ∷ []))
-      ∙ (append_assoc (map held_at (all_retired retired)) (held_at (retired_at x) ∷ []) (held_in rest)
-      ∙ (ap (λ k. map held_at (all_retired retired) ++ k ∷ held_in rest) held ∙ h.held));
-  honest = subst (λ es. Each (λ e. e.view.turned ≡ false) es) (sym (map-append retired_at retired (x ∷ []))) (each-push (λ (e : EndAt). e.view.turned ≡ false) (all_retired retired) (retired_at x) h.honest honest);
+  held = ap (λ hs. hs ++ held_in rest) (map-append held_at done (e ∷ [])) ∙ (append_assoc (map held_at done) (held_at e ∷ []) (held_in rest) ∙ (ap (λ k. map held_at done ++ k ∷ held_in rest) held ∙ h.held));
+  honest = each-push (λ (x : EndAt). x.view.turned ≡ false) done e h.honest honest;
 }
 
-pub all-held : (slots : List Slot) (retired : List RetiredEnd) → AreRetiring slots [] retired → map held_at (all_retired retired) ≡ held_in slots
-all-held slots retired h = sym (append-nil (map held_at (all_retired retired))) ∙ h.held
+-- they lie in a list behind the first
+pub record AreRetiring (first : EndAt) (slots rest : List Slot) (retired : List EndAt) : Type 0 where
+  pub done : List EndAt
+  pub are : retired ≡ first ∷ done
+  pub retires : Retires slots rest done
+
+pub none-retired : (first : EndAt) (slots : List Slot) → Each (λ s. CanRetire s.stage) slots → AreRetiring first slots slots (first ∷ [])
+none-retired first slots can = record { done = []; are = refl; retires = record { can = can; held = refl; honest = tt } }
+
+pub one-more : (first : EndAt) (slots rest : List Slot) (slot : Slot) (retired : List EndAt) (e : EndAt) → held_at e ≡ (frame_of slot).held → e.view.turned ≡ false
+    → AreRetiring first slots (slot ∷ rest) retired → AreRetiring first slots rest (retired ++ e ∷ [])
+one-more first slots rest slot retired e held honest h = record {
+  done = h.done ++ e ∷ [];
+  are = ap (λ es. es ++ e ∷ []) h.are;
+  retires = retires-more slots rest slot h.done e held honest h.retires;
+}
+
+all-back : (first : EndAt) (slots : List Slot) (done ends : List EndAt) → ends ≡ first ∷ done → Retires slots [] done → AreBack first (held_in slots) ends
+all-back first slots done ends are h = record { rest = done; are = are; held_are = sym (append-nil (map held_at done)) ∙ h.held; honest = h.honest }
+
+pub retired-back : (first : EndAt) (slots : List Slot) (retired : List EndAt) → AreRetiring first slots [] retired → AreBack first (held_in slots) retired
+retired-back first slots retired h = all-back first slots h.done retired h.are h.retires
 
 -- what is reported of the rest is reported of all
-abbrev pub ReportsOn : ℕ → List Slot → List Slot → List RetiredEnd → List Report → Type 0
-ReportsOn version slots rest retired reports =
-    (ends : List EndAt) (more : List Report) → AreReported version (frames rest) ends more → AreReported version (frames slots) (all_retired retired ++ ends) (reports ++ more)
+abbrev ReportsOn : ℕ → List Slot → List Slot → List EndAt → List Report → Type 0
+ReportsOn version slots rest done reports =
+    (ends : List EndAt) (more : List Report) → AreReported version (frames rest) ends more → AreReported version (frames slots) (done ++ ends) (reports ++ more)
 
-pub report-more : (version : ℕ) (slots rest : List Slot) (slot : Slot) (retired : List RetiredEnd) (reports : List Report) (x : RetiredEnd) (r : Report) → held_at (retired_at x) ≡ (frame_of slot).held
-    → IsReportOf version (place_of slot) (use_of slot.stage) (retired_at x).view r → ReportsOn version slots (slot ∷ rest) retired reports → ReportsOn version slots rest (retired ++ x ∷ []) (reports ++ r ∷ [])
-report-more version slots rest slot retired reports x r held is h ends more rest_is =
-    let one = h (retired_at x ∷ ends) (r ∷ more) (held, is, rest_is) in
-    let ends_are = ap (λ es. es ++ ends) (map-append retired_at retired (x ∷ [])) ∙ append_assoc (all_retired retired) (retired_at x ∷ []) ends in
-    subst (λ es. AreReported version (frames slots) es ((reports ++ r ∷ []) ++ more)) (sym ends_are)
-    (subst (λ rs. AreReported version (frames slots) (all_retired retired ++ retired_at x ∷ ends) rs) (sym (append_assoc reports (r ∷ []) more)) one)
+report-more : (version : ℕ) (slots rest : List Slot) (slot : Slot) (done : List EndAt) (reports : List Report) (e : EndAt) (r : Report) → held_at e ≡ (frame_of slot).held
+    → IsReportOf version (place_of slot) (use_of slot.stage) e.view r → ReportsOn version slots (slot ∷ rest) done reports → ReportsOn version slots rest (done ++ e ∷ []) (reports ++ r ∷ [])
+report-more version slots rest slot done reports e r held is h ends more rest_is =
+    let one = h (e ∷ ends) (r ∷ more) (held, is, rest_is) in
+    subst (λ es. AreReported version (frames slots) es ((reports ++ r ∷ []) ++ more)) (sym (append_assoc done (e ∷ []) ends))
+    (subst (λ rs. AreReported version (frames slots) (done ++ e ∷ ends) rs) (sym (append_assoc reports (r ∷ []) more)) one)
 
-pub report-all : (version : ℕ) (slots : List Slot) (retired : List RetiredEnd) (reports : List Report) → ReportsOn version slots [] retired reports → AreReported version (frames slots) (all_retired retired) reports
-report-all version slots retired reports h =
-    subst (λ es. AreReported version (frames slots) es reports) (append-nil (all_retired retired)) (subst (λ rs. AreReported version (frames slots) (all_retired retired ++ []) rs) (append-nil reports) (h [] [] tt))
+report-all : (version : ℕ) (slots : List Slot) (done : List EndAt) (reports : List Report) → ReportsOn version slots [] done reports → AreReported version (frames slots) done reports
+report-all version slots done reports h =
+    subst (λ es. AreReported version (frames slots) es reports) (append-nil done) (subst (λ rs. AreReported version (frames slots) (done ++ []) rs) (append-nil reports) (h [] [] tt))
+
+-- some are retired and reported, and the rest has no open session
+pub record AreReporting (first : EndAt) (slots rest : List Slot) (retired : List EndAt) (reports : List Report) : Type 0 where
+  pub done : List EndAt
+  pub are : retired ≡ first ∷ done
+  pub retires : Retires slots rest done
+  pub closed : Each (λ s. is_session s.stage ≡ false) rest
+  pub reported : (version : ℕ) → Each (λ s. IsStage version s.stage) slots → Each (λ s. IsStage version s.stage) rest × ReportsOn version slots rest done reports
+
+pub none-reported : (first : EndAt) (slots : List Slot) → Each (λ s. CanRetire s.stage) slots → Each (λ s. is_session s.stage ≡ false) slots → AreReporting first slots slots (first ∷ []) []
+none-reported first slots can closed = record {
+  done = [];
+  are = refl;
+  retires = record { can = can; held = refl; honest = tt };
+  closed = closed;
+  reported = λ version each. (each, λ ends more is. is);
+}
+
+pub one-reported : (first : EndAt) (slots rest : List Slot) (slot : Slot) (retired : List EndAt) (reports : List Report) (e : EndAt) (r : Report) → held_at e ≡ (frame_of slot).held → e.view.turned ≡ false
+    → ((version : ℕ) → IsStage version slot.stage → IsReportOf version (place_of slot) (use_of slot.stage) e.view r)
+    → AreReporting first slots (slot ∷ rest) retired reports → AreReporting first slots rest (retired ++ e ∷ []) (reports ++ r ∷ [])
+one-reported first slots rest slot retired reports e r held honest is h = record {
+  done = h.done ++ e ∷ [];
+  are = ap (λ es. es ++ e ∷ []) h.are;
+  retires = retires-more slots rest slot h.done e held honest h.retires;
+  closed = h.closed.1;
+  reported = λ version each. (let known = h.reported version each in (known.0.1, report-more version slots rest slot h.done reports e r held (is version known.0.0) known.1));
+}
+
+pub all-reported : (first : EndAt) (slots : List Slot) (retired : List EndAt) (reports : List Report) → AreReporting first slots [] retired reports → AreFinished first slots retired reports
+unfolding all-back
+all-reported first slots retired reports h = record {
+  back = all-back first slots h.done retired h.are h.retires;
+  reported = λ version each. report-all version slots h.done reports (h.reported version each).1;
+}
+
+-- a list of retired ends with one more
+pub retired-more : (retired new : List RetiredEnd) (x : RetiredEnd) → new ≡ retired ++ x ∷ [] → all_retired new ≡ all_retired retired ++ retired_at x ∷ []
+retired-more retired new x is = ap all_retired is ∙ map-append retired_at retired (x ∷ [])
 
 -- ---- reports by their numbers
 
@@ -133,21 +188,21 @@ pairs : {A B C : Type 0} (R : B → C → Type 0) (f : A → B) (g : A → C) (x
 pairs R f g [] h = tt
 pairs R f g (x ∷ xs) h = (h 0 x refl, pairs R f g xs (λ m. h (suc m)))
 
-pub reports-called : (version domain : ℕ) (fs : List Frame) (ends : List EndAt) (reports : List Report) (calls : List (Option CallNote)) (served : List ServedNote) → AreReported version fs ends reports
-    → HaveEnds domain fs calls served → EachPair (ReportsCalled domain version ends) (map (option_map called_of) calls) (map (call_at reports) calls)
-reports-called version domain fs ends reports calls served h have = pairs (ReportsCalled domain version ends) (option_map called_of) (call_at reports) calls each
+pub reports-called : (version domain : ℕ) (fs : List Frame) (first : EndAt) (ends : List EndAt) (reports : List Report) (calls : List (Option CallNote)) (served : List ServedNote) → AreReported version fs ends reports
+    → HaveEnds domain fs calls served → EachPair (ReportsCalled domain version (first ∷ ends)) (map (option_map called_of) calls) (map (call_at reports) calls)
+reports-called version domain fs first ends reports calls served h have = pairs (ReportsCalled domain version (first ∷ ends)) (option_map called_of) (call_at reports) calls each
   where
     reports-of : (number : ℕ) (n : CallNote) (end : EndAt) (r : Report) → slice_get ends n.at ≡ Some end → end.place ≡ Payload domain n.to n.port
-        → IsReportOf version (Payload domain n.to n.port) (ForCall number n.input.value.items) end.view r → ReportsCalled domain version ends (Some (called_of n)) (call_in r)
-    reports-of number n end (Call k over) here lies is = (is.1, is.2, some-get _ ends n.at end here (lies, is.3))
+        → IsReportOf version (Payload domain n.to n.port) (ForCall number n.input.value.items) end.view r → ReportsCalled domain version (first ∷ ends) (Some (called_of n)) (call_in r)
+    reports-of number n end (Call k over) here lies is = (is.1, is.2, inr (some-get _ ends n.at end here (lies, is.3)))
     reports-of number n end (Serving k done) here lies is = absurd is
     reports-of number n end Nothing here lies is = absurd is
 
-    each : (m : ℕ) (o : Option CallNote) → slice_get calls m ≡ Some o → ReportsCalled domain version ends (option_map called_of o) (call_at reports o)
+    each : (m : ℕ) (o : Option CallNote) → slice_get calls m ≡ Some o → ReportsCalled domain version (first ∷ ends) (option_map called_of o) (call_at reports o)
     each m None is = tt
     each m (Some n) is =
         let a = used-at version fs ends reports n.at (Payload domain n.to n.port) (ForCall m n.input.value.items) h (have.called m n is) in
-        subst (λ o. ReportsCalled domain version ends (Some (called_of n)) o) (sym (ap (option_and_then call_in) a.report_is)) (reports-of m n a.end a.report a.end_is a.lies a.is)
+        subst (λ o. ReportsCalled domain version (first ∷ ends) (Some (called_of n)) o) (sym (ap (option_and_then call_in) a.report_is)) (reports-of m n a.end a.report a.end_is a.lies a.is)
 
 -- a list of answers that exist
 some-pairs : {A B C : Type 0} (R : B → C → Type 0) (f : A → B) (g : A → Option C) (xs : List A) (ys : List C) → map Some ys ≡ map g xs
@@ -163,17 +218,17 @@ some-pairs {A} {B} {C} R f g (x ∷ xs) (y ∷ ys) same h =
     let more : map Some ys ≡ map g xs = cc in
     (subst (λ (z : C). R (f x) z) e a.2, some-pairs R f g xs ys more (λ m. h (suc m)))
 
-pub reports-serves : (version domain : ℕ) (fs : List Frame) (ends : List EndAt) (reports : List Report) (calls : List (Option CallNote)) (served : List ServedNote) (done : List ServedDone)
-    → AreReported version fs ends reports → HaveEnds domain fs calls served → map Some done ≡ map (served_at reports) served → EachPair (ReportsServes domain version ends) (map serves_of served) done
-reports-serves version domain fs ends reports calls served done h have same = some-pairs (ReportsServes domain version ends) serves_of (served_at reports) served done same each
+pub reports-serves : (version domain : ℕ) (fs : List Frame) (first : EndAt) (ends : List EndAt) (reports : List Report) (calls : List (Option CallNote)) (served : List ServedNote) (done : List ServedDone)
+    → AreReported version fs ends reports → HaveEnds domain fs calls served → map Some done ≡ map (served_at reports) served → EachPair (ReportsServes domain version (first ∷ ends)) (map serves_of served) done
+reports-serves version domain fs first ends reports calls served done h have same = some-pairs (ReportsServes domain version (first ∷ ends)) serves_of (served_at reports) served done same each
   where
     reports-of : (m : ℕ) (n : ServedNote) (end : EndAt) (r : Report) → slice_get ends n.at ≡ Some end → end.place ≡ Payload n.from domain n.port → slice_get reports n.at ≡ Some r
-        → IsReportOf version (Payload n.from domain n.port) (ForServing m n.service.value) end.view r → (d : ServedDone) × (served_at reports n ≡ Some d) × ReportsServes domain version ends (serves_of n) d
-    reports-of m n end (Serving k d) here lies at is = (d, ap (option_and_then served_in) at, (is.1, is.2, some-get _ ends n.at end here (lies, is.3)))
+        → IsReportOf version (Payload n.from domain n.port) (ForServing m n.service.value) end.view r → (d : ServedDone) × (served_at reports n ≡ Some d) × ReportsServes domain version (first ∷ ends) (serves_of n) d
+    reports-of m n end (Serving k d) here lies at is = (d, ap (option_and_then served_in) at, (is.1, is.2, inr (some-get _ ends n.at end here (lies, is.3))))
     reports-of m n end (Call k over) here lies at is = absurd is
     reports-of m n end Nothing here lies at is = absurd is
 
-    each : (m : ℕ) (n : ServedNote) → slice_get served m ≡ Some n → (d : ServedDone) × (served_at reports n ≡ Some d) × ReportsServes domain version ends (serves_of n) d
+    each : (m : ℕ) (n : ServedNote) → slice_get served m ≡ Some n → (d : ServedDone) × (served_at reports n ≡ Some d) × ReportsServes domain version (first ∷ ends) (serves_of n) d
     each m n is =
         let u = used-at version fs ends reports n.at (Payload n.from domain n.port) (ForServing m n.service.value) h (have.serving m n is) in
         reports-of m n u.end u.report u.end_is u.lies u.report_is u.is

@@ -5,6 +5,7 @@ mod OpenLaws
 mod SideLaws
 mod WholeLaws
 mod OpenedLaws
+mod SessionLaws
 mod GivenLaws
 mod BeginLaws
 mod TurnLaws

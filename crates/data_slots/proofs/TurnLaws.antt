@@ -180,7 +180,7 @@ turned-not e over whole = record { whole = whole; state = refl; told = tells-non
 pub turned-after : (a b c : Ends) (before mid now : List SessionOver) → IsTurned a b before mid → IsTurned b c mid now → IsTurned a c before now
 turned-after a b c before mid now one two = record {
   whole = two.whole;
-  state = two.state ∙ ap (λ (s : SlotsState). record s { opened = (state_of c false).opened }) one.state;
+  state = two.state ∙ ap (λ (s : SlotsState). record s { opened = (state_of c false).opened; sessions = (state_of c false).sessions }) one.state;
   told = tells-after (state_of a false) (state_of b false) (state_of c false) before mid now (ap (λ (s : SlotsState). s.called) one.state) (ap (λ (s : SlotsState). s.served) one.state) one.told two.told;
 }
 

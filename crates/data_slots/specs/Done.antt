@@ -1,6 +1,6 @@
 -- What is given back of data ends that are done with.
 -- Source: this project's own.
-use Rattle.std.specs.Prelude.{◌≡◌, ℕ, List, ◌++◌, Option, Some, None, slice_get, IsPermutation}
+use Rattle.std.specs.Prelude.{◌≡◌, ℕ, false, List, ◌∷◌, ◌++◌, map, Option, Some, None, slice_get, IsPermutation}
 use Rattle.service_gate.specs.Owing.{builtin_owes}
 use Rattle.end_view.specs.EndView.{EndView}
 use Rattle.task_duties.specs.declared.place.PagePlace.{PagePlace}
@@ -12,7 +12,14 @@ use Rattle.task_duties.specs.TaskOwes.{EndAt}
 use Rattle.task_duties.specs.Agent.Sessions.{CallerDone, CallerOwes, IsService, ServingOwes}
 use Rattle.data_slots.specs.declared.done.CallOver.{CallOver}
 use Rattle.data_slots.specs.declared.done.SessionOver.{SessionOver}
-use Rattle.data_slots.specs.Slots.{Called, Serves, SlotsState}
+use Rattle.data_slots.specs.Slots.{Held, held_at, Called, Serves, SlotsState}
+
+-- ends that are given back: one that was retired before, and behind it those that were held, in their order, none of which is turned over
+pub record AreBack (first : EndAt) (held : List Held) (ends : List EndAt) : Type 0 where
+  pub rest : List EndAt
+  pub are : ends ≡ first ∷ rest
+  pub held_are : map held_at rest ≡ held
+  pub honest : Each (λ e. e.view.turned ≡ false) rest
 
 -- P holds of some end at this place
 abbrev pub HasEnd : List EndAt → PagePlace → (EndView → Type 0) → Type 0

@@ -1,21 +1,30 @@
 -- What ends report when all of them are retired.
 use Rattle.std.specs.Prelude.{◌≡◌, ◌≢◌, ℕ, List, [], ◌∷◌, slice_get, option_and_then, Option, Some, None, IsSome}
 use Rattle.task_duties.specs.declared.done.ServedDone.{ServedDone}
+use Rattle.qrexec_frame.specs.Streams.{Each}
 use Rattle.task_duties.specs.TaskOwes.{EndAt}
 use Rattle.data_slots.specs.declared.done.CallOver.{CallOver}
 use Rattle.data_slots.specs.declared.note.CallNote.{CallNote}
 use Rattle.data_slots.specs.declared.note.ServedNote.{ServedNote}
 use Rattle.data_slots.specs.declared.report.Report.{Report}
 use Rattle.data_slots.specs.declared.report.Report.TheVariants.{Call, Serving}
+use Rattle.data_slots.specs.declared.slot.Slot.{Slot}
 use Rattle.data_slots.specs.Slots.{held_at}
+use Rattle.data_slots.specs.Done.{AreBack}
 use Rattle.data_slots.specs.Reports.{call_in, served_in}
-use Rattle.data_slots.specs.Stages.{Frame, IsReportOf}
+use Rattle.data_slots.specs.Stages.{Frame, IsReportOf, IsStage}
+use Rattle.data_slots.specs.Whole.{frames, held_in}
 
 -- each end is the same one as before, and its report is that of its use
 abbrev pub AreReported : ℕ → List Frame → List EndAt → List Report → Type 0
 AreReported version [] [] [] = Unit {0}
 AreReported version (f ∷ fs) (e ∷ ends) (r ∷ reports) = (held_at e ≡ f.held) × IsReportOf version f.held.place f.used e.view r × AreReported version fs ends reports
 AreReported version _ _ _ = ⊥
+
+-- all ends are given back behind the first, and each of them is reported
+pub record AreFinished (first : EndAt) (slots : List Slot) (ends : List EndAt) (reports : List Report) : Type 0 where
+  pub back : AreBack first (held_in slots) ends
+  pub reported : (version : ℕ) → Each (λ s. IsStage version s.stage) slots → AreReported version (frames slots) back.rest reports
 
 -- what came of a noted call, and of a noted session that served
 abbrev pub call_at : List Report → Option CallNote → Option CallOver

@@ -1,3 +1,4 @@
+pub mod Sessions
 pub mod Slots
 pub mod Done
 pub mod Reports

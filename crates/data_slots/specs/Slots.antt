@@ -11,6 +11,7 @@ use Rattle.task_duties.specs.declared.place.PagePlace.TheVariants.{Control, Payl
 use Rattle.task_duties.specs.TaskOwes.{EndAt}
 use Rattle.task_duties.specs.Places.{has_place}
 use Rattle.data_slots.specs.declared.done.SessionOver.{SessionOver}
+use Rattle.data_slots.specs.Sessions.{Session}
 
 -- what stays the same of an end: its place, and which end of which page it is
 pub record Held : Type 0 where
@@ -51,6 +52,8 @@ pub record SlotsState : Type 0 where
   pub served : List Serves
   -- the sessions that are open, each as it is told once it is over, in no order that matters
   pub opened : List SessionOver
+  -- the session of each end, in the order in which the ends were given
+  pub sessions : List Session
   -- memory didn't suffice for a turn, and the ends can only be given up
   pub spent : Bool
 

@@ -12,6 +12,7 @@ use Rattle.data_slots.specs.Slots.{Held, Called, Serves, SlotsState, IsEndOf}
 use Rattle.data_slots.specs.Stages.{Use, ForNothing, ForCall, ForServing, Frame, place_of, frame_of, told_of, is_session, IsStage}
 use Rattle.data_slots.specs.declared.done.SessionOver.{SessionOver}
 use Rattle.data_slots.specs.Done.{TellsMore}
+use Rattle.data_slots.specs.Sessions.{sessions_in}
 use Rattle.data_slots.specs.Index.{PlaceIndex, IsIndexOf}
 
 -- ---- all ends, as lists
@@ -121,6 +122,7 @@ state_of e spent = record {
   called = map (option_map called_of) e.calls.items;
   served = map serves_of e.served.items;
   opened = opened_in (frames e.slots.items) e.busy.items;
+  sessions = sessions_in e.slots.items;
   spent = spent;
 }
 
@@ -129,8 +131,12 @@ state_of e spent = record {
 -- after the turn all ends are whole, and the only sessions that are no longer open are those that were reported
 pub record IsTurned (old new : Ends) (before now : List SessionOver) : Type 0 where
   pub whole : IsWhole new
-  pub state : state_of new false ≡ record (state_of old false) { opened = (state_of new false).opened }
+  pub state : state_of new false ≡ record (state_of old false) { opened = (state_of new false).opened; sessions = (state_of new false).sessions }
   pub told : TellsMore (state_of old false) (state_of new false) before now
+
+-- of the sessions whose turn is to come, one took it
+abbrev pub TakesFrom : ℕ → List ℕ → List ℕ → Type 0
+TakesFrom at ahead left = (i : ℕ) → times i left + (if at == i then 1 else 0) ≡ times i ahead
 
 -- it has the same ends
 abbrev pub HasSameEnds : Ends → Ends → Type 0

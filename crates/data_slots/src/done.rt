@@ -34,7 +34,7 @@ pub struct CallOver {
 /// The data ends of an agent that is done with them.
 #[derive(Drop)]
 pub struct DataDone {
-    /// The ends, in the order in which they were given.
+    /// The ends, in the order in which they were given, behind the one that was retired before.
     pub ends: Vec<RetiredEnd>,
     /// What came of each of the agent's own calls that had a session, by the numbers of the calls.
     pub calls: Vec<Option<CallOver>>,

@@ -1,28 +1,29 @@
 //! The data ends of an agent, and what is noted of them.
-ghost use Rattle.std.specs.Prelude.{◌≡◌, ◌+◌, ◌<◌, ◌≤◌, ◌++◌, ◌∷◌, [], ℕ, true, false, is_some, Some, None, IfOk, IfSome, OnOk, OnErr, length, map, replicate, slice_get, slice_set, vec_capacity, if◌then◌else◌};
+ghost use Rattle.std.specs.Prelude.{◌≡◌, ◌+◌, ◌<◌, ◌≤◌, ◌++◌, ◌∷◌, [], ℕ, true, false, is_some, Some, None, IfOk, IfErr, IfSome, OnOk, OnErr, length, map, drop, get_or, replicate, slice_get, slice_set, vec_capacity, if◌then◌else◌};
 ghost use Rattle.qrexec_frame.specs.Streams.{Each};
 ghost use Rattle.task_duties.specs.declared.place.PagePlace.TheVariants.{Payload};
 ghost use Rattle.task_duties.specs.Places.{has_place, without};
 ghost use Rattle.task_duties.specs.Pairwise.{EachPair};
 ghost use Rattle.task_duties.specs.TaskOwes.{places_in};
-ghost use Rattle.task_duties.specs.GivenEnds.{all_given, all_retired};
+ghost use Rattle.task_duties.specs.GivenEnds.{all_given, all_retired, retired_at};
 ghost use Rattle.data_slots.specs.Slots.{held_at, late_count, IsGiven, AreApart};
 ghost use Rattle.data_slots.specs.Sides.{late_places};
-ghost use Rattle.data_slots.specs.Done.{ReportsCalled, ReportsServes};
+ghost use Rattle.data_slots.specs.Done.{AreBack, ReportsCalled, ReportsServes};
 ghost use Rattle.data_slots.specs.Stages.{ForNothing, CanRetire, IsStage};
-ghost use Rattle.data_slots.specs.Given.{unused_slots};
 ghost use Rattle.data_slots.specs.Index.{IsIndexOf};
-ghost use Rattle.data_slots.specs.Whole.{frames, held_in, places, unused_in, IsUsedAt, IsWhole, IsTurned, HasSameEnds, state_of};
+ghost use Rattle.data_slots.specs.Whole.{frames, held_in, places, unused_in, IsUsedAt, IsWhole, IsTurned, TakesFrom, HasSameEnds, state_of};
+ghost use Rattle.data_slots.specs.Sessions.{NotOpen, sessions_in, AllTakeTurns, KeepsSessions, OneTakesTurn};
 
 use crate::done::{DataDone, SessionOver};
 use crate::finish::{finish_all, give_up_all, session_ends};
-use crate::index::{Index, end_at, index_of};
+use crate::index::{Index, end_at};
 use crate::note::{CallNote, ServedNote};
 use crate::room::push_within;
-use crate::slot::{Slot, Stage};
+use crate::setup::{EndsRoom, room_for, unused_slots};
+use crate::slot::Slot;
 use qrexec_data::{Caller, Serving};
 use service_gate::Builtin;
-use std::alloc::{AllocError, Global};
+use std::alloc::Global;
 use std::snapshot::Snapshot;
 use task_duties::{DataEnd, RetiredEnd};
 use vchan_io::Memory;
@@ -50,14 +51,15 @@ pub(crate) struct Ends<'p> {
 }
 
 impl<'p> Ends<'p> {
-    /// Makes the ends of an agent that has `calls` calls of its own. All ends are unused.
+    /// Makes the ends of an agent that has `calls` calls of its own. All ends are unused. If memory runs out,
+    /// they come back as they were given.
     pub(crate) fn new(
         alloc: Global,
         domain: u32,
         version: u32,
         ends: Vec<DataEnd<'p>>,
         calls: usize,
-    ) -> Result<Ends<'p>, Memory>
+    ) -> Result<Ends<'p>, Vec<DataEnd<'p>>>
         requires version { (2 ≤ version) × (version ≤ 3) }
         requires given { Each (IsGiven domain) (all_given ends.items) }
         requires apart { AreApart (places_in (all_given ends.items)) }
@@ -71,20 +73,29 @@ impl<'p> Ends<'p> {
           called = replicate calls None;
           served = [];
           opened = [];
+          sessions = replicate (length ends.entry.items) NotOpen;
           spent = false;
         }) }
         ensures retire { IfOk result (λ e. Each (λ s. CanRetire s.stage) e.slots.items) }
+        ensures long { IfOk result (λ e. length e.slots.items ≡ length ends.entry.items) }
+        ensures unmade { IfErr result (λ given. given ≡ ends.entry) }
     {
-        let slots = unused_slots(alloc, ends)?;
-        let index = index_of(alloc, &slots)?;
+        let Ok(room) = room_for(alloc, &ends, calls) else {
+            return Err(ends);
+        };
+        let EndsRoom {
+            slots,
+            index,
+            calls,
+        } = room;
         Ok(Ends {
             alloc,
             domain,
             version,
-            slots,
+            slots: unused_slots(slots, ends),
             index,
             busy: Vec::new(alloc),
-            calls: no_notes(alloc, calls)?,
+            calls,
             served: Vec::new(alloc),
             waiting: Vec::new(alloc),
         })
@@ -117,7 +128,9 @@ impl<'p> Ends<'p> {
           unused = without (Payload self.old.domain to port) (unused_in (frames self.old.slots.items));
           called = slice_set (state_of self.old false).called number (Some (record { to = to; port = port; input = input.items }));
           opened = (state_of self.old false).opened ++ record { domain = to; port = port; number = Some number } ∷ [];
+          sessions = (state_of self.new false).sessions;
         }) }
+        ensures kept { KeepsSessions (sessions_in self.old.slots.items) (sessions_in self.new.slots.items) }
         ensures err { OnErr result (state_of self.new false ≡ state_of self.old false) }
     {
         let Some(at) = find_unused(&self.index, &self.slots, self.domain, to, port) else {
@@ -150,7 +163,9 @@ impl<'p> Ends<'p> {
           unused = without (Payload from self.old.domain port) (unused_in (frames self.old.slots.items));
           served = (state_of self.old false).served ++ record { from = from; port = port; service = service } ∷ [];
           opened = (state_of self.old false).opened ++ record { domain = from; port = port; number = None } ∷ [];
+          sessions = (state_of self.new false).sessions;
         }) }
+        ensures kept { KeepsSessions (sessions_in self.old.slots.items) (sessions_in self.new.slots.items) }
         ensures err { OnErr result (state_of self.new false ≡ state_of self.old false) }
     {
         let Some(at) = find_unused(&self.index, &self.slots, from, self.domain, port) else {
@@ -183,6 +198,7 @@ impl<'p> Ends<'p> {
         requires retire { Each (λ s. CanRetire s.stage) self.old.slots.items }
         requires some { 0 < length scratch.old }
         ensures turned { OnOk result (IsTurned self.old self.new over.old.items over.new.items) }
+        ensures turns { OnOk result (AllTakeTurns (sessions_in self.old.slots.items) (sessions_in self.new.slots.items)) }
         ensures same { HasSameEnds self.old self.new }
         ensures retire { Each (λ s. CanRetire s.stage) self.new.slots.items }
         ensures long { length scratch.new ≡ length scratch.old }
@@ -196,6 +212,7 @@ impl<'p> Ends<'p> {
         requires whole { IsWhole self.old }
         requires retire { Each (λ s. CanRetire s.stage) self.old.slots.items }
         ensures turned { (over : _) → IsTurned self.old self.new over over }
+        ensures sessions { sessions_in self.new.slots.items ≡ sessions_in self.old.slots.items }
         ensures same { HasSameEnds self.old self.new }
         ensures retire { Each (λ s. CanRetire s.stage) self.new.slots.items }
     {
@@ -209,6 +226,7 @@ impl<'p> Ends<'p> {
         requires retire { Each (λ s. CanRetire s.stage) self.old.slots.items }
         requires some { 0 < length scratch.old }
         ensures turned { OnOk result (IsTurned self.old self.new over.old.items over.new.items) }
+        ensures turns { OnOk result (AllTakeTurns (sessions_in self.old.slots.items) (sessions_in self.new.slots.items)) }
         ensures same { HasSameEnds self.old self.new }
         ensures retire { Each (λ s. CanRetire s.stage) self.new.slots.items }
         ensures long { length scratch.new ≡ length scratch.old }
@@ -264,6 +282,8 @@ impl<'p> Ends<'p> {
         requires next { next < length self.old.busy.items }
         requires some { 0 < length scratch.old }
         ensures turned { OnOk result (IsTurned self.old self.new over.old.items over.new.items) }
+        ensures turns { OnOk result (OneTakesTurn (get_or self.old.busy.items next 0) (sessions_in self.old.slots.items) (sessions_in self.new.slots.items)) }
+        ensures ahead { IfOk result (λ is_over. TakesFrom (get_or self.old.busy.items next 0) (drop next self.old.busy.items) (drop (if is_over then next else next + 1) self.new.busy.items)) }
         ensures fewer { IfOk result (λ is_over. length self.new.busy.items + (if is_over then 1 else 0) ≡ length self.old.busy.items) }
         ensures same { HasSameEnds self.old self.new }
         ensures retire { Each (λ s. CanRetire s.stage) self.new.slots.items }
@@ -280,17 +300,21 @@ impl<'p> Ends<'p> {
     }
 
     /// Retires all ends and returns what came of their sessions, none of which is open. The list has room for
-    /// the ends. If memory runs out, all of them are retired first.
-    pub(crate) fn finish(self, retired: Vec<RetiredEnd>) -> Result<DataDone, Memory>
+    /// the ends behind `first`, an end that was retired before. If memory runs out, all of them come back.
+    pub(crate) fn finish(
+        self,
+        first: RetiredEnd,
+        retired: Vec<RetiredEnd>,
+    ) -> Result<DataDone, Vec<RetiredEnd>>
         requires whole { IsWhole self }
         requires retire { Each (λ s. CanRetire s.stage) self.slots.items }
         requires idle { self.busy.items ≡ [] }
         requires empty { retired.items ≡ [] }
-        requires room { length self.slots.items ≤ vec_capacity retired }
-        ensures held { IfOk result (λ done. map held_at (all_retired done.ends.items) ≡ held_in self.entry.slots.items) }
-        ensures honest { IfOk result (λ done. Each (λ e. e.view.turned ≡ false) (all_retired done.ends.items)) }
+        requires room { length self.slots.items + 1 ≤ vec_capacity retired }
+        ensures back { IfOk result (λ done. AreBack (retired_at first) (held_in self.entry.slots.items) (all_retired done.ends.items)) }
         ensures calls { IfOk result (λ done. EachPair (ReportsCalled self.entry.domain self.entry.version (all_retired done.ends.items)) (state_of self.entry false).called done.calls.items) }
         ensures served { IfOk result (λ done. EachPair (ReportsServes self.entry.domain self.entry.version (all_retired done.ends.items)) (state_of self.entry false).served done.served.items) }
+        ensures err { IfErr result (λ ends. AreBack (retired_at first) (held_in self.entry.slots.items) (all_retired ends.items)) }
     {
         let Ends {
             alloc,
@@ -301,11 +325,12 @@ impl<'p> Ends<'p> {
         } = self;
         let mut reports = Vec::new(alloc);
         if reports.reserve(slots.len()).is_err() {
-            let _ = give_up_all(slots, retired);
-            return Err(Memory);
+            return Err(give_up_all(slots, first, retired));
         }
-        let ends = finish_all(slots, retired, &mut reports);
-        let (calls, served) = session_ends(alloc, &calls, &served, &mut reports)?;
+        let ends = finish_all(slots, first, retired, &mut reports);
+        let Ok((calls, served)) = session_ends(alloc, &calls, &served, &mut reports) else {
+            return Err(ends);
+        };
         Ok(DataDone {
             ends,
             calls,
@@ -313,49 +338,17 @@ impl<'p> Ends<'p> {
         })
     }
 
-    /// Retires all ends, used or not. The list has room for them.
-    pub(crate) fn give_up(self, retired: Vec<RetiredEnd>) -> Vec<RetiredEnd>
+    /// Retires all ends, used or not. The list has room for them behind `first`, an end that was retired
+    /// before.
+    pub(crate) fn give_up(self, first: RetiredEnd, retired: Vec<RetiredEnd>) -> Vec<RetiredEnd>
         requires retire { Each (λ s. CanRetire s.stage) self.slots.items }
         requires empty { retired.items ≡ [] }
-        requires room { length self.slots.items ≤ vec_capacity retired }
-        ensures held { map held_at (all_retired result.items) ≡ held_in self.entry.slots.items }
-        ensures honest { Each (λ e. e.view.turned ≡ false) (all_retired result.items) }
+        requires room { length self.slots.items + 1 ≤ vec_capacity retired }
+        ensures { AreBack (retired_at first) (held_in self.entry.slots.items) (all_retired result.items) }
     {
         let Ends { slots, .. } = self;
-        give_up_all(slots, retired)
+        give_up_all(slots, first, retired)
     }
-}
-
-// Slots whose ends are all unused.
-fn unused_slots<'p>(alloc: Global, ends: Vec<DataEnd<'p>>) -> Result<Vec<Slot<'p>>, AllocError>
-    ensures { IfOk result (λ slots. slots.items ≡ unused_slots ends.entry.items) }
-{
-    let mut slots = Vec::with_capacity(alloc, ends.len())?;
-    for DataEnd {
-        from,
-        to,
-        port,
-        end,
-    } in ends {
-        slots.push(Slot {
-            from,
-            to,
-            port,
-            stage: Stage::Unused { end },
-        })?;
-    }
-    Ok(slots)
-}
-
-// Notes of `count` calls, none of which has a session.
-fn no_notes(alloc: Global, count: usize) -> Result<Vec<Option<CallNote>>, AllocError>
-    ensures { IfOk result (λ notes. notes.items ≡ replicate count None) }
-{
-    let mut notes = Vec::with_capacity(alloc, count)?;
-    for _call in 0..count {
-        notes.push(None)?;
-    }
-    Ok(notes)
 }
 
 // Finds the end at this place, if there is one and it is unused.

@@ -1,53 +1,57 @@
 //! What is given back of ends that are done with.
-ghost use Rattle.std.specs.Prelude.{◌≡◌, ◌≢◌, ◌≤◌, [], ℕ, Some, IsSome, false, IfOk, length, map, slice_get, vec_capacity};
+ghost use Rattle.std.specs.Prelude.{◌≡◌, ◌≢◌, ◌+◌, ◌≤◌, [], ℕ, Some, IsSome, false, IfOk, length, map, slice_get, vec_capacity};
 ghost use Rattle.qrexec_frame.specs.Streams.{Each};
-ghost use Rattle.task_duties.specs.GivenEnds.{all_retired};
-ghost use Rattle.data_slots.specs.Slots.{held_at};
-ghost use Rattle.data_slots.specs.Stages.{CanRetire, IsStage, is_session};
-ghost use Rattle.data_slots.specs.Whole.{frames, held_in};
-ghost use Rattle.data_slots.specs.Finished.{AreReported, AreCalls, AreServings, KeepsServings, HasCall, KeepsOthers, call_at, served_at};
+ghost use Rattle.task_duties.specs.GivenEnds.{all_retired, retired_at};
+ghost use Rattle.data_slots.specs.Done.{AreBack};
+ghost use Rattle.data_slots.specs.Stages.{CanRetire, is_session};
+ghost use Rattle.data_slots.specs.Whole.{held_in};
+ghost use Rattle.data_slots.specs.Finished.{AreFinished, AreCalls, AreServings, KeepsServings, HasCall, KeepsOthers, call_at, served_at};
 
 use crate::done::CallOver;
 use crate::note::{CallNote, ServedNote};
 use crate::report::Report;
-use crate::room::push_within;
 use crate::slot::Slot;
 use std::alloc::{AllocError, Global};
 use task_duties::{RetiredEnd, ServedDone};
 
-/// Retires all ends, used or not, into a list that has room for them.
-pub(crate) fn give_up_all(slots: Vec<Slot>, mut retired: Vec<RetiredEnd>) -> Vec<RetiredEnd>
+/// Retires all ends, used or not, into a list that has room for them behind `first`, an end that was retired
+/// before.
+pub(crate) fn give_up_all(
+    slots: Vec<Slot>,
+    first: RetiredEnd,
+    mut retired: Vec<RetiredEnd>,
+) -> Vec<RetiredEnd>
     requires retire { Each (λ s. CanRetire s.stage) slots.items }
     requires empty { retired.items ≡ [] }
-    requires room { length slots.items ≤ vec_capacity retired }
-    ensures held { map held_at (all_retired result.items) ≡ held_in slots.entry.items }
-    ensures honest { Each (λ e. e.view.turned ≡ false) (all_retired result.items) }
+    requires room { length slots.items + 1 ≤ vec_capacity retired }
+    ensures { AreBack (retired_at first) (held_in slots.entry.items) (all_retired result.items) }
 {
+    retired.push_reserved(first);
     for slot in slots {
-        push_within(&mut retired, slot.give_up());
+        retired.push_reserved(slot.give_up());
     }
     retired
 }
 
-/// Retires all ends and returns what came of their sessions, none of which is open. Both lists have room for
-/// them.
+/// Retires all ends and returns what came of their sessions, none of which is open. The lists have room for
+/// them, and that of the ends also for `first`, an end that was retired before and stands before them.
 pub(crate) fn finish_all(
     slots: Vec<Slot>,
+    first: RetiredEnd,
     mut retired: Vec<RetiredEnd>,
     reports: &mut Vec<Report>,
 ) -> Vec<RetiredEnd>
     requires retire { Each (λ s. CanRetire s.stage) slots.items }
     requires closed { Each (λ s. is_session s.stage ≡ false) slots.items }
     requires empty { (retired.items ≡ []) × (reports.old.items ≡ []) }
-    requires room { (length slots.items ≤ vec_capacity retired) × (length slots.items ≤ vec_capacity reports.old) }
-    ensures held { map held_at (all_retired result.items) ≡ held_in slots.entry.items }
-    ensures honest { Each (λ e. e.view.turned ≡ false) (all_retired result.items) }
-    ensures reported { (version : ℕ) → Each (λ s. IsStage version s.stage) slots.entry.items → AreReported version (frames slots.entry.items) (all_retired result.items) reports.new.items }
+    requires room { (length slots.items + 1 ≤ vec_capacity retired) × (length slots.items ≤ vec_capacity reports.old) }
+    ensures { AreFinished (retired_at first) slots.entry.items (all_retired result.items) reports.new.items }
 {
+    retired.push_reserved(first);
     for slot in slots {
         let (end, report) = slot.finish();
-        push_within(&mut retired, end);
-        push_within(reports, report);
+        retired.push_reserved(end);
+        reports.push_reserved(report);
     }
     retired
 }

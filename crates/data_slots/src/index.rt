@@ -1,24 +1,25 @@
 //! The ends of an agent by their places.
-ghost use Rattle.std.specs.Prelude.{◌≡◌, map, IfOk};
+ghost use Rattle.std.specs.Prelude.{◌≡◌, IfOk};
+ghost use Rattle.task_duties.specs.TaskOwes.{places_in};
+ghost use Rattle.task_duties.specs.GivenEnds.{all_given};
 ghost use Rattle.data_slots.specs.Slots.{AreApart};
-ghost use Rattle.data_slots.specs.Stages.{place_of};
 ghost use Rattle.data_slots.specs.Index.{IsIndexOf, end_at};
 
-use crate::slot::Slot;
 use std::alloc::{AllocError, Global};
 use std::collections::HashMap;
+use task_duties::DataEnd;
 
 /// Which end lies at a place: by the domain that calls, the domain that is called, and the port.
 pub(crate) type Index = HashMap<(u32, u32, u32), usize>;
 
 /// Makes the index of ends that lie at different places.
-pub(crate) fn index_of(alloc: Global, slots: &[Slot]) -> Result<Index, AllocError>
-    requires { AreApart (map place_of slots.now) }
-    ensures { IfOk result (λ index. IsIndexOf (map place_of slots.now) index) }
+pub(crate) fn index_of(alloc: Global, ends: &[DataEnd]) -> Result<Index, AllocError>
+    requires { AreApart (places_in (all_given ends.now)) }
+    ensures { IfOk result (λ index. IsIndexOf (places_in (all_given ends.now)) index) }
 {
     let mut index = HashMap::new(alloc);
-    for (at, slot) in slots.iter().enumerate() {
-        index.insert((slot.from, slot.to, slot.port), at)?;
+    for (at, end) in ends.iter().enumerate() {
+        index.insert((end.from, end.to, end.port), at)?;
     }
     Ok(index)
 }

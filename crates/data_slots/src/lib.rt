@@ -12,9 +12,11 @@ mod index;
 mod note;
 mod report;
 mod room;
+mod setup;
 mod side;
 mod slot;
 mod slots;
 
 pub use done::{CallOver, DataDone, SessionOver};
+pub use side::retire_given;
 pub use slots::DataSlots;

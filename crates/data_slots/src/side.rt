@@ -4,11 +4,12 @@ ghost use Rattle.ring_words.specs.declared.page.Role.TheVariants.{Server};
 ghost use Rattle.end_view.specs.EndView.{IsUnused};
 ghost use Rattle.vchan_rule.specs.Seated.{view, last_view};
 ghost use Rattle.vchan_lifecycle.specs.Lifecycle.{retired_view};
-ghost use Rattle.task_duties.specs.GivenEnds.{done_view, fresh_view};
+ghost use Rattle.task_duties.specs.GivenEnds.{done_view, fresh_view, given_at, retired_at};
+ghost use Rattle.data_slots.specs.Slots.{held_at};
 ghost use Rattle.data_slots.specs.Sides.{HasLaid, IsSideOf, seen_under, is_late_unused, is_late_side, is_late_done};
 
 use page_offer::{LaidPage, OpenClient, OpenServer};
-use task_duties::{DoneEnd, UnusedEnd};
+use task_duties::{DataEnd, DoneEnd, PagePlace, RetiredEnd, UnusedEnd};
 use vchan_lifecycle::retire;
 use vchan_rule::{End, Retired};
 
@@ -77,6 +78,24 @@ pub(crate) fn open_server<'p>(end: UnusedEnd<'p>, laid: Option<LaidPage>) -> (En
             (end, Side::Server(side))
         }
         UnusedEnd::Client(_) => unreachable!(),
+    }
+}
+
+/// Retires a data end that no agent has, and that was never used.
+pub fn retire_given(given: DataEnd) -> RetiredEnd
+    requires { (given_at given).view.idle ≡ true }
+    ensures held { held_at (retired_at result) ≡ held_at (given_at given.entry) }
+    ensures honest { (retired_at result).view.turned ≡ false }
+{
+    let DataEnd {
+        from,
+        to,
+        port,
+        end,
+    } = given;
+    RetiredEnd {
+        place: PagePlace::Payload { from, to, port },
+        retired: retire_unused(end),
     }
 }
 

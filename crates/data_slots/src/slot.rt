@@ -1,5 +1,5 @@
 //! One data end of an agent.
-ghost use Rattle.std.specs.Prelude.{◌≡◌, ◌<◌, ℕ, List, [], true, false, is_none, None, Some, length, OnOk, IfOk, IfSome};
+ghost use Rattle.std.specs.Prelude.{◌≡◌, ◌<◌, ℕ, List, [], true, false, is_none, None, Some, length, OnOk, IfOk, IfSome, IfNone};
 ghost use Rattle.ring_words.specs.declared.page.Role.TheVariants.{Server, Client};
 ghost use Rattle.service_gate.specs.Triple.{Triple};
 ghost use Rattle.service_gate.specs.Owing.{builtin_owes};
@@ -10,11 +10,14 @@ ghost use Rattle.vchan_rule.specs.Ends.{IsSameEnd};
 ghost use Rattle.page_offer.specs.Views.{unused_view};
 ghost use Rattle.task_duties.specs.declared.place.PagePlace.{PagePlace};
 ghost use Rattle.task_duties.specs.GivenEnds.{done_view, fresh_view, retired_at};
-ghost use Rattle.channel_session.specs.Calling.{IsCalling, IsSameCall};
-ghost use Rattle.channel_session.specs.Answering.{IsAnswering, IsAtWork};
+ghost use Rattle.channel_session.specs.declared.turned.Turned.{Turned as Answer};
+ghost use Rattle.channel_session.specs.Calling.{IsCalling, IsSameCall, CallerTurns};
+ghost use Rattle.channel_session.specs.Answering.{ServingAt, IsAnswering, IsAtWork, ServingTurns};
+ghost use Rattle.channel_session.specs.Turning.{first_pace};
 ghost use Rattle.channel_session.specs.Ended.{done_of};
 ghost use Rattle.data_slots.specs.Slots.{held_of, held_at};
 ghost use Rattle.data_slots.specs.Done.{caller_done};
+ghost use Rattle.data_slots.specs.Sessions.{AwaitsPage, ServesWith, Begins, TakesTurn, session_of};
 ghost use Rattle.data_slots.specs.Sides.{HasLaid, IsSideOf, seen_under, is_late_unused, is_late_side, is_late_done};
 ghost use Rattle.data_slots.specs.Stages.{ForCall, ForServing, IsStage, CanRetire, CanTurn, IsUnusedBy, IsNewCaller, IsNewServing, HasComeOut, IsReportOf, HasPage, is_nothing, is_session, is_late, use_of, told_of, result_of, framed, place_of, frame_of};
 
@@ -174,6 +177,7 @@ impl<'p> Slot<'p> {
         ensures stage { (version : ℕ) → IsStage version self.old.stage → OnOk result (IsStage version self.new.stage) }
         ensures session { IfOk result (λ over. is_session self.new.stage ≡ is_none over) }
         ensures told { IfOk result (λ over. IfSome over (λ told. told_of (place_of self.old) (use_of self.old.stage) ≡ Some told)) }
+        ensures turns { OnOk result (TakesTurn (session_of self.old.stage) (session_of self.new.stage)) }
         ensures long { length scratch.new ≡ length scratch.old }
         ensures retire { CanRetire self.new.stage }
     {
@@ -373,6 +377,7 @@ impl<'p> Stage<'p> {
         ensures frame { (place : PagePlace) → framed place self.new ≡ framed place self.old }
         ensures stage { (version : ℕ) → IsStage version self.old → OnOk result (IsStage version self.new) }
         ensures over { IfOk result (λ outcome. IfSome outcome (λ o. HasComeOut o self.new)) }
+        ensures turns { IfOk result (λ outcome. IfNone outcome (TakesTurn (session_of self.old) (session_of self.new))) }
         ensures long { length scratch.new ≡ length scratch.old }
         ensures retire { CanRetire self.new }
     {
@@ -392,6 +397,7 @@ impl<'p> Stage<'p> {
         ensures open { CanTurn self.new }
         ensures retire { CanRetire self.new }
         ensures frame { (place : PagePlace) → framed place self.new ≡ framed place self.old }
+        ensures begins { Begins (session_of self.old) (session_of self.new) }
         ensures stage { (version : ℕ) → IsStage version self.old → IsStage version self.new }
     {
         if !matches!(self, Stage::Awaits { .. }) {
@@ -407,6 +413,7 @@ impl<'p> Stage<'p> {
         requires retire { CanRetire self }
         ensures open { CanTurn result }
         ensures retire { CanRetire result }
+        ensures begins { Begins (session_of self.entry) (session_of result) }
         ensures frame { (place : PagePlace) → framed place result ≡ framed place self.entry }
         ensures stage { (version : ℕ) → IsStage version self.entry → IsStage version result }
     {
@@ -538,6 +545,7 @@ fn open_awaited<'p>(
 ) -> Stage<'p>
     requires { IsNewServing serving }
     ensures open { CanTurn result }
+    ensures begins { Begins AwaitsPage (session_of result) }
     ensures retire { CanRetire result }
     ensures frame { (place : PagePlace) → framed place result ≡ record { held = held_of place (unused_view side Client); used = ForServing number service.value; late = true } }
     ensures stage { ServingStandsFor builtin_owes (builtin_owes service.value) serving [] → IsStage serving.answering.own result }
@@ -565,6 +573,7 @@ fn serve_at<'p>(
     requires unused { IsUnused (view end) × ((view end).role ≡ Client) }
     requires side { IsSideOf side (view end) }
     ensures open { CanTurn result }
+    ensures begins { (at : ServingAt) × (session_of result ≡ ServesWith at) × (at.pace ≡ first_pace) }
     ensures session { is_session result ≡ true }
     ensures retire { CanRetire result }
     ensures frame { (place : PagePlace) → framed place result ≡ record { held = held_of place (seen_under side (view end.entry)); used = ForServing number service.value; late = is_late_side side } }
@@ -670,11 +679,13 @@ fn turn_caller(session: &mut CallerSession, scratch: &mut [u8]) -> Result<Option
     ensures same { OnOk result (IsSameCall session.old session.new) }
     ensures calling { OnOk result (IsCalling session.new.caller session.new.end) }
     ensures outcome { IfOk result (λ outcome. outcome ≡ session.new.caller.replies.outcome) }
+    ensures turns { IfOk result (λ outcome. IfNone outcome ((turned : Answer) × CallerTurns turned session.old session.new)) }
     ensures long { length scratch.new ≡ length scratch.old }
 {
-    if session.outcome().is_none() {
-        session.turn(scratch)?;
+    if let Some(outcome) = session.outcome() {
+        return Ok(Some(outcome));
     }
+    session.turn(scratch)?;
     Ok(session.outcome())
 }
 
@@ -688,10 +699,12 @@ fn turn_serving(session: &mut ServingSession, scratch: &mut [u8]) -> Result<Opti
     ensures work { OnOk result (IsAtWork session.new.serving session.new.end) }
     ensures answering { (owed : List ℕ → Triple) → IsAnswering owed session.old.serving session.old.end → OnOk result (IsAnswering owed session.new.serving session.new.end) }
     ensures outcome { IfOk result (λ outcome. outcome ≡ session.new.serving.answering.outcome) }
+    ensures turns { IfOk result (λ outcome. IfNone outcome ((turned : Answer) × ServingTurns turned session.old session.new)) }
     ensures long { length scratch.new ≡ length scratch.old }
 {
-    if session.outcome().is_none() {
-        session.turn(scratch)?;
+    if let Some(outcome) = session.outcome() {
+        return Ok(Some(outcome));
     }
+    session.turn(scratch)?;
     Ok(session.outcome())
 }

@@ -1,11 +1,11 @@
 //! All data ends of one agent.
-ghost use Rattle.std.specs.Prelude.{◌≡◌, ◌+◌, ◌<◌, ◌≤◌, ◌↔◌, ◌++◌, ◌∷◌, [], true, false, IsTrue, Some, None, IfOk, OnOk, OnErr, length, map, replicate, slice_get, slice_set};
+ghost use Rattle.std.specs.Prelude.{◌≡◌, ◌+◌, ◌<◌, ◌≤◌, ◌↔◌, ◌++◌, ◌∷◌, [], true, false, IsTrue, Some, None, IfOk, IfErr, OnOk, OnErr, length, map, replicate, slice_get, slice_set};
 ghost use Rattle.qrexec_frame.specs.Streams.{Each};
 ghost use Rattle.task_duties.specs.declared.place.PagePlace.TheVariants.{Payload};
 ghost use Rattle.task_duties.specs.Places.{has_place, without};
 ghost use Rattle.task_duties.specs.Pairwise.{EachPair};
 ghost use Rattle.task_duties.specs.TaskOwes.{places_in};
-ghost use Rattle.task_duties.specs.GivenEnds.{all_given, all_retired};
+ghost use Rattle.task_duties.specs.GivenEnds.{all_given, all_retired, retired_at};
 
 use crate::done::{DataDone, SessionOver};
 use crate::ends::Ends;
@@ -23,14 +23,14 @@ use vchan_io::Memory;
 #[derive(Drop)]
 pub struct DataSlots<'p> {
     ends: Ends<'p>,
-    // Room for all ends when they are retired, so that giving up takes no memory.
+    // Room for all ends when they are retired, and for one more before them, so that giving up takes no memory.
     retired: Vec<RetiredEnd>,
     // Whether memory ran out in a turn.
     spent: Snapshot<bool>,
 }
 
 impl<'p> Model for DataSlots<'p> {
-    ghost use Rattle.std.specs.Prelude.{◌≡◌, ◌≤◌, false, [], length, vec_capacity};
+    ghost use Rattle.std.specs.Prelude.{◌≡◌, ◌+◌, ◌≤◌, false, [], length, vec_capacity};
     ghost use Rattle.qrexec_frame.specs.Streams.{Each};
     ghost use Rattle.data_slots.specs.Slots.{SlotsState};
     ghost use Rattle.data_slots.specs.Stages.{CanRetire};
@@ -41,31 +41,32 @@ impl<'p> Model for DataSlots<'p> {
     ghost view = { λ s. state_of s.ends s.spent.value };
 
     ghost invariant = { λ s. Each (λ x. CanRetire x.stage) s.ends.slots.items
-        × (s.retired.items ≡ []) × (length s.ends.slots.items ≤ vec_capacity s.retired)
+        × (s.retired.items ≡ []) × (length s.ends.slots.items + 1 ≤ vec_capacity s.retired)
         × (s.spent.value ≡ false → IsWhole s.ends) };
 }
 
 impl<'p> DataSlots<'p> {
     ghost use Rattle.data_slots.specs.Slots.{held_at, late_count, IsGiven, AreApart};
     ghost use Rattle.data_slots.specs.Sides.{late_places};
-    ghost use Rattle.data_slots.specs.Done.{ReportsCalled, ReportsServes, TellsMore};
+    ghost use Rattle.data_slots.specs.Done.{AreBack, ReportsCalled, ReportsServes, TellsMore};
+    ghost use Rattle.data_slots.specs.Sessions.{NotOpen, AllTakeTurns, KeepsSessions};
 
     /// Makes the data ends of an agent of this domain and version, 2 or 3, which has `calls` calls of its
     /// own. All ends are unused. Each is a server's if the domain calls on its page, and a client's if the
     /// domain is called. No two lie at one place.
     ///
-    /// Returns `Memory` if memory runs out; the ends are dropped then, and not retired.
+    /// Returns the ends as they were given if memory runs out.
     pub fn new(
         alloc: Global,
         domain: u32,
         version: u32,
         ends: Vec<DataEnd<'p>>,
         calls: usize,
-    ) -> Result<DataSlots<'p>, Memory>
+    ) -> Result<DataSlots<'p>, Vec<DataEnd<'p>>>
         requires version { (2 ≤ version) × (version ≤ 3) }
         requires given { Each (IsGiven domain) (all_given ends.items) }
         requires apart { AreApart (places_in (all_given ends.items)) }
-        ensures { IfOk result (λ s. s ≡ record {
+        ensures made { IfOk result (λ s. s ≡ record {
           domain = domain;
           version = version;
           held = map held_at (all_given ends.entry.items);
@@ -74,18 +75,22 @@ impl<'p> DataSlots<'p> {
           called = replicate calls None;
           served = [];
           opened = [];
+          sessions = replicate (length ends.entry.items) NotOpen;
           spent = false;
         }) }
+        ensures unmade { IfErr result (λ given. given ≡ ends.entry) }
     {
-        let room = ends.len();
-        let ends = Ends::new(alloc, domain, version, ends, calls)?;
-        let mut retired = Vec::new(alloc);
-        retired.reserve(room)?;
-        Ok(DataSlots {
-            ends,
-            retired,
-            spent: Snapshot::of(&false),
-        })
+        let Ok(retired) = Vec::with_capacity(alloc, ends.len() + 1) else {
+            return Err(ends);
+        };
+        match Ends::new(alloc, domain, version, ends, calls) {
+            Ok(ends) => Ok(DataSlots {
+                ends,
+                retired,
+                spent: Snapshot::of(&false),
+            }),
+            Err(ends) => Err(ends),
+        }
     }
 
     /// Returns whether there is an unused end for a call of the agent's own to this domain at this port.
@@ -116,7 +121,9 @@ impl<'p> DataSlots<'p> {
           unused = without (Payload self.old.domain to port) self.old.unused;
           called = slice_set self.old.called number (Some (record { to = to; port = port; input = input.items }));
           opened = self.old.opened ++ record { domain = to; port = port; number = Some number } ∷ [];
+          sessions = self.new.sessions;
         }) }
+        ensures kept { KeepsSessions self.old.sessions self.new.sessions }
         ensures err { OnErr result (self.new ≡ self.old) }
     {
         self.ends.call(number, to, port, input)
@@ -133,22 +140,25 @@ impl<'p> DataSlots<'p> {
           unused = without (Payload from self.old.domain port) self.old.unused;
           served = self.old.served ++ record { from = from; port = port; service = service } ∷ [];
           opened = self.old.opened ++ record { domain = from; port = port; number = None } ∷ [];
+          sessions = self.new.sessions;
         }) }
+        ensures kept { KeepsSessions self.old.sessions self.new.sessions }
         ensures err { OnErr result (self.new ≡ self.old) }
     {
         self.ends.serve(from, port, service)
     }
 
     /// One turn of each open session. Those that are over now are put behind `over`, each once, and are open
-    /// no more. It answers whether any moved bytes or is over, of which nothing is promised. A session whose page its server hasn't
-    /// offered yet awaits that.
+    /// no more. Each other one moved something, was quiet or was passed over, as its own turn says, or awaits its
+    /// page still. It answers whether any moved bytes or is over, of which nothing is promised.
     ///
     /// Returns `Memory` if memory runs out; the ends can only be given up then, and nothing is promised of
     /// `over`.
     pub fn turn(&mut self, scratch: &mut [u8], over: &mut Vec<SessionOver>) -> Result<bool, Memory>
         requires whole { self.old.spent ≡ false }
         requires some { 0 < length scratch.old }
-        ensures ok { OnOk result (self.new ≡ record self.old { opened = self.new.opened }) }
+        ensures ok { OnOk result (self.new ≡ record self.old { opened = self.new.opened; sessions = self.new.sessions }) }
+        ensures turns { OnOk result (AllTakeTurns self.old.sessions self.new.sessions) }
         ensures told { OnOk result (TellsMore self.old self.new over.old.items over.new.items) }
         ensures held { (self.new.held ≡ self.old.held) × (self.new.domain ≡ self.old.domain) × (self.new.version ≡ self.old.version) }
         ensures long { length scratch.new ≡ length scratch.old }
@@ -174,28 +184,28 @@ impl<'p> DataSlots<'p> {
     }
 
     /// Retires the ends that were never used, and returns what came of the others, none of which has an open
-    /// session. The ends come back in the order in which they were given.
+    /// session. The ends come back in the order in which they were given, behind `first`, an end that was
+    /// retired before.
     ///
-    /// Returns `Memory` if memory runs out; all ends are retired and dropped then.
-    pub fn finish(self) -> Result<DataDone, Memory>
+    /// Returns all these ends, retired and in the same order, if memory runs out.
+    pub fn finish(self, first: RetiredEnd) -> Result<DataDone, Vec<RetiredEnd>>
         requires whole { self.spent ≡ false }
         requires idle { self.opened ≡ [] }
-        ensures held { IfOk result (λ done. map held_at (all_retired done.ends.items) ≡ self.entry.held) }
-        ensures honest { IfOk result (λ done. Each (λ e. e.view.turned ≡ false) (all_retired done.ends.items)) }
+        ensures back { IfOk result (λ done. AreBack (retired_at first) self.entry.held (all_retired done.ends.items)) }
         ensures calls { IfOk result (λ done. EachPair (ReportsCalled self.entry.domain self.entry.version (all_retired done.ends.items)) self.entry.called done.calls.items) }
         ensures served { IfOk result (λ done. EachPair (ReportsServes self.entry.domain self.entry.version (all_retired done.ends.items)) self.entry.served done.served.items) }
+        ensures err { IfErr result (λ ends. AreBack (retired_at first) self.entry.held (all_retired ends.items)) }
     {
         let DataSlots { ends, retired, .. } = self;
-        ends.finish(retired)
+        ends.finish(first, retired)
     }
 
-    /// Retires all ends, used or not, and returns them in the order in which they were given. It takes no
-    /// memory.
-    pub fn give_up(self) -> Vec<RetiredEnd>
-        ensures held { map held_at (all_retired result.items) ≡ self.entry.held }
-        ensures honest { Each (λ e. e.view.turned ≡ false) (all_retired result.items) }
+    /// Retires all ends, used or not, and returns them in the order in which they were given, behind `first`,
+    /// an end that was retired before. It takes no memory.
+    pub fn give_up(self, first: RetiredEnd) -> Vec<RetiredEnd>
+        ensures { AreBack (retired_at first) self.entry.held (all_retired result.items) }
     {
         let DataSlots { ends, retired, .. } = self;
-        ends.give_up(retired)
+        ends.give_up(first, retired)
     }
 }

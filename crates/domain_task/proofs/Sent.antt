@@ -86,7 +86,7 @@ data_end_send κ =
 done_send : IsSend done.the_row
 done_send = variants_send done.enum ((retired.the_send, tt), ((done_server_send, tt), ((done_client_send, tt), tt)))
 
-retired_end_send : IsSend retired_end.the_row
+pub retired_end_send : IsSend retired_end.the_row
 retired_end_send =
     let fields : FieldsHave IsSend retired_end.the_type.parts = (place.the_send, (done_send, tt)) in
     declared_send retired_end.the_type fields
@@ -213,7 +213,7 @@ switchboard_send κ =
 
 broker_task_send : (κ : _) → IsSend (broker_task.the_row κ)
 broker_task_send κ =
-    let fields : FieldsHave IsSend (broker_inside.the_type κ).parts = (heap.the_send, (switchboard_send κ, (search (sendable, crosses), (search sendable, tt)))) in
+    let fields : FieldsHave IsSend (broker_inside.the_type κ).parts = (switchboard_send κ, (search (sendable, crosses), (search (sendable, crosses, retired_end_send) depth 20, (search sendable, tt)))) in
     view_send (broker_inside.the_row κ) _ _ _ _ (declared_send (broker_inside.the_type κ) fields)
 
 -- ---- the task of a hostile domain
@@ -230,7 +230,7 @@ pages_send κ =
 
 hostile_task_send : (κ : _) → IsSend (hostile_task.the_row κ)
 hostile_task_send κ =
-    let fields : FieldsHave IsSend (hostile_inside.the_type κ).parts = (heap.the_send, (domain.the_send, (pages_send κ, (progress.the_send, (search (sendable, crosses), (search sendable, tt)))))) in
+    let fields : FieldsHave IsSend (hostile_inside.the_type κ).parts = (heap.the_send, (domain.the_send, (pages_send κ, (progress.the_send, (search (sendable, crosses), (search (sendable, crosses, retired_end_send) depth 20, (search sendable, tt))))))) in
     view_send (hostile_inside.the_row κ) _ _ _ _ (declared_send (hostile_inside.the_type κ) fields)
 
 -- ---- a task
@@ -259,4 +259,4 @@ hostile_done_send =
     declared_send hostile_done.the_type fields
 
 pub task_done_send : IsSend task_done.the_row
-task_done_send = variants_send task_done.enum ((agent_done_send, tt), ((broker_done_send, tt), ((hostile_done_send, tt), (tt, tt))))
+task_done_send = variants_send task_done.enum ((agent_done_send, tt), ((broker_done_send, tt), ((hostile_done_send, tt), ((search (sendable, crosses, retired_end_send) depth 20, tt), tt))))

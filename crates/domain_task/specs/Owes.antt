@@ -15,7 +15,7 @@ abbrev pub answer_of : TaskDone → Answer
 answer_of (Agent done) = AgentDone (record { domain = done.domain; calls = done.calls.items; served = done.served.items; control = done.control; ends = all_retired done.ends.items })
 answer_of (Broker done) = BrokerDone done.broker (all_retired done.ends.items)
 answer_of (Hostile done) = HostileDone done.domain (all_retired done.ends.items)
-answer_of NoMemory = NoAnswer
+answer_of (NoMemory ends) = NoAnswer (all_retired ends.items)
 
 -- a task owes something for what it was given, and for nothing else
 abbrev pub Owes : Task → TaskDone → Type 0

@@ -2,8 +2,9 @@
 use agent_task::AgentDone;
 use broker_task::BrokerDone;
 use hostile_task::HostileDone;
+use task_duties::RetiredEnd;
 
-/// What a task gives when it is done. Unless memory ran out, all ends that it was given are retired then.
+/// What a task gives when it is done. All ends that it was given are retired then, and given back.
 #[derive(Drop)]
 pub enum TaskDone {
     /// What an agent reports.
@@ -13,5 +14,8 @@ pub enum TaskDone {
     /// A hostile domain that has done all its acts.
     Hostile(HostileDone),
     /// Memory ran out.
-    NoMemory,
+    NoMemory {
+        /// The ends, in the order in which they were given.
+        ends: Vec<RetiredEnd>,
+    },
 }

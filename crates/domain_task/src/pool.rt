@@ -38,7 +38,7 @@ fn turn_agent<'p>(task: AgentTask<'p>) -> Turn<Task<'p>>
     match task.turn() {
         AgentTurn::Again(task) => Turn::Again(Task::Agent(task)),
         AgentTurn::Done(done) => Turn::Done(TaskDone::Agent(done)),
-        AgentTurn::NoMemory => Turn::Done(TaskDone::NoMemory),
+        AgentTurn::NoMemory { ends } => Turn::Done(TaskDone::NoMemory { ends }),
     }
 }
 
@@ -49,7 +49,7 @@ fn turn_broker<'p>(task: BrokerTask<'p>) -> Turn<Task<'p>>
     match task.turn() {
         BrokerTurn::Again(task) => Turn::Again(Task::Broker(task)),
         BrokerTurn::Done(done) => Turn::Done(TaskDone::Broker(done)),
-        BrokerTurn::NoMemory => Turn::Done(TaskDone::NoMemory),
+        BrokerTurn::NoMemory { ends } => Turn::Done(TaskDone::NoMemory { ends }),
     }
 }
 
@@ -60,6 +60,6 @@ fn turn_hostile<'p>(task: HostileTask<'p>) -> Turn<Task<'p>>
     match task.turn() {
         HostileTurn::Again(task) => Turn::Again(Task::Hostile(task)),
         HostileTurn::Done(done) => Turn::Done(TaskDone::Hostile(done)),
-        HostileTurn::NoMemory => Turn::Done(TaskDone::NoMemory),
+        HostileTurn::NoMemory { ends } => Turn::Done(TaskDone::NoMemory { ends }),
     }
 }

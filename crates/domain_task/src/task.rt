@@ -10,8 +10,8 @@ ghost use Rattle.data_slots.specs.Slots.{AreApart, IsGiven};
 ghost use Rattle.broker_task.specs.Given.{IsNewClient};
 ghost use Rattle.broker_task.specs.Replies.{HasShortNames};
 ghost use Rattle.hostile_task.specs.Plan.{AreApart as AreAllApart, AreDataOf, IsControlOf};
-ghost use Rattle.task_duties.specs.TaskOwes.{agent_given, broker_given, places_in};
-ghost use Rattle.task_duties.specs.GivenEnds.{all_given};
+ghost use Rattle.task_duties.specs.TaskOwes.{NoMemory, TaskOwes, agent_given, broker_given, places_in};
+ghost use Rattle.task_duties.specs.GivenEnds.{all_given, all_retired};
 ghost use Rattle.domain_task.specs.Given.{given_of, hostile_given};
 
 use agent_task::AgentTask;
@@ -20,7 +20,7 @@ use call_broker::Broker;
 use hostile_task::{HostileDomain, HostileTask};
 use scenario_file::CallPlan;
 use std::alloc::Global;
-use task_duties::DataEnd;
+use task_duties::{DataEnd, RetiredEnd};
 use vchan_io::Memory;
 use vchan_rule::End;
 
@@ -40,7 +40,8 @@ impl<'p> Task<'p> {
     /// which is a server's, and its ends of data pages. All ends are unused, no two data ends lie at one
     /// place, the numbers of the calls differ, and their texts fit a trigger.
     ///
-    /// Returns `Memory` if memory runs out; all that it took is dropped then, and the ends aren't retired.
+    /// Returns `Memory` if memory runs out; all that was passed is dropped then, the ends too, which aren't
+    /// retired.
     pub fn agent(
         alloc: Global,
         domain: u32,
@@ -57,7 +58,9 @@ impl<'p> Task<'p> {
         requires short { Each FitsTrigger calls.items }
         ensures { IfOk result (λ task. given_of task ≡ agent_given domain version calls.items (view control.entry) (all_given payload.entry.items)) }
     {
-        let task = AgentTask::new(alloc, domain, version, calls, control, payload)?;
+        let Ok(task) = AgentTask::new(alloc, domain, version, calls, control, payload) else {
+            return Err(Memory);
+        };
         Ok(Task::Agent(task))
     }
 
@@ -65,7 +68,8 @@ impl<'p> Task<'p> {
     /// most 31 bytes. It gets the number of awaited calls of each domain and its unused ends of the control
     /// pages, which are clients', both in the order of the domains.
     ///
-    /// Returns `Memory` if memory runs out; all that it took is dropped then, and the ends aren't retired.
+    /// Returns `Memory` if memory runs out; all that was passed is dropped then, the ends too, which aren't
+    /// retired.
     pub fn broker(
         alloc: Global,
         broker: Broker,
@@ -80,14 +84,17 @@ impl<'p> Task<'p> {
         requires unused { Each IsNewClient controls.items }
         ensures { IfOk result (λ task. given_of task ≡ broker_given broker.hub awaited.items (map view controls.entry.items)) }
     {
-        let task = BrokerTask::new(alloc, broker, awaited, controls)?;
+        let Ok(task) = BrokerTask::new(alloc, broker, awaited, controls) else {
+            return Err(Memory);
+        };
         Ok(Task::Broker(task))
     }
 
     /// Makes the task of a hostile domain, with its end of its control page, which is a server's, and its
     /// ends of data pages, no two of which lie at one place. All ends are turned over at once.
     ///
-    /// Returns `Memory` if memory runs out; all that it took is dropped then, and the ends aren't retired.
+    /// Returns `Memory` if memory runs out; all that was passed is dropped then, the ends too, which aren't
+    /// retired.
     pub fn hostile(
         alloc: Global,
         domain: HostileDomain,
@@ -99,7 +106,21 @@ impl<'p> Task<'p> {
         requires apart { AreAllApart (places_in (all_given payload.items)) }
         ensures { IfOk result (λ task. given_of task ≡ hostile_given domain (view control.entry) (all_given payload.entry.items)) }
     {
-        let task = HostileTask::new(alloc, domain, control, payload)?;
+        let Ok(task) = HostileTask::new(alloc, domain, control, payload) else {
+            return Err(Memory);
+        };
         Ok(Task::Hostile(task))
+    }
+
+    /// Retires all ends of the task, and gives them back in the order in which they were given. It takes no
+    /// memory.
+    pub fn give_up(self) -> Vec<RetiredEnd>
+        ensures { TaskOwes (given_of self.entry) (NoMemory (all_retired result.items)) }
+    {
+        match self {
+            Task::Agent(task) => task.give_up(),
+            Task::Broker(task) => task.give_up(),
+            Task::Hostile(task) => task.give_up(),
+        }
     }
 }

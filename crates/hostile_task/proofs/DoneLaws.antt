@@ -1,8 +1,8 @@
 -- A task whose acts are all done owes the trails of its ends.
-use Rattle.std.proofs.Common.{◌≡◌, ℕ, Bool, true, false, List, [], ◌∷◌, ◌++◌, Option, None, length, map, take, if◌then◌else◌, refl, sym, subst, ap, ◌∙◌, arith}
+use Rattle.std.proofs.Common.{◌≡◌, ℕ, ◌+◌, ◌≤◌, Bool, true, false, List, [], ◌∷◌, ◌++◌, Option, None, length, map, take, if◌then◌else◌, refl, sym, subst, ap, ◌∙◌, arith}
 use Rattle.std.specs.List.{flat_map}
 use Rattle.std.specs.Option.{option_and_then}
-use Rattle.std.proofs.lemmas.List.{append-nil}
+use Rattle.std.proofs.lemmas.List.{append-nil, length-map}
 use Rattle.std.proofs.lemmas.Option.{slice_get_past}
 use Rattle.std.proofs.Math.Seq.{take-length}
 use Rattle.ring_words.specs.declared.page.Role.{Role}
@@ -19,7 +19,7 @@ use Rattle.task_duties.specs.declared.place.PagePlace.TheVariants.{Control, Payl
 use Rattle.task_duties.specs.declared.ends.RetiredEnd.{RetiredEnd}
 use Rattle.task_duties.specs.Pairwise.{EachPair}
 use Rattle.task_duties.specs.Places.{is_place}
-use Rattle.task_duties.specs.TaskOwes.{EndAt, IsSameEnd, AreEnds, IsTurnedFrom, before_turned}
+use Rattle.task_duties.specs.TaskOwes.{EndAt, IsSameEnd, AreEnds, AreGivenBack, IsTurnedFrom, before_turned, TaskOwes, Hostile, NoMemory}
 use Rattle.task_duties.specs.GivenEnds.{done_view, retired_at, all_retired}
 use Rattle.task_duties.specs.Hostile.Given.{HostilePlan}
 use Rattle.task_duties.specs.Hostile.Stores.{loaded, stores_of, role_at}
@@ -31,7 +31,7 @@ use Rattle.hostile_task.specs.declared.progress.Progress.{Progress}
 use Rattle.hostile_task.specs.declared.task.HostileTurn.{HostileTurn}
 use Rattle.hostile_task.specs.declared.task.HostileTurn.TheVariants as turn
 use Rattle.hostile_task.specs.Plan.{plan_of, AreApart}
-use Rattle.hostile_task.specs.Pages.{IsRetiredOf, given_of, places_in}
+use Rattle.hostile_task.specs.Pages.{AreSamePages, IsRetiredOf, given_in, given_of, places_in}
 use Rattle.hostile_task.specs.UnderWay.{IsTrailSoFar, IsPart, words_at, ActsDone, IsPageSoFar, IsUnderWay}
 use Rattle.hostile_task.specs.Finishing.{Finishes}
 use Rattle.hostile_task.specs.Turns.{Pays}
@@ -124,22 +124,40 @@ page_from plan p page r retired so_far = record {
   before = ap before_turned retired.view ∙ along_before page.end (retiring page.end.side.role) ∙ so_far.before;
 }
 
+-- the ends of such pages are those that were given, and are turned
+are_back : (plan : HostilePlan) (p : Progress) (every : List TurnedPage) (rs : List RetiredEnd) → Each (IsPageSoFar plan p) every → EachPair IsRetiredOf every rs → AreGivenBack true (map given_of every) (all_retired rs)
+are_back plan p every rs so_far retired = record {
+  same = pairs_of_pairs IsRetiredOf (IsPageSoFar plan p) IsSameEnd given_of retired_at every rs (λ page r is here. page_same plan p page r is here) retired so_far;
+  turned_are = each_mapped (λ e. e.view.turned ≡ true) retired_at rs
+      (each_of_pairs IsRetiredOf (IsPageSoFar plan p) (λ r. (done_view r.retired).turned ≡ true) every rs (λ page r is here. page_turned plan p page r is here) retired so_far);
+}
+
 -- ---- the whole task
+
+-- where memory runs out in a turn, which leaves the same pages
+pub back_pays : (domain : HostileDomain) (old new : Pages) (p next : Progress) (spelled : List ℕ) (rs : List RetiredEnd) → AreSamePages old new → IsUnderWay domain new next spelled → EachPair IsRetiredOf (new.control ∷ new.payload.items) rs
+    → TaskOwes (Hostile (plan_of domain (places_in old)) (given_in old)) (NoMemory (all_retired rs))
+back_pays domain old new p next spelled rs same way retired =
+    (true, subst (λ (given : List EndAt). AreGivenBack true given (all_retired rs)) same.given (are_back (plan_of domain (places_in new)) next (new.control ∷ new.payload.items) rs way.so_far retired))
+
+-- the list of ends has room for those of the same pages
+pub same_room : (old new : Pages) (room : ℕ) → AreSamePages old new → length old.payload.items + 1 ≤ room → length new.payload.items + 1 ≤ room
+same_room old new room same less =
+    let count : length (map given_of (new.control ∷ new.payload.items)) ≡ length (map given_of (old.control ∷ old.payload.items)) = ap (λ (ends : List EndAt). length ends) same.given in
+    omega (arith, less, count, length-map new.payload.items given_of, length-map old.payload.items given_of)
 
 pub done_pays : (domain : HostileDomain) (pages : Pages) (p : Progress) (spelled : List ℕ) (result : HostileTurn) → IsUnderWay domain pages p spelled → p.acts ≡ length domain.acts → Finishes domain.number pages result
     → Pays (state_of domain pages p) result
 done_pays domain pages p spelled (turn.Again task) way all finishes = absurd finishes
-done_pays domain pages p spelled turn.NoMemory way all finishes = tt
+done_pays domain pages p spelled (turn.NoMemory ends) way all finishes = absurd finishes
 done_pays domain pages p spelled (turn.Done done) way all finishes = (
   none_left domain.acts p.acts p.turns (omega (arith, all)),
   (
     end_at (view pages.control.given.value) ends,
     finishes.0,
     record {
-      same = pairs_of_pairs IsRetiredOf (IsPageSoFar plan p) IsSameEnd given_of retired_at every done.ends.items (λ page r retired so_far. page_same plan p page r retired so_far) finishes.1 way.so_far;
+      back = back;
       are = are_at (view pages.control.given.value) ends (subst (λ (ps : List PagePlace). AreApart ps) (sym places) way.apart);
-      turned_are = each_mapped (λ e. e.view.turned ≡ true) retired_at done.ends.items
-          (each_of_pairs IsRetiredOf (IsPageSoFar plan p) (λ r. (done_view r.retired).turned ≡ true) every done.ends.items (λ page r retired so_far. page_turned plan p page r retired so_far) finishes.1 way.so_far);
     },
     each_mapped (λ e. IsTrail plan e.place e.view.trail) retired_at done.ends.items
         (each_of_pairs IsRetiredOf (IsPageSoFar plan p) (λ r. IsTrail plan r.place (done_view r.retired).trail) every done.ends.items (λ page r retired so_far. page_done plan p page r all retired so_far) finishes.1 way.so_far),
@@ -155,6 +173,9 @@ done_pays domain pages p spelled (turn.Done done) way all finishes = (
 
     ends : List EndAt
     ends = all_retired done.ends.items
+
+    back : AreGivenBack true (map given_of every) ends
+    back = are_back plan p every done.ends.items way.so_far finishes.1
 
     map_places : (rs : List RetiredEnd) → map (λ e. e.place) (all_retired rs) ≡ map (λ r. r.place) rs
     map_places [] = refl

@@ -1,5 +1,5 @@
 -- A task that begins: its ends are turned over, and nothing is done.
-use Rattle.std.proofs.Common.{◌≡◌, ℕ, false, true, List, [], ◌∷◌, ◌++◌, map, slice_get, refl, sym, subst, ap, ◌∙◌, arith}
+use Rattle.std.proofs.Common.{◌≡◌, ℕ, false, true, List, [], ◌∷◌, ◌++◌, length, map, slice_get, refl, sym, subst, ap, ◌∙◌, arith}
 use Rattle.ring_words.specs.declared.page.WordName.TheVariants.{RightProd}
 use Rattle.vchan_protocol.specs.declared.op.Op.TheVariants.{Load}
 use Rattle.vchan_protocol.specs.declared.op.PastEvent.{PastEvent}
@@ -141,6 +141,13 @@ start_way domain e ends ps end value own spelled control payload control_fits fi
       apart = subst (λ (places : List PagePlace). AreApart places) (sym (start_places domain e ends ps control payload)) (apart_from_control domain.number ends, apart);
       so_far = (start_control domain plan e ps.control end value own refl refl control control_fits same side index, pages_so_far domain plan own ends ps.payload.items refl refl payload fits);
     }
+
+-- as many pages as data ends
+pub over_count : (ends : List DataEnd) (ps : List TurnedPage) → EachPair IsDataTurnedOver ends ps → length ps ≡ length ends
+over_count [] [] pairs = refl
+over_count [] (p ∷ ps) pairs = absurd pairs
+over_count (d ∷ ends) [] pairs = absurd pairs
+over_count (d ∷ ends) (p ∷ ps) pairs = omega (arith, over_count ends ps pairs.1)
 
 -- the data ends of a domain are laid
 pub are_laid : (domain : HostileDomain) (ends : List DataEnd) → AreDataOf domain ends → Each IsLaid ends

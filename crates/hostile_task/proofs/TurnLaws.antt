@@ -1,5 +1,5 @@
 -- How many turns are left, and how far the ends are.
-use Rattle.std.proofs.Common.{◌≡◌, ℕ, ◌+◌, ◌-◌, ◌<◌, ◌≤◌, suc, zero, true, false, Bool, List, [], ◌∷◌, Option, Some, None, drop, length, map, slice_get, refl, sym, subst, ap, ◌∙◌, add-one, arith}
+use Rattle.std.proofs.Common.{◌≡◌, ℕ, ◌+◌, ◌<◌, ◌≤◌, suc, zero, true, false, Bool, List, [], ◌∷◌, Option, Some, None, drop, length, map, slice_get, refl, sym, subst, ap, ◌∙◌, add-one, arith}
 use Rattle.std.specs.Prelude.{All}
 use Rattle.std.specs.Option.{option_and_then}
 use Rattle.std.proofs.lemmas.Option.{get_or_from_slice_get, slice_get_within}

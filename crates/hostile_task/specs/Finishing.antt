@@ -7,8 +7,8 @@ use Rattle.hostile_task.specs.declared.pages.Pages.{Pages}
 use Rattle.hostile_task.specs.declared.task.HostileTurn.{HostileTurn}
 use Rattle.hostile_task.specs.declared.task.HostileTurn.TheVariants as turn
 
--- it gives its number and all ends in their order, or memory ran out
+-- it gives its number and all ends in their order
 abbrev pub Finishes : ℕ → Pages → HostileTurn → Type 0
 Finishes domain pages (turn.Again task) = ⊥
 Finishes domain pages (turn.Done done) = (done.domain ≡ domain) × EachPair IsRetiredOf (pages.control ∷ pages.payload.items) done.ends.items
-Finishes domain pages turn.NoMemory = Unit {0}
+Finishes domain pages (turn.NoMemory ends) = ⊥

@@ -5,7 +5,7 @@ use Rattle.std.specs.Option.{option_and_then}
 use Rattle.qrexec_frame.specs.Streams.{Each}
 use Rattle.scenario_file.specs.declared.acts.Act.{Act}
 use Rattle.task_duties.specs.Pairwise.{EachPair}
-use Rattle.task_duties.specs.TaskOwes.{TaskOwes, Hostile, HostileDone, IsSameEnd}
+use Rattle.task_duties.specs.TaskOwes.{TaskOwes, Hostile, HostileDone, NoMemory, IsSameEnd}
 use Rattle.task_duties.specs.GivenEnds.{all_retired}
 use Rattle.task_duties.specs.Hostile.Trail.{words_of}
 use Rattle.hostile_task.specs.Plan.{HostileState}
@@ -48,9 +48,9 @@ pub record GoesOn (before now : HostileState) : Type 0 where
   pub turn : TakesTurn before.plan.acts before.acts before.turns now.acts now.turns
   pub so_far : HasDone now
 
--- a task that goes on does so by one turn; one that is done had no turn left, and gives what it owed
+-- a task that goes on does so by one turn; one that is done had no turn left, and gives what it owed; if memory ran out, the task gives all its ends back
 abbrev pub Pays : HostileState → HostileTurn → Type 0
 Pays before (turn.Again task) = GoesOn before task
 Pays before (turn.Done done) =
     (turns_left before.plan.acts before.acts before.turns ≡ 0) × TaskOwes (Hostile before.plan before.ends) (HostileDone done.domain (all_retired done.ends.items))
-Pays before turn.NoMemory = Unit {0}
+Pays before (turn.NoMemory ends) = TaskOwes (Hostile before.plan before.ends) (NoMemory (all_retired ends.items))

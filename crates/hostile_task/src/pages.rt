@@ -1,5 +1,5 @@
 //! All pages of a hostile domain.
-ghost use Rattle.std.specs.Prelude.{◌≡◌, ◌≤◌, ◌∷◌, [], ℕ, IfOk, map};
+ghost use Rattle.std.specs.Prelude.{◌≡◌, ◌≤◌, ◌+◌, ◌∷◌, [], ℕ, length, map, vec_capacity};
 ghost use Rattle.std.specs.List.{flat_map};
 ghost use Rattle.ring_words.specs.declared.order.Orders.{Orders};
 ghost use Rattle.vchan_protocol.specs.Hostile.Turned.{MayPoke};
@@ -10,9 +10,7 @@ use crate::domain::HostileDomain;
 use crate::page::TurnedPage;
 use ring_words::WordName;
 use scenario_file::{ActPage, next_number};
-use std::alloc::Global;
 use task_duties::{DataEnd, PagePlace, RetiredEnd};
-use vchan_io::Memory;
 use vchan_rule::End;
 
 /// The header's fields, in the order by which a drawn number names one.
@@ -49,30 +47,28 @@ impl<'p> Pages<'p> {
     ghost use Rattle.qrexec_frame.specs.Streams.{Each};
     ghost use Rattle.hostile_task.specs.UnderWay.{HaveOrders, HaveRoles};
 
-    /// Turns the ends of a domain over to it, the end of its control page first.
-    ///
-    /// # Errors
-    ///
-    /// `Memory` if memory runs out; no other.
+    /// Turns the ends of a domain over to it, the end of its control page first. `turned` has room for the
+    /// data pages.
     pub fn turn(
-        alloc: Global,
         domain: u32,
         control: End<'p>,
         payload: Vec<DataEnd<'p>>,
-    ) -> Result<Pages<'p>, Memory>
-        requires { Each IsLaid payload.items }
-        ensures control { IfOk result (λ pages. IsTurnedOver (Control domain) control.entry pages.control) }
-        ensures payload { IfOk result (λ pages. EachPair IsDataTurnedOver payload.entry.items pages.payload.items) }
+        mut turned: Vec<TurnedPage<'p>>,
+    ) -> Pages<'p>
+        requires laid { Each IsLaid payload.items }
+        requires empty { turned.items ≡ [] }
+        requires room { length payload.items ≤ vec_capacity turned }
+        ensures control { IsTurnedOver (Control domain) control.entry result.control }
+        ensures payload { EachPair IsDataTurnedOver payload.entry.items result.payload.items }
     {
-        let mut turned = Vec::with_capacity(alloc, payload.len())?;
         let control = TurnedPage::turn(PagePlace::Control { domain }, control);
         for given in payload {
             turned.push_reserved(TurnedPage::of_data(given));
         }
-        Ok(Pages {
+        Pages {
             control,
             payload: turned,
-        })
+        }
     }
 
     /// Stores a value to a word of each page that the act names, if a hostile user reaches the
@@ -127,33 +123,18 @@ impl<'p> Pages<'p> {
         }
     }
 
-    /// Retires all ends, and returns them in their order.
-    ///
-    /// # Errors
-    ///
-    /// `Memory` if memory runs out; the ends are retired then too.
-    pub fn retire(self, alloc: Global) -> Result<Vec<RetiredEnd>, Memory>
-        ensures { IfOk result (λ ends. EachPair IsRetiredOf (self.entry.control ∷ self.entry.payload.items) ends.items) }
+    /// Retires all ends, and returns them in their order, in a list that has room for them.
+    pub fn retire(self, mut ends: Vec<RetiredEnd>) -> Vec<RetiredEnd>
+        requires empty { ends.items ≡ [] }
+        requires room { length self.payload.items + 1 ≤ vec_capacity ends }
+        ensures { EachPair IsRetiredOf (self.entry.control ∷ self.entry.payload.items) result.items }
     {
-        let Ok(mut ends) = Vec::with_capacity(alloc, self.payload.len() + 1) else {
-            self.give_up();
-            return Err(Memory);
-        };
         let Pages { control, payload } = self;
         ends.push_reserved(control.retire());
         for page in payload {
             ends.push_reserved(page.retire());
         }
-        Ok(ends)
-    }
-
-    /// Retires all ends, and drops them.
-    pub fn give_up(self) {
-        let Pages { control, payload } = self;
-        control.retire();
-        for page in payload {
-            page.retire();
-        }
+        ends
     }
 }
 

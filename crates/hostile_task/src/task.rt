@@ -1,5 +1,5 @@
 //! The task of a hostile domain.
-ghost use Rattle.std.specs.Prelude.{◌≡◌, ◌∷◌, IfOk};
+ghost use Rattle.std.specs.Prelude.{◌≡◌, ◌≤◌, ◌+◌, ◌∷◌, [], length, vec_capacity, IfOk, IfErr};
 
 use crate::carry_out::carry_out;
 use crate::domain::HostileDomain;
@@ -9,7 +9,7 @@ use ring_words::WordName;
 use scenario_file::Act;
 use std::alloc::Global;
 use std::marker::Model;
-use task_duties::{DataEnd, PagePlace, RetiredEnd};
+use task_duties::{DataEnd, PagePlace, RetiredEnd, UnmadeEnds};
 use vchan_io::Memory;
 use vchan_rule::End;
 
@@ -23,11 +23,14 @@ pub struct HostileTask<'p> {
     progress: Progress,
     // The bytes that the act under way sends; kept for the room of the list.
     spelled: Vec<u8>,
+    // Room for all ends when they are retired, so that this takes no memory.
+    retired: Vec<RetiredEnd>,
     // Whether the last turn made an event.
     moved: bool,
 }
 
 impl<'p> Model for HostileTask<'p> {
+    ghost use Rattle.std.specs.Prelude.{◌≡◌, ◌≤◌, ◌+◌, [], length, vec_capacity};
     ghost use Rattle.hostile_task.specs.Plan.{HostileState, plan_of};
     ghost use Rattle.hostile_task.specs.Pages.{places_in, given_in, now_in};
     ghost use Rattle.hostile_task.specs.UnderWay.{IsUnderWay};
@@ -36,7 +39,8 @@ impl<'p> Model for HostileTask<'p> {
 
     ghost view = { λ t. record { plan = plan_of t.domain (places_in t.pages); ends = given_in t.pages; now = now_in t.pages; acts = t.progress.acts; turns = t.progress.turns } };
 
-    ghost invariant = { λ t. IsUnderWay t.domain t.pages t.progress t.spelled.items };
+    ghost invariant = { λ t. IsUnderWay t.domain t.pages t.progress t.spelled.items
+        × (t.retired.items ≡ []) × (length t.pages.payload.items + 1 ≤ vec_capacity t.retired) };
 }
 
 /// What a turn of such a task gives.
@@ -46,7 +50,10 @@ pub enum HostileTurn<'p> {
     /// All acts are done.
     Done(HostileDone),
     /// Memory ran out. All ends have been retired.
-    NoMemory,
+    NoMemory {
+        /// The ends, in the order in which they were given, the end of the control page first.
+        ends: Vec<RetiredEnd>,
+    },
 }
 
 /// A hostile domain that has done all its acts.
@@ -63,8 +70,8 @@ ghost use Rattle.hostile_task.specs.Finishing.{Finishes};
 impl<'p> HostileTask<'p> {
     ghost use Rattle.vchan_rule.specs.Seated.{view};
     ghost use Rattle.task_duties.specs.declared.place.PagePlace.TheVariants.{Control};
-    ghost use Rattle.task_duties.specs.TaskOwes.{all_ends, places_in};
-    ghost use Rattle.task_duties.specs.GivenEnds.{all_given};
+    ghost use Rattle.task_duties.specs.TaskOwes.{Hostile, NoMemory, TaskOwes, all_ends, places_in};
+    ghost use Rattle.task_duties.specs.GivenEnds.{all_given, all_retired};
     ghost use Rattle.hostile_task.specs.Plan.{plan_of, AreApart, IsControlOf, AreDataOf};
     ghost use Rattle.hostile_task.specs.Turns.{HasDone, Pays};
 
@@ -73,21 +80,29 @@ impl<'p> HostileTask<'p> {
     ///
     /// # Errors
     ///
-    /// `Memory` if memory runs out; all that was passed is dropped then, with the ends not retired.
+    /// The ends as they were given, if memory runs out; the domain is dropped then. There is no other
+    /// error.
     pub fn new(
         alloc: Global,
         domain: HostileDomain,
         control: End<'p>,
         payload: Vec<DataEnd<'p>>,
-    ) -> Result<HostileTask<'p>, Memory>
+    ) -> Result<HostileTask<'p>, UnmadeEnds<'p>>
         requires control { IsControlOf domain control }
         requires payload { AreDataOf domain payload.items }
         requires apart { AreApart (places_in (all_given payload.items)) }
         ensures plan { IfOk result (λ task. task.plan ≡ plan_of domain (Control domain.number ∷ places_in (all_given payload.entry.items))) }
         ensures ends { IfOk result (λ task. task.ends ≡ all_ends domain.number (view control.entry) (all_given payload.entry.items)) }
         ensures first { IfOk result (λ task. (task.acts ≡ 0) × (task.turns ≡ 0) × HasDone task) }
+        ensures unmade { IfErr result (λ ends. (ends.control ≡ control.entry) × (ends.payload ≡ payload.entry)) }
     {
-        let mut pages = Pages::turn(alloc, domain.number, control, payload)?;
+        let Ok(retired) = Vec::with_capacity(alloc, payload.len() + 1) else {
+            return Err(UnmadeEnds { control, payload });
+        };
+        let Ok(room) = Vec::with_capacity(alloc, payload.len()) else {
+            return Err(UnmadeEnds { control, payload });
+        };
+        let mut pages = Pages::turn(domain.number, control, payload, room);
         let own = (pages.control.end.load(WordName::RightProd) % 4_294_967_296) as u32;
         Ok(HostileTask {
             alloc,
@@ -95,6 +110,7 @@ impl<'p> HostileTask<'p> {
             pages,
             progress: Progress::start(own),
             spelled: Vec::new(alloc),
+            retired,
             moved: true,
         })
     }
@@ -106,7 +122,8 @@ impl<'p> HostileTask<'p> {
     }
 
     /// Makes one turn: of the next act, or of a rest or a saying that goes on, or, after the last act,
-    /// the turn that retires the ends. Each turn leaves fewer turns of the acts than there were.
+    /// the turn that retires the ends. Each turn leaves fewer turns of the acts than there were. If memory
+    /// runs out, the ends retire too; to retire them takes none.
     pub fn turn(self) -> HostileTurn<'p>
         ensures { Pays self.entry result }
     {
@@ -116,10 +133,11 @@ impl<'p> HostileTask<'p> {
             mut pages,
             mut progress,
             mut spelled,
+            retired,
             ..
         } = self;
         if progress.acts == domain.acts.list().len() {
-            return finish(alloc, domain.number, pages);
+            return finish(domain.number, pages, retired);
         }
         let moved = !rests(&domain, progress.acts);
         match carry_out(alloc, &domain, &mut pages, &mut progress, &mut spelled) {
@@ -129,13 +147,23 @@ impl<'p> HostileTask<'p> {
                 pages,
                 progress,
                 spelled,
+                retired,
                 moved,
             }),
             Err(Memory) => {
-                pages.give_up();
-                HostileTurn::NoMemory
+                let ends = pages.retire(retired);
+                HostileTurn::NoMemory { ends }
             }
         }
+    }
+
+    /// Retires all ends, and gives them back in the order in which they were given, the end of the control
+    /// page first. It takes no memory.
+    pub fn give_up(self) -> Vec<RetiredEnd>
+        ensures { TaskOwes (Hostile self.entry.plan self.entry.ends) (NoMemory (all_retired result.items)) }
+    {
+        let HostileTask { pages, retired, .. } = self;
+        pages.retire(retired)
     }
 }
 
@@ -145,11 +173,11 @@ fn rests(domain: &HostileDomain, number: usize) -> bool {
 }
 
 // Retires all ends.
-fn finish<'p>(alloc: Global, domain: u32, pages: Pages<'p>) -> HostileTurn<'p>
+fn finish<'p>(domain: u32, pages: Pages<'p>, retired: Vec<RetiredEnd>) -> HostileTurn<'p>
+    requires empty { retired.items ≡ [] }
+    requires room { length pages.payload.items + 1 ≤ vec_capacity retired }
     ensures { Finishes domain pages.entry result }
 {
-    match pages.retire(alloc) {
-        Ok(ends) => HostileTurn::Done(HostileDone { domain, ends }),
-        Err(Memory) => HostileTurn::NoMemory,
-    }
+    let ends = pages.retire(retired);
+    HostileTurn::Done(HostileDone { domain, ends })
 }

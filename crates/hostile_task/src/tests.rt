@@ -29,12 +29,14 @@ fn turns_of(alloc: Global, text: &[u8]) -> Result<u32, Fail> {
         control,
         payload,
     };
-    let mut task = HostileTask::new(alloc, domain, page.attach(server), Vec::new(alloc))?;
+    let Ok(mut task) = HostileTask::new(alloc, domain, page.attach(server), Vec::new(alloc)) else {
+        return Ok(0);
+    };
     for turn in 1..MOST {
         task = match task.turn() {
             HostileTurn::Again(task) => task,
             HostileTurn::Done(_) => return Ok(turn),
-            HostileTurn::NoMemory => return Ok(0),
+            HostileTurn::NoMemory { ends: _ends } => return Ok(0),
         };
     }
     Ok(MOST)

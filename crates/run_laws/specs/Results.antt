@@ -1,6 +1,6 @@
 -- A run from what its tasks answered and from its settled pages.
 -- Source: this project's own.
-use Rattle.std.specs.Prelude.{◌≡◌, ◌≢◌, ℕ, ◌≤◌, true, false, List, [], ◌∷◌, length, map, slice_index_or, Contains, IsPermutation, AllPairs, if◌then◌else◌}
+use Rattle.std.specs.Prelude.{◌≡◌, ℕ, ◌≤◌, true, false, List, [], ◌∷◌, length, map, slice_index_or, Contains, IsPermutation, AllPairs, if◌then◌else◌}
 use Rattle.qrexec_frame.specs.Streams.{Each}
 use Rattle.call_broker.specs.declared.decision.Entry.{Entry}
 use Rattle.end_view.specs.EndView.{EndView, IsUnused, no_end}
@@ -13,7 +13,7 @@ use Rattle.task_duties.specs.declared.done.ServedDone.{ServedDone}
 use Rattle.task_duties.specs.declared.done.ControlEnd.{ControlEnd}
 use Rattle.task_duties.specs.declared.done.ControlEnd.TheVariants.{Drained}
 use Rattle.task_duties.specs.Places.{is_place}
-use Rattle.task_duties.specs.TaskOwes.{EndAt, TaskGiven, Agent, Broker, Hostile, TaskDone, AgentDone, BrokerDone, HostileDone, NoMemory, places_in, TaskOwes}
+use Rattle.task_duties.specs.TaskOwes.{EndAt, TaskGiven, Agent, Broker, Hostile, TaskDone, AgentDone, BrokerDone, HostileDone, NoMemory, IsReport, places_in, TaskOwes}
 use Rattle.run_laws.specs.Laid.{BeganAsSaid, orders_of, all_domains, laid, places_of, server_of, client_of, hub_of, awaited_by, agent_plan, hostile_plan}
 use Rattle.run_laws.specs.declared.report.ServedLine.{ServedLine}
 use Rattle.run_laws.specs.Report.{SettledPage, Report}
@@ -26,14 +26,14 @@ use Rattle.run_laws.specs.ReadOff.{page_read, line_read}
 
 -- the answer of the task of a number: of a domain, or of the broker, whose number is 0
 abbrev pub answer_at : List TaskDone → ℕ → TaskDone
-answer_at dones number = slice_index_or dones number NoMemory
+answer_at dones number = slice_index_or dones number (NoMemory [])
 
 -- the ends that a task gave back
 abbrev pub ends_of : TaskDone → List EndAt
 ends_of (AgentDone report) = report.ends
 ends_of (BrokerDone broker ends) = ends
 ends_of (HostileDone domain ends) = ends
-ends_of NoMemory = []
+ends_of (NoMemory ends) = ends
 
 -- the journal of a broker; no entries of any other task
 abbrev pub journal_of : TaskDone → List Entry
@@ -88,7 +88,7 @@ IsGivenTo s number (Hostile plan ends) = (hostile_at s number ≡ true) × (plan
 
 -- the task of a number was given what it must be given, and answered as it owed
 abbrev pub HasAnswered : Scenario → List TaskDone → ℕ → Type 0
-HasAnswered s dones number = (given : TaskGiven) × IsGivenTo s number given × (answer_at dones number ≢ NoMemory) × TaskOwes given (answer_at dones number)
+HasAnswered s dones number = (given : TaskGiven) × IsGivenTo s number given × IsReport (answer_at dones number) × TaskOwes given (answer_at dones number)
 
 -- a settled page is made of the two ends that its tasks gave back
 pub record IsJoined (s : Scenario) (dones : List TaskDone) (page : SettledPage) : Type 0 where

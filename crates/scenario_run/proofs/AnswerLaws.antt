@@ -1,12 +1,12 @@
 -- What the tasks answer, with the pages that are settled by it, is the result of a run.
-use Rattle.std.proofs.Common.{◌≡◌, ◌≢◌, ℕ, zero, suc, ◌+◌, ◌<◌, ◌≤◌, List, [], ◌∷◌, map, length, refl, ap, sym, ◌∙◌, subst, arith, Some, None}
+use Rattle.std.proofs.Common.{◌≡◌, ℕ, zero, suc, ◌+◌, ◌<◌, ◌≤◌, List, [], ◌∷◌, map, length, refl, ap, sym, ◌∙◌, subst, arith, Some, None}
 use Rattle.std.specs.Prelude.{slice_get, Contains}
 use Rattle.std.specs.List.{AllZip}
 use Rattle.vchan_rule.specs.Seated.{SeatedEnd, view}
 use Rattle.qrexec_frame.specs.Streams.{Each}
 use Rattle.scenario_file.specs.Scenario.{Plan as Scenario, IsScenario}
 use Rattle.task_duties.specs.Pairwise.{EachPair}
-use Rattle.task_duties.specs.TaskOwes.{Agent, AgentDone, Broker, BrokerDone, EndAt, Hostile, HostileDone, IsSameEnd, NoMemory, TaskDone as Answer, TaskGiven, TaskOwes, broker_given}
+use Rattle.task_duties.specs.TaskOwes.{Agent, AgentDone, Broker, BrokerDone, EndAt, Hostile, HostileDone, IsReport, IsSameEnd, NoMemory, TaskDone as Answer, TaskGiven, TaskOwes, broker_given}
 use Rattle.domain_task.specs.declared.done.TaskDone.{TaskDone}
 use Rattle.domain_task.specs.Owes.{answer_of}
 use Rattle.run_laws.specs.Laid.{awaited_by, client_of, hub_of, server_of}
@@ -66,17 +66,19 @@ answers-are s pages controls hands tasks dones are by_controls by_hands many all
 
 -- ---- the ends come back
 
-same-ends : (given : TaskGiven) (done : Answer) → done ≢ NoMemory → TaskOwes given done → EachPair IsSameEnd (ends_given given) (ends_of done)
-same-ends given NoMemory some owes = absurd (some refl)
-same-ends (Agent plan ends) (AgentDone report) some owes = owes.2.same
-same-ends (Broker hub awaited ends) (BrokerDone broker back) some owes = owes.2.same
-same-ends (Hostile plan ends) (HostileDone domain back) some owes = owes.2.same
-same-ends (Agent plan ends) (BrokerDone broker back) some owes = absurd owes
-same-ends (Agent plan ends) (HostileDone domain back) some owes = absurd owes
-same-ends (Broker hub awaited ends) (AgentDone report) some owes = absurd owes
-same-ends (Broker hub awaited ends) (HostileDone domain back) some owes = absurd owes
-same-ends (Hostile plan ends) (AgentDone report) some owes = absurd owes
-same-ends (Hostile plan ends) (BrokerDone broker back) some owes = absurd owes
+same-ends : (given : TaskGiven) (done : Answer) → TaskOwes given done → EachPair IsSameEnd (ends_given given) (ends_of done)
+same-ends (Agent plan ends) (NoMemory back) owes = owes.same
+same-ends (Broker hub awaited ends) (NoMemory back) owes = owes.same
+same-ends (Hostile plan ends) (NoMemory back) owes = owes.1.same
+same-ends (Agent plan ends) (AgentDone report) owes = owes.2.back.same
+same-ends (Broker hub awaited ends) (BrokerDone broker back) owes = owes.2.back.same
+same-ends (Hostile plan ends) (HostileDone domain back) owes = owes.2.back.same
+same-ends (Agent plan ends) (BrokerDone broker back) owes = absurd owes
+same-ends (Agent plan ends) (HostileDone domain back) owes = absurd owes
+same-ends (Broker hub awaited ends) (AgentDone report) owes = absurd owes
+same-ends (Broker hub awaited ends) (HostileDone domain back) owes = absurd owes
+same-ends (Hostile plan ends) (AgentDone report) owes = absurd owes
+same-ends (Hostile plan ends) (BrokerDone broker back) owes = absurd owes
 
 each-index : (P : Answer → Type 0) (dones : List Answer) (k : ℕ) → k < length dones → Each P dones → P (answer_at dones k)
 each-index P [] k less each = absurd (omega (arith, less))
@@ -93,11 +95,11 @@ get-ends [] k hand is = absurd (none-some hand is)
 get-ends (d ∷ dones) zero hand is = (omega arith, sym (let e : Some (ends_of d) ≡ Some hand = is in cc))
 get-ends (d ∷ dones) (suc k) hand is = let more = get-ends dones k hand is in (omega (arith, more.0), more.1)
 
-pub ends-back : (s : Scenario) (pages : List PageAt) (dones : List Answer) → AreAnswers s pages dones → Each (λ d. d ≢ NoMemory) dones → HandsBack pages (map ends_of dones)
-ends-back s pages dones are some k hand is =
+pub ends-back : (s : Scenario) (pages : List PageAt) (dones : List Answer) → AreAnswers s pages dones → HandsBack pages (map ends_of dones)
+ends-back s pages dones are k hand is =
     let at = get-ends dones k hand is in
     let a = are.each k (omega (arith, at.0, are.count)) in
-    subst (λ ends. EachPair IsSameEnd ends hand) a.2 (subst (EachPair IsSameEnd (ends_given a.0)) (sym at.1) (same-ends a.0 (answer_at dones k) (each-index (λ d. d ≢ NoMemory) dones k at.0 some) a.3))
+    subst (λ ends. EachPair IsSameEnd ends hand) a.2 (subst (EachPair IsSameEnd (ends_given a.0)) (sym at.1) (same-ends a.0 (answer_at dones k) a.3))
 
 -- ---- the results
 
@@ -113,11 +115,11 @@ all-joined : (s : Scenario) (dones : List Answer) (settled : List SettledPage) �
 all-joined s dones [] each = tt
 all-joined s dones (page ∷ settled) each = (joined s dones page each.0, all-joined s dones settled each.1)
 
-pub are-results : (s : Scenario) (pages : List PageAt) (dones : List Answer) (settled : List SettledPage) → IsScenario s → AreLaid s pages → AreAnswers s pages dones → Each (λ d. d ≢ NoMemory) dones
+pub are-results : (s : Scenario) (pages : List PageAt) (dones : List Answer) (settled : List SettledPage) → IsScenario s → AreLaid s pages → AreAnswers s pages dones → Each IsReport dones
     → AreSettledBy s pages (map ends_of dones) settled → AreResults s dones settled
 are-results s pages dones settled scenario laid are some by = record {
   scenario = scenario;
-  answered = λ number within. (let a = are.each number within in (a.0, a.1, each-index (λ d. d ≢ NoMemory) dones number (omega (arith, within, are.count)) some, a.3));
+  answered = λ number within. (let a = are.each number within in (a.0, a.1, each-index IsReport dones number (omega (arith, within, are.count)) some, a.3));
   places = by.places ∙ laid.places;
   joined = all-joined s dones settled by.each;
 }

@@ -8,4 +8,5 @@ pub mod ReportLaws
 pub mod IndexLaws
 pub mod LineLaws
 pub mod SessionLaws
+pub mod UnmadeLaws
 pub mod WholeLaws

@@ -102,7 +102,7 @@ no-calls s d (c ∷ calls) each other = by (c.from == d) refl (no-calls s d call
     by false is rest = rw is rest
 
 no-report : (s : Scenario) (d : ℕ) (given : TaskGiven) (done : TaskDone) → (is_some (domain_of s d) ≡ true → hostile_at s d ≡ true) → IsGivenTo s d given → TaskOwes given done → calls_of done ≡ []
-no-report s d given NoMemory other is owes = refl
+no-report s d given (NoMemory ends) other is owes = refl
 no-report s d given (BrokerDone broker ends) other is owes = refl
 no-report s d given (HostileDone domain ends) other is owes = refl
 no-report s d (Agent plan ends) (AgentDone report) other is owes = absurd (false≢true (sym is.0.honest ∙ other is.0.there))
@@ -152,7 +152,7 @@ has-reports s dones pages h count = record {
 }
 
 nothing-served : (s : Scenario) (given : TaskGiven) (done : TaskDone) → IsGivenTo s 0 given → TaskOwes given done → served_of done ≡ []
-nothing-served s given NoMemory is owes = refl
+nothing-served s given (NoMemory ends) is owes = refl
 nothing-served s given (BrokerDone broker ends) is owes = refl
 nothing-served s given (HostileDone domain ends) is owes = refl
 nothing-served s (Agent plan ends) (AgentDone report) is owes = absurd (let there : is_some (domain_of s 0) ≡ true = is.0.there in false≢true there)

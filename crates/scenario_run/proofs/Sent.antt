@@ -7,7 +7,7 @@ use Rattle.std.proofs.sync.atomic.AtomicBool.TheSendSync as flag
 use Rattle.scenario_file.proofs.scenario.Scenario.TheSendSync as scenario
 use Rattle.vchan_rule.proofs.Sent.{end_send}
 use Rattle.run_pages.specs.contracts.deal.Hand as hand
-use Rattle.domain_task.proofs.Sent.{data_end_send, task_send}
+use Rattle.domain_task.proofs.Sent.{data_end_send, retired_end_send, task_send}
 use Rattle.scenario_run.specs.contracts.run_task.Stage as stage
 use Rattle.scenario_run.specs.contracts.run_task.RunTask as run_task
 use Rattle.scenario_run.specs.contracts.run_task.RunTask.TheInside as inside
@@ -18,7 +18,7 @@ hand_send κ =
     declared_send (hand.the_type κ) fields
 
 stage_send : (κ : _) → IsSend (stage.the_row κ)
-stage_send κ = variants_send (stage.enum κ) ((search (sendable, crosses, end_send) depth 20, tt), ((search sendable, (hand_send κ, tt)), ((task_send κ, tt), tt)))
+stage_send κ = variants_send (stage.enum κ) ((search (sendable, crosses, end_send) depth 20, (search (sendable, crosses, retired_end_send) depth 20, tt)), ((search sendable, (hand_send κ, (search (sendable, crosses, retired_end_send) depth 20, tt))), ((task_send κ, tt), tt)))
 
 pub run_task_send : (κ ν : _) → IsSend (run_task.the_row κ ν)
 run_task_send κ ν =

@@ -1,5 +1,5 @@
 -- From what the tasks of a scenario answer to its lawful report.
-use Rattle.std.proofs.Common.{◌≡◌, ◌≢◌, ℕ, zero, suc, ◌+◌, List, [], ◌∷◌, ◌++◌, Vec, map, length, take, refl, ap, sym, ◌∙◌, subst, arith, Some, None}
+use Rattle.std.proofs.Common.{◌≡◌, ℕ, zero, suc, ◌+◌, List, [], ◌∷◌, ◌++◌, Vec, map, length, take, refl, ap, sym, ◌∙◌, subst, arith, Some, None}
 use Rattle.std.specs.Prelude.{false, slice_get, AllPairs, IsPermutation}
 use Rattle.std.specs.Global.{Global}
 use Rattle.qrexec_frame.specs.Streams.{Each}
@@ -7,7 +7,7 @@ use Rattle.scenario_file.specs.Scenario.{Plan as Scenario, IsScenario}
 use Rattle.task_duties.specs.declared.ends.RetiredEnd.{RetiredEnd}
 use Rattle.task_duties.specs.declared.done.ServedDone.{ServedDone}
 use Rattle.task_duties.specs.GivenEnds.{all_retired}
-use Rattle.task_duties.specs.TaskOwes.{NoMemory, TaskDone as Answer}
+use Rattle.task_duties.specs.TaskOwes.{IsReport, TaskDone as Answer}
 use Rattle.domain_task.specs.declared.done.TaskDone.{TaskDone}
 use Rattle.domain_task.specs.Owes.{answer_of}
 use Rattle.run_laws.specs.declared.report.CallLine.{CallLine}
@@ -44,17 +44,17 @@ Ends = List (Vec RetiredEnd Global)
 pub record AreApart (dones : List TaskDone) (ends : Ends) (reports : List ReportPart) : Type 0 where
   pub ends_are : map (λ h. all_retired h.items) ends ≡ map (λ done. ends_of (answer_of done)) dones
   pub reports_are : reports ≡ map (λ done. report_of (answer_of done)) dones
-  pub done : Each (λ (done : TaskDone). answer_of done ≢ NoMemory) dones
+  pub done : Each (λ (done : TaskDone). IsReport (answer_of done)) dones
 
 pub back : (s : Scenario) (pages : List PageAt) (dones : List TaskDone) (ends : Ends) (reports : List ReportPart) → AreAnswers s pages (map answer_of dones) → AreApart dones ends reports
     → HandsBack pages (map (λ h. all_retired h.items) ends)
 back s pages dones ends reports are apart =
-    subst (HandsBack pages) (sym (apart.ends_are ∙ map-twice ends_of answer_of dones)) (ends-back s pages (map answer_of dones) are (each-map (λ d. d ≢ NoMemory) answer_of dones apart.done))
+    subst (HandsBack pages) (sym (apart.ends_are ∙ map-twice ends_of answer_of dones)) (ends-back s pages (map answer_of dones) are)
 
 pub results : (s : Scenario) (pages : List PageAt) (dones : List TaskDone) (ends : Ends) (reports : List ReportPart) (settled : List SettledPage) → IsScenario s → AreLaid s pages
     → AreAnswers s pages (map answer_of dones) → AreApart dones ends reports → AreSettledBy s pages (map (λ h. all_retired h.items) ends) settled → AreResults s (map answer_of dones) settled
 results s pages dones ends reports settled scenario laid are apart by =
-    are-results s pages (map answer_of dones) settled scenario laid are (each-map (λ d. d ≢ NoMemory) answer_of dones apart.done)
+    are-results s pages (map answer_of dones) settled scenario laid are (each-map IsReport answer_of dones apart.done)
     (subst (λ hands. AreSettledBy s pages hands settled) (apart.ends_are ∙ map-twice ends_of answer_of dones) by)
 
 pub reported : (s : Scenario) (pages : List PageAt) (dones : List TaskDone) (ends : Ends) (reports : List ReportPart) (settled : List SettledPage) → AreAnswers s pages (map answer_of dones) → AreApart dones ends reports

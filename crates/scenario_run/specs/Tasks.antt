@@ -7,6 +7,7 @@ use Rattle.end_view.specs.EndView.{EndView, IsUnused}
 use Rattle.qrexec_frame.specs.Streams.{Each}
 use Rattle.scenario_file.specs.Scenario.{Plan as Scenario, hostile_at}
 use Rattle.task_duties.specs.TaskOwes.{TaskGiven, Agent, Hostile, broker_given, places_in}
+use Rattle.task_duties.specs.declared.ends.UnmadeEnds.{UnmadeEnds}
 use Rattle.task_duties.specs.GivenEnds.{all_given}
 use Rattle.broker_task.specs.Given.{IsNewClient}
 use Rattle.data_slots.specs.Slots.{AreApart, IsGiven}
@@ -32,6 +33,10 @@ pub record IsHandOf (s : Scenario) (d : ℕ) (hand : Hand) : Type 0 where
   pub apart : AreApart (places_in (all_given hand.payload.items))
   pub all_apart : AreAllApart (places_in (all_given hand.payload.items))
   pub orders : HasOrders s d hand
+
+-- they are given back as they were given, if the task isn't made
+abbrev pub AreUnmade : Hand → UnmadeEnds → Type 0
+AreUnmade hand ends = (ends.control ≡ hand.control) × (ends.payload ≡ hand.payload)
 
 abbrev pub AreHandsOf : Scenario → List Hand → Type 0
 AreHandsOf s hands = (length hands ≡ length s.domains) × ((k : ℕ) (hand : Hand) → slice_get hands k ≡ Some hand → IsHandOf s (k + 1) hand)

@@ -1,7 +1,7 @@
 //! What the tasks of a run answered, taken apart.
-ghost use Rattle.std.specs.Prelude.{◌≡◌, ◌≢◌, ◌∷◌, map, IfOk, OnOk};
+ghost use Rattle.std.specs.Prelude.{◌≡◌, ◌∷◌, map, IfOk, OnOk};
 ghost use Rattle.qrexec_frame.specs.Streams.{Each};
-ghost use Rattle.task_duties.specs.TaskOwes.{NoMemory};
+ghost use Rattle.task_duties.specs.TaskOwes.{IsReport};
 ghost use Rattle.task_duties.specs.GivenEnds.{all_retired};
 ghost use Rattle.domain_task.specs.Owes.{answer_of};
 ghost use Rattle.run_laws.specs.Results.{ends_of};
@@ -72,7 +72,7 @@ pub(crate) struct Answers {
 pub(crate) fn take_apart(alloc: Global, dones: Vec<TaskDone>) -> Result<Answers, Memory>
     ensures ends { IfOk result (λ a. map (λ ends. all_retired ends.items) a.ends.items ≡ map (λ done. ends_of (answer_of done)) dones.items) }
     ensures reports { IfOk result (λ a. a.reports.items ≡ map (λ done. report_of (answer_of done)) dones.items) }
-    ensures done { OnOk result (Each (λ done. answer_of done ≢ NoMemory) dones.items) }
+    ensures done { OnOk result (Each (λ done. IsReport (answer_of done)) dones.items) }
 {
     let mut answers = Answers {
         ends: Vec::with_capacity(alloc, dones.len())?,
@@ -90,13 +90,13 @@ pub(crate) fn take_apart(alloc: Global, dones: Vec<TaskDone>) -> Result<Answers,
 fn parts_of(alloc: Global, done: TaskDone) -> Result<(Vec<RetiredEnd>, TaskReport), Memory>
     ensures ends { IfOk result (λ p. all_retired p.0.items ≡ ends_of (answer_of done)) }
     ensures report { IfOk result (λ p. p.1 ≡ report_of (answer_of done)) }
-    ensures done { OnOk result (answer_of done ≢ NoMemory) }
+    ensures done { OnOk result (IsReport (answer_of done)) }
 {
     match done {
         TaskDone::Agent(done) => Ok(parts_of_agent(done)),
         TaskDone::Broker(done) => Ok(parts_of_broker(alloc, done)),
         TaskDone::Hostile(done) => Ok(parts_of_hostile(alloc, done)),
-        TaskDone::NoMemory => Err(Memory),
+        TaskDone::NoMemory { .. } => Err(Memory),
     }
 }
 

@@ -13,6 +13,7 @@ mod run;
 mod run_task;
 mod sessions;
 mod tasks;
+mod unmade;
 
 pub use run::run_scenario;
 pub use run_report::{

@@ -1,24 +1,32 @@
 //! A task of a run, which is made at its first turn.
 ghost use Rattle.scenario_run.specs.Owing.{Owes};
 
-use crate::tasks::{broker, domain};
+use crate::tasks::{broker, domain, is_scenario};
+use crate::unmade::{retire_controls, retire_hand};
 use domain_task::{Task, TaskDone};
 use run_pages::Hand;
 use scenario_file::Scenario;
 use std::alloc::Global;
 use std::marker::Model;
 use std::sync::atomic::{AtomicBool, Ordering};
+use task_duties::{RetiredEnd, UnmadeEnds};
 use task_pool::{PoolTask, Turn};
-use vchan_io::Memory;
 use vchan_rule::End;
 
-/// How far a task of a run is.
+/// How far a task of a run is. One that wasn't made has room for its ends, so that they retire without memory.
 #[derive(Drop)]
 pub(crate) enum Stage<'p> {
     /// The broker's task, with its ends of the control pages, in the order of the domains.
-    Broker(Vec<End<'p>>),
+    Broker {
+        controls: Vec<End<'p>>,
+        retired: Vec<RetiredEnd>,
+    },
     /// The task of the domain with this number, with its ends.
-    Domain(u32, Hand<'p>),
+    Domain {
+        number: u32,
+        hand: Hand<'p>,
+        retired: Vec<RetiredEnd>,
+    },
     /// A task that was made.
     Made(Task<'p>),
 }
@@ -26,9 +34,8 @@ pub(crate) enum Stage<'p> {
 /// A task of a run. It is made from its ends at its first turn, by the worker that makes that turn. Contracts
 /// see it as what it is given.
 ///
-/// If memory runs out for a task, its ends are dropped without a signal to the others, which would wait for
-/// them. So the task sets a flag that all tasks share, and each of the others is done at its next turn, as
-/// out of memory too.
+/// If memory runs out for a task, its ends retire, and it sets a flag that all tasks share. Each of the others
+/// retires its ends at its next turn, and is done as out of memory too, since there will be no report.
 #[derive(Drop)]
 pub(crate) struct RunTask<'p, 's> {
     alloc: Global,
@@ -49,20 +56,50 @@ impl<'p, 's> Model for RunTask<'p, 's> {
 }
 
 impl<'p> Stage<'p> {
-    ghost use Rattle.std.specs.Prelude.{◌≡◌, IfOk};
+    ghost use Rattle.std.specs.Prelude.{◌≡◌, IfOk, IfErr};
+    ghost use Rattle.task_duties.specs.TaskOwes.{TaskOwes, NoMemory};
+    ghost use Rattle.task_duties.specs.GivenEnds.{all_retired};
     ghost use Rattle.domain_task.specs.Given.{given_of};
     ghost use Rattle.scenario_run.specs.Stages.{MayMake, given_at};
 
-    // Returns the task, and makes it first unless it was made. Returns `Memory` if memory runs out; the ends
-    // are dropped then.
-    fn task(self, alloc: Global, scenario: &Scenario) -> Result<Task<'p>, Memory>
+    // Returns the task, and makes it first unless it was made. If memory runs out, returns its ends retired.
+    fn task(self, alloc: Global, scenario: &Scenario) -> Result<Task<'p>, Vec<RetiredEnd>>
         requires { MayMake scenario.now self }
-        ensures { IfOk result (λ task. given_of task ≡ given_at scenario.now self.entry) }
+        ensures made { IfOk result (λ task. given_of task ≡ given_at scenario.now self.entry) }
+        ensures unmade { IfErr result (λ ends. TaskOwes (given_at scenario.now self.entry) (NoMemory (all_retired ends.items))) }
     {
+        is_scenario(scenario);
         match self {
-            Stage::Broker(controls) => broker(alloc, scenario, controls),
-            Stage::Domain(number, hand) => domain(alloc, scenario, number, hand),
+            Stage::Broker { controls, retired } => match broker(alloc, scenario, controls) {
+                Ok(task) => Ok(task),
+                Err(controls) => Err(retire_controls(controls, retired)),
+            },
+            Stage::Domain {
+                number,
+                hand,
+                retired,
+            } => match domain(alloc, scenario, number, hand) {
+                Ok(task) => Ok(task),
+                Err(ends) => Err(retire_hand(number, ends.control, ends.payload, retired)),
+            },
             Stage::Made(task) => Ok(task),
+        }
+    }
+
+    // Retires all ends.
+    fn give_up(self, scenario: &Scenario) -> Vec<RetiredEnd>
+        requires { MayMake scenario.now self }
+        ensures { TaskOwes (given_at scenario.now self.entry) (NoMemory (all_retired result.items)) }
+    {
+        is_scenario(scenario);
+        match self {
+            Stage::Broker { controls, retired } => retire_controls(controls, retired),
+            Stage::Domain {
+                number,
+                hand,
+                retired,
+            } => retire_hand(number, hand.control, hand.payload, retired),
+            Stage::Made(task) => task.give_up(),
         }
     }
 }
@@ -103,26 +140,29 @@ impl<'p, 's> PoolTask for RunTask<'p, 's> {
             stage,
         } = self;
         if no_memory.load(Ordering::SeqCst) {
-            return Turn::Done(TaskDone::NoMemory);
+            let ends = stage.give_up(scenario);
+            return Turn::Done(TaskDone::NoMemory { ends });
         }
-        let Ok(task) = stage.task(alloc, scenario) else {
-            no_memory.store(true, Ordering::SeqCst);
-            return Turn::Done(TaskDone::NoMemory);
-        };
-        match task.turn() {
-            Turn::Again(task) => Turn::Again(RunTask {
-                alloc,
-                scenario,
-                no_memory,
-                stage: Stage::Made(task),
-            }),
-            Turn::Done(done) => Turn::Done(done),
+        match stage.task(alloc, scenario) {
+            Ok(task) => match task.turn() {
+                Turn::Again(task) => Turn::Again(RunTask {
+                    alloc,
+                    scenario,
+                    no_memory,
+                    stage: Stage::Made(task),
+                }),
+                Turn::Done(done) => Turn::Done(done),
+            },
+            Err(ends) => {
+                no_memory.store(true, Ordering::SeqCst);
+                Turn::Done(TaskDone::NoMemory { ends })
+            }
         }
     }
 
     fn moved(&self) -> bool {
         match &self.stage {
-            Stage::Broker(_) | Stage::Domain(..) => true,
+            Stage::Broker { .. } | Stage::Domain { .. } => true,
             Stage::Made(task) => task.moved(),
         }
     }

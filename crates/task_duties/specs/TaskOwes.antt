@@ -61,12 +61,17 @@ pub record AgentReport : Type 0 where
   pub control : ControlEnd
   pub ends : List EndAt
 
--- what a task answers: an agent's report, a broker with its journal, a hostile domain's number, each with all its ends; or that memory ran out
+-- what a task answers: an agent's report, a broker with its journal, a hostile domain's number; or that memory ran out; each with all its ends
 pub data TaskDone : Type 0 where
   AgentDone : (report : AgentReport) → TaskDone
   BrokerDone : (broker : Brokered) (ends : List EndAt) → TaskDone
   HostileDone : (domain : ℕ) (ends : List EndAt) → TaskDone
-  NoMemory : TaskDone
+  NoMemory : (ends : List EndAt) → TaskDone
+
+-- memory didn't run out
+abbrev pub IsReport : TaskDone → Type 0
+IsReport (NoMemory ends) = ⊥
+IsReport done = Unit {0}
 
 -- ---- what it owes of its ends
 
@@ -80,11 +85,15 @@ pub record IsSameEnd (given retired : EndAt) : Type 0 where
 abbrev pub AreEnds : (PagePlace → EndView) → List EndAt → Type 0
 AreEnds end ends = Each (λ e. e.view ≡ end e.place) ends
 
--- all ends are there, in the order in which they were given, and all of them are turned or none is
-pub record EndsOwed (turned : Bool) (given ends : List EndAt) (end : PagePlace → EndView) : Type 0 where
+-- all ends come back in the order in which they were given, and all of them are turned or none is
+pub record AreGivenBack (turned : Bool) (given ends : List EndAt) : Type 0 where
   pub same : EachPair IsSameEnd given ends
-  pub are : AreEnds end ends
   pub turned_are : Each (λ e. e.view.turned ≡ turned) ends
+
+-- all ends come back, and `end` gives each of them at its place
+pub record EndsOwed (turned : Bool) (given ends : List EndAt) (end : PagePlace → EndView) : Type 0 where
+  pub back : AreGivenBack turned given ends
+  pub are : AreEnds end ends
 
 -- an end as it was before it was given up to a hostile user, whose events change its trail alone
 abbrev pub before_turned : EndView → EndView
@@ -96,9 +105,8 @@ pub record IsTurnedFrom (given retired : EndAt) : Type 0 where
 
 -- ---- what it owes
 
--- what a task owes by what it was given; nothing if memory ran out
+-- what a task owes by what it was given; if memory ran out, its ends alone. Those of a hostile domain are turned once its task was made
 abbrev pub TaskOwes : TaskGiven → TaskDone → Type 0
-TaskOwes given NoMemory = Unit {0}
 TaskOwes (Agent plan given) (AgentDone report) =
     (end : PagePlace → EndView) × (report.domain ≡ plan.domain) × EndsOwed false given report.ends end
     × AgentOwes plan end report.calls report.served report.control
@@ -108,4 +116,7 @@ TaskOwes (Broker hub awaited given) (BrokerDone broker ends) =
 TaskOwes (Hostile plan given) (HostileDone domain ends) =
     (end : PagePlace → EndView) × (domain ≡ plan.domain) × EndsOwed true given ends end
     × Each (λ e. IsTrail plan e.place e.view.trail) ends × EachPair IsTurnedFrom given ends
+TaskOwes (Agent plan given) (NoMemory ends) = AreGivenBack false given ends
+TaskOwes (Broker hub awaited given) (NoMemory ends) = AreGivenBack false given ends
+TaskOwes (Hostile plan given) (NoMemory ends) = (turned : Bool) × AreGivenBack turned given ends
 TaskOwes _ _ = ⊥

@@ -27,6 +27,15 @@ pub struct DataEnd<'p> {
     pub end: UnusedEnd<'p>,
 }
 
+/// The ends of a domain whose task couldn't be made, as they were given.
+#[derive(Drop)]
+pub struct UnmadeEnds<'p> {
+    /// The end of its control page.
+    pub control: End<'p>,
+    /// Its data ends.
+    pub payload: Vec<DataEnd<'p>>,
+}
+
 /// An end that makes no more events.
 #[derive(Drop)]
 pub enum DoneEnd {

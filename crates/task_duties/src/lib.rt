@@ -14,5 +14,5 @@ pub mod laws;
 mod place;
 
 pub use done::{CallDone, CallEnd, ControlEnd, ServedDone};
-pub use ends::{DataEnd, DoneEnd, RetiredEnd, UnusedEnd};
+pub use ends::{DataEnd, DoneEnd, RetiredEnd, UnmadeEnds, UnusedEnd};
 pub use place::PagePlace;

@@ -108,7 +108,10 @@ fn agent_of(alloc: Global, page: &Page, server: IdleSeat) -> Result<AgentTask<'_
     requires { server ≡ record { page = page.now; role = Server } }
 {
     let control = page.attach(server);
-    AgentTask::new(alloc, 1, 3, Vec::new(alloc), control, Vec::new(alloc))
+    let Ok(task) = AgentTask::new(alloc, 1, 3, Vec::new(alloc), control, Vec::new(alloc)) else {
+        return Err(Memory);
+    };
+    Ok(task)
 }
 
 /// Returns whether an agent goes on after two turns.
@@ -116,7 +119,7 @@ fn turns_twice(agent: AgentTask<'_>) -> bool {
     match agent.turn() {
         AgentTurn::Again(agent) => goes_on(agent),
         AgentTurn::Done(_done) => false,
-        AgentTurn::NoMemory => false,
+        AgentTurn::NoMemory { ends: _ends } => false,
     }
 }
 
@@ -125,7 +128,7 @@ fn goes_on(agent: AgentTask<'_>) -> bool {
     match agent.turn() {
         AgentTurn::Again(_agent) => true,
         AgentTurn::Done(_done) => false,
-        AgentTurn::NoMemory => false,
+        AgentTurn::NoMemory { ends: _ends } => false,
     }
 }
 

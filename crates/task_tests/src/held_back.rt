@@ -13,6 +13,7 @@ use qrexec_frame::{Message, Text, fits};
 use ring_words::check_orders;
 use std::alloc::Global;
 use std::test::Fail;
+use vchan_io::Memory;
 use vchan_packet::SendAnswer;
 use vchan_rule::{End, IdleSeat, Page};
 
@@ -54,7 +55,10 @@ fn task_of<'p>(alloc: Global, first: End<'p>, second: End<'p>) -> Result<BrokerT
     let mut controls = Vec::new(alloc);
     controls.push(first)?;
     controls.push(second)?;
-    Ok(BrokerTask::new(alloc, broker, awaited, controls)?)
+    match BrokerTask::new(alloc, broker, awaited, controls) {
+        Ok(task) => Ok(task),
+        Err(_ends) => Err(Memory.into()),
+    }
 }
 
 /// Makes the agent's end of a page, which has greeted.
@@ -142,7 +146,7 @@ fn turned(task: BrokerTask<'_>) -> Option<BrokerTask<'_>> {
     match task.turn() {
         BrokerTurn::Again(task) => Some(task),
         BrokerTurn::Done(_done) => None,
-        BrokerTurn::NoMemory => None,
+        BrokerTurn::NoMemory { ends: _ends } => None,
     }
 }
 

@@ -70,7 +70,7 @@ impl<'p> Answering<'p> {
             mut room,
             service,
         } = self;
-        let Ok(()) = session.turn(room.as_mut_slice()) else {
+        let Ok(_) = session.turn(room.as_mut_slice()) else {
             session.give_up();
             return Turn::Done(SideDone::NoMemory);
         };

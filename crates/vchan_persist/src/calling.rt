@@ -58,7 +58,7 @@ impl<'p> Calling<'p> {
             mut session,
             mut room,
         } = self;
-        let Ok(()) = session.turn(room.as_mut_slice()) else {
+        let Ok(_) = session.turn(room.as_mut_slice()) else {
             session.give_up();
             return Turn::Done(SideDone::NoMemory);
         };

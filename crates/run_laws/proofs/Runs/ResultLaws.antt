@@ -16,7 +16,7 @@ use Rattle.task_duties.specs.Agent.Owes.{AgentOwes}
 use Rattle.task_duties.specs.Broker.Owes.{BrokerOwes}
 use Rattle.task_duties.specs.Hostile.Given.{HostilePlan}
 use Rattle.task_duties.specs.Hostile.Trail.{IsTrail}
-use Rattle.task_duties.specs.TaskOwes.{EndAt, IsSameEnd, IsTurnedFrom, AreEnds, before_turned, TaskGiven, Agent, Broker, Hostile, TaskDone, AgentDone, BrokerDone, HostileDone, NoMemory, places_in, TaskOwes}
+use Rattle.task_duties.specs.TaskOwes.{EndAt, IsSameEnd, IsTurnedFrom, AreEnds, before_turned, TaskGiven, Agent, Broker, Hostile, TaskDone, AgentDone, BrokerDone, HostileDone, NoMemory, IsReport, places_in, TaskOwes}
 use Rattle.task_duties.proofs.Elements.{Has, has-from, each-at, has-map, has-map-back, has-filter, has-filter-back}
 use Rattle.task_duties.proofs.OutboxLaw.{same-self}
 use Rattle.task_duties.proofs.ServedLaw.{same-place}
@@ -101,25 +101,25 @@ broker-own s ends is (Control c) own = subst (λ l. Has l (Control c)) (sym is) 
     all-controls : (c : ℕ) → is_some (domain_of s c) ≡ true → Has (map Control (all_domains s)) (Control c)
     all-controls c there = has-map-back Control (all_domains s) c (has-domain s c there)
 
-ends-are : (s : Scenario) (number : ℕ) (given : TaskGiven) (done : TaskDone) → IsGivenTo s number given → done ≢ NoMemory → TaskOwes given done → EndFacts s number done
-ends-are s number given NoMemory is some owes = absurd (some refl)
+ends-are : (s : Scenario) (number : ℕ) (given : TaskGiven) (done : TaskDone) → IsGivenTo s number given → IsReport done → TaskOwes given done → EndFacts s number done
+ends-are s number given (NoMemory ends) is some owes = absurd some
 ends-are s number (Agent plan given) (AgentDone report) is some owes = record {
   end = owes.0;
   are = owes.2.are;
-  turned = each-turned s number false is.0.honest report.ends owes.2.turned_are;
-  own = own-there s number report.ends (no-zero s number is.0.there) (same-places given report.ends owes.2.same ∙ is.2);
+  turned = each-turned s number false is.0.honest report.ends owes.2.back.turned_are;
+  own = own-there s number report.ends (no-zero s number is.0.there) (same-places given report.ends owes.2.back.same ∙ is.2);
 }
 ends-are s number (Broker hub awaited given) (BrokerDone broker ends) is some owes = record {
   end = owes.0;
   are = owes.2.are;
-  turned = each-turned s number false (ap (hostile_at s) is.0) ends owes.2.turned_are;
-  own = λ place own. broker-own s ends (same-places given ends owes.2.same ∙ is.3) place (subst (λ n. IsOwn s n place) is.0 own);
+  turned = each-turned s number false (ap (hostile_at s) is.0) ends owes.2.back.turned_are;
+  own = λ place own. broker-own s ends (same-places given ends owes.2.back.same ∙ is.3) place (subst (λ n. IsOwn s n place) is.0 own);
 }
 ends-are s number (Hostile plan given) (HostileDone domain ends) is some owes = record {
   end = owes.0;
   are = owes.2.are;
-  turned = each-turned s number true is.0 ends owes.2.turned_are;
-  own = own-there s number ends (hostile-there s number is.0) (same-places given ends owes.2.same ∙ is.2);
+  turned = each-turned s number true is.0 ends owes.2.back.turned_are;
+  own = own-there s number ends (hostile-there s number is.0) (same-places given ends owes.2.back.same ∙ is.2);
 }
 ends-are s number (Agent plan given) (BrokerDone broker ends) is some owes = absurd owes
 ends-are s number (Agent plan given) (HostileDone domain ends) is some owes = absurd owes
@@ -211,10 +211,10 @@ own-view s dones d (Payload f t port) own = by_caller (f == d) refl own
     by_caller true is h' = let same : f ≡ d = grind (arith, nat_tests, is) in rw is (ap (λ n. view_at dones n (Payload f t port)) (sym same))
     by_caller false is h' = let same : t ≡ d = grind (arith, nat_tests, h') in rw is (ap (λ n. view_at dones n (Payload f t port)) (sym same))
 
-agent-same : (s : Scenario) (dones : List TaskDone) (d : ℕ) → IsHonest s d → (given : TaskGiven) (done : TaskDone) → answer_at dones d ≡ done → IsGivenTo s d given → done ≢ NoMemory → TaskOwes given done
+agent-same : (s : Scenario) (dones : List TaskDone) (d : ℕ) → IsHonest s d → (given : TaskGiven) (done : TaskDone) → answer_at dones d ≡ done → IsGivenTo s d given → IsReport done → TaskOwes given done
     → AgentOwes (agent_plan s d) (end_of (run_of s dones) d) (calls_of done) (served_of done) (control_of done)
 unfolding ends-are
-agent-same s dones d honest given NoMemory at is some owes = absurd (some refl)
+agent-same s dones d honest given (NoMemory ends) at is some owes = absurd some
 agent-same s dones d honest (Agent plan given) (AgentDone report) at is some owes =
     let facts = ends-are s d (Agent plan given) (AgentDone report) is some owes in
     let agent : AgentOwes (agent_plan s d) facts.end report.calls report.served report.control = subst (λ p. AgentOwes p facts.end report.calls report.served report.control) is.1 owes.3 in
@@ -233,10 +233,10 @@ agent-same s dones d honest (Hostile plan given) done at is some owes = let both
 agent-same s dones d honest (Agent plan given) (BrokerDone broker ends) at is some owes = absurd owes
 agent-same s dones d honest (Agent plan given) (HostileDone domain ends) at is some owes = absurd owes
 
-broker-same : (s : Scenario) (dones : List TaskDone) (given : TaskGiven) (done : TaskDone) → answer_at dones 0 ≡ done → IsGivenTo s 0 given → done ≢ NoMemory → TaskOwes given done
+broker-same : (s : Scenario) (dones : List TaskDone) (given : TaskGiven) (done : TaskDone) → answer_at dones 0 ≡ done → IsGivenTo s 0 given → IsReport done → TaskOwes given done
     → BrokerOwes (hub_of s) (awaited_by s) (journal_of done) (broker_end (run_of s dones))
 unfolding ends-are
-broker-same s dones given NoMemory at is some owes = absurd (some refl)
+broker-same s dones given (NoMemory ends) at is some owes = absurd some
 broker-same s dones (Broker hub awaited given) (BrokerDone broker ends) at is some owes =
     let facts = ends-are s 0 (Broker hub awaited given) (BrokerDone broker ends) is some owes in
     let by_hub : BrokerOwes (hub_of s) awaited broker.journal (λ d. facts.end (Control d)) = subst (λ x. BrokerOwes x awaited broker.journal (λ d. facts.end (Control d))) is.1 owes.3 in
@@ -273,8 +273,8 @@ acted-on plan (g ∷ given) [] unused trails from = tt
 acted-on plan (g ∷ given) (e ∷ ends) unused trails from = (record { unused = unused-before g.view e.view unused.0 from.0.before; trail = trails.0 }, acted-on plan given ends unused.1 trails.1 from.1)
 
 hostile-same : (s : Scenario) (dones : List TaskDone) (d : ℕ) → hostile_at s d ≡ true → is_some (domain_of s d) ≡ true → (given : TaskGiven) (done : TaskDone) → answer_at dones d ≡ done → IsGivenTo s d given
-    → done ≢ NoMemory → TaskOwes given done → (place : PagePlace) → IsPlace s place → is_end_of d place ≡ true → IsActedOn (hostile_plan s d) place (end_of (run_of s dones) d place)
-hostile-same s dones d bad exists given NoMemory at is some owes place lies own = absurd (some refl)
+    → IsReport done → TaskOwes given done → (place : PagePlace) → IsPlace s place → is_end_of d place ≡ true → IsActedOn (hostile_plan s d) place (end_of (run_of s dones) d place)
+hostile-same s dones d bad exists given (NoMemory ends) at is some owes place lies own = absurd some
 hostile-same s dones d bad exists (Hostile plan given) (HostileDone domain ends) at is some owes place lies own =
     let facts = ends-are s d (Hostile plan given) (HostileDone domain ends) is some owes in
     let acted : Each (λ e. IsActedOn (hostile_plan s d) e.place e.view) ends = subst (λ p. Each (λ e. IsActedOn p e.place e.view) ends) is.1 (acted-on plan given ends is.3 owes.3 owes.4) in

@@ -19,7 +19,6 @@ use Rattle.task_duties.specs.Agent.Answers.{Served, takes_all, nothing_heard}
 use Rattle.task_duties.specs.Agent.Owes.{ReportsServed}
 use Rattle.task_duties.specs.Agent.Sessions.{ServingOwes}
 use Rattle.task_duties.specs.Broker.Outbox.{outbox}
-use Rattle.task_duties.specs.Pairwise.{SomeOf}
 use Rattle.task_duties.proofs.Elements.{Has, Comes, has-from, contains-from, has-part, pair-of, one-of, one-key}
 use Rattle.task_duties.proofs.LineLaw.{line-served}
 use Rattle.task_duties.proofs.OutboxLaw.{IsExec, PutBy, put-by-entry}
@@ -105,9 +104,6 @@ exec-line s run h f t port honest call own a line e =
     ∙ ap (exec_line call.service) name
 
 -- ---- what is served
-
-as-some : (ms : List Message) (x : Message) → Has ms x → SomeOf (λ y. y ≡ x) ms
-as-some ms x h = h
 
 was-served : (s : Scenario) (run : Run) (h : IsRun s run) (f t port : ℕ) → IsHonest s f → IsHonest s t → (call : CallPlan) → IsOwnCall s f call → IsAnsweredAt s run f t port call → (line : List ℕ)
     → line ≡ exec_line call.service (name_at s f) → Has (agent_heard s run t) (m.Exec f port line) → WasServed s run f t port call

@@ -4,8 +4,8 @@ use Rattle.broker_task.proofs.DoneLaws.{lines-list, done-pays, done-stands}
 use Rattle.broker_task.proofs.StandingLaws.{goes-on}
 use Rattle.broker_task.proofs.task.after_round.Goals as goal
 
-pub finish-requires : goal.finish-requires
-finish-requires c = lines-list c.args.switchboard.daemons.items c.requires.ready.posting.lines
+pub finish-requires-clause-lines : goal.finish-requires-clause-lines
+finish-requires-clause-lines c = lines-list c.args.switchboard.daemons.items c.requires.ready.posting.lines
 
 pub returns-then-is_settled-clause-pays : goal.returns-then-is_settled-clause-pays
 returns-then-is_settled-clause-pays c = done-pays c.args.switchboard c.finish.result c.requires.ready (c.is_settled.ensures.0 c.if-is_settled.true) c.finish.ensures

@@ -5,9 +5,9 @@ use Rattle.call_queue.specs.Queue.{AreDifferent, FitsTrigger}
 use Rattle.scenario_run.proofs.GivenLaws.{calls-fit, numbers-differ}
 use Rattle.scenario_run.proofs.tasks.agent.Goals as goal
 
-pub agent-requires-clause-different : goal.agent-requires-clause-different
-agent-requires-clause-different c =
-    subst (λ calls. AreDifferent (map (λ (x : CallPlan). x.number) calls)) (sym c.in_ok-calls.ensures) (numbers-differ c.args.scenario.now c.is_scenario.ensures c.args.number)
+pub new-requires-clause-different : goal.new-requires-clause-different
+new-requires-clause-different c =
+    subst (λ calls. AreDifferent (map (λ (x : CallPlan). x.number) calls)) (sym c.in-Ok.ensures) (numbers-differ c.args.scenario.now c.is_scenario.ensures c.args.number)
 
-pub agent-requires-clause-short : goal.agent-requires-clause-short
-agent-requires-clause-short c = subst (Each FitsTrigger) (sym c.in_ok-calls.ensures) (calls-fit c.args.scenario.now c.is_scenario.ensures c.args.number)
+pub new-requires-clause-short : goal.new-requires-clause-short
+new-requires-clause-short c = subst (Each FitsTrigger) (sym c.in-Ok.ensures) (calls-fit c.args.scenario.now c.is_scenario.ensures c.args.number)

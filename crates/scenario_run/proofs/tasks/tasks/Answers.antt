@@ -1,4 +1,4 @@
-use Rattle.std.proofs.Common.{◌≡◌, ◌∙◌, ◌++◌, ◌∷◌, [], ap, map, subst, sym}
+use Rattle.std.proofs.Common.{◌≡◌, ◌∙◌, ◌++◌, ◌∷◌, [], ap, arith, map, subst, sym}
 use Rattle.vchan_rule.specs.Seated.{view}
 use Rattle.scenario_run.proofs.TaskLaws.{AreLeft, left-first, left-hand, left-none, left-on}
 use Rattle.scenario_run.proofs.tasks.tasks.Goals as goal
@@ -14,8 +14,9 @@ loop-hand-init c =
 
 pub new-requires-in-loop-hand : goal.new-requires-in-loop-hand
 new-requires-in-loop-hand c =
+    let many = c.len-in-loop-hand.ensures in
     let next = left-hand c.args.scenario.now _ _ _ c.loop-hand.number _ _ c.in-Some.hand c.in-Some.ensures.steps.0 c.loop-hand.invariant in
-    ((c.loop-hand.invariant.some, next.0), next.1)
+    ((c.loop-hand.invariant.some, next.0), next.1, (c.in_ok-retired-2.ensures.items, omega (arith, c.in_ok-retired-2.ensures.capacity, many, c.in-Some.hand.payload.ok.0)))
 
 pub loop-hand-preserved : goal.loop-hand-preserved
 loop-hand-preserved c =

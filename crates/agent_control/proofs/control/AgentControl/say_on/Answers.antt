@@ -1,5 +1,7 @@
-use Rattle.std.proofs.Common.{◌+◌, refl, inl, arith}
+use Rattle.std.proofs.Common.{◌+◌, refl, inl, subst, arith}
 use Rattle.agent_control.proofs.SpeakingLaws.{says-then, says-few}
+use Rattle.agent_control.proofs.StoppingLaws.{stops-after}
+use Rattle.agent_control.specs.Stopping.{EndWaits, Unless, AtAnEnd}
 use Rattle.agent_control.proofs.control.AgentControl.say_on.Goals as goal
 
 pub returns-then-not-branch-clause-more : goal.returns-then-not-branch-clause-more
@@ -12,3 +14,9 @@ pub returns-clause-more : goal.returns-clause-more
 returns-clause-more c =
     says-few (0 + c.args.calls) c.args.calls c.args.self.now c.say_triggers.new.self (omega arith)
     (says-then 0 c.args.calls c.args.self.now c.say_ends.new.self c.say_triggers.new.self (inl refl) c.in_ok-say_ends.ensures.more c.in_ok-say_triggers.ensures.more)
+
+pub returns-then-not-branch-clause-why : goal.returns-then-not-branch-clause-why
+returns-then-not-branch-clause-why c = AtAnEnd (subst (λ b. Unless b (EndWaits c.args.self.now c.say_ends.new.self)) c.if-not-branch.true c.in_ok-say_ends.ensures.why)
+
+pub returns-clause-why : goal.returns-clause-why
+returns-clause-why c = stops-after c.args.calls c.args.self.now c.say_ends.new.self c.say_triggers.new.self c.say_ends.ensures.end c.in_ok-say_ends.ensures.next c.in_ok-say_triggers.ensures.why

@@ -1,12 +1,13 @@
 use Rattle.std.proofs.Common.{◌≡◌, length}
-use Rattle.agent_task.specs.Standing.{IsHearing, IsSameAgent}
+use Rattle.agent_task.specs.Standing.{IsHearing, HasSameEnds, KeepsOpen}
 use Rattle.agent_task.proofs.agent.Agent.hear_all.Given as goal
 
 abbrev pub invariant-messages : goal.invariant-messages
 invariant-messages l = record {
   hearing : IsHearing l.self;
   end : l.self.control.port.end ≡ l.initial.self.control.port.end;
-  same : IsSameAgent l.initial.self l.self;
+  same : HasSameEnds l.initial.self l.self;
+  kept : KeepsOpen l.initial.self l.self;
 }
 
 abbrev pub decreases-messages : goal.decreases-messages

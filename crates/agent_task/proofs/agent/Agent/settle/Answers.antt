@@ -1,6 +1,6 @@
 use Rattle.std.proofs.Common.{sym, ◌∙◌, ap}
 use Rattle.agent_task.specs.Ending.{over_by}
-use Rattle.agent_task.proofs.RoundLaws.{up-running, goes-on, is-over}
+use Rattle.agent_task.proofs.RoundLaws.{up-running, goes-on, is-over, running-rests}
 use Rattle.agent_task.proofs.agent.Agent.settle.Goals as goal
 
 pub returns-in-Some-clause-running : goal.returns-in-Some-clause-running
@@ -11,3 +11,9 @@ returns-in-Some-clause-running c =
 pub returns-in-None-clause-running : goal.returns-in-None-clause-running
 returns-in-None-clause-running c =
     up-running c.args.self.now (goes-on c.args.self.now c.args.drained c.requires.out c.requires.drained (ap (λ f. over_by f c.args.drained) (sym c.fault.ensures) ∙ sym c.over_by.ensures ∙ c.in-None.is))
+
+pub returns-in-Some-clause-retire : goal.returns-in-Some-clause-retire
+returns-in-Some-clause-retire c = running-rests _ (returns-in-Some-clause-running c)
+
+pub returns-in-None-clause-retire : goal.returns-in-None-clause-retire
+returns-in-None-clause-retire c = running-rests _ (returns-in-None-clause-running c)

@@ -1,6 +1,8 @@
 use Rattle.std.proofs.Common.{◌++◌, sym, ◌∙◌, ap, map, subst}
-use Rattle.std.specs.Prelude.{not}
+use Rattle.std.specs.Prelude.{List, not}
 use Rattle.data_slots.specs.Done.{TellsMore}
+use Rattle.data_slots.specs.Sessions.{Session, AllTakeTurns}
+use Rattle.agent_task.specs.declared.agent.Agent.{Agent}
 use Rattle.agent_task.specs.Standing.{end_of}
 use Rattle.agent_task.specs.Ending.{IsRunning}
 use Rattle.agent_task.proofs.SessionLaws.{slots-running, noted-running, told-first}
@@ -19,4 +21,14 @@ returns-clause-running c =
       | else-is_none w ↦
           subst (λ a. IsRunning a) (sym w.self-is)
           (slots-running c.args.self.now c.turn.new.self over c.requires.running (c.is_none.ensures ∙ ap not w.if-is_none.false) c.in_ok-moved.ensures.ok first.0)
+    ]
+
+pub returns-clause-turns : goal.returns-clause-turns
+returns-clause-turns c =
+    let old = c.args.self.now.slots.sessions in
+    elim c.if-is_none.branch [
+      | then-is_none+in_ok-note_over w ↦
+          subst (λ (a : Agent). AllTakeTurns old a.slots.sessions) (sym w.self-is)
+          (subst (λ (l : List Session). AllTakeTurns old l) (sym (ap (λ (a : Agent). a.slots.sessions) w.note_over.ensures.same)) c.in_ok-moved.ensures.turns)
+      | else-is_none w ↦ subst (λ (a : Agent). AllTakeTurns old a.slots.sessions) (sym w.self-is) c.in_ok-moved.ensures.turns
     ]

@@ -9,7 +9,31 @@ use Rattle.broker_task.specs.Rounds.{IsThere}
 use Rattle.broker_task.proofs.PostLaws.{on-ok}
 use Rattle.broker_task.proofs.HearingSteps.{place-of-domain}
 use Rattle.broker_task.proofs.RoundSteps.{each-here, still-there, heard-fine, no-fault, goes-on-ok}
+use Rattle.broker_task.proofs.KeepingSteps.{keeps-none, keeps-all, keeps-ends, keeps-through}
+use Rattle.broker_task.specs.Moving.{Steps, ListensAsTold}
+use Rattle.broker_task.specs.Posting.{EachMoves}
+use Rattle.broker_task.proofs.MovingLaws.{gone-turns, drop-turns, send-turns}
 use Rattle.broker_task.proofs.switchboard.Switchboard.attend.Goals as goal
+
+pub returns-then-is_gone-clause-kept : goal.returns-then-is_gone-clause-kept
+returns-then-is_gone-clause-kept c = keeps-none c.args.self.now.daemons.items
+
+pub returns-in_err-hear-clause-kept : goal.returns-in_err-hear-clause-kept
+returns-in_err-hear-clause-kept c =
+    keeps-all c.args.self.now.daemons.items c.listen.new.self.daemons.items c.hear.new.self.daemons.items c.listen.ensures.kept (keeps-ends c.listen.new.self.daemons.items c.hear.new.self.daemons.items c.hear.ensures.ends)
+
+pub returns-then-not-there-clause-kept : goal.returns-then-not-there-clause-kept
+returns-then-not-there-clause-kept c =
+    keeps-through c.args.self.now.daemons.items c.listen.new.self.daemons.items c.hear.new.self.daemons.items c.drop_domain.new.self.daemons.items c.listen.ensures.kept c.hear.ensures.ends c.drop_domain.ensures.kept
+
+pub returns-then-not-is_fine-clause-kept : goal.returns-then-not-is_fine-clause-kept
+returns-then-not-is_fine-clause-kept c =
+    keeps-through c.args.self.now.daemons.items c.listen.new.self.daemons.items c.hear.new.self.daemons.items c.drop_domain-then-not-is_fine.new.self.daemons.items c.listen.ensures.kept c.hear.ensures.ends
+    c.drop_domain-then-not-is_fine.ensures.kept
+
+pub returns-clause-kept : goal.returns-clause-kept
+returns-clause-kept c =
+    keeps-through c.args.self.now.daemons.items c.listen.new.self.daemons.items c.hear.new.self.daemons.items c.send.new.self.daemons.items c.listen.ensures.kept c.hear.ensures.ends c.send.ensures.kept
 
 pub returns-then-not-there-clause-goes : goal.returns-then-not-there-clause-goes
 returns-then-not-there-clause-goes c =
@@ -44,3 +68,31 @@ pub returns-clause-goes : goal.returns-clause-goes
 returns-clause-goes c =
     goes-on-ok c.send.result c.args.self.now c.listen.new.self c.hear.new.self c.send.new.self c.requires.ready c.listen.ensures.broker c.in_ok-there.ensures.same c.hear.ensures.hub c.hear.ensures.ends
     (ap (λ (b : Brokered). b.hub) c.send.ensures.broker) c.send.ensures.same (on-ok c.send.result c.send.ensures.sending (λ p. p.posting)) (on-ok c.send.result c.send.ensures.sending (λ p. p.read))
+
+pub returns-then-is_gone-clause-turns : goal.returns-then-is_gone-clause-turns
+returns-then-is_gone-clause-turns c =
+    let ds = c.args.self.now.daemons.items in
+    let x = c.index.result.now in
+    let place = place-of-domain c.args.self.now.broker.hub ds c.args.domain c.requires.number c.requires.ready.posting.count in
+    let there : IsAt ds (c.args.domain - 1) x = record { within = place.0; is = c.index.ensures } in
+    gone-turns c.args.domain ds (c.args.domain - 1) x there place.1 (sym c.is_gone.ensures ∙ c.if-is_gone.true)
+
+pub returns-then-not-there-clause-turns : goal.returns-then-not-there-clause-turns
+returns-then-not-there-clause-turns c =
+    on-ok c.drop_domain.result c.drop_domain.ensures.steps
+    (λ drop. drop-turns c.args.domain c.in_ok-there.there c.args.self.now.daemons.items c.listen.new.self.daemons.items c.hear.new.self.daemons.items c.drop_domain.new.self.daemons.items c.in_ok-there.ensures.steps c.in_ok-hear.ensures.steps drop)
+
+pub returns-then-not-is_fine-clause-turns : goal.returns-then-not-is_fine-clause-turns
+returns-then-not-is_fine-clause-turns c =
+    on-ok c.drop_domain-then-not-is_fine.result c.drop_domain-then-not-is_fine.ensures.steps
+    (λ drop.
+    drop-turns c.args.domain c.in_ok-there.there c.args.self.now.daemons.items c.listen.new.self.daemons.items c.hear.new.self.daemons.items c.drop_domain-then-not-is_fine.new.self.daemons.items c.in_ok-there.ensures.steps
+    c.in_ok-hear.ensures.steps drop)
+
+pub returns-clause-turns : goal.returns-clause-turns
+returns-clause-turns c =
+    let up : c.in_ok-there.there ≡ true = cc in
+    on-ok c.send.result c.send.ensures.steps
+    (λ sends.
+    send-turns c.args.domain c.args.self.now.daemons.items c.listen.new.self.daemons.items c.hear.new.self.daemons.items c.send.new.self.daemons.items
+    (subst (λ (b : Bool). EachMoves (Steps c.args.domain (ListensAsTold b)) c.args.self.now.daemons.items c.listen.new.self.daemons.items) up c.in_ok-there.ensures.steps) c.in_ok-hear.ensures.steps sends)

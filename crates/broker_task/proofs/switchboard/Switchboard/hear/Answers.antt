@@ -10,6 +10,9 @@ use Rattle.broker_task.specs.Letters.{IsAt}
 use Rattle.broker_task.specs.Lines.{HandsOut}
 use Rattle.broker_task.specs.Posting.{IsHearing}
 use Rattle.broker_task.proofs.HearingSteps.{place-of-domain, next-moves, posting-next, own-event, hearing-next, left-falls, ends-none, ends-next, ends-decided}
+use Rattle.std.proofs.Math.ListN.{set}
+use Rattle.broker_task.specs.Moving.{Decides, StandsBy}
+use Rattle.broker_task.proofs.MovingLaws.{steps-self, steps-then, steps-by, decides-self, decides-by, decides-next}
 use Rattle.broker_task.proofs.switchboard.Switchboard.hear.Goals as goal
 
 pub decide-requires-clause-posting : goal.decide-requires-clause-posting
@@ -31,7 +34,7 @@ returns-clause-posting c =
     (next-moves (c.args.domain - 1 + 1) c.index_mut.result.now c.next.new.self c.next.ensures.port c.next.ensures.end c.next.ensures.line (λ said h. c.next.ensures.said said h)) inv.posting
 
 pub loop-event-init : goal.loop-event-init
-loop-event-init c = record { hub = refl; posting = c.requires.posting; hearing = c.requires.hearing; ends = ends-none c.args.self.now.daemons.items }
+loop-event-init c = record { hub = refl; posting = c.requires.posting; hearing = c.requires.hearing; ends = ends-none c.args.self.now.daemons.items; steps = steps-self c.args.domain Decides c.args.self.now.daemons.items (λ i x at here. decides-self x) }
 
 pub loop-event-smaller : goal.loop-event-smaller
 loop-event-smaller c =
@@ -64,6 +67,9 @@ loop-event-preserved c =
           (λ es reads. subst (λ o. HandsOut y es o) c.in-Some.is (c.in_ok-event.ensures.hands es reads)) c.decide.ensures.ports inv.hearing);
       ends = ends-decided c.args.self.now.daemons.items _ c.decide.new.self.daemons.items
           (ends-next c.args.self.now.daemons.items c.loop-event.self.daemons.items i x y inv.ends there c.next.ensures.port c.next.ensures.end) c.decide.ensures.ports;
+      steps = steps-then c.args.domain Decides StandsBy Decides c.args.self.now.daemons.items (set c.loop-event.self.daemons.items i y) c.decide.new.self.daemons.items (λ a b z s by. decides-by a b z s by)
+          (decides-next c.args.domain c.args.self.now.daemons.items c.loop-event.self.daemons.items i x y inv.steps there place.1 c.next.ensures.port c.next.ensures.end)
+          (steps-by c.args.domain (set c.loop-event.self.daemons.items i y) c.decide.new.self.daemons.items c.in_ok-decide.ensures.by);
     }
 
 pub returns-clause-ends : goal.returns-clause-ends
@@ -89,3 +95,11 @@ returns-in_err-decide-clause-ends c =
     let place = place-of-domain c.loop-event.self.broker.hub c.loop-event.self.daemons.items c.args.domain there_is inv.posting.count in
     let there : IsAt c.loop-event.self.daemons.items (c.args.domain - 1) c.index_mut.result.now = record { within = place.0; is = c.index_mut.ensures.value } in
     ends-decided c.args.self.now.daemons.items _ c.decide.new.self.daemons.items (ends-next c.args.self.now.daemons.items c.loop-event.self.daemons.items (c.args.domain - 1) c.index_mut.result.now c.next.new.self inv.ends there c.next.ensures.port c.next.ensures.end) c.decide.ensures.ports
+
+pub returns-clause-steps : goal.returns-clause-steps
+returns-clause-steps c =
+    let inv = c.loop-event.invariant in
+    let there_is = subst (λ (h : Domains). is_domain h c.args.domain ≡ true) (sym inv.hub) c.requires.number in
+    let place = place-of-domain c.loop-event.self.broker.hub c.loop-event.self.daemons.items c.args.domain there_is inv.posting.count in
+    let there : IsAt c.loop-event.self.daemons.items (c.args.domain - 1) c.index_mut.result.now = record { within = place.0; is = c.index_mut.ensures.value } in
+    decides-next c.args.domain c.args.self.now.daemons.items c.loop-event.self.daemons.items (c.args.domain - 1) c.index_mut.result.now c.next.new.self inv.steps there place.1 c.next.ensures.port c.next.ensures.end

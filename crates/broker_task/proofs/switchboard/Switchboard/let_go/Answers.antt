@@ -7,6 +7,8 @@ use Rattle.broker_task.proofs.HearingSteps.{place-of-domain}
 use Rattle.broker_task.proofs.PostLaws.{moves-none}
 use Rattle.broker_task.proofs.SendingSteps.{moves-alone}
 use Rattle.broker_task.proofs.ReleaseSteps.{sending-released, same-one, same-let-go, same-daemon, waiting-released}
+use Rattle.broker_task.specs.Moving.{StandsBy}
+use Rattle.broker_task.proofs.MovingLaws.{by-alone, by-self}
 use Rattle.broker_task.proofs.switchboard.Switchboard.let_go.Goals as goal
 
 pub returns-in-Exec-clause-sending : goal.returns-in-Exec-clause-sending
@@ -51,3 +53,18 @@ returns-in_default-clause-sending c = c.requires.0
 
 pub returns-in_default-clause-same : goal.returns-in_default-clause-same
 returns-in_default-clause-same c = moves-none (λ d. IsSameDaemon) c.args.self.now.daemons.items (λ d x. same-daemon x)
+
+pub returns-in-Exec-clause-by : goal.returns-in-Exec-clause-by
+returns-in-Exec-clause-by c =
+    let hub = c.args.self.now.broker.hub in
+    let ds = c.args.self.now.daemons.items in
+    let f = c.in-Exec.caller in
+    let gone = subst (λ (m : Message). HasGone hub c.args.domain c.args.self.now.broker.journal ds m) c.in-Exec.is c.requires in
+    let place = place-of-domain hub ds f gone.2 gone.0.posting.count in
+    let x = c.index_mut.result.now in
+    let there : IsAt ds (f - 1) x = record { within = place.0; is = c.index_mut.ensures.value } in
+    let lets : LetsGo c.args.domain (Some c.in-Exec.port) x (record x { outbox = c.release_call.new.self }) = record { port = refl; domain = refl; awaited = refl; counted = refl; letters = c.release_call.ensures } in
+    by-alone c.args.domain f (Some c.in-Exec.port) ds _ (moves-alone f (LetsGo c.args.domain (Some c.in-Exec.port)) ds (f - 1) x _ there place.1 lets)
+
+pub returns-in_default-clause-by : goal.returns-in_default-clause-by
+returns-in_default-clause-by c = moves-none (λ d. StandsBy) c.args.self.now.daemons.items (λ d x. by-self x)

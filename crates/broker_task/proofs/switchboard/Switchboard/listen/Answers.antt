@@ -4,7 +4,17 @@ use Rattle.broker_task.proofs.PostLaws.{on-ok}
 use Rattle.broker_task.proofs.HearingSteps.{place-of-domain}
 use Rattle.broker_task.proofs.ReleaseSteps.{same-one}
 use Rattle.broker_task.proofs.RoundSteps.{listened}
+use Rattle.broker_task.proofs.KeepingSteps.{keeps-one}
+use Rattle.broker_task.proofs.MovingLaws.{listens-moves}
 use Rattle.broker_task.proofs.switchboard.Switchboard.listen.Goals as goal
+
+pub returns-clause-kept : goal.returns-clause-kept
+returns-clause-kept c =
+    let ds = c.args.self.now.daemons.items in
+    let x = c.index_mut.result.now in
+    let place = place-of-domain c.args.self.now.broker.hub ds c.args.domain c.requires.number c.requires.ready.posting.count in
+    let there : IsAt ds (c.args.domain - 1) x = record { within = place.0; is = c.index_mut.ensures.value } in
+    keeps-one ds (c.args.domain - 1) x c.listen.new.self there c.listen.ensures.kept
 
 pub returns-clause-listened : goal.returns-clause-listened
 returns-clause-listened c =
@@ -25,3 +35,11 @@ returns-clause-same c =
     let place = place-of-domain s.broker.hub ds c.args.domain c.requires.number c.requires.ready.posting.count in
     let there : IsAt ds (c.args.domain - 1) x = record { within = place.0; is = c.index_mut.ensures.value } in
     on-ok c.listen.result c.listen.ensures.same (λ same. same-one ds (c.args.domain - 1) x c.listen.new.self there same)
+
+pub returns-clause-steps : goal.returns-clause-steps
+returns-clause-steps c =
+    let ds = c.args.self.now.daemons.items in
+    let x = c.index_mut.result.now in
+    let place = place-of-domain c.args.self.now.broker.hub ds c.args.domain c.requires.number c.requires.ready.posting.count in
+    let there : IsAt ds (c.args.domain - 1) x = record { within = place.0; is = c.index_mut.ensures.value } in
+    listens-moves c.listen.result c.args.domain ds (c.args.domain - 1) x c.listen.new.self there place.1 c.listen.ensures.listens

@@ -8,7 +8,34 @@ use Rattle.broker_task.specs.Posting.{IsSending, waiting_in}
 use Rattle.broker_task.proofs.HearingSteps.{place-of-domain}
 use Rattle.broker_task.proofs.SendingSteps.{Sends, gone-one}
 use Rattle.broker_task.proofs.ReleaseSteps.{sending-moves, waiting-sent, same-one, same-moves, idle-posting}
+use Rattle.broker_task.proofs.KeepingSteps.{keeps-one, keeps-all, keeps-daemons}
+use Rattle.std.proofs.Common.{Option}
+use Rattle.std.specs.Prelude.{is_some}
+use Rattle.qrexec_frame.specs.declared.message.Message.{Message}
+use Rattle.broker_task.specs.Moving.{StandsBy, SendsAsTold, SendsMore, SendsOrNot}
+use Rattle.broker_task.proofs.MovingLaws.{steps-one, steps-then, steps-by, sends-by}
 use Rattle.broker_task.proofs.switchboard.Switchboard.send_one.Goals as goal
+
+pub returns-in_err-message-clause-kept : goal.returns-in_err-message-clause-kept
+returns-in_err-message-clause-kept c =
+    let place = place-of-domain c.args.self.now.broker.hub c.args.self.now.daemons.items c.args.domain c.requires.number c.requires.sending.posting.count in
+    let there : IsAt c.args.self.now.daemons.items (c.args.domain - 1) c.index_mut.result.now = record { within = place.0; is = c.index_mut.ensures.value } in
+    keeps-one c.args.self.now.daemons.items (c.args.domain - 1) c.index_mut.result.now c.send.new.self there c.send.ensures.kept
+
+pub returns-in-None-clause-kept : goal.returns-in-None-clause-kept
+returns-in-None-clause-kept c =
+    let place = place-of-domain c.args.self.now.broker.hub c.args.self.now.daemons.items c.args.domain c.requires.number c.requires.sending.posting.count in
+    let there : IsAt c.args.self.now.daemons.items (c.args.domain - 1) c.index_mut.result.now = record { within = place.0; is = c.index_mut.ensures.value } in
+    keeps-one c.args.self.now.daemons.items (c.args.domain - 1) c.index_mut.result.now c.send.new.self there c.send.ensures.kept
+
+pub returns-in-Some-clause-kept : goal.returns-in-Some-clause-kept
+returns-in-Some-clause-kept c =
+    let place = place-of-domain c.args.self.now.broker.hub c.args.self.now.daemons.items c.args.domain c.requires.number c.requires.sending.posting.count in
+    let there : IsAt c.args.self.now.daemons.items (c.args.domain - 1) c.index_mut.result.now = record { within = place.0; is = c.index_mut.ensures.value } in
+    let mid = set c.args.self.now.daemons.items (c.args.domain - 1) c.send.new.self in
+    keeps-all c.args.self.now.daemons.items mid c.let_go.new.self.daemons.items
+    (keeps-one c.args.self.now.daemons.items (c.args.domain - 1) c.index_mut.result.now c.send.new.self there c.send.ensures.kept)
+    (keeps-daemons mid c.let_go.new.self.daemons.items c.let_go.ensures.same)
 
 pub let_go-requires : goal.let_go-requires
 let_go-requires c =
@@ -80,3 +107,28 @@ returns-in-None-clause-same c =
     let place = place-of-domain c.args.self.now.broker.hub c.args.self.now.daemons.items c.args.domain c.requires.number c.requires.sending.posting.count in
     let there : IsAt c.args.self.now.daemons.items (c.args.domain - 1) c.index_mut.result.now = record { within = place.0; is = c.index_mut.ensures.value } in
     same-one c.args.self.now.daemons.items (c.args.domain - 1) c.index_mut.result.now c.send.new.self there c.in_ok-message.ensures.same.0
+
+pub returns-in-Some-clause-steps : goal.returns-in-Some-clause-steps
+returns-in-Some-clause-steps c =
+    let p = c.requires.sending in
+    let ds = c.args.self.now.daemons.items in
+    let i = c.args.domain - 1 in
+    let x = c.index_mut.result.now in
+    let y = c.send.new.self in
+    let place = place-of-domain c.args.self.now.broker.hub ds c.args.domain c.requires.number p.posting.count in
+    let there : IsAt ds i x = record { within = place.0; is = c.index_mut.ensures.value } in
+    let more = subst (λ (o : Option Message). SendsAsTold (is_some o) x y) c.in-Some.is c.in_ok-message.ensures.moves in
+    let mid = set ds i y in
+    steps-then c.args.domain SendsMore StandsBy SendsMore ds mid c.let_go.new.self.daemons.items (λ a b z s by. sends-by a b z s by) (steps-one c.args.domain SendsMore ds i x y there place.1 more)
+    (steps-by c.args.domain mid c.let_go.new.self.daemons.items c.let_go.ensures.by)
+
+pub returns-in-None-clause-steps : goal.returns-in-None-clause-steps
+returns-in-None-clause-steps c =
+    let p = c.requires.sending in
+    let ds = c.args.self.now.daemons.items in
+    let i = c.args.domain - 1 in
+    let x = c.index_mut.result.now in
+    let y = c.send.new.self in
+    let place = place-of-domain c.args.self.now.broker.hub ds c.args.domain c.requires.number p.posting.count in
+    let there : IsAt ds i x = record { within = place.0; is = c.index_mut.ensures.value } in
+    steps-one c.args.domain SendsOrNot ds i x y there place.1 (subst (λ (o : Option Message). SendsAsTold (is_some o) x y) c.in-None.is c.in_ok-message.ensures.moves)

@@ -11,6 +11,7 @@ use Rattle.data_slots.proofs.ListLaws.{get-map}
 use Rattle.data_slots.proofs.OpenedLaws.{late-set, opened-more}
 use Rattle.data_slots.proofs.WholeLaws.{IsPutTo, begins-serving, frames-set, held-set, is-shut, unused-now}
 use Rattle.data_slots.proofs.BeginLaws.{is-free, free-client, same-state, serving-used}
+use Rattle.data_slots.proofs.SessionLaws.{keeps-sessions}
 use Rattle.data_slots.proofs.ends.Ends.serve.Goals as goal
 
 pub serve-requires-clause-unused : goal.serve-requires-clause-unused
@@ -45,7 +46,7 @@ returns-clause-ok c =
     let told : SessionOver = record { domain = c.args.from; port = c.args.port; number = None } in
     let tells : told_of (place_of c.index_mut.result.now) used ≡ Some told = ap (λ p. told_of p used) free.lies in
     let busy : c.push_within.new.list.items ≡ e.busy.items ++ c.in-Some.at ∷ [] = c.push_within.ensures.items ∙ ap (λ b. b ++ c.in-Some.at ∷ []) c.in_ok-reserve.ensures.items in
-    same-state e.domain e.version _ _ _ _ _ _ _ _ _ _ _ _ false
+    same-state e.domain e.version _ _ _ _ _ _ _ _ _ _ _ _ _ _ false
     (held-set e.slots.items c.in-Some.at c.index_mut.result.now c.serve.new.self free.here (ap (λ f. f.held) c.serve.ensures.frame))
     (unused-now e.slots.items e.index c.in-Some.at c.args.from e.domain c.args.port c.index_mut.result.now c.serve.new.self used c.requires.whole.indexed free.here free.lies free.unused
     (serving-used c.len-number.result c.of-seen.result.value) c.serve.ensures.frame)
@@ -57,3 +58,10 @@ returns-clause-ok c =
     ∙ (ap (λ b. opened_in (set (frames e.slots.items) c.in-Some.at (record (frame_of c.index_mut.result.now) { used = used })) b) busy
     ∙ opened-more (frames e.slots.items) (sessions e.slots.items) e.busy.items c.in-Some.at (frame_of c.index_mut.result.now) (record (frame_of c.index_mut.result.now) { used = used }) told c.requires.whole.are_open
     (get-map (λ (s : Slot). is_session s.stage) e.slots.items c.in-Some.at c.index_mut.result.now free.here ∙ ap Some (is-shut c.index_mut.result.now.stage free.unused)) here tells))
+    refl
+
+pub returns-clause-kept : goal.returns-clause-kept
+returns-clause-kept c =
+    let e = c.args.self.now in
+    let free = is-free e.slots.items c.in-Some.at (Payload c.args.from e.domain c.args.port) c.index_mut.result.now (subst (λ ss. IsUsedAt (frames ss) c.in-Some.at (Payload c.args.from e.domain c.args.port) ForNothing) c.deref.ensures.value c.in-Some.ensures.found) c.index_mut.ensures.value in
+    keeps-sessions e.slots.items c.in-Some.at c.index_mut.result.now c.serve.new.self free.here (is-shut c.index_mut.result.now.stage free.unused)

@@ -1,13 +1,15 @@
-use Rattle.std.proofs.Common.{◌≡◌, ap, sym, ◌∙◌, subst, ◌∷◌, [], refl, arith, set}
+use Rattle.std.proofs.Common.{◌≡◌, ap, sym, ◌∙◌, subst, ◌∷◌, [], refl, arith, set, get_or, drop}
 use Rattle.std.specs.Prelude.{false, is_none, Some, IfSome, IsPermutation}
 use Rattle.std.specs.List.{swap_remove}
 use Rattle.data_slots.specs.Stages.{CanRetire, IsStage, told_of, place_of, use_of, frame_of}
-use Rattle.data_slots.specs.Whole.{AreWhole, frames, unused_in, late_in, opened_in, state_of}
+use Rattle.data_slots.specs.Whole.{AreWhole, TakesFrom, frames, unused_in, late_in, opened_in, state_of}
 use Rattle.data_slots.proofs.ListLaws.{each-get, get-map, map-set-same, same-read}
 use Rattle.data_slots.proofs.OpenedLaws.{opened-less}
 use Rattle.data_slots.proofs.WholeLaws.{held-set}
 use Rattle.data_slots.proofs.BeginLaws.{same-state}
 use Rattle.data_slots.proofs.TurnLaws.{busy-within, busy-slot, can-turn, turns-on, turns-over, tells-begun, tells-none}
+use Rattle.data_slots.specs.Sessions.{sessions_in, OneTakesTurn}
+use Rattle.data_slots.proofs.SessionLaws.{one-takes, read-at, takes-next, takes-removed}
 use Rattle.data_slots.proofs.ends.Ends.turn_one.Goals as goal
 
 pub index_mut-requires : goal.index_mut-requires
@@ -46,9 +48,9 @@ returns-in_default-clause-turned c =
     record {
       whole = turns-on e.domain e.version e.slots.items e.index e.busy.items e.calls.items e.served.items c.index-at.result.now slot c.turn.new.self c.requires.whole is c.turn.ensures.frame
           (c.in_ok-told.ensures.stage e.version was) (c.in_ok-told.ensures.session ∙ ap is_none c.in_default.is);
-      state = same-state e.domain e.version _ _ _ _ _ _ _ _ _ _ _ _ false
+      state = same-state e.domain e.version _ _ _ _ _ _ _ _ _ _ _ _ _ _ false
           (held-set e.slots.items c.index-at.result.now slot c.turn.new.self is.here (ap (λ f. f.held) c.turn.ensures.frame))
-          (ap unused_in frames_are) (ap late_in frames_are) refl refl refl;
+          (ap unused_in frames_are) (ap late_in frames_are) refl refl refl refl;
       told = tells-none (state_of e false) (opened_in (frames (set e.slots.items c.index-at.result.now c.turn.new.self)) e.busy.items) c.args.over.now.items (ap (λ fs. opened_in fs e.busy.items) frames_are);
     }
 
@@ -79,9 +81,9 @@ returns-clause-turned c =
     let less = opened-less (frames e.slots.items) e.busy.items c.args.next at (frame_of slot) c.in-Some.told c.requires.next c.index-at.ensures (get-map frame_of e.slots.items at slot is.here) tells in
     record {
       whole = subst (λ b. AreWhole e.domain e.version (set e.slots.items at c.turn.new.self) e.index b e.calls.items e.served.items) (sym removed) whole;
-      state = same-state e.domain e.version _ _ _ _ _ _ _ _ _ _ _ _ false
+      state = same-state e.domain e.version _ _ _ _ _ _ _ _ _ _ _ _ _ _ false
           (held-set e.slots.items at slot c.turn.new.self is.here (ap (λ f. f.held) c.turn.ensures.frame))
-          (ap unused_in frames_are) (ap late_in frames_are) refl refl refl;
+          (ap unused_in frames_are) (ap late_in frames_are) refl refl refl refl;
       told = (
         c.in-Some.told ∷ [],
         c.in_ok-push.ensures.items,
@@ -96,3 +98,29 @@ returns-clause-same c =
     let e = c.args.self.now in
     let is = busy-slot e.slots.items e.busy.items c.args.next c.index-at.result.now c.index_mut.result.now c.requires.whole.are_open c.requires.next c.index-at.ensures c.index_mut.ensures.value in
     (held-set e.slots.items c.index-at.result.now c.index_mut.result.now c.turn.new.self is.here (ap (λ f. f.held) c.turn.ensures.frame), refl, refl)
+
+pub returns-in_default-clause-turns : goal.returns-in_default-clause-turns
+returns-in_default-clause-turns c =
+    let e = c.args.self.now in
+    let at = c.index-at.result.now in
+    let slot = c.index_mut.result.now in
+    let is = busy-slot e.slots.items e.busy.items c.args.next at slot c.requires.whole.are_open c.requires.next c.index-at.ensures c.index_mut.ensures.value in
+    subst (λ n. OneTakesTurn n (sessions_in e.slots.items) (sessions_in (set e.slots.items at c.turn.new.self))) (read-at e.busy.items c.args.next at c.requires.next c.index-at.ensures)
+    (one-takes e.slots.items at slot c.turn.new.self is.here c.in_ok-told.ensures.turns)
+
+pub returns-clause-turns : goal.returns-clause-turns
+returns-clause-turns c =
+    let e = c.args.self.now in
+    let at = c.index-at.result.now in
+    let slot = c.index_mut.result.now in
+    let is = busy-slot e.slots.items e.busy.items c.args.next at slot c.requires.whole.are_open c.requires.next c.index-at.ensures c.index_mut.ensures.value in
+    subst (λ n. OneTakesTurn n (sessions_in e.slots.items) (sessions_in (set e.slots.items at c.turn.new.self))) (read-at e.busy.items c.args.next at c.requires.next c.index-at.ensures)
+    (one-takes e.slots.items at slot c.turn.new.self is.here c.in_ok-told.ensures.turns)
+
+pub returns-in_default-clause-ahead : goal.returns-in_default-clause-ahead
+returns-in_default-clause-ahead c = takes-next c.args.self.now.busy.items c.args.next c.requires.next
+
+pub returns-clause-ahead : goal.returns-clause-ahead
+returns-clause-ahead c =
+    let busy = c.args.self.now.busy.items in
+    subst (λ b. TakesFrom (get_or busy c.args.next 0) (drop c.args.next busy) (drop c.args.next b)) (sym c.swap_remove.ensures.items) (takes-removed busy c.args.next _ c.requires.next)

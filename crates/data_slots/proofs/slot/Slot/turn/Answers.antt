@@ -2,6 +2,9 @@ use Rattle.std.proofs.Common.{◌≡◌, ap, sym, ◌∙◌, subst, Some}
 use Rattle.task_duties.specs.declared.place.PagePlace.TheVariants.{Payload}
 use Rattle.data_slots.specs.Stages.{Frame, told_of, framed, IsStage}
 use Rattle.data_slots.specs.declared.slot.Stage.{Stage}
+use Rattle.std.specs.Prelude.{IfNone}
+use Rattle.data_slots.specs.Sessions.{TakesTurn, IsOver, session_of}
+use Rattle.data_slots.proofs.SessionLaws.{turn-open, not-open}
 use Rattle.data_slots.proofs.slot.Slot.turn.Goals as goal
 
 pub returns-in_err-turn-clause-frame : goal.returns-in_err-turn-clause-frame
@@ -36,3 +39,11 @@ pub returns-in-Some-clause-told : goal.returns-in-Some-clause-told
 returns-in-Some-clause-told c =
     let place = Payload c.args.self.now.from c.args.self.now.to c.args.self.now.port in
     subst (λ (f : Frame). told_of place f.used ≡ Some c.told-told.result) (c.turn.ensures.frame place) c.told-told.ensures
+
+pub returns-else-is_abandoned-clause-turns : goal.returns-else-is_abandoned-clause-turns
+returns-else-is_abandoned-clause-turns c =
+    let old = c.args.self.now.stage in
+    subst (λ s. TakesTurn (session_of old) (session_of s)) (sym c.is_abandoned.ensures) (subst (λ o. IfNone o (TakesTurn (session_of old) (session_of c.turn.new.self))) c.in-None.is c.in_ok-turn.ensures.turns)
+
+pub returns-in-Some-clause-turns : goal.returns-in-Some-clause-turns
+returns-in-Some-clause-turns c = IsOver (turn-open c.args.self.now.stage c.requires.open) (not-open c.finish.result c.finish.ensures.session)

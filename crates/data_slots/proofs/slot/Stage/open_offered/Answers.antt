@@ -1,6 +1,7 @@
 use Rattle.std.proofs.Common.{ap, sym, ◌∙◌, subst}
 use Rattle.data_slots.specs.declared.slot.Stage.{Stage}
 use Rattle.data_slots.specs.Stages.{framed, IsStage}
+use Rattle.data_slots.specs.Sessions.{Begins, session_of}
 use Rattle.data_slots.proofs.slot.Stage.open_offered.Goals as goal
 
 pub returns-clause-frame : goal.returns-clause-frame
@@ -10,3 +11,6 @@ pub returns-clause-stage : goal.returns-clause-stage
 returns-clause-stage c = λ version stage.
     let P : Stage → Type 0 = IsStage version in
     c.opened.ensures.stage version (subst P (sym c.replace-stage.ensures.value) stage)
+
+pub returns-clause-begins : goal.returns-clause-begins
+returns-clause-begins c = subst (λ s. Begins (session_of s) (session_of c.opened.result)) c.replace-stage.ensures.value c.opened.ensures.begins

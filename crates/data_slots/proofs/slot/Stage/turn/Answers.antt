@@ -5,6 +5,8 @@ use Rattle.data_slots.specs.Slots.{Held}
 use Rattle.data_slots.specs.Sides.{is_late_side}
 use Rattle.data_slots.specs.Stages.{ForCall, ForServing, Frame, framed, IsStage}
 use Rattle.data_slots.proofs.SideLaws.{same-held, calls-on, serves-on}
+use Rattle.data_slots.specs.Sessions.{Begins, TakesTurn, session_of}
+use Rattle.data_slots.proofs.SessionLaws.{call-takes, serving-takes, page-takes, told-then}
 use Rattle.data_slots.proofs.slot.Stage.turn.Goals as goal
 
 pub returns-in-Calls-clause-frame : goal.returns-in-Calls-clause-frame
@@ -30,3 +32,18 @@ returns-in-Serves-clause-stage c = λ version stage.
     let P : Stage → Type 0 = IsStage version in
     serves-on version c.in-Serves.number c.in-Serves.service c.in-Serves.side c.in-Serves.session c.turn_serving.new.session c.turn_serving.result
     c.turn_serving.ensures.own c.turn_serving.ensures.work c.turn_serving.ensures.answering (subst P c.in-Serves.is (c.open_offered.ensures.stage version stage))
+
+pub returns-in-Calls-clause-turns : goal.returns-in-Calls-clause-turns
+returns-in-Calls-clause-turns c =
+    let began = subst (λ s. Begins (session_of c.args.self.now) (session_of s)) c.in-Calls.is c.open_offered.ensures.begins in
+    told-then c.turn_caller.result _ _ (call-takes (session_of c.args.self.now) c.in-Calls.session c.turn_caller.new.session began) c.turn_caller.ensures.turns
+
+pub returns-in-Serves-clause-turns : goal.returns-in-Serves-clause-turns
+returns-in-Serves-clause-turns c =
+    let began = subst (λ s. Begins (session_of c.args.self.now) (session_of s)) c.in-Serves.is c.open_offered.ensures.begins in
+    told-then c.turn_serving.result _ _ (serving-takes (session_of c.args.self.now) c.in-Serves.session c.turn_serving.new.session began) c.turn_serving.ensures.turns
+
+pub returns-in-Awaits-clause-turns : goal.returns-in-Awaits-clause-turns
+returns-in-Awaits-clause-turns c =
+    let began = subst (λ s. Begins (session_of c.args.self.now) (session_of s)) c.in-Awaits.is c.open_offered.ensures.begins in
+    subst (λ s. TakesTurn (session_of c.args.self.now) (session_of s)) (sym c.in-Awaits.is) (page-takes (session_of c.args.self.now) began)

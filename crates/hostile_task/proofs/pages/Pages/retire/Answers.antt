@@ -13,7 +13,7 @@ loop-page-init c = record {
   left = grind (arith, common_steps);
   room = grind (arith, common_steps);
   pairs = subst (λ (ends : List RetiredEnd). EachPair IsRetiredOf (c.args.self.control ∷ []) ends)
-      (sym (c.push_reserved.ensures.items ∙ ap (λ (ends : List RetiredEnd). ends ++ c.retire.result ∷ []) c.in-Ok.ensures.items)) (c.retire.ensures, tt);
+      (sym (c.push_reserved.ensures.items ∙ ap (λ (ends : List RetiredEnd). ends ++ c.retire.result ∷ []) c.requires.empty)) (c.retire.ensures, tt);
 }
 
 pub loop-page-preserved : goal.loop-page-preserved

@@ -14,8 +14,8 @@ pub loop-given-init : goal.loop-given-init
 loop-given-init c = record {
   left = grind (arith, common_steps);
   room = grind (arith, common_steps);
-  laid = subst (Each IsLaid) (sym c.into_iter-given-iterator.ensures.into_iter_gives.0) c.requires;
-  pairs = subst (λ (ps : List TurnedPage). EachPair IsDataTurnedOver [] ps) (sym c.in_ok-turned.ensures.items) tt;
+  laid = subst (Each IsLaid) (sym c.into_iter-given-iterator.ensures.into_iter_gives.0) c.requires.laid;
+  pairs = subst (λ (ps : List TurnedPage). EachPair IsDataTurnedOver [] ps) (sym c.requires.empty) tt;
 }
 
 pub loop-given-preserved : goal.loop-given-preserved

@@ -1,33 +1,36 @@
 -- A task begins with its ends turned over.
-use Rattle.std.proofs.Common.{◌%◌, List, refl, sym, subst, ap}
+use Rattle.std.proofs.Common.{◌%◌, List, refl, sym, subst, ap, arith}
 use Rattle.task_duties.specs.declared.place.PagePlace.{PagePlace}
 use Rattle.hostile_task.specs.declared.progress.Progress.{Progress}
 use Rattle.hostile_task.specs.Plan.{plan_of}
 use Rattle.hostile_task.specs.UnderWay.{IsUnderWay}
 use Rattle.hostile_task.proofs.TurnLaws.{has_done}
 use Rattle.hostile_task.proofs.WayLaws.{with_control}
-use Rattle.hostile_task.proofs.StartLaws.{are_laid, start_way, start_places, start_given}
+use Rattle.hostile_task.proofs.StartLaws.{are_laid, over_count, start_way, start_places, start_given}
 use Rattle.hostile_task.proofs.task.HostileTask.new.Goals as goal
 
 pub invariant_of-result : goal.invariant_of-result
-invariant_of-result c =
-    subst (λ (p : Progress). IsUnderWay c.args.domain (with_control c.in_ok-pages.pages c.load.new.self) p c.new.result.items) (sym c.start.ensures)
-    (start_way c.args.domain c.args.control c.args.payload.items c.in_ok-pages.pages c.load.new.self c.load.result (c.load.result % 4294967296) c.new.result.items
-    c.in_ok-pages.ensures.control c.in_ok-pages.ensures.payload c.requires.control c.requires.payload c.requires.apart c.load.ensures.page c.load.ensures.side refl)
+invariant_of-result c = (
+  subst (λ (p : Progress). IsUnderWay c.args.domain (with_control c.turn-pages.result c.load.new.self) p c.new.result.items) (sym c.start.ensures)
+      (start_way c.args.domain c.args.control c.args.payload.items c.turn-pages.result c.load.new.self c.load.result (c.load.result % 4294967296) c.new.result.items
+      c.turn-pages.ensures.control c.turn-pages.ensures.payload c.requires.control c.requires.payload c.requires.apart c.load.ensures.page c.load.ensures.side refl),
+  c.in-Ok.ensures.items,
+  omega (arith, over_count c.args.payload.items c.turn-pages.result.payload.items c.turn-pages.ensures.payload, c.in-Ok.ensures.capacity, c.len.ensures, c.args.payload.ok.0),
+)
 
 pub returns-clause-plan : goal.returns-clause-plan
 returns-clause-plan c =
-    ap (λ (places : List PagePlace). plan_of c.args.domain places) (start_places c.args.domain c.args.control c.args.payload.items c.in_ok-pages.pages c.in_ok-pages.ensures.control c.in_ok-pages.ensures.payload)
+    ap (λ (places : List PagePlace). plan_of c.args.domain places) (start_places c.args.domain c.args.control c.args.payload.items c.turn-pages.result c.turn-pages.ensures.control c.turn-pages.ensures.payload)
 
 pub returns-clause-ends : goal.returns-clause-ends
-returns-clause-ends c = start_given c.args.domain c.args.control c.args.payload.items c.in_ok-pages.pages c.in_ok-pages.ensures.control c.in_ok-pages.ensures.payload
+returns-clause-ends c = start_given c.args.domain c.args.control c.args.payload.items c.turn-pages.result c.turn-pages.ensures.control c.turn-pages.ensures.payload
 
 pub returns-clause-first : goal.returns-clause-first
 returns-clause-first c = (
   ap (λ (p : Progress). p.acts) c.start.ensures,
   ap (λ (p : Progress). p.turns) c.start.ensures,
-  has_done c.args.domain (with_control c.in_ok-pages.pages c.load.new.self) c.start.result c.new.result.items (invariant_of-result c),
+  has_done c.args.domain (with_control c.turn-pages.result c.load.new.self) c.start.result c.new.result.items (invariant_of-result c).0,
 )
 
-pub turn-requires : goal.turn-requires
-turn-requires c = are_laid c.args.domain c.args.payload.items c.requires.payload
+pub turn-pages-requires-clause-laid : goal.turn-pages-requires-clause-laid
+turn-pages-requires-clause-laid c = are_laid c.args.domain c.args.payload.items c.requires.payload

@@ -1,0 +1,114 @@
+-- What an agent's last call found, after the calls before it.
+use Rattle.std.proofs.Common.{◌≡◌, ℕ, ◌+◌, List, [], ◌∷◌, length, ◌<◌, refl, sym, ap, ◌∙◌, inl, inr, arith, Option, Some, None, Bor, subst}
+use Rattle.std.specs.Prelude.{◌⊎◌, ◌==◌, Bool, true, false, slice_get, slice_set}
+use Rattle.std.specs.Slice.{IsItemAt}
+use Rattle.std.specs.Option.{option_copied}
+use Rattle.vchan_rule.specs.Seated.{SeatedEnd}
+use Rattle.vchan_rule.specs.Ends.{IsSameEnd}
+use Rattle.vchan_packet.specs.Packet.{FailsToSend}
+use Rattle.qrexec_frame.specs.declared.message.Message.{Message}
+use Rattle.qrexec_frame.specs.Messages.{written}
+use Rattle.call_queue.specs.Queue.{Queued, QueueState, HasToSay, HasToSayOfLen}
+use Rattle.call_queue.proofs.Places.{get-within}
+use Rattle.agent_control.specs.declared.control.AgentControl.{AgentControl}
+use Rattle.agent_control.specs.declared.control.SessionEnd.{SessionEnd}
+use Rattle.agent_control.specs.Speaking.{Says, terminated}
+use Rattle.agent_control.specs.Stopping.{FindsLess, EndWaits, TriggerWaits, HoldsBack, NothingIsDue, HasLessRoom, DidNotGo, Stops, AtAnEnd, AtTheLimit, AtATrigger, Unless}
+
+-- no end is borrowed of none
+pub none-of : (items : List SessionEnd) (o : Option (Bor SessionEnd)) → IsItemAt items 0 o → option_copied o ≡ None → items ≡ []
+none-of [] o item none = refl
+none-of (y ∷ items) None item none = absurd (omega (arith, item.3))
+none-of (y ∷ items) (Some x) item none = cc
+
+-- a queue with a length has ends in it
+pub some-wait : (len : ℕ) (items : List SessionEnd) (empty : Bool) → len ≡ length items → empty ≡ (len == 0) → empty ≡ false → items ≡ [] → ⊥
+some-wait len items empty long is not none = bad (sym not ∙ (is ∙ ap (λ n. n == 0) (long ∙ ap length none)))
+  where
+    bad : false ≡ true → ⊥
+    bad e = cc
+
+pub end-waits : (old mid : AgentControl) (e : SessionEnd) (rest : List SessionEnd) → mid.unsaid ≡ old.unsaid → old.unsaid.items ≡ e ∷ rest → FailsToSend (written (terminated e)) old.port.end mid.port.end → EndWaits old mid
+end-waits old mid e rest unsaid first fails = record {
+  end = e;
+  waiting = rest;
+  first = ap (λ u. u.items) unsaid ∙ first;
+  before = old.port.end;
+  same = (refl, refl, refl, refl);
+  fails = fails;
+}
+
+-- there was less room than the trigger takes that is due
+pub has-less-room : (old mid : AgentControl) (w : Message) (version len : ℕ) → old.port.version ≡ Some version → Says old mid w false → HasToSayOfLen old.queue version (Some len) → FindsLess old.port.end mid.port.end len → HoldsBack old mid
+has-less-room old mid w version len v says due finds =
+    HasLessRoom (record {
+      version = version;
+      version_is = says.version ∙ v;
+      trigger = due.0;
+      due = subst (λ q. HasToSay q version (Some due.0)) (sym says.queue) due.1;
+      before = old.port.end;
+      same = (refl, refl, refl, refl);
+      finds = subst (FindsLess old.port.end mid.port.end) due.2 finds;
+    })
+
+pub did-not-go : (old mid : AgentControl) (w : Message) (version : ℕ) → old.port.version ≡ Some version → Says old mid w false → HasToSay old.queue version (Some w) → FailsToSend (written w) old.port.end mid.port.end → HoldsBack old mid
+did-not-go old mid w version v says due fails =
+    DidNotGo (record {
+      version = version;
+      version_is = says.version ∙ v;
+      trigger = w;
+      due = subst (λ q. HasToSay q version (Some w)) (sym says.queue) due;
+      before = old.port.end;
+      same = (refl, refl, refl, refl);
+      finds = fails;
+    })
+
+-- ---- after other calls
+
+same-after : (a b c : SeatedEnd) → IsSameEnd a b → IsSameEnd b c → IsSameEnd a c
+same-after a b c one two = (two.0 ∙ one.0, two.1 ∙ one.1, two.2 ∙ one.2, two.3 ∙ one.3)
+
+pub waits-after : (a b c : AgentControl) → IsSameEnd a.port.end b.port.end → EndWaits b c → EndWaits a c
+waits-after a b c same w = record {
+  end = w.end;
+  waiting = w.waiting;
+  first = w.first;
+  before = w.before;
+  same = same-after a.port.end b.port.end w.before same w.same;
+  fails = w.fails;
+}
+
+-- the first end that waits is there
+pub waits-on : (a b c : AgentControl) → IsSameEnd a.port.end b.port.end → (b.unsaid.items ≡ [] → ⊥) → (b.unsaid.items ≡ []) ⊎ EndWaits b c → EndWaits a c
+waits-on a b c same some (inl none) = absurd (some none)
+waits-on a b c same some (inr w) = waits-after a b c same w
+
+trigger-after : (a b c : AgentControl) (Finds : SeatedEnd → SeatedEnd → Message → Type 0) → IsSameEnd a.port.end b.port.end → TriggerWaits b c Finds → TriggerWaits a c Finds
+trigger-after a b c Finds same w = record {
+  version = w.version;
+  version_is = w.version_is;
+  trigger = w.trigger;
+  due = w.due;
+  before = w.before;
+  same = same-after a.port.end b.port.end w.before same w.same;
+  finds = w.finds;
+}
+
+pub holds-after : (a b c : AgentControl) → IsSameEnd a.port.end b.port.end → HoldsBack b c → HoldsBack a c
+holds-after a b c same (NothingIsDue held) = NothingIsDue held
+holds-after a b c same (HasLessRoom w) = HasLessRoom (trigger-after a b c _ same w)
+holds-after a b c same (DidNotGo w) = DidNotGo (trigger-after a b c (λ before now m. FailsToSend (written m) before now) same w)
+
+pub stops-after : (calls : ℕ) (a b c : AgentControl) → IsSameEnd a.port.end b.port.end → b.queue.next ≡ a.queue.next → Stops calls b c → Stops calls a c
+stops-after calls a b c same next (AtAnEnd w) = AtAnEnd (waits-after a b c same w)
+stops-after calls a b c same next (AtTheLimit none all) = AtTheLimit none (all ∙ ap (λ n. n + calls) next)
+stops-after calls a b c same next (AtATrigger none holds) = AtATrigger none (holds-after a b c same holds)
+
+pub unless-holds : (done : Bool) (a b c : AgentControl) → IsSameEnd a.port.end b.port.end → Unless done (HoldsBack b c) → Unless done (HoldsBack a c)
+unless-holds true a b c same h = tt
+unless-holds false a b c same h = holds-after a b c same h
+
+-- the end of a call's session asks for no trigger
+pub ended-next : (old mid : AgentControl) (queue : QueueState) (place : ℕ) → place < length mid.queue.calls → mid.queue ≡ old.queue
+    → ((c : Queued) → slice_get mid.queue.calls place ≡ Some c → queue ≡ record mid.queue { calls = slice_set mid.queue.calls place (record c { is_open = false }) }) → queue.next ≡ old.queue.next
+ended-next old mid queue place within same is = let at = get-within mid.queue.calls place within in ap (λ (q : QueueState). q.next) (is at.0 at.1) ∙ ap (λ (q : QueueState). q.next) same

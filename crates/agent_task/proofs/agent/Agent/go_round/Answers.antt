@@ -1,0 +1,81 @@
+use Rattle.std.proofs.Common.{◌≡◌, ◌∙◌, ap, refl, sym, subst}
+use Rattle.std.specs.Prelude.{not, None}
+use Rattle.agent_task.specs.declared.agent.Agent.{Agent}
+use Rattle.data_slots.specs.Slots.{SlotsState, late_count}
+use Rattle.agent_task.specs.Standing.{KeepsOpen}
+use Rattle.agent_task.specs.Moving.{Listens, SaysNoMore, TurnsControl, asked_at_most}
+use Rattle.agent_task.proofs.MovingLaws.{over-not-up, turns-control}
+use Rattle.agent_task.proofs.RoundLaws.{running-up}
+use Rattle.agent_task.proofs.SessionLaws.{none-of, keeps-same, turns-each}
+use Rattle.agent_task.proofs.agent.Agent.go_round.Goals as goal
+use Rattle.agent_task.proofs.agent.Agent.go_round.Goals.{then-is_none+in_ok-listen, else-is_none, then-is_none-2+in_ok-say, else-is_none-2}
+
+pub listen-requires-clause-up : goal.listen-requires-clause-up
+listen-requires-clause-up c = running-up c.args.self.now c.requires.running (none-of c.args.self.now.over (c.is_none.ensures ∙ ap not c.if-is_none.true))
+
+pub say-requires : goal.say-requires
+say-requires c = record { up = running-up c.turn_sessions.new.self c.in_ok-moved.ensures.running (none-of c.turn_sessions.new.self.over (c.is_none-2.ensures ∙ ap not c.if-is_none-2.true)) }
+
+pub returns-then-moved-clause-turns : goal.returns-then-moved-clause-turns
+returns-then-moved-clause-turns c =
+    let old = c.args.self.now in
+    let kept : KeepsOpen old c.if-is_none.self = elim c.if-is_none.branch [
+      | then-is_none+in_ok-listen w ↦ subst (λ (a : Agent). KeepsOpen old a) (sym w.self-is) w.in_ok-listen.ensures.kept
+      | else-is_none w ↦ subst (λ (a : Agent). KeepsOpen old a) (sym w.self-is) (keeps-same old old refl)
+    ] in
+    let same : c.if-is_none-2.self.slots ≡ c.turn_sessions.new.self.slots = elim c.if-is_none-2.branch [
+      | then-is_none-2+in_ok-say w ↦ ap (λ (a : Agent). a.slots) w.self-is ∙ w.say.ensures.slots
+      | else-is_none-2 w ↦ ap (λ (a : Agent). a.slots) w.self-is
+    ] in
+    turns-each old c.if-is_none.self c.turn_sessions.new.self c.if-is_none-2.self kept c.in_ok-moved.ensures.turns same
+
+pub returns-else-moved-clause-turns : goal.returns-else-moved-clause-turns
+returns-else-moved-clause-turns c =
+    let old = c.args.self.now in
+    let kept : KeepsOpen old c.if-is_none.self = elim c.if-is_none.branch [
+      | then-is_none+in_ok-listen w ↦ subst (λ (a : Agent). KeepsOpen old a) (sym w.self-is) w.in_ok-listen.ensures.kept
+      | else-is_none w ↦ subst (λ (a : Agent). KeepsOpen old a) (sym w.self-is) (keeps-same old old refl)
+    ] in
+    let same : c.if-is_none-2.self.slots ≡ c.turn_sessions.new.self.slots = elim c.if-is_none-2.branch [
+      | then-is_none-2+in_ok-say w ↦ ap (λ (a : Agent). a.slots) w.self-is ∙ w.say.ensures.slots
+      | else-is_none-2 w ↦ ap (λ (a : Agent). a.slots) w.self-is
+    ] in
+    turns-each old c.if-is_none.self c.turn_sessions.new.self c.if-is_none-2.self kept c.in_ok-moved.ensures.turns same
+
+pub returns-then-moved-clause-control : goal.returns-then-moved-clause-control
+returns-then-moved-clause-control c =
+    let old = c.args.self.now in
+    let mid = c.if-is_none.self in
+    let turned = c.turn_sessions.new.self in
+    let listens : mid.over ≡ None → Listens old.control.port mid.control.port.end = elim c.if-is_none.branch [
+      | then-is_none+in_ok-listen w ↦ subst (λ (a : Agent). a.over ≡ None → Listens old.control.port a.control.port.end) (sym w.self-is) w.in_ok-listen.ensures.listens
+      | else-is_none w ↦ λ up. over-not-up _ old.over (c.is_none.ensures ∙ ap not w.if-is_none.false) (sym (ap (λ (a : Agent). a.over) w.self-is) ∙ up)
+    ] in
+    elim c.if-is_none-2.branch [
+      | then-is_none-2+in_ok-say w ↦
+          subst (λ (a : Agent). a.over ≡ None → TurnsControl (asked_at_most (late_count a.slots)) old.control a.control) (sym w.self-is)
+          (turns-control old mid turned w.say.new.self (asked_at_most (late_count w.say.new.self.slots)) listens c.turn_sessions.ensures.same
+          (subst (λ (s : SlotsState). SaysNoMore (asked_at_most (late_count s)) turned.control w.say.new.self.control) (sym w.say.ensures.slots) w.in_ok-say.ensures.says) w.say.ensures.same.1)
+      | else-is_none-2 w ↦
+          subst (λ (a : Agent). a.over ≡ None → TurnsControl (asked_at_most (late_count a.slots)) old.control a.control) (sym w.self-is)
+          (λ up. over-not-up _ turned.over (c.is_none-2.ensures ∙ ap not w.if-is_none-2.false) up)
+    ]
+
+pub returns-else-moved-clause-control : goal.returns-else-moved-clause-control
+returns-else-moved-clause-control c =
+    let old = c.args.self.now in
+    let mid = c.if-is_none.self in
+    let turned = c.turn_sessions.new.self in
+    let listens : mid.over ≡ None → Listens old.control.port mid.control.port.end = elim c.if-is_none.branch [
+      | then-is_none+in_ok-listen w ↦ subst (λ (a : Agent). a.over ≡ None → Listens old.control.port a.control.port.end) (sym w.self-is) w.in_ok-listen.ensures.listens
+      | else-is_none w ↦ λ up. over-not-up _ old.over (c.is_none.ensures ∙ ap not w.if-is_none.false) (sym (ap (λ (a : Agent). a.over) w.self-is) ∙ up)
+    ] in
+    elim c.if-is_none-2.branch [
+      | then-is_none-2+in_ok-say w ↦
+          subst (λ (a : Agent). a.over ≡ None → TurnsControl (asked_at_most (late_count a.slots)) old.control a.control) (sym w.self-is)
+          (turns-control old mid turned w.say.new.self (asked_at_most (late_count w.say.new.self.slots)) listens c.turn_sessions.ensures.same
+          (subst (λ (s : SlotsState). SaysNoMore (asked_at_most (late_count s)) turned.control w.say.new.self.control) (sym w.say.ensures.slots) w.in_ok-say.ensures.says) w.say.ensures.same.1)
+      | else-is_none-2 w ↦
+          subst (λ (a : Agent). a.over ≡ None → TurnsControl (asked_at_most (late_count a.slots)) old.control a.control) (sym w.self-is)
+          (λ up. over-not-up _ turned.over (c.is_none-2.ensures ∙ ap not w.if-is_none-2.false) up)
+    ]

@@ -1,0 +1,28 @@
+use Rattle.std.proofs.Common.{◌∙◌, ap, sym, subst}
+use Rattle.vchan_rule.specs.Seated.{SeatedEnd, IsOpen}
+use Rattle.agent_control.specs.declared.control.AgentControl.{AgentControl}
+use Rattle.agent_task.specs.Moving.{Listens}
+use Rattle.agent_task.proofs.MovingLaws.{listens-by}
+use Rattle.agent_task.proofs.PortLaws.{same-end-is}
+use Rattle.agent_task.proofs.RoundLaws.{still-rests}
+use Rattle.agent_task.proofs.agent.Agent.listen.Goals as goal
+
+pub returns-in_err-greet-clause-retire : goal.returns-in_err-greet-clause-retire
+returns-in_err-greet-clause-retire c = still-rests c.args.self.now c.greet.new.self c.requires.up.hearing c.greet.ensures.same c.greet.ensures.end c.greet.ensures.open
+
+pub returns-in_err-drained-clause-retire : goal.returns-in_err-drained-clause-retire
+returns-in_err-drained-clause-retire c =
+    still-rests c.greet.new.self c.drain.new.self c.in_ok-greet.ensures.up.hearing c.drain.ensures.same c.drain.ensures.end c.drain.ensures.open
+
+pub returns-in_err-hear_all-clause-retire : goal.returns-in_err-hear_all-clause-retire
+returns-in_err-hear_all-clause-retire c =
+    let end = c.hear_all.ensures.end in
+    still-rests c.drain.new.self c.hear_all.new.self c.in_ok-drained.ensures.hearing c.hear_all.ensures.same
+    (same-end-is c.drain.new.self.control.port.end c.hear_all.new.self.control.port.end end) (subst (λ (e : SeatedEnd). IsOpen e) (sym end) c.drain.ensures.open)
+
+pub returns-clause-listens : goal.returns-clause-listens
+returns-clause-listens c = λ up.
+    let same = c.settle.ensures.up up in
+    let port = c.args.self.now.control.port in
+    subst (λ (e : SeatedEnd). Listens port e) (sym (ap (λ (k : AgentControl). k.port.end) same.0 ∙ c.hear_all.ensures.end))
+    (listens-by port c.greet.new.self.control.port c.drain.new.self.control.port.end c.in_ok-drained.drained c.in_ok-greet.ensures.greets c.in_ok-greet.ensures.got c.in_ok-drained.ensures.drains same.1)

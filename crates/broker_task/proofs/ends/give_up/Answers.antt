@@ -1,0 +1,22 @@
+-- Each end that is given back is that of the next domain.
+use Rattle.std.proofs.Common.{◌≡◌, List, [], ◌∷◌, ◌++◌, subst, sym, arith, true}
+use Rattle.std.specs.Vec.Iter.{into_iter_items}
+use Rattle.std.proofs.lemmas.Grind.{common_steps}
+use Rattle.qrexec_frame.specs.Streams.{Each}
+use Rattle.task_duties.specs.Pairwise.{EachPair}
+use Rattle.task_duties.specs.declared.ends.RetiredEnd.{RetiredEnd}
+use Rattle.broker_task.specs.declared.daemon.Daemon.{Daemon}
+use Rattle.broker_task.specs.Lines.{end_of}
+use Rattle.broker_task.specs.Given.{IsGivenBack}
+use Rattle.broker_task.proofs.Lists.{pairs-push}
+use Rattle.broker_task.proofs.ends.give_up.Goals as goal
+
+pub loop-daemon-preserved : goal.loop-daemon-preserved
+loop-daemon-preserved c =
+    let rest : into_iter_items c.loop-daemon.daemon-iterator ≡ c.in-Some.daemon ∷ into_iter_items c.next.new.self = grind (arith, common_steps) in record {
+      left = grind (arith, common_steps);
+      room = grind (arith, common_steps);
+      idle = (subst (λ (l : List Daemon). Each (λ x. (end_of x).idle ≡ true) l) rest c.loop-daemon.invariant.idle).1;
+      pairs = subst (λ (ends : List RetiredEnd). EachPair IsGivenBack (c.loop-daemon.yielded ++ c.in-Some.daemon ∷ []) ends) (sym c.push_reserved.ensures.items)
+          (pairs-push IsGivenBack c.loop-daemon.yielded c.loop-daemon.ends.items c.in-Some.daemon c.give_up.result c.loop-daemon.invariant.pairs c.give_up.ensures);
+    }

@@ -1,0 +1,130 @@
+-- A turn of a session, by its parts: the look for a signal, the drain and the write.
+use Rattle.std.proofs.Common.{◌≡◌, ℕ, ◌<◌, ◌≤◌, List, ◌++◌, length, take, None, refl, sym, ap, ◌∙◌, inl, inr, subst, arith, length-append}
+use Rattle.std.specs.Prelude.{◌↔◌, Bool, true, false, not, ◌||◌, min, IsSome}
+use Rattle.std.proofs.lemmas.List.{length-take}
+use Rattle.vchan_protocol.specs.declared.call.Call.TheVariants.{Write, Drain}
+use Rattle.vchan_protocol.specs.declared.call.Answer.TheVariants.{Wrote, Full, PeerClosed, NotYet}
+use Rattle.vchan_protocol.specs.Table.Calls.{Trace}
+use Rattle.vchan_protocol.specs.Table.Ends.{Standing}
+use Rattle.vchan_protocol.specs.History.Core.{standing_of}
+use Rattle.vchan_protocol.specs.Answering.Causes.{DrainCause, WriteCause, write_closed, wrote_none, write_full, wrote_some, room_at}
+use Rattle.vchan_protocol.specs.Answering.Loads.{Loads, loads_of}
+use Rattle.vchan_lifecycle.specs.declared.DrainAnswer.{DrainAnswer}
+use Rattle.vchan_lifecycle.specs.declared.DrainAnswer.TheVariants.{NotYet as IsNotYet}
+use Rattle.vchan_lifecycle.specs.Lifecycle.{drain_told, FindsNotYet, most_asked as asked_most}
+use Rattle.vchan_stream.specs.declared.WriteAnswer.{WriteAnswer}
+use Rattle.vchan_stream.specs.declared.WriteAnswer.TheVariants.{Full as IsFull, PeerClosed as IsShut}
+use Rattle.vchan_stream.specs.Stream.{most_asked, write_told}
+use Rattle.service_gate.specs.Owing.{builtin_owes}
+use Rattle.qrexec_data.specs.CallerSide.{IsStill}
+use Rattle.qrexec_data.specs.ServingSide.{ServingStandsFor, IsStill as ServingStill}
+use Rattle.vchan_rule.specs.Seated.{SeatedEnd, view}
+use Rattle.vchan_rule.specs.Ends.{IsSameEnd}
+use Rattle.channel_session.specs.Calling.{CallerAt, CallerTurns, CallerReads, CallerWrites}
+use Rattle.channel_session.specs.Answering.{ServingAt, ServingTurns, ServingReads, ServingWrites, HasNothing}
+use Rattle.channel_session.specs.Turning.{Pace, IsMade, FindsFull, FindsShut, SendsNone, NothingWaits, WasShut, RingIsFull, PeerIsShut, KeepsShut, turned_by}
+
+-- ---- bytes
+
+pub grew : (old bytes : List ℕ) (count : ℕ) → 1 ≤ count → count ≤ length bytes → length old < length (old ++ take count bytes)
+grew old bytes count some few = simp (length-append, length-take) (omega arith)
+
+-- a write that had bytes to send and told a count sent at least one
+pub wrote-some : (e : Standing) (n : ℕ) (loads : Loads) (count : ℕ) → 0 < n → WriteCause e n loads (Wrote count) → 1 ≤ count
+wrote-some e n loads count some (write_closed shut is) = cc
+wrote-some e n loads count some (wrote_none here none is) = absurd (omega (arith, none))
+wrote-some e n loads count some (write_full last pair here bytes room is) = cc
+wrote-some e n loads count some (wrote_some last pair here bytes room is) = let same : count ≡ min n (room_at e last) = cc in omega (arith, same)
+
+-- ---- what one call found
+
+pub finds-not-yet : (before at now : SeatedEnd) (buf : List ℕ) (prod cons : ℕ) → at ≡ before → 0 < length buf → Trace (standing_of at.side) (Drain (asked_most buf)) now.side.trail (NotYet prod cons)
+    → ((other : DrainAnswer) → (IsNotYet prod cons ≡ other) ↔ DrainCause (standing_of at.side) (asked_most buf) (loads_of (standing_of at.side) now.side.trail) (drain_told other)) → FindsNotYet before now
+finds-not-yet before at now buf prod cons same some trail cause = subst (λ e. FindsNotYet e now) same (record {
+  most = asked_most buf;
+  some = omega (arith, some);
+  prod = prod;
+  cons = cons;
+  trail = trail;
+  cause = (cause (IsNotYet prod cons)).0 refl;
+})
+
+pub finds-full : (before at now : SeatedEnd) (piece waiting : List ℕ) (prod cons : ℕ) → at ≡ before → waiting ≡ piece → Trace (standing_of at.side) (Write (most_asked piece)) now.side.trail (Full prod cons)
+    → ((other : WriteAnswer) → (IsFull prod cons ≡ other) ↔ WriteCause (standing_of at.side) (most_asked piece) (loads_of (standing_of at.side) now.side.trail) (write_told other)) → FindsFull before now (most_asked waiting)
+finds-full before at now piece waiting prod cons same waits trail cause = subst (λ w. FindsFull before now (most_asked w)) (sym waits) (subst (λ e. FindsFull e now (most_asked piece)) same (record {
+  prod = prod;
+  cons = cons;
+  trail = trail;
+  cause = (cause (IsFull prod cons)).0 refl;
+}))
+
+pub finds-shut : (at now : SeatedEnd) (piece : List ℕ) → Trace (standing_of at.side) (Write (most_asked piece)) now.side.trail PeerClosed
+    → ((other : WriteAnswer) → (IsShut ≡ other) ↔ WriteCause (standing_of at.side) (most_asked piece) (loads_of (standing_of at.side) now.side.trail) (write_told other)) → FindsShut at now (most_asked piece)
+finds-shut at now piece trail cause = record { trail = trail; cause = (cause IsShut).0 refl }
+
+-- ---- the parts of a turn
+
+sends-as : (P Q : Type 0) (waiting : List ℕ) (shut shut' : Bool) (before now : SeatedEnd) → (P → Q) → shut ≡ shut' → SendsNone P waiting shut before now → SendsNone Q waiting shut' before now
+sends-as P Q waiting shut shut' before now f same (NothingWaits still is) = NothingWaits (f still) is
+sends-as P Q waiting shut shut' before now f same (WasShut was is) = WasShut (sym same ∙ was) is
+sends-as P Q waiting shut shut' before now f same (RingIsFull some full) = RingIsFull some full
+sends-as P Q waiting shut shut' before now f same (PeerIsShut some found) = PeerIsShut some found
+
+pub caller-turns : (came went : Bool) (old a b c : CallerAt) (pace : Pace) → IsSameEnd old.end a.end → view a.end ≡ view old.end → a.caller ≡ old.caller → a.pace ≡ old.pace → old.caller.replies.outcome ≡ None
+    → CallerReads came a b → b.pace ≡ a.pace → (view b.end).sent ≡ (view a.end).sent
+    → CallerWrites went b c → (view c.end).got ≡ (view b.end).got → c.caller.replies.outcome ≡ b.caller.replies.outcome
+    → IsMade (not (came || went)) pace → CallerTurns (turned_by (came || went)) old (record { caller = c.caller; end = c.end; pace = pace })
+caller-turns true went old a b c pace same is caller was none (inl more) paced sent writes got outcome made =
+    (inl (subst (λ v. length v.got < length (view c.end).got) is (subst (λ g. length (view a.end).got < length g) (sym got) more)), made)
+caller-turns true went old a b c pace same is caller was none (inr over) paced sent writes got outcome made = (inr (inr (subst IsSome (sym outcome) over)), made)
+caller-turns false true old a b c pace same is caller was none reads paced sent more got outcome made =
+    (inr (inl (subst (λ s. length s < length (view c.end).sent) (sent ∙ ap (λ v. v.sent) is) more)), made)
+caller-turns false false old a b c pace same is caller was none reads paced sent rests got outcome made =
+    let kept = reads.0 ∙ caller in (
+      (got ∙ (reads.1 ∙ ap (λ v. v.got) is), rests.0 ∙ (sent ∙ ap (λ v. v.sent) is), outcome ∙ (ap (λ k. k.replies.outcome) kept ∙ none)),
+      made,
+      record {
+        found = a.end;
+        left = b.end;
+        same = same;
+        view_is = is;
+        not_yet = reads.2;
+        sends = sends-as (IsStill b.caller) (IsStill old.caller) c.caller.requests.waiting b.pace.peer_shut old.pace.peer_shut b.end c.end (subst IsStill kept) (ap (λ p. p.peer_shut) (paced ∙ was)) rests.1;
+      },
+    )
+
+answers-still : (old b : ServingAt) → b.serving ≡ old.serving → (view b.end).got ≡ (view old.end).got → (view b.end).sent ≡ (view old.end).sent → HasNothing b → HasNothing old
+answers-still old b serving got sent nothing owed h =
+    subst (λ s. ServingStill s.answering) serving (nothing owed (record {
+      got = ap (λ s. s.inbox.got) serving ∙ (h.got ∙ sym got);
+      stands = subst (λ s. ServingStandsFor builtin_owes owed s (view b.end).sent) (sym serving) (subst (λ l. ServingStandsFor builtin_owes owed old.serving l) (sym sent) h.stands);
+    }))
+
+pub serving-turns : (came went : Bool) (old a b c : ServingAt) (pace : Pace) → IsSameEnd old.end a.end → view a.end ≡ view old.end → a.serving ≡ old.serving → a.pace ≡ old.pace → old.serving.answering.outcome ≡ None
+    → ServingReads came a b → b.pace ≡ a.pace → (view b.end).sent ≡ (view a.end).sent
+    → ServingWrites went b c → (view c.end).got ≡ (view b.end).got → (IsSome b.serving.answering.outcome → IsSome c.serving.answering.outcome)
+    → IsMade (not (came || went)) pace → ServingTurns (turned_by (came || went)) old (record { serving = c.serving; end = c.end; pace = pace })
+serving-turns true went old a b c pace same is serving was none (inl more) paced sent writes got outcome made =
+    (inl (subst (λ v. length v.got < length (view c.end).got) is (subst (λ g. length (view a.end).got < length g) (sym got) more)), made)
+serving-turns true went old a b c pace same is serving was none (inr over) paced sent writes got outcome made = (inr (inr (outcome over)), made)
+serving-turns false true old a b c pace same is serving was none reads paced sent more got outcome made =
+    (inr (inl (subst (λ s. length s < length (view c.end).sent) (sent ∙ ap (λ v. v.sent) is) more)), made)
+serving-turns false false old a b c pace same is serving was none reads paced sent rests got outcome made =
+    let kept = reads.0 ∙ serving in
+    let got_is = reads.1 ∙ ap (λ v. v.got) is in
+    let sent_is = sent ∙ ap (λ v. v.sent) is in (
+      (got ∙ got_is, rests.0 ∙ sent_is, rests.1 ∙ (ap (λ k. k.answering.outcome) kept ∙ none)),
+      made,
+      record {
+        found = a.end;
+        left = b.end;
+        same = same;
+        view_is = is;
+        not_yet = reads.2;
+        sends = sends-as (HasNothing b) (HasNothing old) c.serving.answering.waiting b.pace.peer_shut old.pace.peer_shut b.end c.end (answers-still old b kept got_is sent_is) (ap (λ p. p.peer_shut) (paced ∙ was)) rests.2;
+      },
+    )
+
+-- what is kept of the peer, after the look and the drain
+pub keeps-shut : (old mid new : Pace) (now : SeatedEnd) → mid ≡ old → KeepsShut mid new now → KeepsShut old new now
+keeps-shut old mid new now same keeps shut = subst (λ p. KeepsShut p new now) same keeps shut

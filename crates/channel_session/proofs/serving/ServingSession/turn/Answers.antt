@@ -1,0 +1,30 @@
+use Rattle.std.proofs.Common.{◌≡◌, subst, sym, ◌∙◌}
+use Rattle.std.specs.Prelude.{IsSome}
+use Rattle.vchan_rule.specs.Seated.{view}
+use Rattle.channel_session.specs.Answering.{ServingAt, ServingTurns, ServingWrites}
+use Rattle.channel_session.specs.Turning.{Pace, KeepsShut}
+use Rattle.channel_session.proofs.TurningLaws.{serving-turns, keeps-shut}
+use Rattle.channel_session.proofs.serving.ServingSession.turn.Goals as goal
+
+pub returns-clause-turned : goal.returns-clause-turned
+returns-clause-turned c =
+    let old = c.args.self.now in
+    let a = c.is_due.new.self in
+    let b = c.read_on.new.self in
+    let inside = c.self-2.inside in
+    let end : ServingAt = record { serving = inside.serving; end = inside.end; pace = record { peer_shut = inside.peer_shut; quiet = inside.pause.quiet; passed = inside.pause.passed } } in
+    let pace : Pace = record { peer_shut = inside.peer_shut; quiet = c.note.new.self.quiet; passed = c.note.new.self.passed } in
+    let new : ServingAt = record { serving = inside.serving; end = inside.end; pace = pace } in
+    subst (λ t. ServingTurns t old new) (sym c.note.ensures.turned)
+    (serving-turns c.in_ok-came.came c.in_ok-went.went old a b end pace c.is_due.ensures.end c.is_due.ensures.view c.is_due.ensures.same.0 c.is_due.ensures.same.1 c.requires.undecided
+    c.in_ok-came.ensures.came c.in_ok-came.ensures.kept.0 c.in_ok-came.ensures.kept.1
+    (subst (λ (s : ServingAt). ServingWrites c.in_ok-went.went b s) (sym c.self-2.view_is) c.in_ok-went.ensures.went)
+    (subst (λ (s : ServingAt). (view s.end).got ≡ (view b.end).got) (sym c.self-2.view_is) c.in_ok-went.ensures.kept)
+    (subst (λ (s : ServingAt). IsSome b.serving.answering.outcome → IsSome s.serving.answering.outcome) (sym c.self-2.view_is) c.in_ok-went.ensures.outcome) c.note.ensures.made)
+
+pub returns-clause-shut : goal.returns-clause-shut
+returns-clause-shut c =
+    let inside = c.self-2.inside in
+    let pace : Pace = record { peer_shut = inside.peer_shut; quiet = inside.pause.quiet; passed = inside.pause.passed } in
+    keeps-shut c.args.self.now.pace c.read_on.new.self.pace pace inside.end (c.in_ok-came.ensures.kept.0 ∙ c.is_due.ensures.same.1)
+    (subst (λ (s : ServingAt). KeepsShut c.read_on.new.self.pace s.pace s.end) (sym c.self-2.view_is) c.in_ok-went.ensures.shut)

@@ -1,0 +1,223 @@
+-- The session of an end through a turn, and those of all ends.
+use Rattle.std.proofs.Common.{◌≡◌, ◌≢◌, ℕ, ◌+◌, ◌<◌, ◌≤◌, zero, suc, List, [], ◌∷◌, ◌++◌, length, map, get_or, set, drop, take, replicate, refl, ap, sym, ◌∙◌, subst, arith, add-one, inl, inr, Option, Some, None}
+use Rattle.std.specs.Prelude.{true, false, Bool, ◌==◌, ◌-◌, Result, Ok, Err, IfOk, IfNone, slice_get, unwrap_or, if◌then◌else◌}
+use Rattle.std.specs.List.{swap_remove}
+use Rattle.std.proofs.lemmas.List.{map-set, take-set}
+use Rattle.std.proofs.lemmas.List.Sums.{sum_by-cons, sum_by-swap_remove, sum_by-take-drop}
+use Rattle.std.proofs.lemmas.Bool.Decides.{nat_tests}
+use Rattle.qrexec_data.specs.declared.outcome.Outcome.{Outcome}
+use Rattle.channel_session.specs.declared.turned.Turned.{Turned}
+use Rattle.channel_session.specs.Calling.{CallerAt, CallerTurns}
+use Rattle.channel_session.specs.Answering.{ServingAt, ServingTurns}
+use Rattle.channel_session.specs.Turning.{first_pace}
+use Rattle.task_duties.specs.declared.ends.DataEnd.{DataEnd}
+use Rattle.data_slots.specs.declared.slot.Slot.{Slot}
+use Rattle.data_slots.specs.declared.slot.Stage.{Stage}
+use Rattle.data_slots.specs.declared.slot.Stage.TheVariants.{Unused, Calls, Awaits, Serves, CallIsOver, ServingIsOver, Taken}
+use Rattle.data_slots.specs.Stages.{is_session, CanTurn}
+use Rattle.data_slots.specs.Given.{unused_slots}
+use Rattle.data_slots.specs.Whole.{sessions, times, AreOpen, TakesFrom}
+use Rattle.data_slots.specs.Sessions.{Session, NotOpen, CallsWith, AwaitsPage, ServesWith, session_of, sessions_in, session_at, TakesTurn, WasNotOpen, CallMade, ServingMade, PageCame, PageAwaited, IsOver, AllTakeTurns, KeepsSessions, Begins, OneTakesTurn}
+use Rattle.data_slots.proofs.ListLaws.{get-map, get-set-same, get-set-other}
+use Rattle.data_slots.proofs.OpenLaws.{same-number, other-number}
+
+-- ---- one session
+
+pub call-takes : (old : Session) (before now : CallerAt) → Begins old (CallsWith before) → ((turned : Turned) × CallerTurns turned before now) → TakesTurn old (CallsWith now)
+call-takes old before now (inl same) did = CallMade before now did.0 (sym same) refl did.1
+call-takes old before now (inr began) did = never began.1.1
+  where
+    never : CallsWith before ≡ ServesWith began.1.0 → TakesTurn old (CallsWith now)
+    never e = cc
+
+pub serving-takes : (old : Session) (before now : ServingAt) → Begins old (ServesWith before) → ((turned : Turned) × ServingTurns turned before now) → TakesTurn old (ServesWith now)
+serving-takes old before now (inl same) did = ServingMade before now did.0 (sym same) refl did.1
+serving-takes old before now (inr began) did = PageCame before now did.0 began.0 (ap (λ (s : ServingAt). s.pace) (served before began.1.0 began.1.1) ∙ began.1.2) refl did.1
+  where
+    served : (a b : ServingAt) → ServesWith a ≡ ServesWith b → a ≡ b
+    served a b e = cc
+
+pub page-takes : (old : Session) → Begins old AwaitsPage → TakesTurn old AwaitsPage
+page-takes old (inl same) = PageAwaited (sym same) refl
+page-takes old (inr began) = never began.1.1
+  where
+    never : AwaitsPage ≡ ServesWith began.1.0 → TakesTurn old AwaitsPage
+    never e = cc
+
+-- it is said of calls that aren't over
+pub said-of : (outcome : Option Outcome) (P : Type 0) → P → IfNone outcome P
+said-of (Some outcome) P h = tt
+said-of None P h = h
+
+said-then : (outcome : Option Outcome) (P Q : Type 0) → (P → Q) → IfNone outcome P → IfNone outcome Q
+said-then (Some outcome) P Q f h = tt
+said-then None P Q f h = f h
+
+pub told-then : {E : Type 0} (r : Result (Option Outcome) E) (P Q : Type 0) → (P → Q) → IfOk r (λ o. IfNone o P) → IfOk r (λ o. IfNone o Q)
+told-then (Ok outcome) P Q f h = said-then outcome P Q f h
+told-then (Err e) P Q f h = tt
+
+pub not-open : (stage : Stage) → is_session stage ≡ false → session_of stage ≡ NotOpen
+not-open (Unused end) is = refl
+not-open (Calls number input side session) is = never is
+  where
+    never : true ≡ false → CallsWith session ≡ NotOpen
+    never e = cc
+not-open (Awaits number service serving side) is = never is
+  where
+    never : true ≡ false → AwaitsPage ≡ NotOpen
+    never e = cc
+not-open (Serves number service side session) is = never is
+  where
+    never : true ≡ false → ServesWith session ≡ NotOpen
+    never e = cc
+not-open (CallIsOver number input came end) is = refl
+not-open (ServingIsOver number service came end) is = refl
+not-open Taken is = refl
+
+pub turn-open : (stage : Stage) → CanTurn stage → session_of stage ≢ NotOpen
+turn-open (Calls number input side session) can = λ e. cc
+turn-open (Awaits number service serving side) can = λ e. cc
+turn-open (Serves number service side session) can = λ e. cc
+turn-open (Unused end) can = absurd can
+turn-open (CallIsOver number input came end) can = absurd can
+turn-open (ServingIsOver number service came end) can = absurd can
+turn-open Taken can = absurd can
+
+-- ---- all sessions
+
+pub given-sessions : (ends : List DataEnd) → sessions_in (unused_slots ends) ≡ replicate (length ends) NotOpen
+given-sessions [] = refl
+given-sessions (e ∷ ends) = ap (λ l. NotOpen ∷ l) (given-sessions ends)
+
+-- a slot took its turn
+pub one-takes : (slots : List Slot) (at : ℕ) (slot slot' : Slot) → slice_get slots at ≡ Some slot → TakesTurn (session_of slot.stage) (session_of slot'.stage) → OneTakesTurn at (sessions_in slots) (sessions_in (set slots at slot'))
+one-takes slots at slot slot' here takes =
+    let was : slice_get (sessions_in slots) at ≡ Some (session_of slot.stage) = get-map (λ (s : Slot). session_of s.stage) slots at slot here in
+    subst (λ l. OneTakesTurn at (sessions_in slots) l) (sym (map-set (λ (s : Slot). session_of s.stage) slots at slot')) (record {
+      here = subst (λ o. TakesTurn o (session_at (set (sessions_in slots) at (session_of slot'.stage)) at)) (sym (ap (λ o. unwrap_or o NotOpen) was))
+          (subst (λ n. TakesTurn (session_of slot.stage) n) (sym (ap (λ o. unwrap_or o NotOpen) (get-set-same (sessions_in slots) at (session_of slot.stage) (session_of slot'.stage) was))) takes);
+      others = λ i apart. ap (λ o. unwrap_or o NotOpen) (get-set-other (sessions_in slots) at i (session_of slot'.stage) apart);
+    })
+
+-- an end that had no session was put to use
+pub keeps-sessions : (slots : List Slot) (at : ℕ) (slot slot' : Slot) → slice_get slots at ≡ Some slot → is_session slot.stage ≡ false → KeepsSessions (sessions_in slots) (sessions_in (set slots at slot'))
+keeps-sessions slots at slot slot' here shut i is_open = by_place (at == i) refl
+  where
+    was : session_at (sessions_in slots) at ≡ NotOpen
+    was = ap (λ o. unwrap_or o NotOpen) (get-map (λ (s : Slot). session_of s.stage) slots at slot here) ∙ not-open slot.stage shut
+
+    by_place : (b : Bool) → (at == i) ≡ b → session_at (sessions_in (set slots at slot')) i ≡ session_at (sessions_in slots) i
+    by_place true is = absurd (is_open (subst (λ (n : ℕ). session_at (sessions_in slots) n ≡ NotOpen) (same-number at i is) was))
+    by_place false is =
+        ap (λ l. session_at l i) (map-set (λ (s : Slot). session_of s.stage) slots at slot')
+        ∙ ap (λ o. unwrap_or o NotOpen) (get-set-other (sessions_in slots) at i (session_of slot'.stage) (other-number at i is))
+
+-- after some turns: these sessions are yet to take theirs, each once, and all others took theirs
+pub record AreTurning (old new : List Session) (ahead : List ℕ) : Type 0 where
+  pub once : (i : ℕ) → times i ahead ≤ 1
+  pub turned : (i : ℕ) → times i ahead ≡ 0 → TakesTurn (session_at old i) (session_at new i)
+  pub kept : (i : ℕ) → 1 ≤ times i ahead → session_at new i ≡ session_at old i
+
+pub turning-first : (slots : List Slot) (busy : List ℕ) → AreOpen (sessions slots) busy → AreTurning (sessions_in slots) (sessions_in slots) busy
+turning-first slots busy are = record {
+  once = λ i. at-most i (slice_get (sessions slots) i) (are i);
+  turned = λ i none. shut i (slice_get slots i) refl none;
+  kept = λ i some. refl;
+}
+  where
+    at-most : (i : ℕ) (o : Option Bool) → times i busy ≡ (if unwrap_or o false then 1 else 0) → times i busy ≤ 1
+    at-most i (Some true) is = omega (arith, is)
+    at-most i (Some false) is = omega (arith, is)
+    at-most i None is = omega (arith, is)
+
+    stays : (i : ℕ) (s : Session) → session_at (sessions_in slots) i ≡ NotOpen → TakesTurn (session_at (sessions_in slots) i) (session_at (sessions_in slots) i)
+    stays i s is = WasNotOpen is is
+
+    got : (i : ℕ) (o : Option Slot) → slice_get slots i ≡ o → slice_get (sessions_in slots) i ≡ slice_get (map (λ (s : Slot). session_of s.stage) slots) i
+    got i o is = refl
+
+    by-session : (i : ℕ) (s : Slot) (b : Bool) → is_session s.stage ≡ b → slice_get slots i ≡ Some s → times i busy ≡ 0 → session_at (sessions_in slots) i ≡ NotOpen
+    by-session i s true is here none = absurd (omega (arith, none, are i ∙ ap (λ (o : Option Bool). if unwrap_or o false then 1 else 0) (get-map (λ (x : Slot). is_session x.stage) slots i s here ∙ ap Some is)))
+    by-session i s false is here none = ap (λ o. unwrap_or o NotOpen) (get-map (λ (x : Slot). session_of x.stage) slots i s here) ∙ not-open s.stage is
+
+    shut : (i : ℕ) (o : Option Slot) → slice_get slots i ≡ o → times i busy ≡ 0 → TakesTurn (session_at (sessions_in slots) i) (session_at (sessions_in slots) i)
+    shut i (Some s) here none = let is = by-session i s (is_session s.stage) refl here none in WasNotOpen is is
+    shut i None here none = let is : session_at (sessions_in slots) i ≡ NotOpen = ap (λ o. unwrap_or o NotOpen) (get-map-none slots i here) in WasNotOpen is is
+      where
+        get-map-none : (xs : List Slot) (i : ℕ) → slice_get xs i ≡ None → slice_get (sessions_in xs) i ≡ None
+        get-map-none [] i h = refl
+        get-map-none (x ∷ xs) zero h = cc
+        get-map-none (x ∷ xs) (suc i) h = get-map-none xs i h
+
+pub turning-one : (old mid new : List Session) (ahead left : List ℕ) (at : ℕ) → AreTurning old mid ahead → OneTakesTurn at mid new → TakesFrom at ahead left → AreTurning old new left
+turning-one old mid new ahead left at h one takes = record {
+  once = λ i. let e = takes i in let f = h.once i in omega (arith, e, f);
+  turned = λ i none. by_turned i (at == i) refl none;
+  kept = λ i some. by_kept i (at == i) refl some;
+}
+  where
+    counted : (i : ℕ) (b : Bool) → (at == i) ≡ b → times i left + (if b then 1 else 0) ≡ times i ahead
+    counted i b is = ap (λ (c : Bool). times i left + (if c then 1 else 0)) (sym is) ∙ takes i
+
+    by_turned : (i : ℕ) (b : Bool) → (at == i) ≡ b → times i left ≡ 0 → TakesTurn (session_at old i) (session_at new i)
+    by_turned i true is none =
+        let e = same-number at i is in
+        let was = h.kept i (let k = counted i true is in omega (arith, k)) in
+        subst (λ o. TakesTurn o (session_at new i)) was (subst (λ k. TakesTurn (session_at mid k) (session_at new k)) e one.here)
+    by_turned i false is none =
+        subst (λ o. TakesTurn (session_at old i) o) (sym (one.others i (other-number at i is))) (h.turned i (let k = counted i false is in omega (arith, k, none)))
+
+    by_kept : (i : ℕ) (b : Bool) → (at == i) ≡ b → 1 ≤ times i left → session_at new i ≡ session_at old i
+    by_kept i true is some = absurd (let k = counted i true is in let f = h.once i in omega (arith, k, f, some))
+    by_kept i false is some = one.others i (other-number at i is) ∙ h.kept i (let k = counted i false is in omega (arith, k, some))
+
+pub turning-all : (old new : List Session) (ahead : List ℕ) → ahead ≡ [] → AreTurning old new ahead → AllTakeTurns old new
+turning-all old new ahead none h = λ i. h.turned i (ap (times i) none)
+
+-- ---- which sessions are yet to take their turn
+
+drop-at : (xs : List ℕ) (k : ℕ) → k < length xs → drop k xs ≡ get_or xs k 0 ∷ drop (suc k) xs
+drop-at [] k less = absurd (omega (arith, less))
+drop-at (x ∷ xs) zero less = refl
+drop-at (x ∷ xs) (suc k) less = drop-at xs k (omega (arith, less))
+
+get-any : (xs : List ℕ) (k d e : ℕ) → k < length xs → get_or xs k d ≡ get_or xs k e
+get-any [] k d e less = absurd (omega (arith, less))
+get-any (x ∷ xs) zero d e less = refl
+get-any (x ∷ xs) (suc k) d e less = get-any xs k d e (omega (arith, less))
+
+-- a number that was read is the one there
+pub read-at : (busy : List ℕ) (next at : ℕ) → next < length busy → at ≡ get_or busy next at → at ≡ get_or busy next 0
+read-at busy next at less read = read ∙ get-any busy next at 0 less
+
+pub takes-next : (busy : List ℕ) (next : ℕ) → next < length busy → TakesFrom (get_or busy next 0) (drop next busy) (drop (next + 1) busy)
+takes-next busy next less = rw add-one (λ i.
+    let here = ap (times i) (drop-at busy next less) in
+    let parts = sum_by-cons (λ n. if n == i then 1 else 0) (get_or busy next 0) (drop (suc next) busy) in
+    omega (arith, here, parts))
+
+take-take : (k m : ℕ) (xs : List ℕ) → k ≤ m → take k (take m xs) ≡ take k xs
+take-take zero m xs less = refl
+take-take (suc k) zero xs less = absurd (omega (arith, less))
+take-take (suc k) (suc m) [] less = refl
+take-take (suc k) (suc m) (x ∷ xs) less = ap (λ l. x ∷ l) (take-take k m xs (omega (arith, less)))
+
+before-removed : (xs : List ℕ) (k d : ℕ) → k < length xs → take k (swap_remove xs k d) ≡ take k xs
+before-removed xs k d less = take-take k (length xs - 1) _ (omega (arith, less)) ∙ take-set xs k _
+
+pub takes-removed : (busy : List ℕ) (next at : ℕ) → next < length busy → TakesFrom (get_or busy next 0) (drop next busy) (drop next (swap_remove busy next at))
+takes-removed busy next at less i =
+    let f : ℕ → ℕ = λ n. if n == i then 1 else 0 in
+    let all = sum_by-swap_remove f busy next at less in
+    let old = sum_by-take-drop f busy next in
+    let new = sum_by-take-drop f (swap_remove busy next at) next in
+    let same = ap (times i) (before-removed busy next at less) in
+    let here = ap f (get-any busy next at 0 less) in
+    omega (arith, all, old, new, same, here)
+
+pub none-left : (xs : List ℕ) (k : ℕ) → length xs ≤ k → drop k xs ≡ []
+none-left [] zero less = refl
+none-left [] (suc k) less = refl
+none-left (x ∷ xs) zero less = absurd (omega (arith, less))
+none-left (x ∷ xs) (suc k) less = none-left xs k (omega (arith, less))

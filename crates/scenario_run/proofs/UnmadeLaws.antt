@@ -1,0 +1,55 @@
+-- The ends of a task that wasn't made are given back one after the other.
+use Rattle.std.proofs.Common.{◌≡◌, ℕ, Bool, true, false, List, [], ◌∷◌, ◌++◌, ap, sym, ◌∙◌, subst, append_assoc}
+use Rattle.std.proofs.lemmas.List.{append-nil, map-append}
+use Rattle.std.specs.Prelude.{if◌then◌else◌}
+use Rattle.qrexec_frame.specs.Streams.{Each}
+use Rattle.scenario_file.specs.Scenario.{Plan as Scenario, hostile_at}
+use Rattle.task_duties.specs.declared.ends.DataEnd.{DataEnd}
+use Rattle.task_duties.specs.declared.ends.RetiredEnd.{RetiredEnd}
+use Rattle.task_duties.specs.TaskOwes.{Agent, AreGivenBack, EndAt, Hostile, IsSameEnd, NoMemory, TaskOwes, places_in}
+use Rattle.task_duties.specs.GivenEnds.{all_given, all_retired, fresh_view, retired_at}
+use Rattle.data_slots.specs.Slots.{IsGiven, held_at}
+use Rattle.run_laws.specs.Laid.{agent_plan, hostile_plan}
+use Rattle.run_pages.specs.declared.deal.Hand.{Hand}
+use Rattle.run_pages.specs.Dealt.{hand_ends}
+use Rattle.scenario_run.specs.Tasks.{domain_given}
+
+-- whatever is given back of the ends that are left, with those that are retired already all are given back
+pub record IsGivingBack (given left : List EndAt) (made : List RetiredEnd) : Type 0 where
+  pub go : (more : List EndAt) → AreGivenBack false left more → AreGivenBack false given (all_retired made ++ more)
+
+pub giving-first : (given : List EndAt) (made : List RetiredEnd) → made ≡ [] → IsGivingBack given given made
+giving-first given made is = subst (IsGivingBack given given) (sym is) (record { go = λ more back. back })
+
+pub giving-on : (given left : List EndAt) (e : EndAt) (made now : List RetiredEnd) (r : RetiredEnd) → now ≡ made ++ r ∷ [] → IsSameEnd e (retired_at r) → (retired_at r).view.turned ≡ false
+    → IsGivingBack given (e ∷ left) made → IsGivingBack given left now
+giving-on given left e made now r is same honest giving = record {
+  go = λ more back.
+      (let placed : all_retired now ++ more ≡ all_retired made ++ retired_at r ∷ more =
+      ap (λ l. all_retired l ++ more) is ∙ ap (λ l. l ++ more) (map-append retired_at made (r ∷ [])) ∙ append_assoc (all_retired made) (retired_at r ∷ []) more in
+      subst (AreGivenBack false given) (sym placed) (giving.go (retired_at r ∷ more) (record { same = (same, back.same); turned_are = (honest, back.turned_are) })));
+}
+
+pub giving-none : (given left : List EndAt) (made : List RetiredEnd) → left ≡ [] → IsGivingBack given left made → AreGivenBack false given (all_retired made)
+giving-none given left made none giving =
+    subst (AreGivenBack false given) (append-nil (all_retired made)) (giving.go [] (subst (λ l. AreGivenBack false l []) (sym none) (record { same = tt; turned_are = tt })))
+
+-- data ends that a domain is given make no call
+pub all-idle : (domain : ℕ) (ends : List DataEnd) → Each (IsGiven domain) (all_given ends) → Each (λ x. (fresh_view x.end).idle ≡ true) ends
+all-idle domain [] given = tt
+all-idle domain (x ∷ ends) given = (given.0.unused.idle, all-idle domain ends given.1)
+
+-- an end with the same place, page and role
+pub same-end : (given retired : EndAt) → held_at retired ≡ held_at given → IsSameEnd given retired
+same-end given retired held = record { place = ap (λ h. h.place) held; page = ap (λ h. h.page) held; role = ap (λ h. h.role) held }
+
+-- a domain's ends that retired before its task was made are what that task owes if memory runs out
+pub unmade-owes : (s : Scenario) (d : ℕ) (hand : Hand) (ends : List EndAt) → AreGivenBack false (hand_ends d hand) ends → TaskOwes (domain_given s d hand) (NoMemory ends)
+unmade-owes s d hand ends back = by (hostile_at s d)
+  where
+    by : (b : Bool) → TaskOwes
+        (if b
+        then Hostile (record (hostile_plan s d) { places = places_in (hand_ends d hand) }) (hand_ends d hand)
+        else Agent (record (agent_plan s d) { places = places_in (all_given hand.payload.items) }) (hand_ends d hand)) (NoMemory ends)
+    by true = (false, back)
+    by false = back
