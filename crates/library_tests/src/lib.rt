@@ -10,6 +10,8 @@ mod errors;
 #[cfg(test)]
 mod frames;
 #[cfg(test)]
+mod refusals;
+#[cfg(test)]
 mod scenarios;
 #[cfg(test)]
 mod scripts;
