@@ -4,6 +4,7 @@ pub mod EndOfRun
 pub mod Prints
 pub mod Clients
 pub mod Relays
+pub mod RowRings
 pub mod Status
 pub mod Sums
 pub mod Top

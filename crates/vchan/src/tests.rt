@@ -5,6 +5,7 @@ use std::test::Fail;
 use vchan_io::{MemSink, MemSource, Memory};
 
 mod scenarios;
+mod unusual_rings;
 mod whole_runs;
 
 /// A stream of at most `most` bytes a call, and the numbers of the calls that fail.

@@ -11,7 +11,7 @@ use std::time::Clock;
 use std::{hint, thread};
 
 /// Six calls between three domains.
-const SIX_CALLS: &[u8] = br#"
+pub(super) const SIX_CALLS: &[u8] = br#"
 [[domain]]
 name = "work"
 [[domain]]
