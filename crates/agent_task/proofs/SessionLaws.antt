@@ -12,7 +12,7 @@ use Rattle.task_duties.specs.Agent.Answers.{Answer, Waits, IsRefused, At, Asked}
 use Rattle.task_duties.specs.Agent.Saying.{is_at, AsksToServe}
 use Rattle.call_queue.specs.Queue.{asked_by}
 use Rattle.call_queue.proofs.Places.{map-got, within-get}
-use Rattle.data_slots.specs.Sessions.{AllTakeTurns, session_at}
+use Rattle.data_slots.specs.Sessions.{Session, AllTakeTurns, TakesTurn, session_at}
 use Rattle.data_slots.specs.Slots.{Called, Serves, SlotsState}
 use Rattle.data_slots.specs.Done.{IsBegun, IsToldOver, TellsMore}
 use Rattle.data_slots.specs.declared.done.SessionOver.{SessionOver}
@@ -37,7 +37,9 @@ pub keeps-same : (a b : Agent) → b.slots ≡ a.slots → KeepsOpen a b
 keeps-same a b same i is_open = ap (λ (s : SlotsState). session_at s.sessions i) same
 
 pub turns-each : (a b c d : Agent) → KeepsOpen a b → AllTakeTurns b.slots.sessions c.slots.sessions → d.slots ≡ c.slots → TurnsEach a.slots.sessions d.slots.sessions
-turns-each a b c d kept turns same = (b.slots.sessions, kept, subst (λ (s : SlotsState). AllTakeTurns b.slots.sessions s.sessions) (sym same) turns)
+turns-each a b c d kept turns same i is_open =
+    subst (λ (s : SlotsState). TakesTurn (session_at a.slots.sessions i) (session_at s.sessions i)) (sym same)
+    (subst (λ (x : Session). TakesTurn x (session_at c.slots.sessions i)) (kept i is_open) (turns i))
 
 -- ---- sessions that are over
 

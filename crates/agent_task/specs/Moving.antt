@@ -2,26 +2,31 @@
 -- Source: the order and the limits are this project's own.
 use Rattle.std.specs.Prelude.{◌≡◌, ◌⊎◌, ℕ, ◌<◌, ◌-◌, min, true, false, length, Option, Some, None}
 use Rattle.vchan_rule.specs.Seated.{SeatedEnd, view}
+use Rattle.vchan_rule.specs.Ends.{IsSameEnd}
 use Rattle.vchan_lifecycle.specs.Lifecycle.{FindsNotYet}
 use Rattle.vchan_lifecycle.specs.declared.DrainAnswer.{DrainAnswer}
 use Rattle.vchan_lifecycle.specs.declared.DrainAnswer.TheVariants.{More, NotYet, AllRead, PeerGone}
-use Rattle.vchan_packet.specs.Packet.{FailsToSend}
+use Rattle.vchan_packet.specs.declared.SendAnswer.TheVariants.{Sent}
+use Rattle.vchan_packet.specs.Packet.{FailsToSend, sent_to}
 use Rattle.qrexec_frame.specs.declared.message.Message.TheVariants.{Hello}
 use Rattle.qrexec_frame.specs.Messages.{written}
 use Rattle.control_port.specs.Port.{PortState}
 use Rattle.agent_control.specs.declared.control.AgentControl.{AgentControl}
+use Rattle.agent_control.specs.Speaking.{SaysMore}
 use Rattle.agent_control.specs.Stopping.{Stops}
 
 -- ---- what came
 
--- its own greeting was sent, now or before, or it couldn't be
-abbrev pub Greets : PortState → PortState → Type 0
-Greets old new = (new.greeted ≡ true) ⊎ ((new.greeted ≡ false) × FailsToSend (written (Hello old.own)) old.end new.end)
+-- its own greeting was sent before, and nothing was done; or it was sent now; or it couldn't be
+pub data Greets (old new : PortState) : Type 0 where
+  WasSent : old.greeted ≡ true → new ≡ old → Greets old new
+  IsSent : old.greeted ≡ false → view new.end ≡ sent_to (view old.end) Sent (written (Hello old.own)) → Greets old new
+  IsUnsent : new.greeted ≡ false → FailsToSend (written (Hello old.own)) old.end new.end → Greets old new
 
 -- a drain took bytes or found none, unless it found the end of what comes
 abbrev pub Drains : DrainAnswer → SeatedEnd → SeatedEnd → Type 0
 Drains (More count) old new = length (view old).got < length (view new).got
-Drains (NotYet prod cons) old new = FindsNotYet old new
+Drains (NotYet prod cons) old new = FindsNotYet old new × ((view new).got ≡ (view old).got)
 Drains AllRead old new = Unit {0}
 Drains (PeerGone prod cons) old new = Unit {0}
 
@@ -30,6 +35,7 @@ pub record HearsNothing (old : PortState) (heard : SeatedEnd) : Type 0 where
   pub greeted : PortState
   pub greets : Greets old greeted
   pub not_yet : FindsNotYet greeted.end heard
+  pub none : (view heard).got ≡ (view old.end).got
 
 -- bytes came, or none were there
 abbrev pub Listens : PortState → SeatedEnd → Type 0
@@ -37,11 +43,11 @@ Listens old heard = (length (view old.end).got < length (view heard).got) ⊎ He
 
 -- ---- what was said
 
--- why no more was said: one of the two greetings hasn't come through, or the saying of ends and triggers stopped
+-- why no more was said: one of the two greetings hasn't come through, and nothing was said; or the saying of ends and triggers stopped
 pub data SaysNoMore (calls : ℕ) (old new : AgentControl) : Type 0 where
-  HasNotGreeted : new.port.greeted ≡ false → SaysNoMore calls old new
-  WasNotGreeted : new.port.version ≡ None → SaysNoMore calls old new
-  HasStopped : Stops calls old new → SaysNoMore calls old new
+  HasNotGreeted : new.port.greeted ≡ false → new ≡ old → SaysNoMore calls old new
+  WasNotGreeted : new.port.version ≡ None → new ≡ old → SaysNoMore calls old new
+  HasStopped : SaysMore calls old new → Stops calls old new → SaysNoMore calls old new
 
 -- the calls that may be requested in a turn, by the number of open sessions on pages that are laid at their first use: one, or none from eight such sessions on
 abbrev pub asked_at_most : ℕ → ℕ
@@ -50,8 +56,10 @@ asked_at_most pages = min (8 - pages) 1
 -- ---- the whole turn
 
 pub record TurnsControl (calls : ℕ) (old new : AgentControl) : Type 0 where
-  -- after the turns of the sessions
+  -- after the turns of the sessions: what came was acted on, and no call was requested since
   pub waiting : AgentControl
+  pub same : IsSameEnd old.port.end waiting.port.end
+  pub next : waiting.queue.next ≡ old.queue.next
   pub listens : Listens old.port waiting.port.end
   pub says : SaysNoMore calls waiting new
 

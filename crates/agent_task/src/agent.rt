@@ -92,6 +92,7 @@ impl<'p> Agent<'p> {
         ensures empty { OnOk result (over.new.items ≡ []) }
         ensures same { KeepsPort self.old self.new }
         ensures turns { OnOk result (AllTakeTurns self.old.slots.sessions self.new.slots.sessions) }
+        ensures next { self.new.control.queue.next ≡ self.old.control.queue.next }
         ensures long { length scratch.new ≡ length scratch.old }
     {
         let moved = self.slots.turn(scratch, over)?;

@@ -17,6 +17,7 @@ impl<'p> Agent<'p> {
         ensures hearing { OnOk result (IsHearing self.new) }
         ensures same { KeepsPort self.old self.new }
         ensures kept { KeepsOpen self.old self.new }
+        ensures next { self.new.control.queue.next ≡ self.old.control.queue.next }
     {
         match message {
             Message::Connect {
@@ -42,6 +43,7 @@ impl<'p> Agent<'p> {
         ensures hearing { OnOk result (IsHearing self.new) }
         ensures same { KeepsPort self.old self.new }
         ensures kept { KeepsOpen self.old self.new }
+        ensures next { self.new.control.queue.next ≡ self.old.control.queue.next }
     {
         let Some(place) = self.control.queue.waiting(ident.bytes()) else {
             return Ok(());
@@ -59,6 +61,7 @@ impl<'p> Agent<'p> {
         ensures hearing { OnOk result (IsHearing self.new) }
         ensures same { KeepsPort self.old self.new }
         ensures kept { KeepsOpen self.old self.new }
+        ensures next { self.new.control.queue.next ≡ self.old.control.queue.next }
     {
         self.control.queue.refused(ident.bytes());
         Ok(())
@@ -71,6 +74,7 @@ impl<'p> Agent<'p> {
         ensures hearing { OnOk result (IsHearing self.new) }
         ensures same { KeepsPort self.old self.new }
         ensures kept { KeepsOpen self.old self.new }
+        ensures next { self.new.control.queue.next ≡ self.old.control.queue.next }
     {
         let Some(service) = service_of(line.bytes()) else {
             return self.end_unserved(from, port);

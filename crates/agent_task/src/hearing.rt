@@ -22,6 +22,8 @@ impl<'p> Agent<'p> {
         ensures running { OnOk result (IsRunning self.new) }
         ensures given { self.new.given ≡ self.old.given }
         ensures kept { OnOk result (KeepsOpen self.old self.new) }
+        ensures next { OnOk result (self.new.control.queue.next ≡ self.old.control.queue.next) }
+        ensures end { OnOk result (self.new.over ≡ None → IsSameEnd self.old.control.port.end self.new.control.port.end) }
         ensures listens { OnOk result (self.new.over ≡ None → Listens self.old.control.port self.new.control.port.end) }
         ensures retire { CanGiveUp self.new }
         ensures long { length scratch.new ≡ length scratch.old }
@@ -41,6 +43,7 @@ impl<'p> Agent<'p> {
         ensures got { OnOk result ((view self.new.control.port.end).got ≡ (view self.old.control.port.end).got) }
         ensures same { HasSameEnds self.old self.new }
         ensures slots { self.new.slots ≡ self.old.slots }
+        ensures queue { self.new.control.queue ≡ self.old.control.queue }
         ensures end { IsSameEnd self.old.control.port.end self.new.control.port.end }
         ensures open { IsOpen self.new.control.port.end }
     {
@@ -59,6 +62,7 @@ impl<'p> Agent<'p> {
         ensures drains { IfOk result (λ drained. Drains drained self.old.control.port.end self.new.control.port.end) }
         ensures same { HasSameEnds self.old self.new }
         ensures slots { self.new.slots ≡ self.old.slots }
+        ensures queue { self.new.control.queue ≡ self.old.control.queue }
         ensures end { IsSameEnd self.old.control.port.end self.new.control.port.end }
         ensures open { IsOpen self.new.control.port.end }
         ensures long { length scratch.new ≡ length scratch.old }
@@ -73,6 +77,7 @@ impl<'p> Agent<'p> {
         ensures end { self.new.control.port.end ≡ self.old.control.port.end }
         ensures same { HasSameEnds self.old self.new }
         ensures kept { KeepsOpen self.old self.new }
+        ensures next { self.new.control.queue.next ≡ self.old.control.queue.next }
     {
         'messages: while self.hear_next()? {}
         Ok(())
@@ -86,6 +91,7 @@ impl<'p> Agent<'p> {
         ensures end { self.new.control.port.end ≡ self.old.control.port.end }
         ensures same { HasSameEnds self.old self.new }
         ensures kept { KeepsOpen self.old self.new }
+        ensures next { self.new.control.queue.next ≡ self.old.control.queue.next }
     {
         match self.control.port.next()? {
             Some(message) => {
@@ -103,6 +109,7 @@ impl<'p> Agent<'p> {
         ensures running { IsRunning self.new }
         ensures given { self.new.given ≡ self.old.given }
         ensures slots { self.new.slots ≡ self.old.slots }
+        ensures queue { self.new.control.queue ≡ self.old.control.queue }
         ensures up { self.new.over ≡ None → (self.new.control ≡ self.old.control) × (end_by drained ≡ None) }
         ensures retire { CanGiveUp self.new }
     {

@@ -1,4 +1,5 @@
-use Rattle.std.proofs.Common.{◌∙◌, sym, subst}
+use Rattle.std.proofs.Common.{◌∙◌, ap, sym, subst}
+use Rattle.call_queue.specs.Queue.{QueueState}
 use Rattle.qrexec_frame.specs.declared.message.Message.TheVariants.{Connect}
 use Rattle.agent_task.specs.Standing.{Awaits}
 use Rattle.agent_task.proofs.ListLaws.{on-ok}
@@ -22,3 +23,6 @@ returns-clause-hearing c =
     (subst (λ i. Awaits c.args.self.now (Connect c.args.to c.args.port i)) (sym c.bytes.ensures.bytes) c.requires) c.in-Some.ensures.some c.if-not-can_call.ensures
     (c.connected-input.ensures.is c.bytes.result.now c.in-Some.ensures.some) c.connected-input.ensures.asks (λ q at. c.into_list.ensures ∙ c.connected-input.ensures.stdin q at))
     c.call.ensures.ok
+
+pub returns-clause-next : goal.returns-clause-next
+returns-clause-next c = ap (λ (q : QueueState). q.next) (c.connected-input.ensures.is c.bytes.result.now c.in-Some.ensures.some)

@@ -1,6 +1,7 @@
 use Rattle.std.proofs.Common.{◌≡◌, ◌∙◌, ap, refl, sym, subst}
 use Rattle.std.specs.Prelude.{not, None}
 use Rattle.agent_task.specs.declared.agent.Agent.{Agent}
+use Rattle.vchan_rule.specs.Ends.{IsSameEnd}
 use Rattle.data_slots.specs.Slots.{SlotsState, late_count}
 use Rattle.agent_task.specs.Standing.{KeepsOpen}
 use Rattle.agent_task.specs.Moving.{Listens, SaysNoMore, TurnsControl, asked_at_most}
@@ -51,10 +52,18 @@ returns-then-moved-clause-control c =
       | then-is_none+in_ok-listen w ↦ subst (λ (a : Agent). a.over ≡ None → Listens old.control.port a.control.port.end) (sym w.self-is) w.in_ok-listen.ensures.listens
       | else-is_none w ↦ λ up. over-not-up _ old.over (c.is_none.ensures ∙ ap not w.if-is_none.false) (sym (ap (λ (a : Agent). a.over) w.self-is) ∙ up)
     ] in
+    let end : mid.over ≡ None → IsSameEnd old.control.port.end mid.control.port.end = elim c.if-is_none.branch [
+      | then-is_none+in_ok-listen w ↦ subst (λ (a : Agent). a.over ≡ None → IsSameEnd old.control.port.end a.control.port.end) (sym w.self-is) w.in_ok-listen.ensures.end
+      | else-is_none w ↦ λ up. over-not-up _ old.over (c.is_none.ensures ∙ ap not w.if-is_none.false) (sym (ap (λ (a : Agent). a.over) w.self-is) ∙ up)
+    ] in
+    let next : mid.control.queue.next ≡ old.control.queue.next = elim c.if-is_none.branch [
+      | then-is_none+in_ok-listen w ↦ ap (λ (a : Agent). a.control.queue.next) w.self-is ∙ w.in_ok-listen.ensures.next
+      | else-is_none w ↦ ap (λ (a : Agent). a.control.queue.next) w.self-is
+    ] in
     elim c.if-is_none-2.branch [
       | then-is_none-2+in_ok-say w ↦
           subst (λ (a : Agent). a.over ≡ None → TurnsControl (asked_at_most (late_count a.slots)) old.control a.control) (sym w.self-is)
-          (turns-control old mid turned w.say.new.self (asked_at_most (late_count w.say.new.self.slots)) listens c.turn_sessions.ensures.same
+          (turns-control old mid turned w.say.new.self (asked_at_most (late_count w.say.new.self.slots)) listens end next c.turn_sessions.ensures.same c.turn_sessions.ensures.next
           (subst (λ (s : SlotsState). SaysNoMore (asked_at_most (late_count s)) turned.control w.say.new.self.control) (sym w.say.ensures.slots) w.in_ok-say.ensures.says) w.say.ensures.same.1)
       | else-is_none-2 w ↦
           subst (λ (a : Agent). a.over ≡ None → TurnsControl (asked_at_most (late_count a.slots)) old.control a.control) (sym w.self-is)
@@ -70,10 +79,18 @@ returns-else-moved-clause-control c =
       | then-is_none+in_ok-listen w ↦ subst (λ (a : Agent). a.over ≡ None → Listens old.control.port a.control.port.end) (sym w.self-is) w.in_ok-listen.ensures.listens
       | else-is_none w ↦ λ up. over-not-up _ old.over (c.is_none.ensures ∙ ap not w.if-is_none.false) (sym (ap (λ (a : Agent). a.over) w.self-is) ∙ up)
     ] in
+    let end : mid.over ≡ None → IsSameEnd old.control.port.end mid.control.port.end = elim c.if-is_none.branch [
+      | then-is_none+in_ok-listen w ↦ subst (λ (a : Agent). a.over ≡ None → IsSameEnd old.control.port.end a.control.port.end) (sym w.self-is) w.in_ok-listen.ensures.end
+      | else-is_none w ↦ λ up. over-not-up _ old.over (c.is_none.ensures ∙ ap not w.if-is_none.false) (sym (ap (λ (a : Agent). a.over) w.self-is) ∙ up)
+    ] in
+    let next : mid.control.queue.next ≡ old.control.queue.next = elim c.if-is_none.branch [
+      | then-is_none+in_ok-listen w ↦ ap (λ (a : Agent). a.control.queue.next) w.self-is ∙ w.in_ok-listen.ensures.next
+      | else-is_none w ↦ ap (λ (a : Agent). a.control.queue.next) w.self-is
+    ] in
     elim c.if-is_none-2.branch [
       | then-is_none-2+in_ok-say w ↦
           subst (λ (a : Agent). a.over ≡ None → TurnsControl (asked_at_most (late_count a.slots)) old.control a.control) (sym w.self-is)
-          (turns-control old mid turned w.say.new.self (asked_at_most (late_count w.say.new.self.slots)) listens c.turn_sessions.ensures.same
+          (turns-control old mid turned w.say.new.self (asked_at_most (late_count w.say.new.self.slots)) listens end next c.turn_sessions.ensures.same c.turn_sessions.ensures.next
           (subst (λ (s : SlotsState). SaysNoMore (asked_at_most (late_count s)) turned.control w.say.new.self.control) (sym w.say.ensures.slots) w.in_ok-say.ensures.says) w.say.ensures.same.1)
       | else-is_none-2 w ↦
           subst (λ (a : Agent). a.over ≡ None → TurnsControl (asked_at_most (late_count a.slots)) old.control a.control) (sym w.self-is)

@@ -10,4 +10,4 @@ returns-in-JustExec-clause-hearing c =
     (just_exec-unserved c.args.self.now c.end_unserved.new.self c.in-JustExec.domain c.in-JustExec.port c.in-JustExec.line (subst (λ m. Awaits c.args.self.now m) c.in-JustExec.is c.requires) c.end_unserved.ensures.same) c.end_unserved.ensures.told
 
 pub returns : goal.returns
-returns c = record { hearing = passes-other c.args.self.now c.args.message c.requires c.in_default.not-Connect c.in_default.not-Refused c.in_default.not-Exec c.in_default.not-JustExec; same = (refl, (refl, refl, refl)); kept = λ i is_open. refl }
+returns c = record { hearing = passes-other c.args.self.now c.args.message c.requires c.in_default.not-Connect c.in_default.not-Refused c.in_default.not-Exec c.in_default.not-JustExec; same = (refl, (refl, refl, refl)); kept = λ i is_open. refl; next = refl }

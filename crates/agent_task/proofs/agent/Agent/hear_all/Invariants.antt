@@ -8,6 +8,7 @@ invariant-messages l = record {
   end : l.self.control.port.end ≡ l.initial.self.control.port.end;
   same : HasSameEnds l.initial.self l.self;
   kept : KeepsOpen l.initial.self l.self;
+  next : l.self.control.queue.next ≡ l.initial.self.control.queue.next;
 }
 
 abbrev pub decreases-messages : goal.decreases-messages

@@ -1,9 +1,11 @@
 use Rattle.std.proofs.Common.{◌∙◌, ap, sym, subst}
 use Rattle.vchan_rule.specs.Seated.{SeatedEnd, IsOpen}
+use Rattle.vchan_rule.specs.Ends.{IsSameEnd}
+use Rattle.call_queue.specs.Queue.{QueueState}
 use Rattle.agent_control.specs.declared.control.AgentControl.{AgentControl}
 use Rattle.agent_task.specs.Moving.{Listens}
 use Rattle.agent_task.proofs.MovingLaws.{listens-by}
-use Rattle.agent_task.proofs.PortLaws.{same-end-is}
+use Rattle.agent_task.proofs.PortLaws.{same-end-is, same-end-then}
 use Rattle.agent_task.proofs.RoundLaws.{still-rests}
 use Rattle.agent_task.proofs.agent.Agent.listen.Goals as goal
 
@@ -26,3 +28,14 @@ returns-clause-listens c = λ up.
     let port = c.args.self.now.control.port in
     subst (λ (e : SeatedEnd). Listens port e) (sym (ap (λ (k : AgentControl). k.port.end) same.0 ∙ c.hear_all.ensures.end))
     (listens-by port c.greet.new.self.control.port c.drain.new.self.control.port.end c.in_ok-drained.drained c.in_ok-greet.ensures.greets c.in_ok-greet.ensures.got c.in_ok-drained.ensures.drains same.1)
+
+pub returns-clause-next : goal.returns-clause-next
+returns-clause-next c =
+    ap (λ (q : QueueState). q.next) c.settle.ensures.queue ∙ c.hear_all.ensures.next ∙ ap (λ (q : QueueState). q.next) c.drain.ensures.queue ∙ ap (λ (q : QueueState). q.next) c.greet.ensures.queue
+
+pub returns-clause-end : goal.returns-clause-end
+returns-clause-end c = λ up.
+    let old = c.args.self.now.control.port.end in
+    let drained = c.drain.new.self.control.port.end in
+    subst (λ (e : SeatedEnd). IsSameEnd old e) (sym (ap (λ (k : AgentControl). k.port.end) (c.settle.ensures.up up).0 ∙ c.hear_all.ensures.end))
+    (same-end-then old c.greet.new.self.control.port.end drained c.greet.ensures.end c.drain.ensures.end)

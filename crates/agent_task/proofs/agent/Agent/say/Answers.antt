@@ -1,8 +1,7 @@
 use Rattle.std.proofs.Common.{◌≡◌, ◌∙◌, ℕ, ap, subst}
 use Rattle.std.specs.Prelude.{◌-◌, min}
-use Rattle.agent_control.specs.Stopping.{Stops}
 use Rattle.data_slots.specs.Slots.{late_count}
-use Rattle.agent_task.specs.Moving.{asked_at_most, HasStopped}
+use Rattle.agent_task.specs.Moving.{SaysNoMore, asked_at_most, HasStopped}
 use Rattle.agent_task.proofs.RoundLaws.{says-up}
 use Rattle.agent_task.proofs.agent.Agent.say.Goals as goal
 
@@ -12,4 +11,4 @@ returns-in_ok-say_on-clause-up c = says-up c.args.self.now c.say_on.new.self _ c
 pub returns-in_ok-say_on-clause-says : goal.returns-in_ok-say_on-clause-says
 returns-in_ok-say_on-clause-says c =
     let calls : c.min.result ≡ asked_at_most (late_count c.args.self.now.slots) = c.min.ensures ∙ ap (λ (n : ℕ). min n 1) (c.saturating_sub-more.ensures ∙ ap (λ (n : ℕ). 8 - n) c.pages_in_use.ensures) in
-    HasStopped (subst (λ (n : ℕ). Stops n c.args.self.now.control c.say_on.new.self) calls c.in_ok-say_on.ensures.why)
+    subst (λ (n : ℕ). SaysNoMore n c.args.self.now.control c.say_on.new.self) calls (HasStopped c.in_ok-say_on.ensures.more c.in_ok-say_on.ensures.why)
