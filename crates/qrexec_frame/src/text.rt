@@ -8,14 +8,19 @@ ghost use Rattle.qrexec_frame.specs.declared.text.TextError.TheVariants as error
 
 use crate::clean::Letters;
 use memchr::memchr;
+use smallvec::SmallVec;
 use std::alloc::{AllocError, Global};
 use std::marker::Model;
 use thiserror::Error;
 
+/// The length up to which a text lies in its value and takes no memory of its own, in bytes. Most names,
+/// services and identifiers are shorter.
+const SHORT: usize = 24;
+
 /// A text of a message: bytes without NUL, as names, identifiers and lines are.
 #[derive(Debug, Drop)]
 pub struct Text {
-    bytes: Vec<u8>,
+    bytes: SmallVec<u8, SHORT>,
 }
 
 impl Model for Text {
@@ -52,9 +57,8 @@ impl Clone for Text {
     ghost is_clone = { λ text copy. copy ≡ text };
 
     fn clone(&self) -> Result<Text, AllocError> {
-        Ok(Text {
-            bytes: self.bytes.clone()?,
-        })
+        let bytes = SmallVec::from_slice(*self.bytes.allocator(), self.bytes())?;
+        Ok(Text { bytes })
     }
 }
 
@@ -64,7 +68,7 @@ impl PartialEq for Text {
     ghost laws = { partial_equiv_from_equiv nat_list_eq_equiv };
 
     fn eq(&self, other: &Text) -> bool {
-        self.bytes == other.bytes
+        self.bytes() == other.bytes()
     }
 }
 
@@ -85,7 +89,7 @@ impl Text {
         if first_nul(bytes).is_some() {
             return Err(TextError::Nul);
         }
-        let bytes = Vec::from_slice(alloc, bytes)?;
+        let bytes = SmallVec::from_slice(alloc, bytes)?;
         Ok(Text { bytes })
     }
 
@@ -101,7 +105,7 @@ impl Text {
     pub(crate) fn to_nul(alloc: Global, bytes: &[u8]) -> Result<Text, AllocError>
         ensures { IfOk result (λ text. text ≡ before_first is_nul bytes.now) }
     {
-        let bytes = Vec::from_slice(alloc, before_nul(bytes))?;
+        let bytes = SmallVec::from_slice(alloc, before_nul(bytes))?;
         Ok(Text { bytes })
     }
 
@@ -114,10 +118,18 @@ impl Text {
     }
 }
 
-fn clean_bytes(alloc: Global, bytes: &[u8], letters: Letters) -> Result<Vec<u8>, AllocError>
+fn clean_bytes(
+    alloc: Global,
+    bytes: &[u8],
+    letters: Letters,
+) -> Result<SmallVec<u8, SHORT>, AllocError>
     ensures { IfOk result (λ clean. clean.items ≡ cleaned letters bytes.now) }
 {
-    bytes.iter().map(|b| letters.kept(*b)).collect(alloc)
+    let mut clean = SmallVec::with_capacity(alloc, bytes.len())?;
+    for byte in bytes {
+        clean.push(letters.kept(*byte))?;
+    }
+    Ok(clean)
 }
 
 // The bytes before the first NUL.

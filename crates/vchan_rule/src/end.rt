@@ -20,7 +20,9 @@ ghost use Rattle.vchan_rule.specs.Going.{Starts};
 ghost use Rattle.vchan_rule.specs.Called.{MayMake, HasCalled};
 ghost use Rattle.vchan_rule.specs.Ends.{Pays, IsSameEnd, seen};
 
-use crate::end_seat::{DRAINS, EndSeat, OTHERWISE, READS, WRITES};
+use crate::end_seat::{
+    CONNECTS, DRAINS, EndSeat, OTHERWISE, READS, RETIRES, SENDS, SIGNALS, WRITES,
+};
 use crate::rule::Place;
 use crate::turned::{Retired, TurnedEnd};
 use crate::words::EndWords;
@@ -186,8 +188,8 @@ impl<'p> End<'p> {
         self.seat.move_bytes(words, &mut self.machine, payload, buf)
     }
 
-    /// Begins a call, and makes the first events of a write, a read or a drain on a machine of its own, as long
-    /// as the compiler can see their order. `steps` counts them.
+    /// Begins a call, and makes its first events on a machine of its own, as long as the compiler can see their
+    /// order. `steps` counts them.
     #[inline(always)]
     fn start<L: Ledger, const WAY: u8>(
         &mut self,
@@ -257,11 +259,19 @@ impl<'p> End<'p> {
             Call::Write { len } => {
                 self.whole_call::<L, WRITES>(Call::Write { len }, payload, buf, steps)
             }
+            Call::Send { len } => {
+                self.whole_call::<L, SENDS>(Call::Send { len }, payload, buf, steps)
+            }
             Call::Read { most } => {
                 self.whole_call::<L, READS>(Call::Read { most }, payload, buf, steps)
             }
             Call::Drain { most } => {
                 self.whole_call::<L, DRAINS>(Call::Drain { most }, payload, buf, steps)
+            }
+            Call::Connect => self.whole_call::<L, CONNECTS>(Call::Connect, payload, buf, steps),
+            Call::Retire => self.whole_call::<L, RETIRES>(Call::Retire, payload, buf, steps),
+            Call::TakeEvent => {
+                self.whole_call::<L, SIGNALS>(Call::TakeEvent, payload, buf, steps)
             }
             _ => self.whole_call::<L, OTHERWISE>(call, payload, buf, steps),
         }

@@ -30,18 +30,31 @@ use std::sync::ledger::Ledger;
 use vchan_core::words::{cons_word, written_ring};
 use vchan_core::{Ahead, Answer, Call, Machine, Op, Steps};
 
-/// The ways of a whole call: a write, a read and a drain make most of their events in an order that the
-/// compiler can see.
+/// The ways of a whole call: most calls make most of their events in an order that the compiler can see.
 pub(crate) const WRITES: u8 = 0;
 
-pub(crate) const READS: u8 = 1;
+pub(crate) const SENDS: u8 = 1;
 
-pub(crate) const DRAINS: u8 = 2;
+pub(crate) const READS: u8 = 2;
 
-pub(crate) const OTHERWISE: u8 = 3;
+pub(crate) const DRAINS: u8 = 3;
+
+pub(crate) const CONNECTS: u8 = 4;
+
+pub(crate) const RETIRES: u8 = 5;
+
+pub(crate) const SIGNALS: u8 = 6;
+
+pub(crate) const OTHERWISE: u8 = 7;
 
 /// The stretch in which a drain that found nothing asks for a signal.
-const ASKS: u8 = 4;
+const ASKS: u8 = 8;
+
+/// The stretch in which a drain that found nothing looks whether its peer is there.
+const LOOKS: u8 = 9;
+
+/// The stretch in which an end that retires tells that it is gone.
+const GOES: u8 = 10;
 
 /// An end's seat at the table of its page: all of the end except the words and its machine.
 #[derive(Drop)]
@@ -263,7 +276,7 @@ impl EndSeat {
     }
 
     /// Makes a look at the peer's index, then moves the bytes, stores the index that shows or releases them,
-    /// and tests whether the peer asked for a signal: the events of most calls that move bytes.
+    /// tests whether the peer asked for a signal, and signals it: the events of most calls that move bytes.
     #[inline(always)]
     fn look_and_move<L: Ledger, const WAY: u8>(
         &mut self,
@@ -283,7 +296,7 @@ impl EndSeat {
             return Some(answer);
         }
         self.counted_bytes(words, machine, payload, buf, steps);
-        self.two_events::<L, WAY>(words, machine, payload, buf, steps)
+        self.three_events::<L, WAY>(words, machine, payload, buf, steps)
     }
 
     #[inline(always)]
@@ -307,8 +320,52 @@ impl EndSeat {
         self.counted_event(words, machine, payload, buf, steps)
     }
 
-    /// Goes on with a drain that has begun: a look, then the events of `look_and_move` if it found bytes, and
-    /// else those of a drain that finds none.
+    #[inline(always)]
+    fn three_events<L: Ledger, const WAY: u8>(
+        &mut self,
+        words: &PageWords,
+        machine: &mut Machine,
+        payload: &[u8],
+        buf: &mut [u8],
+        steps: &mut Steps<L>,
+    ) -> Option<Answer>
+        requires words { AreWordsOf words.now.table_id words.now.key self.old }
+        requires ready { IsReady (driven words.now.key.start self.old machine.old) payload.now buf.old }
+        ensures words { AreWordsOf words.now.table_id words.now.key self.new }
+        ensures goes { Goes (driven words.now.key.start self.old machine.old) payload.now buf.old result (driven words.now.key.start self.new machine.new) buf.new }
+        ensures steps { steps.new + length (seen (driven words.now.key.start self.old machine.old) payload.now).trail ≡ steps.old + length (seen (driven words.now.key.start self.new machine.new) payload.now).trail }
+    {
+        if let Some(answer) = self.two_events::<L, WAY>(words, machine, payload, buf, steps) {
+            return Some(answer);
+        }
+        self.counted_event(words, machine, payload, buf, steps)
+    }
+
+    /// Makes two events, and two more if the call isn't over then.
+    #[inline(always)]
+    fn four_events<L: Ledger, const FIRST: u8, const THEN: u8>(
+        &mut self,
+        words: &PageWords,
+        machine: &mut Machine,
+        payload: &[u8],
+        buf: &mut [u8],
+        steps: &mut Steps<L>,
+    ) -> Option<Answer>
+        requires words { AreWordsOf words.now.table_id words.now.key self.old }
+        requires ready { IsReady (driven words.now.key.start self.old machine.old) payload.now buf.old }
+        ensures words { AreWordsOf words.now.table_id words.now.key self.new }
+        ensures goes { Goes (driven words.now.key.start self.old machine.old) payload.now buf.old result (driven words.now.key.start self.new machine.new) buf.new }
+        ensures steps { steps.new + length (seen (driven words.now.key.start self.old machine.old) payload.now).trail ≡ steps.old + length (seen (driven words.now.key.start self.new machine.new) payload.now).trail }
+    {
+        if let Some(answer) = self.two_events::<L, FIRST>(words, machine, payload, buf, steps) {
+            return Some(answer);
+        }
+        self.two_events::<L, THEN>(words, machine, payload, buf, steps)
+    }
+
+    /// Goes on with a drain that has begun: a look, then the events of `look_and_move` if it found bytes. Else
+    /// it asks for a signal and looks again, and if nothing came it checks whether the peer is live, and whether
+    /// it is gone.
     #[inline(always)]
     fn look_and_drain<L: Ledger>(
         &mut self,
@@ -328,38 +385,16 @@ impl EndSeat {
             return Some(answer);
         }
         if let Ahead::Elsewhere = machine.ahead() {
-            return self.find_none(words, machine, payload, buf, steps);
+            return self.four_events::<L, ASKS, LOOKS>(words, machine, payload, buf, steps);
         }
         self.counted_bytes(words, machine, payload, buf, steps);
-        self.two_events::<L, DRAINS>(words, machine, payload, buf, steps)
+        self.three_events::<L, DRAINS>(words, machine, payload, buf, steps)
     }
 
-    /// Goes on with a drain that found nothing: it asks for a signal and looks again, and if nothing came it
-    /// checks whether the peer is live, and whether it is gone.
+    /// Goes on with a write or a send that has begun: it checks whether the peer is live, and then as
+    /// `look_and_move`.
     #[inline(always)]
-    fn find_none<L: Ledger>(
-        &mut self,
-        words: &PageWords,
-        machine: &mut Machine,
-        payload: &[u8],
-        buf: &mut [u8],
-        steps: &mut Steps<L>,
-    ) -> Option<Answer>
-        requires words { AreWordsOf words.now.table_id words.now.key self.old }
-        requires ready { IsReady (driven words.now.key.start self.old machine.old) payload.now buf.old }
-        ensures words { AreWordsOf words.now.table_id words.now.key self.new }
-        ensures goes { Goes (driven words.now.key.start self.old machine.old) payload.now buf.old result (driven words.now.key.start self.new machine.new) buf.new }
-        ensures steps { steps.new + length (seen (driven words.now.key.start self.old machine.old) payload.now).trail ≡ steps.old + length (seen (driven words.now.key.start self.new machine.new) payload.now).trail }
-    {
-        if let Some(answer) = self.two_events::<L, ASKS>(words, machine, payload, buf, steps) {
-            return Some(answer);
-        }
-        self.two_events::<L, OTHERWISE>(words, machine, payload, buf, steps)
-    }
-
-    /// Goes on with a write that has begun: it checks whether the peer is live, and then as `look_and_move`.
-    #[inline(always)]
-    fn live_and_move<L: Ledger>(
+    fn live_and_move<L: Ledger, const WAY: u8>(
         &mut self,
         words: &PageWords,
         machine: &mut Machine,
@@ -376,11 +411,11 @@ impl EndSeat {
         if let Some(answer) = self.counted_event(words, machine, payload, buf, steps) {
             return Some(answer);
         }
-        self.look_and_move::<L, WRITES>(words, machine, payload, buf, steps)
+        self.look_and_move::<L, WAY>(words, machine, payload, buf, steps)
     }
 
-    /// Makes the first events of a call of this way that was just begun; most writes, reads and drains are over
-    /// then. It makes no event of any other call.
+    /// Makes the first events of a call of this way that was just begun; most calls are over then. It makes no
+    /// event of a call of no such way.
     #[inline(always)]
     pub(crate) fn quickly<L: Ledger, const WAY: u8>(
         &mut self,
@@ -397,9 +432,13 @@ impl EndSeat {
         ensures steps { steps.new + length (seen (driven words.now.key.start self.old machine.old) payload.now).trail ≡ steps.old + length (seen (driven words.now.key.start self.new machine.new) payload.now).trail }
     {
         match WAY {
-            WRITES => self.live_and_move(words, machine, payload, buf, steps),
+            WRITES => self.live_and_move::<L, WRITES>(words, machine, payload, buf, steps),
+            SENDS => self.live_and_move::<L, SENDS>(words, machine, payload, buf, steps),
             READS => self.look_and_move::<L, READS>(words, machine, payload, buf, steps),
             DRAINS => self.look_and_drain(words, machine, payload, buf, steps),
+            CONNECTS => self.three_events::<L, CONNECTS>(words, machine, payload, buf, steps),
+            RETIRES => self.four_events::<L, RETIRES, GOES>(words, machine, payload, buf, steps),
+            SIGNALS => self.counted_event(words, machine, payload, buf, steps),
             _ => None,
         }
     }

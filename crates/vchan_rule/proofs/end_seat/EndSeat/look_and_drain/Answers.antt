@@ -6,14 +6,14 @@ pub returns-in-Elsewhere-clause-goes : goal.returns-in-Elsewhere-clause-goes
 returns-in-Elsewhere-clause-goes g c =
     let was = driven c.args.words.now.key.start c.args.self.now c.args.machine.now in
     let one = driven c.args.words.now.key.start c.counted_event.new.self c.counted_event.new.machine in
-    let two = driven c.args.words.now.key.start c.find_none.new.self c.find_none.new.machine in
-    goes_then was c.args.payload.now c.args.buf.now one c.counted_event.new.buf c.find_none.result two c.find_none.new.buf c.in_default.ensures.goes c.find_none.ensures.goes
+    let two = driven c.args.words.now.key.start c.four_events.new.self c.four_events.new.machine in
+    goes_then was c.args.payload.now c.args.buf.now one c.counted_event.new.buf c.four_events.result two c.four_events.new.buf c.in_default.ensures.goes c.four_events.ensures.goes
 
 pub returns-clause-goes : goal.returns-clause-goes
 returns-clause-goes g c =
     let was = driven c.args.words.now.key.start c.args.self.now c.args.machine.now in
     let one = driven c.args.words.now.key.start c.counted_event.new.self c.counted_event.new.machine in
     let two = driven c.args.words.now.key.start c.counted_bytes.new.self c.counted_bytes.new.machine in
-    let three = driven c.args.words.now.key.start c.two_events.new.self c.two_events.new.machine in
-    goes_then was c.args.payload.now c.args.buf.now one c.counted_event.new.buf c.two_events.result three c.two_events.new.buf c.in_default.ensures.goes
-    (goes_then one c.args.payload.now c.counted_event.new.buf two c.counted_bytes.new.buf c.two_events.result three c.two_events.new.buf c.counted_bytes.ensures.goes c.two_events.ensures.goes)
+    let three = driven c.args.words.now.key.start c.three_events.new.self c.three_events.new.machine in
+    goes_then was c.args.payload.now c.args.buf.now one c.counted_event.new.buf c.three_events.result three c.three_events.new.buf c.in_default.ensures.goes
+    (goes_then one c.args.payload.now c.counted_event.new.buf two c.counted_bytes.new.buf c.three_events.result three c.three_events.new.buf c.counted_bytes.ensures.goes c.three_events.ensures.goes)

@@ -7,6 +7,6 @@ returns-clause-goes g c =
     let was = driven c.args.words.now.key.start c.args.self.now c.args.machine.now in
     let one = driven c.args.words.now.key.start c.counted_event.new.self c.counted_event.new.machine in
     let two = driven c.args.words.now.key.start c.counted_bytes.new.self c.counted_bytes.new.machine in
-    let three = driven c.args.words.now.key.start c.two_events.new.self c.two_events.new.machine in
-    goes_then was c.args.payload.now c.args.buf.now one c.counted_event.new.buf c.two_events.result three c.two_events.new.buf c.in_default.ensures.goes
-    (goes_then one c.args.payload.now c.counted_event.new.buf two c.counted_bytes.new.buf c.two_events.result three c.two_events.new.buf c.counted_bytes.ensures.goes c.two_events.ensures.goes)
+    let three = driven c.args.words.now.key.start c.three_events.new.self c.three_events.new.machine in
+    goes_then was c.args.payload.now c.args.buf.now one c.counted_event.new.buf c.three_events.result three c.three_events.new.buf c.in_default.ensures.goes
+    (goes_then one c.args.payload.now c.counted_event.new.buf two c.counted_bytes.new.buf c.three_events.result three c.three_events.new.buf c.counted_bytes.ensures.goes c.three_events.ensures.goes)
