@@ -1,7 +1,0 @@
-use Rattle.std.proofs.Common.{refl}
-use Rattle.service_gate.specs.ServiceResult.{service}
-use Rattle.channel_tests.proofs.servers.clients_are_served.Goals as goal
-
-pub answers-text-requires-after_bounds : goal.answers-text-requires-after_bounds
-unfolding service
-answers-text-requires-after_bounds g c κs = λ input. refl

@@ -1,5 +1,0 @@
-use Rattle.vchan_rule.specs.Seated.{IsOpen}
-use Rattle.channel_tests.proofs.waiting.client_writes.Given as goal
-
-abbrev pub invariant-pieces : goal.invariant-pieces
-invariant-pieces g l = IsOpen l.end

@@ -1,5 +1,0 @@
-use Rattle.vchan_rule.specs.Seated.{IsOpen}
-use Rattle.task_tests.proofs.held_back.hears_connects.Given as goal
-
-abbrev pub invariant-connects : goal.invariant-connects
-invariant-connects l = IsOpen l.caller.end
