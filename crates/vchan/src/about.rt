@@ -58,7 +58,7 @@ pub fn tell<K: Sink, E: Sink>(text: &[u8], out: &mut K, err: &mut E) -> Status
     status
 }
 
-const VERSION: &[u8] = b"vchan 0.1.0\nproved with rattle-kit-13b logic dac8208d650f15bf\n";
+const VERSION: &[u8] = b"vchan 0.1.0\nproved with rattle-kit-13f logic dac8208d650f15bf\n";
 
 const HELP: &[u8] = b"usage: vchan WORDS
 
