@@ -98,6 +98,8 @@ impl<'p> CallerSession<'p> {
     }
 
     // Takes what has come, or learns that no more comes. Returns whether it did either.
+    // A function apart, so that a turn that is passed over doesn't pay for the room of its locals.
+    #[inline(never)]
     fn read_on(&mut self, buf: &mut [u8]) -> Result<bool, Memory>
         requires calling { IsCalling self.old.caller self.old.end }
         requires undecided { self.old.caller.replies.outcome ≡ None }
@@ -121,6 +123,7 @@ impl<'p> CallerSession<'p> {
 
     // Writes what goes out next, as much as has room, if nothing has decided yet and the peer isn't
     // shut. Returns whether any bytes went.
+    #[inline(never)]
     fn write_on(&mut self) -> Result<bool, Memory>
         requires calling { IsCalling self.old.caller self.old.end }
         ensures end { IsSameEnd self.old.end self.new.end }
