@@ -74,6 +74,7 @@ impl<'p> AgentControl<'p> {
     }
 
     // Reports the end of a session. Returns whether the message was sent.
+    #[inline(never)]
     fn tell(&mut self, end: SessionEnd) -> Result<bool, Memory>
         requires can { CanSpeak self.old }
         requires call { HasCall (asked_by self.old.queue) end.call }
@@ -152,6 +153,7 @@ impl<'p> AgentControl<'p> {
     }
 
     // Makes the next trigger, in the version that was agreed on, and sends it. Returns whether it was sent.
+    #[inline(never)]
     fn say_front(&mut self, alloc: Global, version: u32) -> Result<bool, Memory>
         requires can { CanSpeak self.old }
         requires version { self.old.port.version ≡ Some version }

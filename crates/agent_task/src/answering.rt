@@ -12,6 +12,7 @@ use vchan_io::Memory;
 impl<'p> Agent<'p> {
     /// Acts on a message that was handed out. A message that an agent doesn't hear from a broker changes
     /// nothing.
+    #[inline(never)]
     pub(crate) fn hear(&mut self, message: Message) -> Result<(), Memory>
         requires { Awaits self.old message }
         ensures hearing { OnOk result (IsHearing self.new) }

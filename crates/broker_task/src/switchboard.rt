@@ -113,6 +113,7 @@ impl<'p> Switchboard<'p> {
     }
 
     // Decides an event of a domain, and puts the messages that follow into the outboxes.
+    #[inline(never)]
     fn decide(&mut self, from: u32, event: Event) -> Result<(), Memory>
         requires posting { IsPosting self.old.broker.hub self.old.broker.journal self.old.daemons.items }
         requires names { HasShortNames self.old.broker.hub }

@@ -164,6 +164,7 @@ impl<'p> ControlPort<'p> {
     /// Sends its own greeting, which is the first message. The greeting was sent if the answer is `Sent`.
     /// Each answer comes if and only if its cause is in what the call's events loaded. Returns `Memory` if
     /// memory runs out; nothing was changed then.
+    #[inline(never)]
     pub fn greet(&mut self) -> Result<SendAnswer, Memory>
         requires open { IsOpen self.old.end }
         requires first { self.old.greeted ≡ false }
@@ -303,6 +304,7 @@ impl<'p> ControlPort<'p> {
 
     // Takes the other side's greeting, which is its first message. Returns whether that message was a
     // greeting.
+    #[inline(never)]
     fn take_greeting(&mut self) -> Result<bool, Memory>
         requires fine { self.old.fault ≡ None }
         requires first { self.old.version ≡ None }

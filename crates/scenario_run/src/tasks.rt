@@ -60,6 +60,7 @@ pub(crate) fn tasks<'p, 's>(
 }
 
 /// Makes the task of the broker. Returns the ends as they were given if memory runs out.
+#[inline(never)]
 pub(crate) fn broker<'p>(
     alloc: Global,
     scenario: &Scenario,
@@ -135,6 +136,7 @@ fn count_from(scenario: &Scenario, from: u32) -> u32
 }
 
 /// Makes the task of a domain. Returns the ends as they were given if memory runs out.
+#[inline(never)]
 pub(crate) fn domain<'p>(
     alloc: Global,
     scenario: &Scenario,

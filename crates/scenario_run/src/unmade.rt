@@ -15,6 +15,7 @@ use vchan_rule::End;
 
 /// Retires the broker's ends of the control pages, in the order of the domains, into a list that has room
 /// for them.
+#[inline(never)]
 pub(crate) fn retire_controls(
     controls: Vec<End<'_>>,
     mut retired: Vec<RetiredEnd>,
@@ -34,6 +35,7 @@ pub(crate) fn retire_controls(
 }
 
 /// Retires the ends of a domain, that of its control page first, into a list that has room for them.
+#[inline(never)]
 pub(crate) fn retire_hand(
     domain: u32,
     control: End<'_>,
