@@ -2,9 +2,9 @@
 
 Each row is a name, the program's words and perhaps an input; without one the input is 4 MiB of all values. Both
 programs read it N times (5 if `--rounds N` is left out), in turn, and the medians of the wall times and of the
-processor times are set beside one another. With `--busy` two busy loops for each processor run beside both, from the
-first row to the last. Both must print the same, and both must end with status 0. Nothing is built: run ./vchan once
-before.
+processor times are set beside one another. The own program runs with the environment that ./vchan gives it, and with
+`--small-pages` without it. With `--busy` two busy loops for each processor run beside both, from the first row to
+the last. Both must print the same, and both must end with status 0. Nothing is built: run ./vchan once before.
 """
 
 import contextlib
@@ -19,6 +19,18 @@ import time
 ROOT = os.path.dirname(os.path.dirname(os.path.abspath(__file__)))
 OWN = os.path.join(ROOT, "crates/vchan/out/vchan")
 INPUT = bytes(k * k % 251 for k in range(1 << 16)) * 64
+# What ./vchan sets where a run may be long.
+LONG_RUN = {"GLIBC_TUNABLES": "glibc.malloc.hugetlb=1:glibc.malloc.top_pad=67108864"
+            ":glibc.malloc.mmap_threshold=33554432:glibc.malloc.trim_threshold=1073741824"
+            ":glibc.malloc.tcache_count=1000"}
+LONG_WORDS = "run", "pipe"
+SHORT_FILE = 15 * 1024
+
+
+def as_launched(what, size):
+    """The environment that ./vchan gives a run of these words on a file of this size."""
+    is_long = what[0] == "load" or what[0] in LONG_WORDS and size > SHORT_FILE
+    return LONG_RUN if is_long else {}
 
 
 @contextlib.contextmanager
@@ -51,9 +63,8 @@ def measured(program, words, path, environment=None):
 
 def compare(usage, rows):
     words, rounds = sys.argv[1:], 5
-    busy = "--busy" in words
-    if busy:
-        words.remove("--busy")
+    busy, small_pages = ("--busy" in words, "--small-pages" in words)
+    words = [it for it in words if it not in ("--busy", "--small-pages")]
     if "--rounds" in words[:-1]:
         at = words.index("--rounds")
         rounds = int(words[at + 1])
@@ -62,17 +73,18 @@ def compare(usage, rows):
         sys.exit(usage)
     with loops(busy):
         for row in rows:
-            compare_row(words[1], rounds, *row)
+            compare_row(words[1], rounds, small_pages, *row)
 
 
-def compare_row(other, rounds, name, what, own_input=INPUT):
+def compare_row(other, rounds, small_pages, name, what, own_input=INPUT):
     with tempfile.NamedTemporaryFile() as source:
         source.write(own_input)
         source.flush()
         both = OWN, other
         if len({run(program, what, source.name, subprocess.PIPE) for program in both}) != 1:
             sys.exit(f"{name}: the two programs print different texts")
-        pairs = [[measured(program, what, source.name) for program in both] for _ in range(rounds)]
+        own = {} if small_pages else as_launched(what, len(own_input))
+        pairs = [[measured(OWN, what, source.name, own), measured(other, what, source.name)] for _ in range(rounds)]
         wall, processor = ([statistics.median(pair[side][kind] for pair in pairs) for side in (0, 1)] for kind in (0, 1))
         print(f"{name:24} wall {wall[0] * 1e3:7.0f} ms, {wall[1] * 1e3:.0f} ms: {wall[0] / wall[1]:.2f}; "
               f"processors {processor[0] * 1e3:.0f} ms, {processor[1] * 1e3:.0f} ms: {processor[0] / processor[1]:.2f}", flush=True)
