@@ -1,12 +1,11 @@
 -- A queue before anything was heard or sent.
-use Rattle.std.proofs.Common.{◌≡◌, ◌≢◌, ℕ, ◌<◌, ◌≤◌, ◌^◌, suc, zero, List, [], ◌∷◌, ◌++◌, length, map, drop, refl, ap, sym, ◌∙◌, arith, Some, subst, decimal}
-use Rattle.std.specs.Prelude.{true, false, Bool, bytes_eq, slice_index, replicate, unwrap_or, option_map, if◌then◌else◌}
-use Rattle.std.specs.Global.{Vec}
+use Rattle.std.proofs.Common.{◌≡◌, ◌≢◌, ℕ, ◌<◌, ◌≤◌, ◌^◌, suc, zero, List, [], ◌∷◌, ◌++◌, length, map, drop, get_or, refl, ap, sym, ◌∙◌, arith, Some, subst, decimal}
+use Rattle.std.specs.Prelude.{true, false, slice_index, replicate}
 use Rattle.std.specs.BTreeMap.{BTreeMap}
 use Rattle.std.specs.Str.{all_ascii_digits}
 use Rattle.std.specs.Str.Parse.{digits_value}
 use Rattle.std.proofs.lemmas.Fmt.{digits_value-decimal}
-use Rattle.std.proofs.lemmas.Slice.Eq.{bytes_eq-Decides}
+use Rattle.std.proofs.lemmas.List.{length-map, map-append}
 use Rattle.std.proofs.lemmas.Str.Parse.{IsNumeralModel, numerals_by_value, tells_all_ascii_digits}
 use Rattle.qrexec_frame.specs.Streams.{Each}
 use Rattle.scenario_file.specs.declared.scenario.CallPlan.{CallPlan}
@@ -15,7 +14,7 @@ use Rattle.task_duties.specs.Pairwise.{EachPair}
 use Rattle.task_duties.specs.Words.{ident_of}
 use Rattle.call_queue.specs.declared.call.QueuedCall.{QueuedCall}
 use Rattle.call_queue.specs.Queue.{fresh, asked_as, answer_of, open_idents, AreDifferent, FitsTrigger}
-use Rattle.call_queue.specs.Index.{place_in, IsIndex}
+use Rattle.call_queue.specs.Index.{IsFirst, IsIndex}
 use Rattle.call_queue.specs.Inside.{queued, all_queued, idents, targets, IsFaithful, IsCounted, AreKept, IsFresh}
 
 pub pair-more : {A B : Type 0} (R : A → B → Type 0) (xs : List A) (ys : List B) (x : A) (y : B) → EachPair R xs ys → R x y → EachPair R (xs ++ x ∷ []) (ys ++ y ∷ [])
@@ -23,6 +22,12 @@ pair-more R [] [] x y each last = (last, tt)
 pair-more R [] (z ∷ ys) x y each last = absurd each
 pair-more R (z ∷ xs) [] x y each last = absurd each
 pair-more R (z ∷ xs) (w ∷ ys) x y each last = (each.0, pair-more R xs ys x y each.1 last)
+
+pub pair-at : {A : Type 0} (R : A → ℕ → Type 0) (xs : List A) (x : A) (rest : List A) (ys : List ℕ) (d : ℕ) → EachPair R (xs ++ x ∷ rest) ys → (length xs < length ys) × R x (get_or ys (length xs) d)
+pair-at R [] x rest [] d each = absurd each
+pair-at R [] x rest (y ∷ ys) d each = (omega arith, each.0)
+pair-at R (z ∷ xs) x rest [] d each = absurd each
+pair-at R (z ∷ xs) x rest (y ∷ ys) d each = let r = pair-at R xs x rest ys d each.1 in (omega (arith, r.0), r.1)
 
 -- ---- idents of different numbers differ
 
@@ -55,82 +60,70 @@ fresh-apart calls small apart = subst (λ l. AreDifferent l) (sym (same calls)) 
 
 -- ---- calls as they are given
 
-pub all-fresh : (index : BTreeMap (Vec ℕ) ℕ) (calls : List CallPlan) (all : List QueuedCall) → EachPair (IsFresh index) calls all → all_queued all ≡ map fresh calls
-all-fresh index [] [] each = refl
-all-fresh index [] (c ∷ all) each = absurd each
-all-fresh index (p ∷ calls) [] each = absurd each
-all-fresh index (p ∷ calls) (c ∷ all) each =
+pub all-fresh : (names : List (List ℕ)) (calls : List CallPlan) (all : List QueuedCall) → EachPair (IsFresh names) calls all → all_queued all ≡ map fresh calls
+all-fresh names [] [] each = refl
+all-fresh names [] (c ∷ all) each = absurd each
+all-fresh names (p ∷ calls) [] each = absurd each
+all-fresh names (p ∷ calls) (c ∷ all) each =
     let f = each.0 in
     let one : queued c ≡ fresh p = λ i. record { call = f.given i; answer = answer_of (f.waits i); is_open = f.closed i } in
-    rw (all-fresh index calls all each.1) (ap (λ x. x ∷ map fresh calls) one)
+    rw (all-fresh names calls all each.1) (ap (λ x. x ∷ map fresh calls) one)
 
-given-idents : (index : BTreeMap (Vec ℕ) ℕ) (calls : List CallPlan) (all : List QueuedCall) → EachPair (IsFresh index) calls all → idents all ≡ map (λ x. ident_of x.number) calls
-given-idents index [] [] each = refl
-given-idents index [] (c ∷ all) each = absurd each
-given-idents index (p ∷ calls) [] each = absurd each
-given-idents index (p ∷ calls) (c ∷ all) each =
-    let g = each.0.given in ap (λ n. n ∷ idents all) (ap (λ x. ident_of x.number) g) ∙ ap (λ r. ident_of p.number ∷ r) (given-idents index calls all each.1)
+given-idents : (names : List (List ℕ)) (calls : List CallPlan) (all : List QueuedCall) → EachPair (IsFresh names) calls all → idents all ≡ map (λ x. ident_of x.number) calls
+given-idents names [] [] each = refl
+given-idents names [] (c ∷ all) each = absurd each
+given-idents names (p ∷ calls) [] each = absurd each
+given-idents names (p ∷ calls) (c ∷ all) each =
+    let g = each.0.given in ap (λ n. n ∷ idents all) (ap (λ x. ident_of x.number) g) ∙ ap (λ r. ident_of p.number ∷ r) (given-idents names calls all each.1)
 
-given-targets : (index : BTreeMap (Vec ℕ) ℕ) (calls : List CallPlan) (all : List QueuedCall) → EachPair (IsFresh index) calls all → targets all ≡ map (λ x. x.to) calls
-given-targets index [] [] each = refl
-given-targets index [] (c ∷ all) each = absurd each
-given-targets index (p ∷ calls) [] each = absurd each
-given-targets index (p ∷ calls) (c ∷ all) each =
-    let g = each.0.given in ap (λ n. n ∷ targets all) (ap (λ x. x.to) g) ∙ ap (λ r. p.to ∷ r) (given-targets index calls all each.1)
+given-targets : (names : List (List ℕ)) (calls : List CallPlan) (all : List QueuedCall) → EachPair (IsFresh names) calls all → targets all ≡ map (λ x. x.to) calls
+given-targets names [] [] each = refl
+given-targets names [] (c ∷ all) each = absurd each
+given-targets names (p ∷ calls) [] each = absurd each
+given-targets names (p ∷ calls) (c ∷ all) each =
+    let g = each.0.given in ap (λ n. n ∷ targets all) (ap (λ x. x.to) g) ∙ ap (λ r. p.to ∷ r) (given-targets names calls all each.1)
 
-as-long : (index : BTreeMap (Vec ℕ) ℕ) (calls : List CallPlan) (all : List QueuedCall) → EachPair (IsFresh index) calls all → length all ≡ length calls
-as-long index [] [] each = refl
-as-long index [] (c ∷ all) each = absurd each
-as-long index (p ∷ calls) [] each = absurd each
-as-long index (p ∷ calls) (c ∷ all) each = ap suc (as-long index calls all each.1)
+pub as-long : (names : List (List ℕ)) (calls : List CallPlan) (all : List QueuedCall) → EachPair (IsFresh names) calls all → length all ≡ length calls
+as-long names [] [] each = refl
+as-long names [] (c ∷ all) each = absurd each
+as-long names (p ∷ calls) [] each = absurd each
+as-long names (p ∷ calls) (c ∷ all) each = ap suc (as-long names calls all each.1)
 
-faithful : (index : BTreeMap (Vec ℕ) ℕ) (calls : List CallPlan) (all : List QueuedCall) → EachPair (IsFresh index) calls all → Each FitsTrigger calls → Each IsFaithful all
-faithful index [] [] each fits = tt
-faithful index [] (c ∷ all) each fits = absurd each
-faithful index (p ∷ calls) [] each fits = absurd each
-faithful index (p ∷ calls) (c ∷ all) each fits =
+faithful : (names : List (List ℕ)) (calls : List CallPlan) (all : List QueuedCall) → EachPair (IsFresh names) calls all → Each FitsTrigger calls → Each IsFaithful all
+faithful names [] [] each fits = tt
+faithful names [] (c ∷ all) each fits = absurd each
+faithful names (p ∷ calls) [] each fits = absurd each
+faithful names (p ∷ calls) (c ∷ all) each fits =
     let f = each.0 in
     let same : c.plan ≡ c.given.value = f.plan ∙ sym f.given in
     let to : length c.given.value.to ≤ 31 = subst (λ x. length x.to ≤ 31) (sym f.given) fits.0.0 in
     let service : length c.given.value.service ≤ 63 = subst (λ x. length x.service ≤ 63) (sym f.given) fits.0.1 in (
       record { number = ap (λ x. x.number) same; to = ap (λ x. x.to) same; service = ap (λ x. x.service) same; stdin = λ w. ap (λ x. x.stdin) same; short_to = to; short_service = service },
-      faithful index calls all each.1 fits.1,
+      faithful names calls all each.1 fits.1,
     )
 
-shut : (index : BTreeMap (Vec ℕ) ℕ) (calls : List CallPlan) (all : List QueuedCall) → EachPair (IsFresh index) calls all → Each (λ c. c.is_open ≡ false) all
-shut index [] [] each = tt
-shut index [] (c ∷ all) each = absurd each
-shut index (p ∷ calls) [] each = absurd each
-shut index (p ∷ calls) (c ∷ all) each = (each.0.closed, shut index calls all each.1)
+shut : (names : List (List ℕ)) (calls : List CallPlan) (all : List QueuedCall) → EachPair (IsFresh names) calls all → Each (λ c. c.is_open ≡ false) all
+shut names [] [] each = tt
+shut names [] (c ∷ all) each = absurd each
+shut names (p ∷ calls) [] each = absurd each
+shut names (p ∷ calls) (c ∷ all) each = (each.0.closed, shut names calls all each.1)
 
--- each of some names has a place
-abbrev HasPlace : List (List ℕ) → List ℕ → Type 0
-HasPlace names x = (k : ℕ) × (place_of names x ≡ Some k)
+placed : (names : List (List ℕ)) (calls : List CallPlan) (all : List QueuedCall) → EachPair (IsFresh names) calls all → Each (λ c. place_of names c.given.value.to ≡ Some c.target) all
+placed names [] [] each = tt
+placed names [] (c ∷ all) each = absurd each
+placed names (p ∷ calls) [] each = absurd each
+placed names (p ∷ calls) (c ∷ all) each = let f = each.0 in (ap (λ x. place_of names x.to) f.given ∙ f.target, placed names calls all each.1)
 
-one-more : (x : List ℕ) (names rest : List (List ℕ)) → Each (HasPlace names) rest → Each (HasPlace (x ∷ names)) rest
-one-more x names [] each = tt
-one-more x names (y ∷ rest) each = (by_test (bytes_eq x y), one-more x names rest each.1)
-  where
-    by_test : (b : Bool) → (k : ℕ) × ((if b then Some 0 else option_map suc (place_of names y)) ≡ Some k)
-    by_test true = (0, refl)
-    by_test false = (suc each.0.0, ap (option_map suc) each.0.1)
-
-pub have-places : (names : List (List ℕ)) → Each (HasPlace names) names
-have-places [] = tt
-have-places (x ∷ names) =
-    let same = (bytes_eq-Decides x x).1 refl in
-    ((0, rw same refl), one-more x names names (have-places names))
-
-placed : (index : BTreeMap (Vec ℕ) ℕ) (names : List (List ℕ)) (calls : List CallPlan) (all : List QueuedCall) → IsIndex names index → EachPair (IsFresh index) calls all → Each (HasPlace names) (map (λ x. x.to) calls)
-    → Each (λ c. place_of names c.given.value.to ≡ Some c.target) all
-placed index names [] [] is each have = tt
-placed index names [] (c ∷ all) is each have = absurd each
-placed index names (p ∷ calls) [] is each have = absurd each
-placed index names (p ∷ calls) (c ∷ all) is each have =
-    let f = each.0 in
-    let there : place_in index p.to ≡ Some have.0.0 = is.first p.to ∙ have.0.1 in
-    let target : c.target ≡ have.0.0 = f.target ∙ ap (λ o. unwrap_or o 0) there in
-    (ap (λ x. place_of names x.to) f.given ∙ (have.0.1 ∙ ap Some (sym target)), placed index names calls all is each.1 have.1)
+-- the first place of a call's target, by the calls before it
+pub first-at : (all before : List CallPlan) (call : CallPlan) (rest : List CallPlan) (places : List ℕ) (d : ℕ) → before ++ call ∷ rest ≡ all → EachPair (IsFirst (map (λ x. x.to) all)) (map (λ x. x.to) all) places
+    → (length before < length places) × (place_of (map (λ x. x.to) all) call.to ≡ Some (get_or places (length before) d))
+first-at all before call rest places d split each =
+    let long : length (map (λ (x : CallPlan). x.to) before) ≡ length before = length-map before (λ (x : CallPlan). x.to) in
+    let names : map (λ (x : CallPlan). x.to) all ≡ map (λ (x : CallPlan). x.to) before ++ call.to ∷ map (λ (x : CallPlan). x.to) rest =
+    ap (map (λ (x : CallPlan). x.to)) (sym split) ∙ map-append (λ (x : CallPlan). x.to) before (call ∷ rest) in
+    let at = pair-at (IsFirst (map (λ (x : CallPlan). x.to) all)) (map (λ (x : CallPlan). x.to) before) call.to (map (λ (x : CallPlan). x.to) rest) places d
+    (subst (λ l. EachPair (IsFirst (map (λ (x : CallPlan). x.to) all)) l places) names each) in
+    (omega (arith, at.0, long), at.1 ∙ ap (λ n. Some (get_or places n d)) long)
 
 none-open : (target : List ℕ) (all : List QueuedCall) → Each (λ c. c.is_open ≡ false) all → open_idents target (all_queued all) ≡ []
 none-open target [] each = refl
@@ -149,17 +142,18 @@ length-zeros : (n : ℕ) → length {A = ℕ} (replicate n 0) ≡ n
 length-zeros zero = refl
 length-zeros (suc n) = ap suc (length-zeros n)
 
-pub kept-fresh : (calls : List CallPlan) (all : List QueuedCall) (index by_target : BTreeMap (Vec ℕ) ℕ) (counts : List ℕ) → EachPair (IsFresh by_target) calls all → Each IsSmall calls → AreDifferent (map (λ x. x.number) calls)
-    → Each FitsTrigger calls → IsIndex (map (λ x. ident_of x.number) calls) index → IsIndex (map (λ x. x.to) calls) by_target → counts ≡ replicate (length calls) 0 → AreKept all index counts 0
-kept-fresh calls all index by_target counts each small apart fits by_ident by_to counts_is =
-    let closed = shut by_target calls all each in
-    let names = given-targets by_target calls all each in
-    let long = as-long by_target calls all each in
+pub kept-fresh : (calls : List CallPlan) (all : List QueuedCall) (index : BTreeMap ℕ ℕ) (counts : List ℕ) → EachPair (IsFresh (map (λ x. x.to) calls)) calls all → Each IsSmall calls → AreDifferent (map (λ x. x.number) calls)
+    → Each FitsTrigger calls → IsIndex (map (λ x. ident_of x.number) calls) index → counts ≡ replicate (length calls) 0 → AreKept all index counts 0
+kept-fresh calls all index counts each small apart fits by_ident counts_is =
+    let to : List (List ℕ) = map (λ x. x.to) calls in
+    let closed = shut to calls all each in
+    let names = given-targets to calls all each in
+    let long = as-long to calls all each in
     record {
-      faithful = faithful by_target calls all each fits;
-      differ = subst (λ l. AreDifferent l) (sym (given-idents by_target calls all each)) (idents-apart calls small apart);
-      indexed = subst (λ l. IsIndex l index) (sym (given-idents by_target calls all each)) by_ident;
-      first = subst (λ l. Each (λ c. place_of l c.given.value.to ≡ Some c.target) all) (sym names) (placed by_target (map (λ x. x.to) calls) calls all by_to each (have-places (map (λ x. x.to) calls)));
+      faithful = faithful to calls all each fits;
+      differ = subst (λ l. AreDifferent l) (sym (given-idents to calls all each)) (idents-apart calls small apart);
+      indexed = subst (λ l. IsIndex l index) (sym (given-idents to calls all each)) by_ident;
+      first = subst (λ l. Each (λ c. place_of l c.given.value.to ≡ Some c.target) all) (sym names) (placed to calls all each);
       as_many = ap length counts_is ∙ (length-zeros (length calls) ∙ sym long);
       counted = subst (λ l. Each (IsCounted (all_queued all) l) all) (sym counts_is) (counted all (length calls) all closed);
       closed = closed;

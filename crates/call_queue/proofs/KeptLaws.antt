@@ -2,7 +2,6 @@
 use Rattle.std.proofs.Common.{◌≡◌, ℕ, ◌+◌, ◌<◌, ◌≤◌, suc, zero, List, [], ◌∷◌, length, map, drop, refl, ap, sym, ◌∙◌, arith, Option, Some, None, subst, get_or}
 use Rattle.std.specs.Prelude.{true, false, Bool, ◌&&◌, ◌||◌, bytes_eq, slice_get, slice_set, slice_index, ◌==◌, if◌then◌else◌, option_map}
 use Rattle.std.specs.List.{list_any}
-use Rattle.std.specs.Global.{Vec}
 use Rattle.std.specs.BTreeMap.{BTreeMap}
 use Rattle.std.proofs.lemmas.Bool.{eqb-true, eqb-false}
 use Rattle.std.proofs.lemmas.Slice.Eq.{bytes_eq-Decides}
@@ -71,7 +70,7 @@ counted-one calls counts new i c c' d is given re placed_c counted_c (placed, co
         let there = re.others d.target differ in
         omega (arith, changed, was, now, there, counted)
 
-pub kept-set : (calls : List QueuedCall) (index : BTreeMap (Vec ℕ) ℕ) (counts new : List ℕ) (next next' i : ℕ) (c c' : QueuedCall) → AreKept calls index counts next → slice_get calls i ≡ Some c
+pub kept-set : (calls : List QueuedCall) (index : BTreeMap ℕ ℕ) (counts new : List ℕ) (next next' i : ℕ) (c c' : QueuedCall) → AreKept calls index counts next → slice_get calls i ≡ Some c
     → c'.given.value ≡ c.given.value → c'.target ≡ c.target → IsFaithful c' → Recounts counts new c.target c.is_open c'.is_open
     → Each (λ x. x.is_open ≡ false) (drop next' (slice_set calls i c')) → next' ≤ length calls → AreKept (slice_set calls i c') index new next'
 kept-set calls index counts new next next' i c c' k is given target faithful re closed within =

@@ -2,7 +2,6 @@
 use Rattle.std.proofs.Common.{◌≡◌, ℕ, ◌+◌, ◌-◌, ◌<◌, ◌≤◌, suc, zero, List, [], ◌∷◌, ◌++◌, length, map, drop, refl, ap, sym, ◌∙◌, arith, Option, Some, None, subst, get_or}
 use Rattle.std.specs.Prelude.{true, false, Bool, not, ◌&&◌, bytes_eq, slice_get, slice_set, slice_index, if◌then◌else◌, MatchOption}
 use Rattle.std.specs.List.{list_any}
-use Rattle.std.specs.Global.{Vec}
 use Rattle.std.specs.BTreeMap.{BTreeMap}
 use Rattle.qrexec_frame.specs.declared.message.Message.{Message}
 use Rattle.qrexec_frame.specs.declared.message.Message.TheVariants.{Terminated}
@@ -35,21 +34,21 @@ seen_set calls i x next = record { calls = slice_set calls i x; next = next }
 
 -- ---- the counts of a call that is kept
 
-pub has-room : (calls : List QueuedCall) (index : BTreeMap (Vec ℕ) ℕ) (counts : List ℕ) (next i : ℕ) (c : QueuedCall) → AreKept calls index counts next → slice_get calls i ≡ Some c → c.target < length counts
+pub has-room : (calls : List QueuedCall) (index : BTreeMap ℕ ℕ) (counts : List ℕ) (next i : ℕ) (c : QueuedCall) → AreKept calls index counts next → slice_get calls i ≡ Some c → c.target < length counts
 has-room calls index counts next i c k is =
     let at = name-at (targets calls) c.given.value.to c.target (each-at (λ x. place_of (targets calls) x.given.value.to ≡ Some x.target) calls i c k.first is) in
     let less = within-get (targets calls) c.target c.given.value.to at in
     let long = length-map calls (λ x. x.given.value.to) in
     omega (arith, less, long, k.as_many)
 
-pub is-counted : (calls : List QueuedCall) (index : BTreeMap (Vec ℕ) ℕ) (counts : List ℕ) (next i : ℕ) (c : QueuedCall) → AreKept calls index counts next → slice_get calls i ≡ Some c
+pub is-counted : (calls : List QueuedCall) (index : BTreeMap ℕ ℕ) (counts : List ℕ) (next i : ℕ) (c : QueuedCall) → AreKept calls index counts next → slice_get calls i ≡ Some c
     → slice_index counts c.target ≡ open_count c.given.value.to (all_queued calls)
 is-counted calls index counts next i c k is = each-at (IsCounted (all_queued calls) counts) calls i c k.counted is
 
 own-name : (c : QueuedCall) → c.is_open ≡ true → is_open_to c.given.value.to (queued c) ≡ true
 own-name c is = let same = (bytes_eq-Decides c.given.value.to c.given.value.to).1 refl in rw (is, same) refl
 
-pub counts-some : (calls : List QueuedCall) (index : BTreeMap (Vec ℕ) ℕ) (counts : List ℕ) (next i : ℕ) (c : QueuedCall) → AreKept calls index counts next → slice_get calls i ≡ Some c → c.is_open ≡ true
+pub counts-some : (calls : List QueuedCall) (index : BTreeMap ℕ ℕ) (counts : List ℕ) (next i : ℕ) (c : QueuedCall) → AreKept calls index counts next → slice_get calls i ≡ Some c → c.is_open ≡ true
     → 0 < slice_index counts c.target
 counts-some calls index counts next i c k is o =
     let counted = is-counted calls index counts next i c k is in
@@ -62,7 +61,7 @@ counts-some calls index counts next i c k is o =
 abbrev pub counted_in : QueuedCall → QueuedCall
 counted_in c = record c { is_open = not (is_refusal (answer_of c.answer)) }
 
-pub kept-in : (calls : List QueuedCall) (index : BTreeMap (Vec ℕ) ℕ) (counts new : List ℕ) (next : ℕ) (c c' : QueuedCall) → AreKept calls index counts next → slice_get calls next ≡ Some c → c' ≡ counted_in c
+pub kept-in : (calls : List QueuedCall) (index : BTreeMap ℕ ℕ) (counts new : List ℕ) (next : ℕ) (c c' : QueuedCall) → AreKept calls index counts next → slice_get calls next ≡ Some c → c' ≡ counted_in c
     → new ≡ (if is_refusal (answer_of c.answer) then counts else slice_set counts c.target (slice_index counts c.target + 1)) → AreKept (slice_set calls next c') index new (next + 1)
 kept-in calls index counts new next c c' k is c_is new_is =
     let f = each-at IsFaithful calls next c k.faithful is in
@@ -97,7 +96,7 @@ all-closed [] (suc next) each = tt
 all-closed (c ∷ calls) zero each = (each.0, all-closed calls zero each.1)
 all-closed (c ∷ calls) (suc next) each = all-closed calls next each
 
-pub asks-in : (calls : List QueuedCall) (index : BTreeMap (Vec ℕ) ℕ) (counts : List ℕ) (next : ℕ) (c c' : QueuedCall) (said : List Message) (version : ℕ) (m : Message) → AreKept calls index counts next
+pub asks-in : (calls : List QueuedCall) (index : BTreeMap ℕ ℕ) (counts : List ℕ) (next : ℕ) (c c' : QueuedCall) (said : List Message) (version : ℕ) (m : Message) → AreKept calls index counts next
     → slice_get calls next ≡ Some c → c' ≡ counted_in c → HasToSay (seen calls next) version (Some m) → Asks (seen calls next) said
     → Asks (seen (slice_set calls next c') (next + 1)) (said ++ m ∷ [])
 asks-in calls index counts next c c' said version m k is c_is says asks =
@@ -112,10 +111,10 @@ place-due calls next c due is =
     let long = length-map calls queued in
     get-or-get calls next c (omega (arith, less, long)) is
 
-pub due-closed : (calls : List QueuedCall) (index : BTreeMap (Vec ℕ) ℕ) (counts : List ℕ) (next : ℕ) (c : QueuedCall) → AreKept calls index counts next → slice_get calls next ≡ Some c → c.is_open ≡ false
+pub due-closed : (calls : List QueuedCall) (index : BTreeMap ℕ ℕ) (counts : List ℕ) (next : ℕ) (c : QueuedCall) → AreKept calls index counts next → slice_get calls next ≡ Some c → c.is_open ≡ false
 due-closed calls index counts next c k is = drop-at (λ x. x.is_open ≡ false) next calls c k.closed is
 
-pub due-few : (calls : List QueuedCall) (index : BTreeMap (Vec ℕ) ℕ) (counts : List ℕ) (next : ℕ) (c : QueuedCall) → AreKept calls index counts next → slice_get calls next ≡ Some c
+pub due-few : (calls : List QueuedCall) (index : BTreeMap ℕ ℕ) (counts : List ℕ) (next : ℕ) (c : QueuedCall) → AreKept calls index counts next → slice_get calls next ≡ Some c
     → ((x : Queued) × IsDue (seen calls next) x) → slice_index counts c.target < 16
 due-few calls index counts next c k is due =
     let counted = is-counted calls index counts next next c k is in
@@ -128,7 +127,7 @@ due-few calls index counts next c k is due =
 abbrev pub counted_out : CallAnswer → QueuedCall → QueuedCall
 counted_out answer c = record c { answer = answer; is_open = false }
 
-pub kept-out : (calls : List QueuedCall) (index : BTreeMap (Vec ℕ) ℕ) (counts new : List ℕ) (next i : ℕ) (answer : CallAnswer) (c c' : QueuedCall) → AreKept calls index counts next → slice_get calls i ≡ Some c
+pub kept-out : (calls : List QueuedCall) (index : BTreeMap ℕ ℕ) (counts new : List ℕ) (next i : ℕ) (answer : CallAnswer) (c c' : QueuedCall) → AreKept calls index counts next → slice_get calls i ≡ Some c
     → (waits (answer_of answer) ≡ true → waits (answer_of c.answer) ≡ true) → c' ≡ counted_out answer c
     → new ≡ (if c.is_open then slice_set counts c.target (slice_index counts c.target - 1) else counts) → AreKept (slice_set calls i c') index new next
 kept-out calls index counts new next i answer c c' k is before c_is new_is =
@@ -183,7 +182,7 @@ pub view-answered : (calls : List QueuedCall) (next i : ℕ) (ident : List ℕ) 
 view-answered calls next i ident answer c x apart is at x_is =
     ap (λ l. record { calls = l; next = next }) (ap (λ y. slice_set (all_queued calls) i y) x_is ∙ answered-at calls ident answer i c apart is (waiting-at calls i c ident is at))
 
-pub view-refused : (calls : List QueuedCall) (index : BTreeMap (Vec ℕ) ℕ) (counts : List ℕ) (next i : ℕ) (c c' : QueuedCall) (ident : List ℕ) → AreKept calls index counts next → slice_get calls i ≡ Some c
+pub view-refused : (calls : List QueuedCall) (index : BTreeMap ℕ ℕ) (counts : List ℕ) (next i : ℕ) (c c' : QueuedCall) (ident : List ℕ) → AreKept calls index counts next → slice_get calls i ≡ Some c
     → c' ≡ counted_out given.Refused c → IsWaitingAt (seen calls next) i ident → seen (slice_set calls i c') next ≡ after_answer (seen calls next) ident IsRefused
 view-refused calls index counts next i c c' ident k is c_is at =
     view-out calls next i given.Refused c c' (queued c) is c_is (map-get queued calls i c is)
@@ -193,7 +192,7 @@ view-refused calls index counts next i c c' ident k is c_is at =
 abbrev pub connected_with : ℕ → ℕ → List ℕ → QueuedCall → QueuedCall
 connected_with to port stdin c = record c { plan = record c.plan { stdin = stdin }; answer = given.At to port }
 
-pub kept-connected : (calls : List QueuedCall) (index : BTreeMap (Vec ℕ) ℕ) (counts : List ℕ) (next i to port : ℕ) (stdin : List ℕ) (c : QueuedCall) → AreKept calls index counts next → slice_get calls i ≡ Some c
+pub kept-connected : (calls : List QueuedCall) (index : BTreeMap ℕ ℕ) (counts : List ℕ) (next i to port : ℕ) (stdin : List ℕ) (c : QueuedCall) → AreKept calls index counts next → slice_get calls i ≡ Some c
     → AreKept (slice_set calls i (connected_with to port stdin c)) index counts next
 kept-connected calls index counts next i to port stdin c k is =
     let f = each-at IsFaithful calls i c k.faithful is in
@@ -201,13 +200,13 @@ kept-connected calls index counts next i to port stdin c k is =
     (record { number = f.number; to = f.to; service = f.service; stdin = λ w. cc; short_to = f.short_to; short_service = f.short_service })
     (recounts-not counts c.target c.is_open) (drop-set-if (λ x. x.is_open ≡ false) next calls i c (connected_with to port stdin c) k.closed is (λ h. h)) k.within
 
-pub view-connected : (calls : List QueuedCall) (index : BTreeMap (Vec ℕ) ℕ) (counts : List ℕ) (next i to port : ℕ) (stdin : List ℕ) (c : QueuedCall) (ident : List ℕ) → AreKept calls index counts next → slice_get calls i ≡ Some c
+pub view-connected : (calls : List QueuedCall) (index : BTreeMap ℕ ℕ) (counts : List ℕ) (next i to port : ℕ) (stdin : List ℕ) (c : QueuedCall) (ident : List ℕ) → AreKept calls index counts next → slice_get calls i ≡ Some c
     → IsWaitingAt (seen calls next) i ident → seen (slice_set calls i (connected_with to port stdin c)) next ≡ after_answer (seen calls next) ident (At to port)
 view-connected calls index counts next i to port stdin c ident k is at =
     ap (λ l. record { calls = l; next = next }) (map-set-one queued calls i (connected_with to port stdin c))
     ∙ view-answered calls next i ident (At to port) c (queued (connected_with to port stdin c)) k.differ is at refl
 
-pub stdin-at : (calls : List QueuedCall) (index : BTreeMap (Vec ℕ) ℕ) (counts : List ℕ) (next i : ℕ) (c : QueuedCall) (x : Queued) (ident : List ℕ) → AreKept calls index counts next → slice_get calls i ≡ Some c
+pub stdin-at : (calls : List QueuedCall) (index : BTreeMap ℕ ℕ) (counts : List ℕ) (next i : ℕ) (c : QueuedCall) (x : Queued) (ident : List ℕ) → AreKept calls index counts next → slice_get calls i ≡ Some c
     → IsWaitingAt (seen calls next) i ident → slice_get (all_queued calls) i ≡ Some x → c.plan.stdin ≡ x.call.stdin
 stdin-at calls index counts next i c x ident k is at x_is =
     let f = each-at IsFaithful calls i c k.faithful is in
@@ -217,21 +216,21 @@ stdin-at calls index counts next i c x ident k is at x_is =
 -- ---- what is next
 
 -- if the call that is next has no room for its count, the limit holds it back
-pub held-by : (calls : List QueuedCall) (index : BTreeMap (Vec ℕ) ℕ) (counts : List ℕ) (next : ℕ) (c : QueuedCall) → AreKept calls index counts next → slice_get calls next ≡ Some c → 16 ≤ slice_index counts c.target
+pub held-by : (calls : List QueuedCall) (index : BTreeMap ℕ ℕ) (counts : List ℕ) (next : ℕ) (c : QueuedCall) → AreKept calls index counts next → slice_get calls next ≡ Some c → 16 ≤ slice_index counts c.target
     → IsHeld (seen calls next)
 held-by calls index counts next c k is full =
     let counted = is-counted calls index counts next next c k is in
     let at = map-get queued calls next c is in
     subst (λ o. MatchOption o (Unit {0}) (λ x. 16 ≤ open_count x.call.to (all_queued calls))) (sym at) (omega (arith, counted, full))
 
-pub due-by : (calls : List QueuedCall) (index : BTreeMap (Vec ℕ) ℕ) (counts : List ℕ) (next : ℕ) (c : QueuedCall) → AreKept calls index counts next → slice_get calls next ≡ Some c → slice_index counts c.target < 16
+pub due-by : (calls : List QueuedCall) (index : BTreeMap ℕ ℕ) (counts : List ℕ) (next : ℕ) (c : QueuedCall) → AreKept calls index counts next → slice_get calls next ≡ Some c → slice_index counts c.target < 16
     → IsDue (seen calls next) (queued c)
 due-by calls index counts next c k is few =
     let counted = is-counted calls index counts next next c k is in
     (map-get queued calls next c is, omega (arith, counted, few))
 
 -- if not all were requested, there is a next one
-pub next-at : (calls : List QueuedCall) (index : BTreeMap (Vec ℕ) ℕ) (counts : List ℕ) (next : ℕ) (c : QueuedCall) → AreKept calls index counts next → (next ≡ length calls → ⊥) → c ≡ get_or calls next c → slice_get calls next ≡ Some c
+pub next-at : (calls : List QueuedCall) (index : BTreeMap ℕ ℕ) (counts : List ℕ) (next : ℕ) (c : QueuedCall) → AreKept calls index counts next → (next ≡ length calls → ⊥) → c ≡ get_or calls next c → slice_get calls next ≡ Some c
 next-at calls index counts next c k more is = let within = k.within in get-or-get calls next c (omega (arith, within, more)) is
 
 -- a trigger has the texts of its call, but not its input
@@ -241,23 +240,23 @@ same-trigger version c f = rw (f.number, f.to, f.service) refl
 pub fits-trigger : (c : QueuedCall) → IsFaithful c → FitsTrigger c.plan
 fits-trigger c f = (omega (arith, ap length f.to, f.short_to), omega (arith, ap length f.service, f.short_service))
 
-pub says-due : (calls : List QueuedCall) (index : BTreeMap (Vec ℕ) ℕ) (counts : List ℕ) (next version : ℕ) (c : QueuedCall) (m : Message) → AreKept calls index counts next → slice_get calls next ≡ Some c → slice_index counts c.target < 16
+pub says-due : (calls : List QueuedCall) (index : BTreeMap ℕ ℕ) (counts : List ℕ) (next version : ℕ) (c : QueuedCall) (m : Message) → AreKept calls index counts next → slice_get calls next ≡ Some c → slice_index counts c.target < 16
     → m ≡ trigger_of version c.plan → HasToSay (seen calls next) version (Some m)
 says-due calls index counts next version c m k is few m_is =
     (queued c, due-by calls index counts next c k is few, m_is ∙ same-trigger version c (each-at IsFaithful calls next c k.faithful is))
 
 -- ---- a call by its ident
 
-pub found-at : (calls : List QueuedCall) (index : BTreeMap (Vec ℕ) ℕ) (counts : List ℕ) (next i : ℕ) (ident : List ℕ) → AreKept calls index counts next → place_in index ident ≡ Some i
+pub found-at : (calls : List QueuedCall) (index : BTreeMap ℕ ℕ) (counts : List ℕ) (next i : ℕ) (ident : List ℕ) → AreKept calls index counts next → place_in index ident ≡ Some i
     → (c : QueuedCall) × (slice_get calls i ≡ Some c) × (ident_of c.given.value.number ≡ ident)
 found-at calls index counts next i ident k is =
     map-got (λ c. ident_of c.given.value.number) calls i ident (name-at (idents calls) ident i (sym (k.indexed.first ident) ∙ is))
 
-pub found-within : (calls : List QueuedCall) (index : BTreeMap (Vec ℕ) ℕ) (counts : List ℕ) (next i : ℕ) (ident : List ℕ) → AreKept calls index counts next → place_in index ident ≡ Some i → i < length calls
+pub found-within : (calls : List QueuedCall) (index : BTreeMap ℕ ℕ) (counts : List ℕ) (next i : ℕ) (ident : List ℕ) → AreKept calls index counts next → place_in index ident ≡ Some i → i < length calls
 found-within calls index counts next i ident k is = let f = found-at calls index counts next i ident k is in within-get calls i f.0 f.1
 
 -- the call that the index has waits by the ident, if it waits at all
-pub found-waits : (calls : List QueuedCall) (index : BTreeMap (Vec ℕ) ℕ) (counts : List ℕ) (next i : ℕ) (ident : List ℕ) (c : QueuedCall) → AreKept calls index counts next → place_in index ident ≡ Some i → c ≡ get_or calls i c
+pub found-waits : (calls : List QueuedCall) (index : BTreeMap ℕ ℕ) (counts : List ℕ) (next i : ℕ) (ident : List ℕ) (c : QueuedCall) → AreKept calls index counts next → place_in index ident ≡ Some i → c ≡ get_or calls i c
     → waits (answer_of c.answer) ≡ true → IsWaitingAt (seen calls next) i ident
 found-waits calls index counts next i ident c k is c_is w =
     let f = found-at calls index counts next i ident k is in
@@ -267,7 +266,7 @@ found-waits calls index counts next i ident c k is c_is w =
     (queued c, map-get queued calls i c at, rw (named, w) refl)
 
 -- if it doesn't wait, no call does
-pub found-done : (calls : List QueuedCall) (index : BTreeMap (Vec ℕ) ℕ) (counts : List ℕ) (next i : ℕ) (ident : List ℕ) (c : QueuedCall) → AreKept calls index counts next → place_in index ident ≡ Some i → c ≡ get_or calls i c
+pub found-done : (calls : List QueuedCall) (index : BTreeMap ℕ ℕ) (counts : List ℕ) (next i : ℕ) (ident : List ℕ) (c : QueuedCall) → AreKept calls index counts next → place_in index ident ≡ Some i → c ≡ get_or calls i c
     → waits (answer_of c.answer) ≡ false → list_any (waits_as ident) (map asked_as (all_queued calls)) ≡ false
 found-done calls index counts next i ident c k is c_is w =
     let f = found-at calls index counts next i ident k is in
@@ -275,6 +274,6 @@ found-done calls index counts next i ident c k is c_is w =
     let same : f.0 ≡ c = same-some (slice_get calls i) f.0 c f.1 at in
     done-alone calls ident i c k.differ at (ap (λ x. ident_of x.given.value.number) (sym same) ∙ f.2) w
 
-pub not-found : (calls : List QueuedCall) (index : BTreeMap (Vec ℕ) ℕ) (counts : List ℕ) (next : ℕ) (ident : List ℕ) → AreKept calls index counts next → place_in index ident ≡ None
+pub not-found : (calls : List QueuedCall) (index : BTreeMap ℕ ℕ) (counts : List ℕ) (next : ℕ) (ident : List ℕ) → AreKept calls index counts next → place_in index ident ≡ None
     → list_any (waits_as ident) (map asked_as (all_queued calls)) ≡ false
 not-found calls index counts next ident k is = none-waits calls ident (sym (k.indexed.first ident) ∙ is)

@@ -1,6 +1,5 @@
 -- How a queue is kept inside.
-use Rattle.std.specs.Prelude.{◌≡◌, ℕ, ◌≤◌, true, false, List, length, map, drop, Some, slice_index, unwrap_or}
-use Rattle.std.specs.Global.{Vec}
+use Rattle.std.specs.Prelude.{◌≡◌, ℕ, ◌≤◌, true, false, List, length, map, drop, Some, slice_index}
 use Rattle.std.specs.BTreeMap.{BTreeMap}
 use Rattle.qrexec_frame.specs.Streams.{Each}
 use Rattle.scenario_file.specs.declared.scenario.CallPlan.{CallPlan}
@@ -11,7 +10,7 @@ use Rattle.call_queue.specs.declared.call.QueuedCall.{QueuedCall}
 use Rattle.call_queue.specs.declared.call.CallAnswer.TheVariants.{Waits}
 use Rattle.call_queue.specs.declared.queue.CallQueue.TheInside.{Inside}
 use Rattle.call_queue.specs.Queue.{Queued, QueueState, answer_of, open_count, AreDifferent}
-use Rattle.call_queue.specs.Index.{place_in, IsIndex}
+use Rattle.call_queue.specs.Index.{IsIndex}
 
 -- what contracts see of a call
 abbrev pub queued : QueuedCall → Queued
@@ -45,7 +44,7 @@ abbrev pub IsCounted : List Queued → List ℕ → QueuedCall → Type 0
 IsCounted calls counts c = slice_index counts c.target ≡ open_count c.given.value.to calls
 
 -- the calls, the index of their idents, the counts of open calls, and how many calls were requested
-pub record AreKept (calls : List QueuedCall) (index : BTreeMap (Vec ℕ) ℕ) (counts : List ℕ) (next : ℕ) : Type 0 where
+pub record AreKept (calls : List QueuedCall) (index : BTreeMap ℕ ℕ) (counts : List ℕ) (next : ℕ) : Type 0 where
   pub faithful : Each IsFaithful calls
   pub differ : AreDifferent (idents calls)
   pub indexed : IsIndex (idents calls) index
@@ -60,10 +59,10 @@ pub record AreKept (calls : List QueuedCall) (index : BTreeMap (Vec ℕ) ℕ) (c
 abbrev pub IsKept : Inside → Type 0
 IsKept q = AreKept q.calls.items q.by_ident q.counts.items q.next
 
--- a call before anything was heard or sent of it, with its target's place in an index
-pub record IsFresh (index : BTreeMap (Vec ℕ) ℕ) (call : CallPlan) (c : QueuedCall) : Type 0 where
+-- a call before anything was heard or sent of it, with the first place of its target among the targets of all calls
+pub record IsFresh (targets : List (List ℕ)) (call : CallPlan) (c : QueuedCall) : Type 0 where
   pub plan : c.plan ≡ call
   pub given : c.given.value ≡ call
-  pub target : c.target ≡ unwrap_or (place_in index call.to) 0
+  pub target : place_of targets call.to ≡ Some c.target
   pub waits : c.answer ≡ Waits
   pub closed : c.is_open ≡ false

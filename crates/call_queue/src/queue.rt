@@ -13,7 +13,7 @@ ghost use Rattle.call_queue.specs.Asking.{Asks};
 
 use crate::call::{CallAnswer, QueuedCall};
 use crate::index::{Index, index_of, place_in};
-use crate::setup::{idents_of, queued, targets_of};
+use crate::setup::queued;
 use crate::trigger::{trigger_len, trigger_of};
 use qrexec_frame::{Bytes, Message};
 use scenario_file::CallPlan;
@@ -34,7 +34,7 @@ pub struct CallQueue {
     calls: Vec<QueuedCall>,
     // How many calls were requested. These are the first ones.
     next: usize,
-    // The places of the calls by their idents.
+    // The places of the calls by the numbers in their idents.
     by_ident: Index,
     // How many calls to each target are open, at the place of the first call to it.
     counts: Vec<u32>,
@@ -64,12 +64,9 @@ impl CallQueue {
         ensures asks { IfOk result (λ q. Asks q []) }
         ensures apart { IfOk result (λ q. AreDifferent (map (λ a. ident_of a.call.number) (asked_by q))) }
     {
-        let idents = idents_of(alloc, &calls)?;
-        let by_ident = index_of(alloc, idents)?;
-        let targets = targets_of(alloc, &calls)?;
-        let by_target = index_of(alloc, targets)?;
+        let by_ident = index_of(alloc, &calls)?;
         let counts = vec![in alloc; 0u32; calls.len()]?;
-        let calls = queued(alloc, calls, &by_target)?;
+        let calls = queued(alloc, calls)?;
         Ok(CallQueue {
             calls,
             next: 0,

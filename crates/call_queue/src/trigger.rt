@@ -8,6 +8,7 @@ ghost use Rattle.call_queue.specs.Queue.{trigger_of, FitsTrigger};
 use itoa::Buffer;
 use qrexec_frame::{Message, Text, TextError};
 use scenario_file::CallPlan;
+use smallvec::SmallVec;
 use std::alloc::Global;
 use vchan_io::Memory;
 
@@ -21,26 +22,26 @@ const TRIGGER3_LEN: usize = 105;
 /// The greatest length of a call's ident: `call-` and the ten digits of a number below 2^32.
 const LONGEST_IDENT: usize = 15;
 
-/// Returns the ident by which the call with this number is requested.
-pub(crate) fn ident_text(alloc: Global, number: u32) -> Result<Text, Memory>
+// The ident by which the call with this number is requested.
+fn ident_text(alloc: Global, number: u32) -> Result<Text, Memory>
     ensures is { IfOk result (λ ident. ident ≡ ident_of number) }
     ensures short { IfOk result (λ ident. FitsText 31 ident) }
     ensures number { number < 2 ^ 32 }
 {
     let bytes = ident_bytes(alloc, number)?;
-    match Text::of(alloc, &bytes) {
+    match Text::of(alloc, bytes.as_slice()) {
         Ok(text) => Ok(text),
         Err(TextError::Memory) => Err(Memory),
         Err(TextError::Nul) => unreachable!(),
     }
 }
 
-/// Returns the bytes of the same ident.
-pub(crate) fn ident_bytes(alloc: Global, number: u32) -> Result<Vec<u8>, Memory>
+// The bytes of the same ident, which take no memory of their own.
+fn ident_bytes(alloc: Global, number: u32) -> Result<SmallVec<u8, LONGEST_IDENT>, Memory>
     ensures is { IfOk result (λ bytes. bytes.items ≡ ident_of number) }
     ensures number { number < 2 ^ 32 }
 {
-    let mut bytes = Vec::with_capacity(alloc, LONGEST_IDENT)?;
+    let mut bytes = SmallVec::new(alloc);
     bytes.extend_from_slice(b"call-")?;
     let mut buffer = Buffer::new();
     bytes.extend_from_slice(buffer.format(number).as_bytes())?;

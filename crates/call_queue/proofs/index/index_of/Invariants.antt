@@ -1,10 +1,13 @@
-use Rattle.std.proofs.Common.{length, map}
+use Rattle.std.proofs.Common.{◌<◌, ◌-◌, ◌^◌, length, map, take, drop}
+use Rattle.qrexec_frame.specs.Streams.{Each}
+use Rattle.task_duties.specs.Words.{ident_of}
 use Rattle.call_queue.specs.Index.{place_in}
 use Rattle.call_queue.proofs.IndexLaws.{IsFilled}
 use Rattle.call_queue.proofs.index.index_of.Given as goal
 
-abbrev pub invariant-loop-name : goal.invariant-loop-name
-invariant-loop-name l = IsFilled (λ name. place_in l.index name) (map (λ name. name.items) l.names.items) (map (λ name. name.items) l.fn.names.items)
-
-abbrev pub decreases-loop-name : goal.decreases-loop-name
-decreases-loop-name l = length l.names.items
+-- the last calls so far are noted
+abbrev pub invariant-loop-noted : goal.invariant-loop-noted
+invariant-loop-noted l = record {
+  filled : IsFilled (place_in l.index) (map (λ c. ident_of c.number) (take (length l.calls - l.noted) l.calls)) (map (λ c. ident_of c.number) l.calls);
+  small : Each (λ c. c.number < 2 ^ 32) (drop (length l.calls - l.noted) l.calls);
+}
