@@ -1,6 +1,7 @@
 //! The turns of the tasks of a run.
 ghost use Rattle.domain_task.specs.Owes.{Owes, PaysFor};
 ghost use Rattle.domain_task.specs.Given.{given_of};
+ghost use Rattle.domain_task.specs.Turning.{TaskTurns};
 
 use crate::done::TaskDone;
 use crate::task::Task;
@@ -10,11 +11,18 @@ use hostile_task::{HostileTask, HostileTurn};
 use task_pool::{PoolTask, Turn};
 
 impl<'p> PoolTask for Task<'p> {
+    ghost use Rattle.task_pool.specs.Owes.{Pays};
+
     type Done = TaskDone;
 
     ghost owes = { Owes };
 
-    fn turn(self) -> Turn<Self> {
+    /// Makes one turn. Beside what the task owes it tells what its own crate tells of a turn: that the task goes
+    /// on as one of its kind, and that something moved, or why nothing did.
+    fn turn(self) -> Turn<Self>
+        ensures pays { Pays Owes self.entry result }
+        ensures turns { TaskTurns self.entry result }
+    {
         match self {
             Task::Agent(task) => turn_agent(task),
             Task::Broker(task) => turn_broker(task),
@@ -33,7 +41,8 @@ impl<'p> PoolTask for Task<'p> {
 
 // Makes a turn of an agent.
 fn turn_agent<'p>(task: AgentTask<'p>) -> Turn<Task<'p>>
-    ensures { PaysFor (given_of (Task.Agent task.entry)) result }
+    ensures pays { PaysFor (given_of (Task.Agent task.entry)) result }
+    ensures turns { TaskTurns (Task.Agent task.entry) result }
 {
     match task.turn() {
         AgentTurn::Again(task) => Turn::Again(Task::Agent(task)),
@@ -44,7 +53,8 @@ fn turn_agent<'p>(task: AgentTask<'p>) -> Turn<Task<'p>>
 
 // Makes a turn of the broker.
 fn turn_broker<'p>(task: BrokerTask<'p>) -> Turn<Task<'p>>
-    ensures { PaysFor (given_of (Task.Broker task.entry)) result }
+    ensures pays { PaysFor (given_of (Task.Broker task.entry)) result }
+    ensures turns { TaskTurns (Task.Broker task.entry) result }
 {
     match task.turn() {
         BrokerTurn::Again(task) => Turn::Again(Task::Broker(task)),
@@ -55,7 +65,8 @@ fn turn_broker<'p>(task: BrokerTask<'p>) -> Turn<Task<'p>>
 
 // Makes a turn of a hostile domain.
 fn turn_hostile<'p>(task: HostileTask<'p>) -> Turn<Task<'p>>
-    ensures { PaysFor (given_of (Task.Hostile task.entry)) result }
+    ensures pays { PaysFor (given_of (Task.Hostile task.entry)) result }
+    ensures turns { TaskTurns (Task.Hostile task.entry) result }
 {
     match task.turn() {
         HostileTurn::Again(task) => Turn::Again(Task::Hostile(task)),
