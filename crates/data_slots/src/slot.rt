@@ -188,13 +188,27 @@ impl<'p> Slot<'p> {
                 }
                 Ok(None)
             }
-            Some(outcome) => {
-                let told = self.told();
-                let stage = mem::replace(&mut self.stage, Stage::Taken);
-                self.stage = stage.finish(outcome);
-                Ok(Some(told))
-            }
+            Some(outcome) => Ok(Some(self.end(outcome))),
         }
+    }
+
+    // Finishes a session that ended like this, and returns what the broker must be told. A function apart, so
+    // that other turns don't pay for the room of a whole stage.
+    #[inline(never)]
+    fn end(&mut self, outcome: Outcome) -> SessionOver
+        requires over { HasComeOut outcome self.old.stage }
+        requires session { is_session self.old.stage ≡ true }
+        requires retire { CanRetire self.old.stage }
+        ensures frame { frame_of self.new ≡ frame_of self.old }
+        ensures stage { (version : ℕ) → IsStage version self.old.stage → IsStage version self.new.stage }
+        ensures session { is_session self.new.stage ≡ false }
+        ensures told { told_of (place_of self.old) (use_of self.old.stage) ≡ Some result }
+        ensures retire { CanRetire self.new.stage }
+    {
+        let told = self.told();
+        let stage = mem::replace(&mut self.stage, Stage::Taken);
+        self.stage = stage.finish(outcome);
+        told
     }
 
     /// Returns whether the last turn of an open session moved bytes.
@@ -403,6 +417,21 @@ impl<'p> Stage<'p> {
         if !matches!(self, Stage::Awaits { .. }) {
             return;
         }
+        self.open_now();
+    }
+
+    // Begins the session of an awaited page, if the page is offered. A function apart, so that the turns of
+    // other sessions don't pay for the room of a whole stage.
+    #[inline(never)]
+    fn open_now(&mut self)
+        requires open { CanTurn self.old }
+        requires retire { CanRetire self.old }
+        ensures open { CanTurn self.new }
+        ensures retire { CanRetire self.new }
+        ensures frame { (place : PagePlace) → framed place self.new ≡ framed place self.old }
+        ensures begins { Begins (session_of self.old) (session_of self.new) }
+        ensures stage { (version : ℕ) → IsStage version self.old → IsStage version self.new }
+    {
         let stage = mem::replace(self, Stage::Taken);
         *self = stage.opened();
     }

@@ -28,17 +28,15 @@ returns-else-is_abandoned-clause-stage c = λ version stage.
 pub returns-in-Some-clause-frame : goal.returns-in-Some-clause-frame
 returns-in-Some-clause-frame c =
     let place = Payload c.args.self.now.from c.args.self.now.to c.args.self.now.port in
-    c.finish.ensures.frame place ∙ (ap (framed place) c.replace-stage.ensures.value ∙ c.turn.ensures.frame place)
+    c.end.ensures.frame ∙ c.turn.ensures.frame place
 
 pub returns-in-Some-clause-stage : goal.returns-in-Some-clause-stage
-returns-in-Some-clause-stage c = λ version stage.
-    let P : Stage → Type 0 = IsStage version in
-    c.finish.ensures.stage version (subst P (sym c.replace-stage.ensures.value) (c.in_ok-turn.ensures.stage version stage))
+returns-in-Some-clause-stage c = λ version stage. c.end.ensures.stage version (c.in_ok-turn.ensures.stage version stage)
 
 pub returns-in-Some-clause-told : goal.returns-in-Some-clause-told
 returns-in-Some-clause-told c =
     let place = Payload c.args.self.now.from c.args.self.now.to c.args.self.now.port in
-    subst (λ (f : Frame). told_of place f.used ≡ Some c.told-told.result) (c.turn.ensures.frame place) c.told-told.ensures
+    subst (λ (f : Frame). told_of place f.used ≡ Some c.end.result) (c.turn.ensures.frame place) c.end.ensures.told
 
 pub returns-else-is_abandoned-clause-turns : goal.returns-else-is_abandoned-clause-turns
 returns-else-is_abandoned-clause-turns c =
@@ -46,4 +44,4 @@ returns-else-is_abandoned-clause-turns c =
     subst (λ s. TakesTurn (session_of old) (session_of s)) (sym c.is_abandoned.ensures) (subst (λ o. IfNone o (TakesTurn (session_of old) (session_of c.turn.new.self))) c.in-None.is c.in_ok-turn.ensures.turns)
 
 pub returns-in-Some-clause-turns : goal.returns-in-Some-clause-turns
-returns-in-Some-clause-turns c = IsOver (turn-open c.args.self.now.stage c.requires.open) (not-open c.finish.result c.finish.ensures.session)
+returns-in-Some-clause-turns c = IsOver (turn-open c.args.self.now.stage c.requires.open) (not-open c.end.new.self.stage c.end.ensures.session)

@@ -2,7 +2,7 @@ use Rattle.std.proofs.Common.{ap, sym, ◌∙◌, subst}
 use Rattle.data_slots.specs.declared.slot.Stage.{Stage}
 use Rattle.data_slots.specs.Stages.{framed, IsStage}
 use Rattle.data_slots.specs.Sessions.{Begins, session_of}
-use Rattle.data_slots.proofs.slot.Stage.open_offered.Goals as goal
+use Rattle.data_slots.proofs.slot.Stage.open_now.Goals as goal
 
 pub returns-clause-frame : goal.returns-clause-frame
 returns-clause-frame c = λ place. c.opened.ensures.frame place ∙ ap (framed place) c.replace-stage.ensures.value
