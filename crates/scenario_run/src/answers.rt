@@ -15,26 +15,25 @@ use call_broker::{Broker, Entry};
 use domain_task::TaskDone;
 use hostile_task::HostileDone;
 use std::alloc::Global;
+use std::collections::VecDeque;
 use std::marker::Model;
 use task_duties::{CallDone, RetiredEnd, ServedDone};
 use vchan_io::Memory;
 
-/// What a task reports besides its ends. Contracts see the calls in their order.
+/// What a task reports besides its ends. The calls are taken in their order.
 #[derive(Drop)]
 pub(crate) struct TaskReport {
-    // The last call first, so that calls are taken in their order from the end of the list.
-    pub(crate) calls: Vec<CallDone>,
+    pub(crate) calls: VecDeque<CallDone>,
     pub(crate) served: Vec<ServedDone>,
     pub(crate) broker: Option<Broker>,
 }
 
 impl Model for TaskReport {
-    ghost use Rattle.std.specs.Prelude.{reverse};
     ghost use Rattle.scenario_run.specs.Parts.{ReportPart, journal_in};
 
     ghost Value = { ReportPart };
 
-    ghost view = { λ r. record { calls = reverse r.calls.items; served = r.served.items; journal = journal_in r.broker } };
+    ghost view = { λ r. record { calls = r.calls.items; served = r.served.items; journal = journal_in r.broker } };
 }
 
 impl TaskReport {
@@ -44,7 +43,7 @@ impl TaskReport {
         ensures calls { self.old.calls ≡ result ∷ self.new.calls }
         ensures same { (self.new.served ≡ self.old.served) × (self.new.journal ≡ self.old.journal) }
     {
-        match self.calls.pop() {
+        match self.calls.pop_front() {
             Some(call) => call,
             None => unreachable!(),
         }
@@ -105,14 +104,13 @@ fn parts_of_agent(done: AgentDone) -> (Vec<RetiredEnd>, TaskReport)
     ensures report { result.1 ≡ report_of (answer_of (TaskDone.Agent done)) }
 {
     let AgentDone {
-        mut calls,
+        calls,
         served,
         ends,
         ..
     } = done;
-    calls.reverse();
     let report = TaskReport {
-        calls,
+        calls: VecDeque::from_vec(calls),
         served,
         broker: None,
     };
@@ -125,7 +123,7 @@ fn parts_of_broker(alloc: Global, done: BrokerDone) -> (Vec<RetiredEnd>, TaskRep
 {
     let BrokerDone { broker, ends } = done;
     let report = TaskReport {
-        calls: Vec::new(alloc),
+        calls: VecDeque::new(alloc),
         served: Vec::new(alloc),
         broker: Some(broker),
     };
@@ -137,7 +135,7 @@ fn parts_of_hostile(alloc: Global, done: HostileDone) -> (Vec<RetiredEnd>, TaskR
     ensures report { result.1 ≡ report_of (answer_of (TaskDone.Hostile done)) }
 {
     let report = TaskReport {
-        calls: Vec::new(alloc),
+        calls: VecDeque::new(alloc),
         served: Vec::new(alloc),
         broker: None,
     };
