@@ -26,9 +26,9 @@ use Rattle.broker_task.specs.declared.daemon.Daemon.{Daemon}
 use Rattle.control_port.specs.Port.{PortState}
 use Rattle.control_port.proofs.DrainLaws.{got-more}
 use Rattle.broker_task.specs.Letters.{IsAt, AreHeld}
-use Rattle.broker_task.specs.Lines.{end_of, more_may_come, OnlyPort}
-use Rattle.broker_task.specs.Moving.{Begins, HearsNothing, IsLater, SaysNothing, has_not_greeted, all_held, greeting_waits, letter_waits, Listens, ListensAsTold, SendsMore, SendsOrNot, GreetsAsTold}
-use Rattle.broker_task.proofs.MovingLaws.{later-self}
+use Rattle.broker_task.specs.Lines.{end_of, is_gone, more_may_come, OnlyPort}
+use Rattle.broker_task.specs.Moving.{Begins, Grows, HearsNothing, IsLater, SaysNothing, has_not_greeted, all_held, greeting_waits, letter_waits, Listens, ListensAsTold, SendsMore, SendsOrNot, GreetsAsTold}
+use Rattle.broker_task.proofs.MovingLaws.{later-self, grows-got}
 
 -- a message has some bytes
 pub some-bytes : (m : Message) → 0 < length (written m)
@@ -50,15 +50,22 @@ sent-more old new m is =
 
 -- ---- a domain that is listened to
 
-pub listens-as : (b : Bool) (x y : Daemon) → (b ≡ true → Listens x y) → ListensAsTold b x y
-listens-as true x y listens = listens refl
-listens-as false x y listens = tt
+pub listens-as : (b : Bool) (x y : Daemon) → Grows x.port.end y.port.end → (b ≡ true → Listens x y) → ListensAsTold b x y
+listens-as true x y grows listens = listens refl
+listens-as false x y grows listens = grows
 
-pub unread-listens : (x m : Daemon) (q : PortState) (gone : Bool) → gone ≡ false → Begins x.port.end m.port.end → (end_of m).sent ≡ (end_of x).sent → OnlyPort x m → m.port.version ≡ x.port.version
+-- a look whether the peer is gone gets nothing
+pub asked-grows : (x m : Daemon) (q : PortState) (gone : Bool) → is_gone x ≡ false → (end_of m).got ≡ (end_of x).got → (end_of m).sent ≡ (end_of x).sent → view q.end ≡ asked_gone (view m.port.end) gone → Grows x.port.end q.end
+asked-grows x m q gone up got sent is =
+    grows-got x q.end up (subst (λ (l : List ℕ). length (end_of x).got ≤ length l) (sym (ap (λ (v : EndView). v.got) is ∙ got)) (omega arith)) (ap (λ (v : EndView). v.sent) is ∙ sent)
+
+pub unread-listens : (x m : Daemon) (q : PortState) (gone : Bool) → is_gone x ≡ false → Grows x.port.end q.end → gone ≡ false → Begins x.port.end m.port.end → (end_of m).sent ≡ (end_of x).sent → OnlyPort x m → m.port.version ≡ x.port.version
     → IsSome m.port.version × (64 ≤ length m.outbox.letters.items) → IsSameEnd m.port.end q.end → view q.end ≡ asked_gone (view m.port.end) gone → Trace (standing_of m.port.end.side) AskGone q.end.side.trail (Gone gone)
     → (IsTrue gone ↔ HasFoundGone q.end.side) → Listens x (record m { port = q })
-unread-listens x m q gone here begins sent only version full same is trail noted =
+unread-listens x m q gone up grows here begins sent only version full same is trail noted =
     let letters : m.outbox.letters.items ≡ x.outbox.letters.items = ap (λ (z : Daemon). z.outbox.letters.items) only in record {
+      up = up;
+      grows = grows;
       sent = ap (λ (v : EndView). v.sent) is ∙ sent;
       letters = letters;
       found = inr (record {
@@ -79,12 +86,27 @@ drained-sent e (NotYet prod cons) after saw = refl
 drained-sent e AllRead after saw = refl
 drained-sent e (PeerGone prod cons) after saw = refl
 
-pub drained-listens : (x m : Daemon) (q : PortState) (drained : DrainAnswer) (before after : List ℕ) (saw : Bool) → Begins x.port.end m.port.end → (end_of m).sent ≡ (end_of x).sent → (end_of m).got ≡ (end_of x).got → OnlyPort x m
+drained-got : (e : EndView) (drained : DrainAnswer) (after : List ℕ) (saw : Bool) → length e.got ≤ length (drained_to e drained after saw).got
+drained-got e (More count) after saw = omega (arith, length-append e.got (take count after))
+drained-got e (NotYet prod cons) after saw = omega arith
+drained-got e AllRead after saw = omega arith
+drained-got e (PeerGone prod cons) after saw = omega arith
+
+-- a drain loses nothing
+pub drained-grows : (x m : Daemon) (q : PortState) (drained : DrainAnswer) (after : List ℕ) (saw : Bool) → is_gone x ≡ false → (end_of m).got ≡ (end_of x).got → (end_of m).sent ≡ (end_of x).sent → view q.end ≡ drained_to (view m.port.end) drained after saw → Grows x.port.end q.end
+drained-grows x m q drained after saw up got sent is =
+    grows-got x q.end up
+    (subst (λ (l : List ℕ). length l ≤ length (view q.end).got) got (subst (λ (v : EndView). length (end_of m).got ≤ length v.got) (sym is) (drained-got (view m.port.end) drained after saw)))
+    (ap (λ (v : EndView). v.sent) is ∙ drained-sent (view m.port.end) drained after saw ∙ sent)
+
+pub drained-listens : (x m : Daemon) (q : PortState) (drained : DrainAnswer) (before after : List ℕ) (saw : Bool) → is_gone x ≡ false → Begins x.port.end m.port.end → (end_of m).sent ≡ (end_of x).sent → (end_of m).got ≡ (end_of x).got → OnlyPort x m
     → 0 < length before → length after ≡ length before → IsSameEnd m.port.end q.end → view q.end ≡ drained_to (view m.port.end) drained after saw
     → Trace (standing_of m.port.end.side) (Drain (most_asked before)) q.end.side.trail (drain_told drained)
     → ((other : DrainAnswer) → (drained ≡ other) ↔ DrainCause (standing_of m.port.end.side) (most_asked before) (loads_of (standing_of m.port.end.side) q.end.side.trail) (drain_told other))
     → more_may_come drained ≡ true → Listens x (record m { port = q })
-drained-listens x m q drained before after saw begins sent got only some long same is trail cause more = record {
+drained-listens x m q drained before after saw up begins sent got only some long same is trail cause more = record {
+  up = up;
+  grows = drained-grows x m q drained after saw up got sent is;
   sent = ap (λ (v : EndView). v.sent) is ∙ drained-sent (view m.port.end) drained after saw ∙ sent;
   letters = ap (λ (z : Daemon). z.outbox.letters.items) only;
   found = by_found (drained-found m.port.end q.end drained before after saw some long is trail cause more);

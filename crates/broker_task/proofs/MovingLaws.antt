@@ -18,9 +18,9 @@ use Rattle.broker_task.specs.declared.switchboard.Switchboard.{Switchboard}
 use Rattle.broker_task.specs.declared.task.BrokerTurn.{BrokerTurn}
 use Rattle.broker_task.specs.declared.task.BrokerTurn.TheVariants as turn
 use Rattle.broker_task.specs.Turns.{TurnsEach, KeepsLines}
-use Rattle.broker_task.specs.Lines.{is_shut, is_gone, OnlyPort}
+use Rattle.broker_task.specs.Lines.{end_of, is_shut, is_gone, OnlyPort}
 use Rattle.broker_task.specs.Posting.{EachMoves, LetsGo, Posts}
-use Rattle.broker_task.specs.Moving.{BrokerLine, line_of, IsLater, HearsNothing, SaysNothing, has_not_greeted, all_held, greeting_waits, letter_waits, HasMoved, IsQuiet, HasTurned, StandsBy, FindsHere, Listens, ListensAsTold, Decides, SendsMore, SendsOrNot, SendsSoFar, IsDropped, Turns, Steps}
+use Rattle.broker_task.specs.Moving.{BrokerLine, line_of, IsLater, HearsNothing, SaysNothing, has_not_greeted, all_held, greeting_waits, letter_waits, Grows, HasMoved, IsQuiet, HasTurned, StandsBy, FindsHere, Listens, ListensAsTold, Decides, SendsMore, SendsOrNot, SendsSoFar, IsDropped, Turns, Steps}
 use Rattle.broker_task.proofs.PostLaws.{moves-one, moves-as, moves-then, same-number}
 use Rattle.broker_task.proofs.RoundSteps.{at-one}
 use Rattle.broker_task.proofs.SendingSteps.{Alone}
@@ -56,6 +56,38 @@ later-count (x ∷ a) (y ∷ b) later = omega (arith, later-count a b later.2)
 
 later-as : (a b c : List Letter) → c ≡ b → IsLater a b → IsLater a c
 later-as a b c is later = subst (λ (l : List Letter). IsLater a l) (sym is) later
+
+-- ---- what lasts
+
+pub grows-self : (e : SeatedEnd) → Grows e e
+grows-self e = record { got = omega arith; sent = omega arith; shut = λ is. is }
+
+pub grows-then : (a b c : SeatedEnd) → Grows a b → Grows b c → Grows a c
+grows-then a b c first second = record {
+  got = omega (arith, first.got, second.got);
+  sent = omega (arith, first.sent, second.sent);
+  shut = λ is. second.shut (first.shut is);
+}
+
+-- an end that wasn't shut before got no less, and sent the same
+pub grows-got : (x : Daemon) (e : SeatedEnd) → is_gone x ≡ false → length (end_of x).got ≤ length (view e).got → (view e).sent ≡ (end_of x).sent → Grows x.port.end e
+grows-got x e up got sent = record {
+  got = got;
+  sent = subst (λ (l : List ℕ). length (end_of x).sent ≤ length l) (sym sent) (omega arith);
+  shut = λ is. absurd (false≢true (sym up ∙ is));
+}
+
+-- an end that is shut now got and sent the same
+pub grows-shut : (x y : Daemon) → is_gone y ≡ true → (end_of y).got ≡ (end_of x).got → (end_of y).sent ≡ (end_of x).sent → Grows x.port.end y.port.end
+grows-shut x y gone got sent = record {
+  got = subst (λ (l : List ℕ). length (end_of x).got ≤ length l) (sym got) (omega arith);
+  sent = subst (λ (l : List ℕ). length (end_of x).sent ≤ length l) (sym sent) (omega arith);
+  shut = λ is. gone;
+}
+
+grows-told : (there : Bool) (x y : Daemon) → ListensAsTold there x y → Grows x.port.end y.port.end
+grows-told true x y told = told.grows
+grows-told false x y told = told
 
 -- ---- domains that stand by
 
@@ -115,35 +147,59 @@ turned-own x a b y hears decides sends = by_sends sends.sends
     by_sends (inl more) = inl (inr (subst (λ (l : List ℕ). length l < length (view y.port.end).sent) sent more))
     by_sends (inr says) = by_found says hears.found
 
+-- nothing is lost by what is sent
+pub grows-sending : (x a b y : Daemon) → Listens x a → Decides a b → SendsOrNot b y → Grows x.port.end y.port.end
+grows-sending x a b y hears decides sends = record {
+  got = subst (λ (l : List ℕ). length (end_of x).got ≤ length l) (sym (sends.got ∙ ap (λ (e : SeatedEnd). (view e).got) decides.end)) hears.grows.got;
+  sent = by_sends sends.sends;
+  shut = λ is. absurd (false≢true (sym hears.up ∙ is));
+}
+  where
+    sent : (view b.port.end).sent ≡ (view x.port.end).sent
+    sent = ap (λ (e : SeatedEnd). (view e).sent) decides.end ∙ hears.sent
+
+    by_sends : (length (view b.port.end).sent < length (view y.port.end).sent)
+        ⊎ (SaysNothing y.port.version y.port.greeted b.outbox.letters.items b.port.end y.port.end × IsLater b.outbox.letters.items y.outbox.letters.items)
+        → length (view x.port.end).sent ≤ length (view y.port.end).sent
+    by_sends (inl more) = omega (arith, subst (λ (l : List ℕ). length l < length (view y.port.end).sent) sent more)
+    by_sends (inr says) =
+        subst (λ (l : List ℕ). length (view x.port.end).sent ≤ length l) (sym (nothing-sent y.port.version y.port.greeted b.outbox.letters.items b.port.end y.port.end says.0 ∙ sent)) (omega arith)
+
 -- what was moved, or found, before and after which the domain stood by
 either : {A B C D : Type 0} → (A → C) → (B → D) → A ⊎ B → C ⊎ D
 either f g (inl a) = inl (f a)
 either f g (inr b) = inr (g b)
 
 pub turned-after : (x y z : Daemon) → StandsBy y z → HasTurned (line_of x) (line_of y) → HasTurned (line_of x) (line_of z)
-turned-after x y z by turned = λ up.
-    either (subst (λ (q : PortState). Moved q) (sym by.port)) (λ (q : IsQuiet (line_of x) (line_of y)). record {
-      heard = q.heard;
-      letters = q.letters;
-      before = q.before;
-      after = later-then q.letters y.outbox.letters.items z.outbox.letters.items q.after by.later;
-      hears = q.hears;
-      says = subst (λ (p : PortState). SaysNothing p.version p.greeted q.letters q.heard p.end) (sym by.port) q.says;
-    }) (turned (subst (λ (q : PortState). is_shut (view q.end).state ≡ false) by.port up))
+turned-after x y z by turned = record {
+  grows = subst (λ (q : PortState). Grows x.port.end q.end) (sym by.port) turned.grows;
+  found = λ up.
+      either (subst (λ (q : PortState). Moved q) (sym by.port)) (λ (q : IsQuiet (line_of x) (line_of y)). record {
+        heard = q.heard;
+        letters = q.letters;
+        before = q.before;
+        after = later-then q.letters y.outbox.letters.items z.outbox.letters.items q.after by.later;
+        hears = q.hears;
+        says = subst (λ (p : PortState). SaysNothing p.version p.greeted q.letters q.heard p.end) (sym by.port) q.says;
+      }) (turned.found (subst (λ (q : PortState). is_shut (view q.end).state ≡ false) by.port up));
+}
   where
     Moved : PortState → Type 0
     Moved q = (length (view x.port.end).got < length (view q.end).got) ⊎ (length (view x.port.end).sent < length (view q.end).sent)
 
 pub turned-before : (w x y : Daemon) → StandsBy w x → HasTurned (line_of x) (line_of y) → HasTurned (line_of w) (line_of y)
-turned-before w x y by turned = λ up.
-    either (subst (λ (q : PortState). Moved q) by.port) (λ (q : IsQuiet (line_of x) (line_of y)). record {
-      heard = q.heard;
-      letters = q.letters;
-      before = later-then w.outbox.letters.items x.outbox.letters.items q.letters by.later q.before;
-      after = q.after;
-      hears = subst (λ (p : PortState). HearsNothing p.version q.letters p.end q.heard) by.port q.hears;
-      says = q.says;
-    }) (turned up)
+turned-before w x y by turned = record {
+  grows = subst (λ (q : PortState). Grows q.end y.port.end) by.port turned.grows;
+  found = λ up.
+      either (subst (λ (q : PortState). Moved q) by.port) (λ (q : IsQuiet (line_of x) (line_of y)). record {
+        heard = q.heard;
+        letters = q.letters;
+        before = later-then w.outbox.letters.items x.outbox.letters.items q.letters by.later q.before;
+        after = q.after;
+        hears = subst (λ (p : PortState). HearsNothing p.version q.letters p.end q.heard) by.port q.hears;
+        says = q.says;
+      }) (turned.found up);
+}
   where
     Moved : PortState → Type 0
     Moved q = (length (view q.end).got < length (view y.port.end).got) ⊎ (length (view q.end).sent < length (view y.port.end).sent)
@@ -259,9 +315,11 @@ decides-next domain before ds i x y so_far there number only end =
     steps-then domain Decides Decides Decides before ds (set ds i y) (λ a b z p q. decides-then a b z p q) so_far
     (steps-one domain Decides ds i x y there number (record { end = end; later = later-as x.outbox.letters.items x.outbox.letters.items y.outbox.letters.items (ap (λ (z : Daemon). z.outbox.letters.items) only) (later-self x.outbox.letters.items) }))
 
-pub drops : (t : ℕ) (ds : List Daemon) (i : ℕ) (x y : Daemon) (new : List Daemon) → IsAt ds i x → i + 1 ≡ t → is_gone y ≡ true → EachMoves (λ d. LetsGo t None) (set ds i y) new → EachMoves (Steps t IsDropped) ds new
-drops t ds i x y new there number gone lets =
-    steps-then t IsDropped StandsBy IsDropped ds (set ds i y) new (λ a b z g by. ap (λ (q : PortState). is_shut (view q.end).state) by.port ∙ g) (steps-one t IsDropped ds i x y there number gone)
+pub drops : (t : ℕ) (ds : List Daemon) (i : ℕ) (x y : Daemon) (new : List Daemon) → IsAt ds i x → i + 1 ≡ t → IsDropped x y → EachMoves (λ d. LetsGo t None) (set ds i y) new → EachMoves (Steps t IsDropped) ds new
+drops t ds i x y new there number dropped lets =
+    steps-then t IsDropped StandsBy IsDropped ds (set ds i y) new
+    (λ a b z g by. record { grows = subst (λ (q : PortState). Grows a.port.end q.end) (sym by.port) g.grows; shut = ap (λ (q : PortState). is_shut (view q.end).state) by.port ∙ g.shut })
+    (steps-one t IsDropped ds i x y there number dropped)
     (steps-by t (set ds i y) new (moves-as (λ d. LetsGo t None) (λ d. StandsBy) (set ds i y) new lets (λ d a b l. by-let-go t None a b l)))
 
 pub listens-moves : {E : Type 0} (r : Result Bool E) (domain : ℕ) (ds : List Daemon) (i : ℕ) (x y : Daemon) → IsAt ds i x → i + 1 ≡ domain → IfOk r (λ there. ListensAsTold there x y)
@@ -275,14 +333,19 @@ pub gone-turns : (domain : ℕ) (ds : List Daemon) (i : ℕ) (x : Daemon) → Is
 gone-turns domain ds i x there number gone = steps-self domain Turns ds (λ j y at here. turned j y at here)
   where
     turned : (j : ℕ) (y : Daemon) → IsAt ds j y → j + 1 ≡ domain → Turns y y
-    turned j y at here = λ up.
-        let place : j ≡ i = omega (arith, here, number) in
-        let same : y ≡ x = at-one ds i y x (subst (λ (k : ℕ). IsAt ds k y) place at) there in
-        absurd (false≢true (sym up ∙ ap (λ (z : Daemon). is_gone z) same ∙ gone))
+    turned j y at here = record {
+      grows = grows-self y.port.end;
+      found = λ up.
+          let place : j ≡ i = omega (arith, here, number) in
+          let same : y ≡ x = at-one ds i y x (subst (λ (k : ℕ). IsAt ds k y) place at) there in
+          absurd (false≢true (sym up ∙ ap (λ (z : Daemon). is_gone z) same ∙ gone));
+    }
 
 pub drop-turns : (domain : ℕ) (there : Bool) (a b c d : List Daemon) → EachMoves (Steps domain (ListensAsTold there)) a b → EachMoves (Steps domain Decides) b c → EachMoves (Steps domain IsDropped) c d → EachMoves (Steps domain Turns) a d
 drop-turns domain there a b c d listens decides drop =
-    steps-then domain (ListensAsTold there) IsDropped Turns a b d (λ x y z l g up. absurd (false≢true (sym up ∙ g))) listens (steps-then domain Decides IsDropped IsDropped b c d (λ x y z p g. g) decides drop)
+    steps-then domain (ListensAsTold there) IsDropped Turns a b d
+    (λ x y z l g. record { grows = grows-then x.port.end y.port.end z.port.end (grows-told there x y l) g.grows; found = λ up. absurd (false≢true (sym up ∙ g.shut)) }) listens
+    (steps-then domain Decides IsDropped IsDropped b c d (λ x y z p g. record { grows = subst (λ (e : SeatedEnd). Grows e z.port.end) p.end g.grows; shut = g.shut }) decides drop)
 
 -- what was taken and decided
 record Hears (x y : Daemon) : Type 0 where
@@ -292,7 +355,7 @@ record Hears (x y : Daemon) : Type 0 where
 
 pub send-turns : (domain : ℕ) (a b c d : List Daemon) → EachMoves (Steps domain Listens) a b → EachMoves (Steps domain Decides) b c → EachMoves (Steps domain SendsOrNot) c d → EachMoves (Steps domain Turns) a d
 send-turns domain a b c d listens decides sends =
-    steps-then domain Hears SendsOrNot Turns a c d (λ x y z h s up. turned-own x h.a y z h.listens h.decides s)
+    steps-then domain Hears SendsOrNot Turns a c d (λ x y z h s. record { grows = grows-sending x h.a y z h.listens h.decides s; found = λ up. turned-own x h.a y z h.listens h.decides s })
     (steps-then domain Listens Decides Hears a b c (λ x y z l p. record { a = y; listens = l; decides = p }) listens decides) sends
 
 pub turns-each : (old new : Switchboard) (result : BrokerTurn) → EachMoves (λ d. Turns) old.daemons.items new.daemons.items → KeepsLines new result → TurnsEach (map line_of old.daemons.items) result

@@ -48,6 +48,14 @@ pub record FindsHere (old new : SeatedEnd) : Type 0 where
   pub trail : Trace (standing_of old.side) PeerGone new.side.trail (Gone false)
   pub here : HasFoundGone new.side → ⊥
 
+-- ---- what lasts
+
+-- what was heard from a domain and what was said to it only grow, and one that was dropped stays so
+pub record Grows (old new : SeatedEnd) : Type 0 where
+  pub got : length (view old).got ≤ length (view new).got
+  pub sent : length (view old).sent ≤ length (view new).sent
+  pub shut : is_shut (view old).state ≡ true → is_shut (view new).state ≡ true
+
 -- ---- one domain in a turn
 
 -- nothing was heard: its drain found no byte yet, or it wasn't drained since as many letters wait as fill its outbox, and it is there
@@ -77,9 +85,10 @@ pub record IsQuiet (old new : BrokerLine) : Type 0 where
   pub hears : HearsNothing old.version letters old.end heard
   pub says : SaysNothing new.version new.greeted letters heard new.end
 
--- a domain that isn't dropped moved or was quiet
-abbrev pub HasTurned : BrokerLine → BrokerLine → Type 0
-HasTurned old new = is_shut (view new.end).state ≡ false → HasMoved old new ⊎ IsQuiet old new
+-- nothing of a domain was lost, and one that isn't dropped moved or was quiet
+pub record HasTurned (old new : BrokerLine) : Type 0 where
+  pub grows : Grows old.end new.end
+  pub found : is_shut (view new.end).state ≡ false → HasMoved old new ⊎ IsQuiet old new
 
 -- ---- the steps of a turn, domain by domain
 
@@ -88,16 +97,18 @@ pub record StandsBy (x y : Daemon) : Type 0 where
   pub port : y.port ≡ x.port
   pub later : IsLater x.outbox.letters.items y.outbox.letters.items
 
--- what has come was taken, or there was nothing
+-- what has come was taken, or there was nothing; it wasn't dropped before
 pub record Listens (x y : Daemon) : Type 0 where
+  pub up : is_shut (view x.port.end).state ≡ false
+  pub grows : Grows x.port.end y.port.end
   pub sent : (view y.port.end).sent ≡ (view x.port.end).sent
   pub letters : y.outbox.letters.items ≡ x.outbox.letters.items
   pub found : (length (view x.port.end).got < length (view y.port.end).got) ⊎ HearsNothing x.port.version x.outbox.letters.items x.port.end y.port.end
 
--- nothing is said here of a domain that is to be dropped
+-- of a domain that is to be dropped only that nothing was lost
 abbrev pub ListensAsTold : Bool → Daemon → Daemon → Type 0
 ListensAsTold true x y = Listens x y
-ListensAsTold false x y = Unit {0}
+ListensAsTold false x y = Grows x.port.end y.port.end
 
 -- what was taken was decided
 pub record Decides (x y : Daemon) : Type 0 where
@@ -129,8 +140,9 @@ abbrev pub SendsSoFar : Daemon → Daemon → Type 0
 SendsSoFar x y = (y ≡ x) ⊎ SendsMore x y
 
 -- it was dropped
-abbrev pub IsDropped : Daemon → Daemon → Type 0
-IsDropped x y = is_shut (view y.port.end).state ≡ true
+pub record IsDropped (x y : Daemon) : Type 0 where
+  pub grows : Grows x.port.end y.port.end
+  pub shut : is_shut (view y.port.end).state ≡ true
 
 -- the whole turn of one domain
 abbrev pub Turns : Daemon → Daemon → Type 0

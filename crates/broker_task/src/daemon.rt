@@ -234,6 +234,7 @@ impl<'p> Daemon<'p> {
         ensures line { IsLine self.new.domain self.new }
         ensures said { (said : List Said) → HasSaid self.old.port said → HasSaid self.new.port said }
         ensures got { (end_of self.new).got ≡ (end_of self.old).got }
+        ensures sent { (end_of self.new).sent ≡ (end_of self.old).sent }
         ensures version { self.new.port.version ≡ self.old.port.version }
         ensures outbox { self.new.outbox.letters.items ≡ [] }
         ensures same { IsSameDaemon self.old self.new × (self.new.answered ≡ self.old.answered) }

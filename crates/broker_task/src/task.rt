@@ -128,7 +128,8 @@ impl<'p> BrokerTask<'p> {
     /// was dropped. A task that wants another turn isn't settled.
     ///
     /// Of each domain that isn't dropped something was heard in the turn, or something said to it; or there was
-    /// nothing to hear, and nothing that could be said: all that waits is held, or there was no room.
+    /// nothing to hear, and nothing that could be said: all that waits is held, or there was no room. Of no domain
+    /// fewer bytes were heard or said than before, and one that was dropped stays so.
     pub fn turn(self) -> BrokerTurn<'p>
         ensures pays { Pays (task_given self.entry) result }
         ensures stands { StandsAfter result }

@@ -1,11 +1,12 @@
-use Rattle.std.proofs.Common.{◌≡◌, ◌∙◌, Bool, true, false, not, refl, sym, ap}
+use Rattle.std.proofs.Common.{◌≡◌, ◌≤◌, ◌∙◌, ℕ, Bool, true, false, not, List, length, refl, sym, ap, subst, arith}
 use Rattle.std.specs.Prelude.{Result, Ok}
 use Rattle.vchan_io.specs.declared.memory.Memory.{Memory}
 use Rattle.vchan_rule.specs.Seated.{view}
 use Rattle.control_port.specs.Port.{PortState}
 use Rattle.broker_task.proofs.LineLaws.{drained-over, drained-going, found-gone, asked-going}
 use Rattle.broker_task.proofs.HearingSteps.{reads-heard}
-use Rattle.broker_task.proofs.MovingCalls.{listens-as, unread-listens, drained-listens}
+use Rattle.broker_task.proofs.MovingCalls.{listens-as, asked-grows, unread-listens, drained-grows, drained-listens}
+use Rattle.broker_task.proofs.MovingLaws.{grows-got}
 use Rattle.broker_task.proofs.daemon.Daemon.listen.Goals as goal
 
 told : (r : Result Bool Memory) (a b : Bool) → r ≡ Ok a → r ≡ Ok b → a ≡ b
@@ -50,18 +51,26 @@ returns-clause-open c = λ is.
           (sym c.more_may_come.ensures ∙ told (Ok c.more_may_come.result) c.more_may_come.result true refl is) ((c.is_connected.ensures.«open» connected).1 h),
     )
 
+pub returns-then-not-is_connected-clause-listens : goal.returns-then-not-is_connected-clause-listens
+returns-then-not-is_connected-clause-listens c =
+    grows-got c.args.self.now c.is_connected.new.self.port.end c.requires.up (subst (λ (l : List ℕ). length (view c.args.self.now.port.end).got ≤ length l) (sym c.is_connected.ensures.got) (omega arith)) c.is_connected.ensures.sent
+
 pub returns-then-is_unread-clause-listens : goal.returns-then-is_unread-clause-listens
 returns-then-is_unread-clause-listens c =
-    listens-as (not c.peer_gone.result) c.args.self.now (record c.is_connected.new.self { port = c.peer_gone.new.self })
+    let grows =
+    asked-grows c.args.self.now c.is_connected.new.self c.peer_gone.new.self c.peer_gone.result c.requires.up c.is_connected.ensures.got c.is_connected.ensures.sent c.peer_gone.ensures.view in
+    listens-as (not c.peer_gone.result) c.args.self.now (record c.is_connected.new.self { port = c.peer_gone.new.self }) grows
     (λ is.
     let connected : c.is_connected.result ≡ true = cc in
-    unread-listens c.args.self.now c.is_connected.new.self c.peer_gone.new.self c.peer_gone.result (is-no c.peer_gone.result is) (c.is_connected.ensures.begins connected) c.is_connected.ensures.sent c.is_connected.ensures.port
+    unread-listens c.args.self.now c.is_connected.new.self c.peer_gone.new.self c.peer_gone.result c.requires.up grows (is-no c.peer_gone.result is) (c.is_connected.ensures.begins connected) c.is_connected.ensures.sent c.is_connected.ensures.port
     c.is_connected.ensures.same.1 (c.is_unread.ensures.0 c.if-is_unread.true) c.peer_gone.ensures.end c.peer_gone.ensures.view c.peer_gone.ensures.trail c.peer_gone.ensures.noted)
 
 pub returns-clause-listens : goal.returns-clause-listens
 returns-clause-listens c =
     listens-as c.more_may_come.result c.args.self.now (record c.is_connected.new.self { port = c.drain.new.self })
+    (drained-grows c.args.self.now c.is_connected.new.self c.drain.new.self c.in_ok-drained.drained c.drain.new.buf c.drain.new.self.end.side.saw c.requires.up c.is_connected.ensures.got c.is_connected.ensures.sent
+    c.in_ok-drained.ensures.view)
     (λ is.
     let connected : c.is_connected.result ≡ true = cc in
-    drained-listens c.args.self.now c.is_connected.new.self c.drain.new.self c.in_ok-drained.drained c.args.buf.now c.drain.new.buf c.drain.new.self.end.side.saw (c.is_connected.ensures.begins connected) c.is_connected.ensures.sent
+    drained-listens c.args.self.now c.is_connected.new.self c.drain.new.self c.in_ok-drained.drained c.args.buf.now c.drain.new.buf c.drain.new.self.end.side.saw c.requires.up (c.is_connected.ensures.begins connected) c.is_connected.ensures.sent
     c.is_connected.ensures.got c.is_connected.ensures.port c.requires.some c.drain.ensures.long c.drain.ensures.end c.in_ok-drained.ensures.view c.in_ok-drained.ensures.trail c.in_ok-drained.ensures.cause (sym c.more_may_come.ensures ∙ is))
