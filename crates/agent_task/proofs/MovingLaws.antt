@@ -1,6 +1,8 @@
 -- What an agent's calls on its control channel found.
-use Rattle.std.proofs.Common.{◌≡◌, ◌↔◌, ℕ, ◌<◌, Bool, true, false, List, length, refl, ap, sym, ◌∙◌, subst, arith, Option, Some, None, inl, inr}
-use Rattle.std.specs.Prelude.{is_some}
+use Rattle.std.proofs.Common.{◌≡◌, ◌↔◌, ℕ, ◌<◌, ◌≤◌, Bool, true, false, List, [], ◌∷◌, ◌++◌, length, refl, ap, sym, ◌∙◌, subst, arith, Option, Some, None, inl, inr}
+use Rattle.std.specs.Prelude.{◌⊎◌, is_some}
+use Rattle.std.specs.List.{flat_map}
+use Rattle.std.proofs.lemmas.List.{length-append}
 use Rattle.vchan_protocol.specs.declared.call.Call.TheVariants.{Drain, Send}
 use Rattle.vchan_protocol.specs.Table.Calls.{Trace}
 use Rattle.vchan_protocol.specs.Answering.Causes.{DrainCause, SendCause}
@@ -16,16 +18,19 @@ use Rattle.vchan_packet.specs.Packet as packet
 use Rattle.vchan_packet.specs.Packet.{send_told, sent_to}
 use Rattle.vchan_packet.specs.declared.SendAnswer.{SendAnswer}
 use Rattle.vchan_packet.specs.declared.SendAnswer.TheVariants.{Sent, NoRoom, PeerClosed}
-use Rattle.vchan_packet.proofs.FailingLaws.{fails-to-send, no-room-sends-none, shut-sends-none}
+use Rattle.vchan_packet.proofs.FailingLaws.{fails-to-send, no-room-sends-none, shut-sends-none, sent-no-more}
+use Rattle.qrexec_frame.specs.declared.message.Message.{Message}
 use Rattle.qrexec_frame.specs.declared.message.Message.TheVariants.{Hello}
 use Rattle.qrexec_frame.specs.Messages.{written}
-use Rattle.control_port.specs.Port.{PortState}
+use Rattle.control_port.specs.Port.{PortState, SentWhole}
 use Rattle.control_port.proofs.DrainLaws.{got-more}
 use Rattle.task_duties.specs.declared.done.ControlEnd.{ControlEnd}
 use Rattle.agent_task.specs.declared.agent.Agent.{Agent}
 use Rattle.agent_task.specs.Standing.{KeepsPort}
 use Rattle.agent_task.specs.Ending.{end_by}
-use Rattle.agent_task.specs.Moving.{Greets, IsSent, IsUnsent, Drains, Listens, SaysNoMore, TurnsControl}
+use Rattle.agent_control.specs.declared.control.AgentControl.{AgentControl}
+use Rattle.agent_control.specs.Speaking.{SaysMore, Speaks}
+use Rattle.agent_task.specs.Moving.{Greets, WasSent, IsSent, IsUnsent, HearsNothing, Takes, Drains, Listens, SaysNoMore, TurnsControl}
 
 pub greets-by : (old new : PortState) (answer : SendAnswer) → old.greeted ≡ false → (answer ≡ Sent → new.greeted ≡ true) × ((answer ≡ Sent → ⊥) → new.greeted ≡ false) → view new.end ≡ sent_to (view old.end) answer (written (Hello old.own))
     → Trace (standing_of old.end.side) (Send (packet.most_asked (written (Hello old.own)))) new.end.side.trail (send_told (packet.most_asked (written (Hello old.own))) answer)
@@ -37,21 +42,68 @@ greets-by old new (NoRoom prod cons) first greeted is trail cause =
 greets-by old new PeerClosed first greeted is trail cause =
     let none = shut-sends-none PeerClosed refl in IsUnsent (greeted.1 none) (fails-to-send old.end new.end (written (Hello old.own)) PeerClosed none is trail cause)
 
+drained-sent : (e : EndView) (drained : DrainAnswer) (after : List ℕ) (saw : Bool) → (drained_to e drained after saw).sent ≡ e.sent
+drained-sent e (More count) after saw = refl
+drained-sent e (NotYet prod cons) after saw = refl
+drained-sent e AllRead after saw = refl
+drained-sent e (PeerGone prod cons) after saw = refl
+
+takes-by : (old new : SeatedEnd) (drained : DrainAnswer) (before after : List ℕ) (saw : Bool) → 0 < length before → length after ≡ length before → view new ≡ drained_to (view old) drained after saw
+    → Trace (standing_of old.side) (Drain (most_asked before)) new.side.trail (drain_told drained)
+    → ((other : DrainAnswer) → (drained ≡ other) ↔ DrainCause (standing_of old.side) (most_asked before) (loads_of (standing_of old.side) new.side.trail) (drain_told other)) → Takes drained old new
+takes-by old new (More count) before after saw some long is trail cause = got-more old new count before after saw some long is ((cause (More count)).0 refl)
+takes-by old new (NotYet prod cons) before after saw some long is trail cause =
+    (record { most = most_asked before; some = omega (arith, some); prod = prod; cons = cons; trail = trail; cause = (cause (NotYet prod cons)).0 refl }, ap (λ (v : EndView). v.got) is)
+takes-by old new AllRead before after saw some long is trail cause = tt
+takes-by old new (PeerGone prod cons) before after saw some long is trail cause = tt
+
 pub drains-by : (old new : SeatedEnd) (drained : DrainAnswer) (before after : List ℕ) (saw : Bool) → 0 < length before → length after ≡ length before → view new ≡ drained_to (view old) drained after saw
     → Trace (standing_of old.side) (Drain (most_asked before)) new.side.trail (drain_told drained)
     → ((other : DrainAnswer) → (drained ≡ other) ↔ DrainCause (standing_of old.side) (most_asked before) (loads_of (standing_of old.side) new.side.trail) (drain_told other)) → Drains drained old new
-drains-by old new (More count) before after saw some long is trail cause = got-more old new count before after saw some long is ((cause (More count)).0 refl)
-drains-by old new (NotYet prod cons) before after saw some long is trail cause =
-    (record { most = most_asked before; some = omega (arith, some); prod = prod; cons = cons; trail = trail; cause = (cause (NotYet prod cons)).0 refl }, ap (λ (v : EndView). v.got) is)
-drains-by old new AllRead before after saw some long is trail cause = tt
-drains-by old new (PeerGone prod cons) before after saw some long is trail cause = tt
+drains-by old new drained before after saw some long is trail cause = record {
+  takes = takes-by old new drained before after saw some long is trail cause;
+  sent = ap (λ (v : EndView). v.sent) is ∙ drained-sent (view old) drained after saw;
+}
 
 -- the drain of a channel that is up
+greets-sent : (old new : PortState) → Greets old new → length (view old.end).sent ≤ length (view new.end).sent
+greets-sent old new (WasSent before same) = subst (λ (p : PortState). length (view old.end).sent ≤ length (view p.end).sent) (sym same) (omega arith)
+greets-sent old new (IsSent before is) =
+    subst (λ (v : EndView). length (view old.end).sent ≤ length v.sent) (sym is) (omega (arith, length-append (view old.end).sent (written (Hello old.own))))
+greets-sent old new (IsUnsent after fails) =
+    subst (λ (l : List ℕ). length (view old.end).sent ≤ length l) (sym (sent-no-more (written (Hello old.own)) old.end new.end fails)) (omega arith)
+
+found-by : (old greeted : PortState) (heard : SeatedEnd) (drained : DrainAnswer) → Greets old greeted → (view greeted.end).got ≡ (view old.end).got → Takes drained greeted.end heard → end_by drained ≡ None
+    → (length (view old.end).got < length (view heard).got) ⊎ HearsNothing old heard
+found-by old greeted heard (More count) greets got takes up = inl (subst (λ (l : List ℕ). length l < length (view heard).got) got takes)
+found-by old greeted heard (NotYet prod cons) greets got takes up = inr (record { greeted = greeted; greets = greets; not_yet = takes.0; none = takes.1 ∙ got })
+found-by old greeted heard AllRead greets got takes up = cc
+found-by old greeted heard (PeerGone prod cons) greets got takes up = cc
+
 pub listens-by : (old greeted : PortState) (heard : SeatedEnd) (drained : DrainAnswer) → Greets old greeted → (view greeted.end).got ≡ (view old.end).got → Drains drained greeted.end heard → end_by drained ≡ None → Listens old heard
-listens-by old greeted heard (More count) greets got drains up = inl (subst (λ (l : List ℕ). length l < length (view heard).got) got drains)
-listens-by old greeted heard (NotYet prod cons) greets got drains up = inr (record { greeted = greeted; greets = greets; not_yet = drains.0; none = drains.1 ∙ got })
-listens-by old greeted heard AllRead greets got drains up = cc
-listens-by old greeted heard (PeerGone prod cons) greets got drains up = cc
+listens-by old greeted heard drained greets got drains up = record {
+  found = found-by old greeted heard drained greets got drains.takes up;
+  sent = subst (λ (l : List ℕ). length (view old.end).sent ≤ length l) (sym drains.sent) (greets-sent old greeted greets);
+}
+
+-- ---- what was sent before stays so
+
+flat-more : (xs ys : List Message) → length (flat_map written xs) ≤ length (flat_map written (xs ++ ys))
+flat-more [] ys = omega arith
+flat-more (x ∷ xs) ys =
+    let more = flat-more xs ys in omega (arith, more, length-append (written x) (flat_map written xs), length-append (written x) (flat_map written (xs ++ ys)))
+
+sent-whole : (greeted : Bool) (own : ℕ) (said more : List Message) (old new : List ℕ) → SentWhole greeted own said old → SentWhole greeted own (said ++ more) new → length old ≤ length new
+sent-whole false own said more old new before after = subst (λ (l : List ℕ). length l ≤ length new) (sym before.0) (omega arith)
+sent-whole true own said more old new before after =
+    subst (λ (l : List ℕ). length l ≤ length new) (sym before)
+    (subst (λ (l : List ℕ). length (flat_map written (Hello own ∷ said)) ≤ length l) (sym after) (flat-more (Hello own ∷ said) more))
+
+pub says-on : (old new : AgentControl) (calls : ℕ) (heard said : List Message) → SaysMore calls old new → Speaks old heard said → length (view old.port.end).sent ≤ length (view new.port.end).sent
+says-on old new calls heard said says speaks =
+    let more = says.speaks heard said speaks in
+    sent-whole old.port.greeted old.port.own said more.0 (view old.port.end).sent (view new.port.end).sent speaks.said_is.whole
+    (subst (λ (p : PortState). SentWhole p.greeted p.own (said ++ more.0) (view new.port.end).sent) says.port.0 more.1.said_is.whole)
 
 pub over-not-up : (A : Type 0) (over : Option ControlEnd) → is_some over ≡ true → over ≡ None → A
 over-not-up A None some none = cc

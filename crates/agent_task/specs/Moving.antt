@@ -1,6 +1,6 @@
 -- What a turn of an agent did on its control channel, and why it did no more.
 -- Source: the order and the limits are this project's own.
-use Rattle.std.specs.Prelude.{◌≡◌, ◌⊎◌, ℕ, ◌<◌, ◌-◌, min, true, false, length, Option, Some, None}
+use Rattle.std.specs.Prelude.{◌≡◌, ◌⊎◌, ℕ, ◌<◌, ◌≤◌, ◌-◌, min, true, false, length, Option, Some, None}
 use Rattle.vchan_rule.specs.Seated.{SeatedEnd, view}
 use Rattle.vchan_rule.specs.Ends.{IsSameEnd}
 use Rattle.vchan_lifecycle.specs.Lifecycle.{FindsNotYet}
@@ -24,11 +24,16 @@ pub data Greets (old new : PortState) : Type 0 where
   IsUnsent : new.greeted ≡ false → FailsToSend (written (Hello old.own)) old.end new.end → Greets old new
 
 -- a drain took bytes or found none, unless it found the end of what comes
-abbrev pub Drains : DrainAnswer → SeatedEnd → SeatedEnd → Type 0
-Drains (More count) old new = length (view old).got < length (view new).got
-Drains (NotYet prod cons) old new = FindsNotYet old new × ((view new).got ≡ (view old).got)
-Drains AllRead old new = Unit {0}
-Drains (PeerGone prod cons) old new = Unit {0}
+abbrev pub Takes : DrainAnswer → SeatedEnd → SeatedEnd → Type 0
+Takes (More count) old new = length (view old).got < length (view new).got
+Takes (NotYet prod cons) old new = FindsNotYet old new × ((view new).got ≡ (view old).got)
+Takes AllRead old new = Unit {0}
+Takes (PeerGone prod cons) old new = Unit {0}
+
+-- and it sent nothing
+pub record Drains (drained : DrainAnswer) (old new : SeatedEnd) : Type 0 where
+  pub takes : Takes drained old new
+  pub sent : (view new).sent ≡ (view old).sent
 
 -- after the greeting the drain found the ring empty and the broker there
 pub record HearsNothing (old : PortState) (heard : SeatedEnd) : Type 0 where
@@ -37,17 +42,18 @@ pub record HearsNothing (old : PortState) (heard : SeatedEnd) : Type 0 where
   pub not_yet : FindsNotYet greeted.end heard
   pub none : (view heard).got ≡ (view old.end).got
 
--- bytes came, or none were there
-abbrev pub Listens : PortState → SeatedEnd → Type 0
-Listens old heard = (length (view old.end).got < length (view heard).got) ⊎ HearsNothing old heard
+-- bytes came, or none were there; what was sent before stays so
+pub record Listens (old : PortState) (heard : SeatedEnd) : Type 0 where
+  pub found : (length (view old.end).got < length (view heard).got) ⊎ HearsNothing old heard
+  pub sent : length (view old.end).sent ≤ length (view heard).sent
 
 -- ---- what was said
 
--- why no more was said: one of the two greetings hasn't come through, and nothing was said; or the saying of ends and triggers stopped
+-- why no more was said: one of the two greetings hasn't come through, and nothing was said; or the saying of ends and triggers stopped, and what was sent before stays so
 pub data SaysNoMore (calls : ℕ) (old new : AgentControl) : Type 0 where
   HasNotGreeted : new.port.greeted ≡ false → new ≡ old → SaysNoMore calls old new
   WasNotGreeted : new.port.version ≡ None → new ≡ old → SaysNoMore calls old new
-  HasStopped : SaysMore calls old new → Stops calls old new → SaysNoMore calls old new
+  HasStopped : SaysMore calls old new → length (view old.port.end).sent ≤ length (view new.port.end).sent → Stops calls old new → SaysNoMore calls old new
 
 -- the calls that may be requested in a turn, by the number of open sessions on pages that are laid at their first use: one, or none from eight such sessions on
 abbrev pub asked_at_most : ℕ → ℕ
