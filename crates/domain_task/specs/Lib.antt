@@ -1,3 +1,4 @@
 pub mod Given
 pub mod Owes
 pub mod Turning
+pub mod Working

@@ -2,6 +2,7 @@
 ghost use Rattle.domain_task.specs.Owes.{Owes, PaysFor};
 ghost use Rattle.domain_task.specs.Given.{given_of};
 ghost use Rattle.domain_task.specs.Turning.{TaskTurns};
+ghost use Rattle.domain_task.specs.Working.{Works};
 
 use crate::done::TaskDone;
 use crate::task::Task;
@@ -18,10 +19,13 @@ impl<'p> PoolTask for Task<'p> {
     ghost owes = { Owes };
 
     /// Makes one turn. Beside what the task owes it tells what its own crate tells of a turn: that the task goes
-    /// on as one of its kind, and that something moved, or why nothing did.
+    /// on as one of its kind, and that something moved, or why nothing did. No turn lowers the number of what the
+    /// task has done, and one that doesn't raise it did nothing.
+    #[tactic(auto, using(crate::proofs::WorkLaws::turns_work))]
     fn turn(self) -> Turn<Self>
         ensures pays { Pays Owes self.entry result }
         ensures turns { TaskTurns self.entry result }
+        ensures works { Works self.entry result }
     {
         match self {
             Task::Agent(task) => turn_agent(task),

@@ -1,0 +1,85 @@
+-- How much a task has done, as a number that no turn lowers, and what a turn is that doesn't raise it.
+-- Source: this project's own.
+use Rattle.std.specs.Prelude.{◌≡◌, ◌⊎◌, ℕ, ◌+◌, ◌-◌, ◌<◌, ◌≤◌, Bool, true, false, List, [], ◌∷◌, length, Option, Some, None}
+use Rattle.vchan_rule.specs.Seated.{SeatedEnd, view}
+use Rattle.task_pool.specs.declared.task.Turn.{Turn}
+use Rattle.task_pool.specs.declared.task.Turn.TheVariants as turn
+use Rattle.task_duties.specs.Pairwise.{EachPair}
+use Rattle.agent_control.specs.declared.control.AgentControl.{AgentControl}
+use Rattle.agent_task.specs.Moving.{HearsNothing}
+use Rattle.broker_task.specs.Lines.{is_shut}
+use Rattle.broker_task.specs.Moving.{BrokerLine, IsQuiet}
+use Rattle.hostile_task.specs.Plan.{HostileState}
+use Rattle.hostile_task.specs.Turns.{all_turns, turns_left}
+use Rattle.domain_task.specs.declared.done.TaskDone.{TaskDone}
+use Rattle.domain_task.specs.declared.task.Task.{Task}
+use Rattle.domain_task.specs.declared.task.Task.TheVariants.{Agent, Broker, Hostile}
+
+-- ---- an agent, by its control channel
+
+-- the bytes that came and went on an end
+abbrev pub bytes_on : SeatedEnd → ℕ
+bytes_on end = length (view end).got + length (view end).sent
+
+abbrev pub bytes_of : Option AgentControl → ℕ
+bytes_of (Some control) = bytes_on control.port.end
+bytes_of None = 0
+
+-- nothing was heard on it, and nothing said: the broker was there, and had sent nothing more
+pub record HearsAndSaysNothing (old new : AgentControl) : Type 0 where
+  pub heard : SeatedEnd
+  pub nothing : HearsNothing old.port heard
+  pub got : length (view new.port.end).got ≡ length (view old.port.end).got
+  pub sent : length (view new.port.end).sent ≡ length (view old.port.end).sent
+
+abbrev pub IsStill : Option AgentControl → Option AgentControl → Type 0
+IsStill (Some old) (Some new) = HearsAndSaysNothing old new
+IsStill _ _ = ⊥
+
+-- ---- the broker, by its domains
+
+abbrev pub one_if : Bool → ℕ
+one_if true = 1
+one_if false = 0
+
+-- what was heard from a domain and said to it, and one more once it was dropped
+abbrev pub work_with : BrokerLine → ℕ
+work_with line = bytes_on line.end + one_if (is_shut (view line.end).state)
+
+abbrev pub work_with_all : List BrokerLine → ℕ
+work_with_all [] = 0
+work_with_all (line ∷ lines) = work_with line + work_with_all lines
+
+-- a domain was quiet, or had been dropped
+pub record Rests (old new : BrokerLine) : Type 0 where
+  pub shut : is_shut (view new.end).state ≡ is_shut (view old.end).state
+  pub quiet : is_shut (view new.end).state ≡ false → IsQuiet old new
+
+-- ---- a hostile domain, by the turns of its acts
+
+abbrev pub turns_made : HostileState → ℕ
+turns_made task = all_turns task.plan.acts - turns_left task.plan.acts task.acts task.turns
+
+-- ---- any task
+
+abbrev pub work_done : Task → ℕ
+work_done (Agent task) = bytes_of task.channel
+work_done (Broker task) = work_with_all task.lines
+work_done (Hostile task) = turns_made task
+
+-- a turn in which nothing was done. A hostile domain makes none: each of its turns is one of its acts
+abbrev pub DoesNothing : Task → Task → Type 0
+DoesNothing (Agent before) (Agent now) = IsStill before.channel now.channel
+DoesNothing (Broker before) (Broker now) = EachPair Rests before.lines now.lines
+DoesNothing before now = ⊥
+
+-- the work of an agent is counted while its control channel is up
+abbrev pub IsCounted : Task → Type 0
+IsCounted (Agent task) = task.over ≡ None
+IsCounted (Broker task) = Unit {0}
+IsCounted (Hostile task) = Unit {0}
+
+-- a turn undoes nothing, and either it did something more or it did nothing
+abbrev pub Works : Task → Turn Task TaskDone → Type 0
+Works before (turn.Again now) = IsCounted now → (work_done before ≤ work_done now) × ((work_done before < work_done now) ⊎ DoesNothing before now)
+Works before (turn.Done done) = Unit {0}
