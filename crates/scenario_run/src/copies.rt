@@ -1,7 +1,6 @@
 //! Copies of what the tasks of a run are given, since the run keeps the scenario.
 ghost use Rattle.std.specs.Prelude.{◌≡◌, map, IfOk};
 ghost use Rattle.run_laws.specs.Laid.{calls_from};
-ghost use Rattle.scenario_run.specs.Tasks.{awaited_from};
 
 use call_broker::DomainEntry;
 use qrexec_frame::{Bytes, Text};
@@ -39,26 +38,13 @@ pub(crate) fn calls_from(
 ) -> Result<Vec<CallPlan>, AllocError>
     ensures { IfOk result (λ own. own.items ≡ calls_from scenario.now from) }
 {
-    let mut own = Vec::with_capacity(alloc, count_from(scenario, from) as usize)?;
+    let mut own = Vec::new(alloc);
     for call in &scenario.calls {
         if call.from == from {
             own.push(copy_of_call(alloc, call)?)?;
         }
     }
     Ok(own)
-}
-
-/// Returns the number of calls of a domain.
-pub(crate) fn count_from(scenario: &Scenario, from: u32) -> u32
-    ensures { result ≡ awaited_from scenario.now from }
-{
-    let mut count = 0;
-    for call in &scenario.calls {
-        if call.from == from {
-            count += 1;
-        }
-    }
-    count
 }
 
 fn copy_of_call(alloc: Global, call: &CallPlan) -> Result<CallPlan, AllocError>

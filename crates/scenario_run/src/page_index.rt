@@ -29,7 +29,7 @@ impl PageIndex {
         requires few { length pages.now < 2 ^ 32 }
         ensures { IfOk result (λ index. IsIndexOf (map (λ p. p.place) pages.now) index) }
     {
-        let mut numbers = HashMap::with_capacity(alloc, pages.len())?;
+        let mut numbers = HashMap::new(alloc);
         let mut count = 0;
         for page in pages {
             note(&mut numbers, page.place, count)?;

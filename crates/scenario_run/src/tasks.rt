@@ -8,9 +8,9 @@ ghost use Rattle.scenario_file.specs.Scenario.{IsScenario, domain_of};
 ghost use Rattle.run_laws.specs.Laid.{awaited_by, hub_of};
 ghost use Rattle.task_duties.specs.TaskOwes.{broker_given};
 ghost use Rattle.domain_task.specs.Given.{given_of};
-ghost use Rattle.scenario_run.specs.Tasks.{AreHandsOf, AreControlsOf, AreTasksOf, AreUnmade, IsHandOf, domain_given};
+ghost use Rattle.scenario_run.specs.Tasks.{AreHandsOf, AreControlsOf, AreTasksOf, AreUnmade, IsHandOf, domain_given, awaited_from};
 
-use crate::copies::{calls_from, copy_of_acts, count_from, entries_of, names_of};
+use crate::copies::{calls_from, copy_of_acts, entries_of, names_of};
 use crate::run_task::{RunTask, Stage};
 use agent_task::AgentTask;
 use broker_task::BrokerTask;
@@ -120,6 +120,19 @@ fn awaited(alloc: Global, scenario: &Scenario) -> Result<Vec<u32>, AllocError>
         counts.push(count_from(scenario, index + 1))?;
     }
     Ok(counts)
+}
+
+// The number of calls of a domain.
+fn count_from(scenario: &Scenario, from: u32) -> u32
+    ensures { result ≡ awaited_from scenario.now from }
+{
+    let mut count = 0;
+    for call in &scenario.calls {
+        if call.from == from {
+            count += 1;
+        }
+    }
+    count
 }
 
 /// Makes the task of a domain. Returns the ends as they were given if memory runs out.

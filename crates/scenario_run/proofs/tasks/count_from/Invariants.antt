@@ -1,6 +1,6 @@
 use Rattle.std.proofs.Common.{◌≡◌, ◌≤◌, length, take}
 use Rattle.std.specs.Prelude.{◌==◌, filter}
-use Rattle.scenario_run.proofs.copies.count_from.Given as goal
+use Rattle.scenario_run.proofs.tasks.count_from.Given as goal
 
 abbrev pub invariant-loop-call : goal.invariant-loop-call
 invariant-loop-call l = record {
