@@ -29,9 +29,9 @@ returns c = λ run journal end.
     let call = c.args.call.now in
     let over = end_of_call run call in
     let result : c.if-is_mixed.result ≡ result_of s run call = elim c.if-is_mixed.branch [
-      then-is_mixed w ↦ w.result-is ∙ (w.mixed_result-result.ensures ∙ (ap mixed_end end ∙ sym (if-true (is_mixed s call) (mixed_end over) (plain_end s run call over) (sym c.is_mixed.ensures ∙ w.if-is_mixed.true))))
-    | else-is_mixed+in_ok-result w ↦ w.result-is ∙ (w.in_ok-result.ensures (laid s) c.requires.pages
-        ∙ (ap (λ (j : List Entry). plain_result (laid s) j call c.args.end) (sym journal) ∙ (ap (λ (e : CallEnd). plain_result (laid s) run.journal call e) end
-        ∙ (same-end s run call over ∙ sym (if-false (is_mixed s call) (mixed_end over) (plain_end s run call over) (sym c.is_mixed.ensures ∙ w.if-is_mixed.false))))))
+      | then-is_mixed w ↦ w.result-is ∙ (w.mixed_result-result.ensures ∙ (ap mixed_end end ∙ sym (if-true (is_mixed s call) (mixed_end over) (plain_end s run call over) (sym c.is_mixed.ensures ∙ w.if-is_mixed.true))))
+      | else-is_mixed+in_ok-result w ↦ w.result-is ∙ (w.in_ok-result.ensures (laid s) c.requires.pages
+          ∙ (ap (λ (j : List Entry). plain_result (laid s) j call c.args.end) (sym journal) ∙ (ap (λ (e : CallEnd). plain_result (laid s) run.journal call e) end
+          ∙ (same-end s run call over ∙ sym (if-false (is_mixed s call) (mixed_end over) (plain_end s run call over) (sym c.is_mixed.ensures ∙ w.if-is_mixed.false))))))
     ] in
     λ i. record { number = call.number; from = c.in_ok-name_of.ensures i; to = c.in_ok-clone.ensures.cases i; service = c.in_ok-clone-2.ensures.cases i; result = result i }
