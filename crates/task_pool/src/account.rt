@@ -41,6 +41,14 @@ pub(crate) fn blank_answers<D: Drop>(
     Ok(answers)
 }
 
+// How many threads the machine runs at once, or the greatest number of workers where it doesn't tell.
+fn processors<R: Threads>(rt: &R) -> u64 {
+    match thread::available_parallelism(rt) {
+        Ok(processors) => processors.get() as u64,
+        Err(_) => u64::from(MOST_WORKERS),
+    }
+}
+
 /// Enters a result at its place.
 fn write_down<D: Drop>(answers: &mut Vec<Option<D>>, finished: Finished<D>)
     requires { finished.place < vec_len answers.old }
@@ -91,7 +99,7 @@ impl<T: PoolTask> Account<T> {
         ensures few { IfOk result (λ back. vec_len back ≡ vec_len workers) }
         ensures back { IfOk result (λ back. AllByRecursion (λ w. IsPassOf queue.now w.pass × Keeps T.owes (view self.now.pass).laid w.finished.items (view w.pass)) back.items) }
     {
-        let progress = Progress::new(count);
+        let progress = Progress::new(count, processors(rt));
         self.start(rt, queue, gate, &progress, workers)
     }
 

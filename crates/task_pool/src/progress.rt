@@ -13,6 +13,8 @@ const LONGEST: u64 = 1;
 pub(crate) struct Progress {
     // How many tasks there are.
     tasks: u64,
+    // How many workers may be awake and find nothing to do: one for each processor.
+    processors: u64,
     counts: CachePadded<Counts>,
 }
 
@@ -26,18 +28,22 @@ struct Counts {
     begun: AtomicU64,
     // How many workers sleep, or are about to.
     asleep: AtomicU64,
+    // Workers that are one too many sleep on it. It stays 0.
+    spare: AtomicU64,
 }
 
 impl Progress {
-    /// Returns the progress of this many tasks, none of which is done.
-    pub(crate) fn new(tasks: u64) -> Progress {
+    /// Returns the progress of this many tasks, none of which is done, on this many processors.
+    pub(crate) fn new(tasks: u64, processors: u64) -> Progress {
         Progress {
             tasks,
+            processors,
             counts: CachePadded::new(Counts {
                 done: AtomicU64::new(0),
                 moves: AtomicU64::new(0),
                 begun: AtomicU64::new(0),
                 asleep: AtomicU64::new(0),
+                spare: AtomicU64::new(0),
             }),
         }
     }
@@ -70,6 +76,22 @@ impl Progress {
     pub(crate) fn note_done(&self) {
         self.counts.done.fetch_add(1, Ordering::SeqCst);
         self.note_move();
+        if self.left() == 0 {
+            self.counts.spare.wake_all();
+        }
+    }
+
+    /// Sleeps for 1 ms, or until all tasks are done, if more workers are awake than there are processors. For a
+    /// worker whose turn moved nothing: a turn more would keep a processor from one that moves something.
+    pub(crate) fn give_room<R: Wait>(&self, rt: &R) {
+        let others = self.counts.asleep.fetch_add(1, Ordering::SeqCst);
+        let begun = self.counts.begun.load(Ordering::SeqCst);
+        if begun.saturating_sub(others) > self.processors && self.left() > 0 {
+            self.counts
+                .spare
+                .park_timeout(rt, 0, Duration::from_millis(LONGEST));
+        }
+        self.counts.asleep.fetch_sub(1, Ordering::SeqCst);
     }
 
     /// Yields once, if `yields` is set, and then sleeps while the count of moves is `seen`, for at

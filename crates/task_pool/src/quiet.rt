@@ -29,11 +29,14 @@ impl QuietTurns {
         }
     }
 
-    /// Counts one more turn that moved nothing. After as many as tasks are left, it waits.
+    /// Counts one more turn that moved nothing. After as many as tasks are left, it waits; before, it only
+    /// gives room.
     pub(crate) fn one_more<R: Wait>(&mut self, rt: &R, progress: &Progress, left: u64) {
         self.turns = self.turns.saturating_add(1);
         if self.turns >= left {
             self.wait(rt, progress);
+        } else {
+            progress.give_room(rt);
         }
     }
 

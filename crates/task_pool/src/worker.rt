@@ -25,7 +25,8 @@ pub(crate) struct Worker<T: PoolTask> {
 ///
 /// A worker waits for the next move, without a task, if it found none, or if it has made as many
 /// turns in a row as tasks are left, while no turn of any worker moved anything. If no move comes
-/// in time, it makes one more turn, and waits again.
+/// in time, it makes one more turn, and waits again. After any turn that moved nothing it gives room
+/// if more workers are awake than there are processors.
 pub(crate) fn work<T: PoolTask, G: Gate, R: Wait>(
     rt: &R,
     queue: &TaskQueue<T>,
