@@ -1,4 +1,5 @@
 mod CallingLaws
 mod AnsweringLaws
 mod TurningLaws
+pub mod KeepingLaws
 pub mod Sent

@@ -1,6 +1,6 @@
 -- A turn of a session, by its parts: the look for a signal, the drain and the write.
 use Rattle.std.proofs.Common.{◌≡◌, ℕ, ◌<◌, ◌≤◌, List, ◌++◌, length, take, None, refl, sym, ap, ◌∙◌, inl, inr, subst, arith, length-append}
-use Rattle.std.specs.Prelude.{◌↔◌, Bool, true, false, not, ◌||◌, min, IsSome}
+use Rattle.std.specs.Prelude.{◌↔◌, ◌⊎◌, Bool, true, false, not, ◌||◌, min, IsSome}
 use Rattle.std.proofs.lemmas.List.{length-take}
 use Rattle.vchan_protocol.specs.declared.call.Call.TheVariants.{Write, Drain}
 use Rattle.vchan_protocol.specs.declared.call.Answer.TheVariants.{Wrote, Full, PeerClosed, NotYet}
@@ -18,16 +18,20 @@ use Rattle.vchan_stream.specs.Stream.{most_asked, write_told}
 use Rattle.service_gate.specs.Owing.{builtin_owes}
 use Rattle.qrexec_data.specs.CallerSide.{IsStill}
 use Rattle.qrexec_data.specs.ServingSide.{ServingStandsFor, IsStill as ServingStill}
+use Rattle.end_view.specs.EndView.{EndView}
 use Rattle.vchan_rule.specs.Seated.{SeatedEnd, view}
 use Rattle.vchan_rule.specs.Ends.{IsSameEnd}
 use Rattle.channel_session.specs.Calling.{CallerAt, CallerTurns, CallerReads, CallerWrites}
 use Rattle.channel_session.specs.Answering.{ServingAt, ServingTurns, ServingReads, ServingWrites, HasNothing}
-use Rattle.channel_session.specs.Turning.{Pace, IsMade, FindsFull, FindsShut, SendsNone, NothingWaits, WasShut, RingIsFull, PeerIsShut, KeepsShut, turned_by}
+use Rattle.channel_session.specs.Turning.{Pace, IsMade, KeepsBytes, FindsFull, FindsShut, SendsNone, NothingWaits, WasShut, RingIsFull, PeerIsShut, KeepsShut, turned_by}
 
 -- ---- bytes
 
 pub grew : (old bytes : List ℕ) (count : ℕ) → 1 ≤ count → count ≤ length bytes → length old < length (old ++ take count bytes)
 grew old bytes count some few = simp (length-append, length-take) (omega arith)
+
+pub grew-or-same : (old bytes : List ℕ) (count : ℕ) → length old ≤ length (old ++ take count bytes)
+grew-or-same old bytes count = simp (length-append) (omega arith)
 
 -- a write that had bytes to send and told a count sent at least one
 pub wrote-some : (e : Standing) (n : ℕ) (loads : Loads) (count : ℕ) → 0 < n → WriteCause e n loads (Wrote count) → 1 ≤ count
@@ -70,15 +74,43 @@ sends-as P Q waiting shut shut' before now f same (WasShut was is) = WasShut (sy
 sends-as P Q waiting shut shut' before now f same (RingIsFull some full) = RingIsFull some full
 sends-as P Q waiting shut shut' before now f same (PeerIsShut some found) = PeerIsShut some found
 
+-- the bytes of an end after both halves of a turn that moved something
+pub turn-keeps : (v a b c : EndView) → a ≡ v → length a.got ≤ length b.got → b.sent ≡ a.sent → c.got ≡ b.got → length b.sent ≤ length c.sent → KeepsBytes v c
+turn-keeps v a b c is came sent got went = subst (λ (e : EndView). KeepsBytes e c) is (record {
+  got = let same = ap (λ (l : List ℕ). length l) got in omega (arith, came, same);
+  sent = let same = ap (λ (l : List ℕ). length l) sent in omega (arith, went, same);
+})
+
+-- as many bytes as before
+as-long : (xs ys : List ℕ) → ys ≡ xs → length xs ≤ length ys
+as-long xs ys same = let long = ap (λ (l : List ℕ). length l) same in omega (arith, long)
+
+caller-went : (went : Bool) (b c : CallerAt) → CallerWrites went b c → length (view b.end).sent ≤ length (view c.end).sent
+caller-went true b c more = omega (arith, more)
+caller-went false b c rests = as-long (view b.end).sent (view c.end).sent rests.0
+
+serving-went : (went : Bool) (b c : ServingAt) → ServingWrites went b c → length (view b.end).sent ≤ length (view c.end).sent
+serving-went true b c more = omega (arith, more)
+serving-went false b c rests = as-long (view b.end).sent (view c.end).sent rests.0
+
 pub caller-turns : (came went : Bool) (old a b c : CallerAt) (pace : Pace) → IsSameEnd old.end a.end → view a.end ≡ view old.end → a.caller ≡ old.caller → a.pace ≡ old.pace → old.caller.replies.outcome ≡ None
     → CallerReads came a b → b.pace ≡ a.pace → (view b.end).sent ≡ (view a.end).sent
     → CallerWrites went b c → (view c.end).got ≡ (view b.end).got → c.caller.replies.outcome ≡ b.caller.replies.outcome
     → IsMade (not (came || went)) pace → CallerTurns (turned_by (came || went)) old (record { caller = c.caller; end = c.end; pace = pace })
-caller-turns true went old a b c pace same is caller was none (inl more) paced sent writes got outcome made =
-    (inl (subst (λ v. length v.got < length (view c.end).got) is (subst (λ g. length (view a.end).got < length g) (sym got) more)), made)
-caller-turns true went old a b c pace same is caller was none (inr over) paced sent writes got outcome made = (inr (inr (subst IsSome (sym outcome) over)), made)
-caller-turns false true old a b c pace same is caller was none reads paced sent more got outcome made =
-    (inr (inl (subst (λ s. length s < length (view c.end).sent) (sent ∙ ap (λ v. v.sent) is) more)), made)
+caller-turns true went old a b c pace same is caller was none reads paced sent writes got outcome made =
+    (record { kept = turn-keeps (view old.end) (view a.end) (view b.end) (view c.end) is reads.0 sent got (caller-went went b c writes); more = by_read reads.1 }, made)
+  where
+    by_read : (length (view a.end).got < length (view b.end).got) ⊎ IsSome b.caller.replies.outcome
+        → (length (view old.end).got < length (view c.end).got) ⊎ (length (view old.end).sent < length (view c.end).sent) ⊎ IsSome c.caller.replies.outcome
+    by_read (inl more) = inl (subst (λ v. length v.got < length (view c.end).got) is (subst (λ g. length (view a.end).got < length g) (sym got) more))
+    by_read (inr over) = inr (inr (subst IsSome (sym outcome) over))
+caller-turns false true old a b c pace same is caller was none reads paced sent more got outcome made = (
+  record {
+    kept = turn-keeps (view old.end) (view a.end) (view b.end) (view c.end) is (as-long (view a.end).got (view b.end).got reads.1) sent got (caller-went true b c more);
+    more = inr (inl (subst (λ s. length s < length (view c.end).sent) (sent ∙ ap (λ v. v.sent) is) more));
+  },
+  made,
+)
 caller-turns false false old a b c pace same is caller was none reads paced sent rests got outcome made =
     let kept = reads.0 ∙ caller in (
       (got ∙ (reads.1 ∙ ap (λ v. v.got) is), rests.0 ∙ (sent ∙ ap (λ v. v.sent) is), outcome ∙ (ap (λ k. k.replies.outcome) kept ∙ none)),
@@ -104,11 +136,20 @@ pub serving-turns : (came went : Bool) (old a b c : ServingAt) (pace : Pace) →
     → ServingReads came a b → b.pace ≡ a.pace → (view b.end).sent ≡ (view a.end).sent
     → ServingWrites went b c → (view c.end).got ≡ (view b.end).got → (IsSome b.serving.answering.outcome → IsSome c.serving.answering.outcome)
     → IsMade (not (came || went)) pace → ServingTurns (turned_by (came || went)) old (record { serving = c.serving; end = c.end; pace = pace })
-serving-turns true went old a b c pace same is serving was none (inl more) paced sent writes got outcome made =
-    (inl (subst (λ v. length v.got < length (view c.end).got) is (subst (λ g. length (view a.end).got < length g) (sym got) more)), made)
-serving-turns true went old a b c pace same is serving was none (inr over) paced sent writes got outcome made = (inr (inr (outcome over)), made)
-serving-turns false true old a b c pace same is serving was none reads paced sent more got outcome made =
-    (inr (inl (subst (λ s. length s < length (view c.end).sent) (sent ∙ ap (λ v. v.sent) is) more)), made)
+serving-turns true went old a b c pace same is serving was none reads paced sent writes got outcome made =
+    (record { kept = turn-keeps (view old.end) (view a.end) (view b.end) (view c.end) is reads.0 sent got (serving-went went b c writes); more = by_read reads.1 }, made)
+  where
+    by_read : (length (view a.end).got < length (view b.end).got) ⊎ IsSome b.serving.answering.outcome
+        → (length (view old.end).got < length (view c.end).got) ⊎ (length (view old.end).sent < length (view c.end).sent) ⊎ IsSome c.serving.answering.outcome
+    by_read (inl more) = inl (subst (λ v. length v.got < length (view c.end).got) is (subst (λ g. length (view a.end).got < length g) (sym got) more))
+    by_read (inr over) = inr (inr (outcome over))
+serving-turns false true old a b c pace same is serving was none reads paced sent more got outcome made = (
+  record {
+    kept = turn-keeps (view old.end) (view a.end) (view b.end) (view c.end) is (as-long (view a.end).got (view b.end).got reads.1) sent got (serving-went true b c more);
+    more = inr (inl (subst (λ s. length s < length (view c.end).sent) (sent ∙ ap (λ v. v.sent) is) more));
+  },
+  made,
+)
 serving-turns false false old a b c pace same is serving was none reads paced sent rests got outcome made =
     let kept = reads.0 ∙ serving in
     let got_is = reads.1 ∙ ap (λ v. v.got) is in

@@ -1,5 +1,5 @@
 -- A side that serves a call with the end of its data channel.
-use Rattle.std.specs.Prelude.{◌≡◌, ◌⊎◌, ℕ, ◌<◌, Bool, true, false, List, [], length, Option, Some, None, IsSome}
+use Rattle.std.specs.Prelude.{◌≡◌, ◌⊎◌, ℕ, ◌<◌, ◌≤◌, Bool, true, false, List, [], length, Option, Some, None, IsSome}
 use Rattle.ring_words.specs.declared.page.Role.TheVariants.{Client}
 use Rattle.vchan_protocol.specs.declared.call.EndState.TheVariants.{Fresh, Open}
 use Rattle.service_gate.specs.Triple.{Triple}
@@ -75,9 +75,10 @@ ServingTurns Quiet old new = HasRested (view old.end) (view new.end) new.serving
     × IsQuiet (HasNothing old) new.serving.answering.waiting old.pace.peer_shut old.end new.end
 ServingTurns Passed old new = (new.serving ≡ old.serving) × IsPassed old.pace new.pace old.end new.end
 
--- its first half: bytes came, or the call is over; or the drain found nothing
+-- its first half: bytes came, or the call is over, and what came before stays; or the drain found nothing
 abbrev pub ServingReads : Bool → ServingAt → ServingAt → Type 0
-ServingReads true old new = (length (view old.end).got < length (view new.end).got) ⊎ IsSome new.serving.answering.outcome
+ServingReads true old new =
+    (length (view old.end).got ≤ length (view new.end).got) × ((length (view old.end).got < length (view new.end).got) ⊎ IsSome new.serving.answering.outcome)
 ServingReads false old new = (new.serving ≡ old.serving) × ((view new.end).got ≡ (view old.end).got) × FindsNotYet old.end new.end
 
 -- its second half

@@ -1,5 +1,5 @@
 -- A caller's side of a call with the end of its data channel.
-use Rattle.std.specs.Prelude.{◌≡◌, ◌⊎◌, ◌<◌, Bool, true, false, length, Option, Some, None, IsSome}
+use Rattle.std.specs.Prelude.{◌≡◌, ◌⊎◌, ◌<◌, ◌≤◌, Bool, true, false, length, Option, Some, None, IsSome}
 use Rattle.vchan_protocol.specs.declared.call.EndState.TheVariants.{Shut}
 use Rattle.vchan_rule.specs.Seated.{SeatedEnd, view, IsOpen}
 use Rattle.end_view.specs.EndView.{EndView}
@@ -47,9 +47,9 @@ CallerTurns Quiet old new = HasRested (view old.end) (view new.end) new.caller.r
     × IsQuiet (IsStill old.caller) new.caller.requests.waiting old.pace.peer_shut old.end new.end
 CallerTurns Passed old new = (new.caller ≡ old.caller) × IsPassed old.pace new.pace old.end new.end
 
--- its first half: bytes came, or the call is over; or the drain found nothing
+-- its first half: bytes came, or the call is over, and what came before stays; or the drain found nothing
 abbrev pub CallerReads : Bool → CallerAt → CallerAt → Type 0
-CallerReads true old new = (length (view old.end).got < length (view new.end).got) ⊎ IsSome new.caller.replies.outcome
+CallerReads true old new = (length (view old.end).got ≤ length (view new.end).got) × ((length (view old.end).got < length (view new.end).got) ⊎ IsSome new.caller.replies.outcome)
 CallerReads false old new = (new.caller ≡ old.caller) × ((view new.end).got ≡ (view old.end).got) × FindsNotYet old.end new.end
 
 -- its second half

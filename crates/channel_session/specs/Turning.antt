@@ -1,6 +1,6 @@
 -- What a turn of a session did, and why it did no more: by what its calls on the end found.
 -- Source: the answers are those of the end's calls; how many turns are passed over is this project's own.
-use Rattle.std.specs.Prelude.{◌≡◌, ◌⊎◌, ℕ, ◌+◌, ◌<◌, Bool, true, false, List, length, Option, None, IsSome}
+use Rattle.std.specs.Prelude.{◌≡◌, ◌⊎◌, ℕ, ◌+◌, ◌<◌, ◌≤◌, Bool, true, false, List, length, Option, None, IsSome}
 use Rattle.vchan_protocol.specs.declared.call.Call.TheVariants.{Write, TakeEvent}
 use Rattle.vchan_protocol.specs.declared.call.Answer.TheVariants.{Full, PeerClosed, Event}
 use Rattle.vchan_protocol.specs.Table.Calls.{Trace}
@@ -32,9 +32,15 @@ IsMade quiet pace = (pace.quiet ≡ quiet) × (pace.passed ≡ 0)
 
 -- ---- a turn that moved something
 
--- bytes came or went, or the call is over
-abbrev pub HasMoved : EndView → EndView → Option Outcome → Type 0
-HasMoved before now outcome = (length before.got < length now.got) ⊎ (length before.sent < length now.sent) ⊎ IsSome outcome
+-- no byte that came or went is taken back
+pub record KeepsBytes (before now : EndView) : Type 0 where
+  pub got : length before.got ≤ length now.got
+  pub sent : length before.sent ≤ length now.sent
+
+-- bytes came or went, or the call is over; and what came and went before stays
+pub record HasMoved (before now : EndView) (outcome : Option Outcome) : Type 0 where
+  pub kept : KeepsBytes before now
+  pub more : (length before.got < length now.got) ⊎ (length before.sent < length now.sent) ⊎ IsSome outcome
 
 -- no bytes came or went, and the call isn't over
 abbrev pub HasRested : EndView → EndView → Option Outcome → Type 0

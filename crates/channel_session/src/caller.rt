@@ -56,7 +56,7 @@ impl<'p> CallerSession<'p> {
     ///
     /// The turn moved something if and only if bytes came or went or the call is over. It was quiet if
     /// its drain found no byte and the peer there, and there was nothing to send, no room for it, or
-    /// the peer was found shut.
+    /// the peer was found shut. No turn takes back bytes that came or went before.
     ///
     /// # Errors
     ///
