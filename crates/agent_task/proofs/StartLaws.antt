@@ -16,7 +16,7 @@ use Rattle.qrexec_data.specs.declared.fault.SessionFault.{SessionFault}
 use Rattle.task_duties.specs.Hearing.{hears}
 use Rattle.control_port.specs.declared.talk.Talker.TheVariants.{Agent as OfAgent}
 use Rattle.call_queue.specs.Queue.{QueueState, fresh, asked_as, asked_by}
-use Rattle.data_slots.specs.Sessions.{NotOpen}
+use Rattle.data_slots.specs.Sessions.{NotBegun}
 use Rattle.data_slots.specs.Slots.{Called, SlotsState, held_at, AreApart}
 use Rattle.agent_control.specs.Speaking.{IsTellable}
 use Rattle.agent_task.specs.declared.agent.Agent.{Agent}
@@ -92,7 +92,7 @@ starts a new unsaid over = up-running a (record {
 
 -- the data ends of this domain and version, all unused, with this many calls
 abbrev made : ℕ → ℕ → ℕ → List DataEnd → SlotsState
-made domain version count ends = record { domain = domain; version = version; held = map held_at (all_given ends); unused = places_in (all_given ends); late = late_places ends; called = replicate count None; served = []; opened = []; sessions = replicate (length ends) NotOpen; spent = false }
+made domain version count ends = record { domain = domain; version = version; held = map held_at (all_given ends); unused = places_in (all_given ends); late = late_places ends; called = replicate count None; served = []; opened = []; sessions = replicate (length ends) NotBegun; spent = false }
 
 -- what was given is known by its parts
 pub is-new : (g : Given) (q : QueueState) (p : PortState) (s : SlotsState) (count : ℕ) (calls : List CallPlan) (control : SeatedEnd) (payload : List DataEnd)

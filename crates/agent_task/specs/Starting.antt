@@ -11,7 +11,7 @@ use Rattle.control_port.specs.Port.{PortState, HasSaid, HasHeard}
 use Rattle.control_port.specs.declared.talk.Talker.TheVariants.{Agent as OfAgent}
 use Rattle.call_queue.specs.Queue.{QueueState, fresh, asked_by, AreDifferent}
 use Rattle.call_queue.specs.Asking.{Asks}
-use Rattle.data_slots.specs.Sessions.{NotOpen}
+use Rattle.data_slots.specs.Sessions.{NotBegun}
 use Rattle.data_slots.specs.Sides.{late_places}
 use Rattle.data_slots.specs.Slots.{SlotsState, held_at, AreApart}
 use Rattle.agent_task.specs.declared.given.Given.{Given}
@@ -39,5 +39,5 @@ pub record IsNewPort (g : Given) (p : PortState) : Type 0 where
 pub record IsNew (g : Given) (q : QueueState) (p : PortState) (s : SlotsState) : Type 0 where
   pub queue : IsNewQueue g.calls.value.items q
   pub port : IsNewPort g p
-  pub slots : s ≡ record { domain = g.domain; version = g.version; held = map held_at (data_ends g); unused = places_in (data_ends g); late = late_places g.payload.value.items; called = replicate (length g.calls.value.items) None; served = []; opened = []; sessions = replicate (length g.payload.value.items) NotOpen; spent = false }
+  pub slots : s ≡ record { domain = g.domain; version = g.version; held = map held_at (data_ends g); unused = places_in (data_ends g); late = late_places g.payload.value.items; called = replicate (length g.calls.value.items) None; served = []; opened = []; sessions = replicate (length g.payload.value.items) NotBegun; spent = false }
   pub apart : AreApart (places_in (data_ends g))

@@ -8,7 +8,7 @@ use Rattle.task_duties.specs.TaskOwes.{TaskGiven, EndAt, Agent as AgentWith}
 use Rattle.task_duties.specs.Agent.Given.{AgentPlan}
 use Rattle.agent_control.specs.declared.control.AgentControl.{AgentControl}
 use Rattle.data_slots.specs.Slots.{late_count}
-use Rattle.data_slots.specs.Sessions.{Session, NotOpen, session_at, TakesTurn}
+use Rattle.data_slots.specs.Sessions.{Session, NotBegun, session_at, TakesTurn}
 use Rattle.agent_task.specs.declared.agent.Agent.{Agent}
 use Rattle.agent_task.specs.Given.{plan_of, ends_of}
 use Rattle.agent_task.specs.Ends.{session_told, session_unsaid, session_over}
@@ -57,6 +57,6 @@ pub record TellsSoFar (task : AgentState) : Type 0 where
   pub once : TellsOnce task.plan task.control
   pub waits : task.over ≡ None → IsPermutation (filter_map session_told once.said ++ (task.waiting ++ task.opened)) (owed_on task.plan task.control)
 
--- each session that was open took its turn
+-- each session that had begun took its turn
 abbrev pub TurnsEach : List Session → List Session → Type 0
-TurnsEach old new = (i : ℕ) → session_at old i ≢ NotOpen → TakesTurn (session_at old i) (session_at new i)
+TurnsEach old new = (i : ℕ) → session_at old i ≢ NotBegun → TakesTurn (session_at old i) (session_at new i)

@@ -5,34 +5,51 @@ use Rattle.std.specs.List.{swap_remove}
 use Rattle.std.proofs.lemmas.List.{map-set, take-set}
 use Rattle.std.proofs.lemmas.List.Sums.{sum_by-cons, sum_by-swap_remove, sum_by-take-drop}
 use Rattle.std.proofs.lemmas.Bool.Decides.{nat_tests}
+use Rattle.std.proofs.lemmas.Bool.{false≢true}
 use Rattle.qrexec_data.specs.declared.outcome.Outcome.{Outcome}
+use Rattle.service_gate.specs.declared.builtin.Builtin.{Builtin}
+use Rattle.end_view.specs.EndView.{EndView}
+use Rattle.vchan_rule.specs.Seated.{view}
 use Rattle.channel_session.specs.declared.turned.Turned.{Turned}
-use Rattle.channel_session.specs.Calling.{CallerAt, CallerTurns}
+use Rattle.channel_session.specs.Calling.{CallerAt, CallerTurns, IsRetired}
 use Rattle.channel_session.specs.Answering.{ServingAt, ServingTurns}
-use Rattle.channel_session.specs.Turning.{first_pace}
+use Rattle.channel_session.specs.Turning.{first_pace, KeepsBytes}
+use Rattle.channel_session.proofs.KeepingLaws.{keeps-all, keeps-then, retired-keeps}
 use Rattle.task_duties.specs.declared.ends.DataEnd.{DataEnd}
+use Rattle.task_duties.specs.declared.ends.DoneEnd.{DoneEnd}
+use Rattle.task_duties.specs.GivenEnds.{done_view}
+use Rattle.data_slots.specs.declared.side.Side.{Side}
+use Rattle.data_slots.specs.declared.side.Side.TheVariants as side
 use Rattle.data_slots.specs.declared.slot.Slot.{Slot}
 use Rattle.data_slots.specs.declared.slot.Stage.{Stage}
 use Rattle.data_slots.specs.declared.slot.Stage.TheVariants.{Unused, Calls, Awaits, Serves, CallIsOver, ServingIsOver, Taken}
-use Rattle.data_slots.specs.Stages.{is_session, CanTurn}
+use Rattle.data_slots.specs.Sides.{seen_under}
+use Rattle.data_slots.specs.Stages.{Use, ForNothing, ForCall, ForServing, use_of, is_session, CanTurn}
 use Rattle.data_slots.specs.Given.{unused_slots}
 use Rattle.data_slots.specs.Whole.{sessions, times, AreOpen, TakesFrom}
-use Rattle.data_slots.specs.Sessions.{Session, NotOpen, CallsWith, AwaitsPage, ServesWith, session_of, sessions_in, session_at, TakesTurn, WasNotOpen, CallMade, ServingMade, PageCame, PageAwaited, IsOver, AllTakeTurns, KeepsSessions, Begins, OneTakesTurn}
+use Rattle.data_slots.specs.Sessions.{Session, NotBegun, CallsWith, AwaitsPage, ServesWith, EndedWith, session_of, sessions_in, session_at, is_open, got_in, sent_in, LosesNothing, ComesToItsEnd, TakesTurn, HadNotBegun, CallMade, ServingMade, PageCame, PageAwaited, IsOver, WasOver, AllTakeTurns, KeepsSessions, Begins, OneTakesTurn}
 use Rattle.data_slots.proofs.ListLaws.{get-map, get-set-same, get-set-other}
 use Rattle.data_slots.proofs.OpenLaws.{same-number, other-number}
 
+never-call : (number : ℕ) (input : List ℕ) → ForCall number input ≡ ForNothing → ⊥
+never-call number input e = cc
+
+never-serving : (number : ℕ) (service : Builtin) → ForServing number service ≡ ForNothing → ⊥
+never-serving number service e = cc
+
 -- ---- one session
 
-pub call-takes : (old : Session) (before now : CallerAt) → Begins old (CallsWith before) → ((turned : Turned) × CallerTurns turned before now) → TakesTurn old (CallsWith now)
-call-takes old before now (inl same) did = CallMade before now did.0 (sym same) refl did.1
-call-takes old before now (inr began) did = never began.1.1
+pub call-takes : (old : Session) (before now : CallerAt) → Begins old (CallsWith before) → now.caller.replies.outcome ≡ None → ((turned : Turned) × CallerTurns turned before now) → TakesTurn old (CallsWith now)
+call-takes old before now (inl same) none did = CallMade before now did.0 (sym same) refl did.1 none
+call-takes old before now (inr began) none did = never began.1.1
   where
     never : CallsWith before ≡ ServesWith began.1.0 → TakesTurn old (CallsWith now)
     never e = cc
 
-pub serving-takes : (old : Session) (before now : ServingAt) → Begins old (ServesWith before) → ((turned : Turned) × ServingTurns turned before now) → TakesTurn old (ServesWith now)
-serving-takes old before now (inl same) did = ServingMade before now did.0 (sym same) refl did.1
-serving-takes old before now (inr began) did = PageCame before now did.0 began.0 (ap (λ (s : ServingAt). s.pace) (served before began.1.0 began.1.1) ∙ began.1.2) refl did.1
+pub serving-takes : (old : Session) (before now : ServingAt) → Begins old (ServesWith before) → now.serving.answering.outcome ≡ None → ((turned : Turned) × ServingTurns turned before now)
+    → TakesTurn old (ServesWith now)
+serving-takes old before now (inl same) none did = ServingMade before now did.0 (sym same) refl did.1 none
+serving-takes old before now (inr began) none did = PageCame before now did.0 began.0 (ap (λ (s : ServingAt). s.pace) (served before began.1.0 began.1.1) ∙ began.1.2) refl did.1 none
   where
     served : (a b : ServingAt) → ServesWith a ≡ ServesWith b → a ≡ b
     served a b e = cc
@@ -49,69 +66,114 @@ pub said-of : (outcome : Option Outcome) (P : Type 0) → P → IfNone outcome P
 said-of (Some outcome) P h = tt
 said-of None P h = h
 
-said-then : (outcome : Option Outcome) (P Q : Type 0) → (P → Q) → IfNone outcome P → IfNone outcome Q
-said-then (Some outcome) P Q f h = tt
-said-then None P Q f h = f h
-
-pub told-then : {E : Type 0} (r : Result (Option Outcome) E) (P Q : Type 0) → (P → Q) → IfOk r (λ o. IfNone o P) → IfOk r (λ o. IfNone o Q)
-told-then (Ok outcome) P Q f h = said-then outcome P Q f h
-told-then (Err e) P Q f h = tt
-
-pub not-open : (stage : Stage) → is_session stage ≡ false → session_of stage ≡ NotOpen
-not-open (Unused end) is = refl
-not-open (Calls number input side session) is = never is
+pub told-then : {E : Type 0} (r : Result (Option Outcome) E) (outcome : Option Outcome) (P Q : Type 0) → (outcome ≡ None → P → Q) → IfOk r (λ o. o ≡ outcome) → IfOk r (λ o. IfNone o P) → IfOk r (λ o. IfNone o Q)
+told-then (Ok o) outcome P Q f is h = by_outcome o is h
   where
-    never : true ≡ false → CallsWith session ≡ NotOpen
-    never e = cc
-not-open (Awaits number service serving side) is = never is
-  where
-    never : true ≡ false → AwaitsPage ≡ NotOpen
-    never e = cc
-not-open (Serves number service side session) is = never is
-  where
-    never : true ≡ false → ServesWith session ≡ NotOpen
-    never e = cc
-not-open (CallIsOver number input came end) is = refl
-not-open (ServingIsOver number service came end) is = refl
-not-open Taken is = refl
+    by_outcome : (o : Option Outcome) → o ≡ outcome → IfNone o P → IfNone o Q
+    by_outcome (Some found) is h = tt
+    by_outcome None is h = f (sym is) h
+told-then (Err e) outcome P Q f is h = tt
 
-pub turn-open : (stage : Stage) → CanTurn stage → session_of stage ≢ NotOpen
-turn-open (Calls number input side session) can = λ e. cc
-turn-open (Awaits number service serving side) can = λ e. cc
-turn-open (Serves number service side session) can = λ e. cc
+pub turn-open : (stage : Stage) → CanTurn stage → is_open (session_of stage) ≡ true
+turn-open (Calls number input side session) can = refl
+turn-open (Awaits number service serving side) can = refl
+turn-open (Serves number service side session) can = refl
 turn-open (Unused end) can = absurd can
 turn-open (CallIsOver number input came end) can = absurd can
 turn-open (ServingIsOver number service came end) can = absurd can
 turn-open Taken can = absurd can
 
+-- an end whose session isn't open stays as it is
+shut-stays : (stage : Stage) → is_session stage ≡ false → TakesTurn (session_of stage) (session_of stage)
+shut-stays (Unused end) is = HadNotBegun refl refl
+shut-stays (Calls number input side session) is = absurd (false≢true (sym is))
+shut-stays (Awaits number service serving side) is = absurd (false≢true (sym is))
+shut-stays (Serves number service side session) is = absurd (false≢true (sym is))
+shut-stays (CallIsOver number input came end) is = WasOver (done_view end) refl refl
+shut-stays (ServingIsOver number service came end) is = WasOver (done_view end) refl refl
+shut-stays Taken is = HadNotBegun refl refl
+
+-- an end that is used for nothing has no session
+not-begun : (stage : Stage) → use_of stage ≡ ForNothing → session_of stage ≡ NotBegun
+not-begun (Unused end) h = refl
+not-begun (Calls number input side session) h = absurd (never-call number input.value.items h)
+not-begun (Awaits number service serving side) h = absurd (never-serving number service.value h)
+not-begun (Serves number service side session) h = absurd (never-serving number service.value h)
+not-begun (CallIsOver number input came end) h = absurd (never-call number input.value.items h)
+not-begun (ServingIsOver number service came end) h = absurd (never-serving number service.value h)
+not-begun Taken h = refl
+
+-- ---- its bytes
+
+none-less : (n : ℕ) → 0 ≤ n
+none-less n = omega arith
+
+not-less : (n : ℕ) → n ≤ n
+not-less n = omega arith
+
+loses-then : (a b c : Session) → LosesNothing a b → LosesNothing b c → LosesNothing a c
+loses-then a b c one two = record { got = omega (arith, one.got, two.got); sent = omega (arith, one.sent, two.sent) }
+
+pub begins-keeps : (old new : Session) → Begins old new → LosesNothing old new
+begins-keeps old new (inl same) = subst (λ (s : Session). LosesNothing old s) (sym same) (record { got = not-less (length (got_in old)); sent = not-less (length (sent_in old)) })
+begins-keeps old new (inr came) = subst (λ (s : Session). LosesNothing s new) (sym came.0) (record { got = none-less (length (got_in new)); sent = none-less (length (sent_in new)) })
+
+pub call-keeps : (old : Session) (before now : CallerAt) → Begins old (CallsWith before) → KeepsBytes (view before.end) (view now.end) → LosesNothing old (CallsWith now)
+call-keeps old before now began keeps = loses-then old (CallsWith before) (CallsWith now) (begins-keeps old (CallsWith before) began) (record { got = keeps.got; sent = keeps.sent })
+
+pub serving-keeps-on : (old : Session) (before now : ServingAt) → Begins old (ServesWith before) → KeepsBytes (view before.end) (view now.end) → LosesNothing old (ServesWith now)
+serving-keeps-on old before now began keeps = loses-then old (ServesWith before) (ServesWith now) (begins-keeps old (ServesWith before) began) (record { got = keeps.got; sent = keeps.sent })
+
+-- an end has the same bytes under its page's name
+seen-keeps : (s : Side) (end : EndView) → KeepsBytes end (seen_under s end)
+seen-keeps side.Laid end = keeps-all end
+seen-keeps (side.Server s) end = record { got = not-less (length end.got); sent = not-less (length end.sent) }
+seen-keeps (side.Client c) end = record { got = not-less (length end.got); sent = not-less (length end.sent) }
+
+done-keeps : (s : Side) (before last : EndView) (end : DoneEnd) → IsRetired before last → done_view end ≡ seen_under s last → KeepsBytes before (done_view end)
+done-keeps s before last end retired seen =
+    subst (λ (e : EndView). KeepsBytes before e) (sym seen) (keeps-then before last (seen_under s last) (retired-keeps before last retired) (seen-keeps s last))
+
+-- a session that is over came to its end
+pub call-ends : (at : CallerAt) (s : Side) (last : EndView) (end : DoneEnd) → IsRetired (view at.end) last → done_view end ≡ seen_under s last → ComesToItsEnd (CallsWith at) (EndedWith (done_view end))
+call-ends at s last end retired seen =
+    let keeps = done-keeps s (view at.end) last end retired seen in record { end = done_view end; was_open = refl; is = refl; keeps = record { got = keeps.got; sent = keeps.sent } }
+
+pub serving-ends : (at : ServingAt) (s : Side) (last : EndView) (end : DoneEnd) → IsRetired (view at.end) last → done_view end ≡ seen_under s last → ComesToItsEnd (ServesWith at) (EndedWith (done_view end))
+serving-ends at s last end retired seen =
+    let keeps = done-keeps s (view at.end) last end retired seen in record { end = done_view end; was_open = refl; is = refl; keeps = record { got = keeps.got; sent = keeps.sent } }
+
+pub ends-after : (old mid new : Session) → is_open old ≡ true → LosesNothing old mid → ComesToItsEnd mid new → ComesToItsEnd old new
+ends-after old mid new was_open kept ends = record { end = ends.end; was_open = was_open; is = ends.is; keeps = loses-then old mid new kept ends.keeps }
+
 -- ---- all sessions
 
-pub given-sessions : (ends : List DataEnd) → sessions_in (unused_slots ends) ≡ replicate (length ends) NotOpen
+pub given-sessions : (ends : List DataEnd) → sessions_in (unused_slots ends) ≡ replicate (length ends) NotBegun
 given-sessions [] = refl
-given-sessions (e ∷ ends) = ap (λ l. NotOpen ∷ l) (given-sessions ends)
+given-sessions (e ∷ ends) = ap (λ l. NotBegun ∷ l) (given-sessions ends)
 
 -- a slot took its turn
 pub one-takes : (slots : List Slot) (at : ℕ) (slot slot' : Slot) → slice_get slots at ≡ Some slot → TakesTurn (session_of slot.stage) (session_of slot'.stage) → OneTakesTurn at (sessions_in slots) (sessions_in (set slots at slot'))
 one-takes slots at slot slot' here takes =
     let was : slice_get (sessions_in slots) at ≡ Some (session_of slot.stage) = get-map (λ (s : Slot). session_of s.stage) slots at slot here in
     subst (λ l. OneTakesTurn at (sessions_in slots) l) (sym (map-set (λ (s : Slot). session_of s.stage) slots at slot')) (record {
-      here = subst (λ o. TakesTurn o (session_at (set (sessions_in slots) at (session_of slot'.stage)) at)) (sym (ap (λ o. unwrap_or o NotOpen) was))
-          (subst (λ n. TakesTurn (session_of slot.stage) n) (sym (ap (λ o. unwrap_or o NotOpen) (get-set-same (sessions_in slots) at (session_of slot.stage) (session_of slot'.stage) was))) takes);
-      others = λ i apart. ap (λ o. unwrap_or o NotOpen) (get-set-other (sessions_in slots) at i (session_of slot'.stage) apart);
+      here = subst (λ o. TakesTurn o (session_at (set (sessions_in slots) at (session_of slot'.stage)) at)) (sym (ap (λ o. unwrap_or o NotBegun) was))
+          (subst (λ n. TakesTurn (session_of slot.stage) n) (sym (ap (λ o. unwrap_or o NotBegun) (get-set-same (sessions_in slots) at (session_of slot.stage) (session_of slot'.stage) was))) takes);
+      others = λ i apart. ap (λ o. unwrap_or o NotBegun) (get-set-other (sessions_in slots) at i (session_of slot'.stage) apart);
     })
 
 -- an end that had no session was put to use
-pub keeps-sessions : (slots : List Slot) (at : ℕ) (slot slot' : Slot) → slice_get slots at ≡ Some slot → is_session slot.stage ≡ false → KeepsSessions (sessions_in slots) (sessions_in (set slots at slot'))
-keeps-sessions slots at slot slot' here shut i is_open = by_place (at == i) refl
+pub keeps-sessions : (slots : List Slot) (at : ℕ) (slot slot' : Slot) → slice_get slots at ≡ Some slot → use_of slot.stage ≡ ForNothing → KeepsSessions (sessions_in slots) (sessions_in (set slots at slot'))
+keeps-sessions slots at slot slot' here unused i begun = by_place (at == i) refl
   where
-    was : session_at (sessions_in slots) at ≡ NotOpen
-    was = ap (λ o. unwrap_or o NotOpen) (get-map (λ (s : Slot). session_of s.stage) slots at slot here) ∙ not-open slot.stage shut
+    was : session_at (sessions_in slots) at ≡ NotBegun
+    was = ap (λ o. unwrap_or o NotBegun) (get-map (λ (s : Slot). session_of s.stage) slots at slot here) ∙ not-begun slot.stage unused
 
     by_place : (b : Bool) → (at == i) ≡ b → session_at (sessions_in (set slots at slot')) i ≡ session_at (sessions_in slots) i
-    by_place true is = absurd (is_open (subst (λ (n : ℕ). session_at (sessions_in slots) n ≡ NotOpen) (same-number at i is) was))
+    by_place true is = absurd (begun (subst (λ (n : ℕ). session_at (sessions_in slots) n ≡ NotBegun) (same-number at i is) was))
     by_place false is =
         ap (λ l. session_at l i) (map-set (λ (s : Slot). session_of s.stage) slots at slot')
-        ∙ ap (λ o. unwrap_or o NotOpen) (get-set-other (sessions_in slots) at i (session_of slot'.stage) (other-number at i is))
+        ∙ ap (λ o. unwrap_or o NotBegun) (get-set-other (sessions_in slots) at i (session_of slot'.stage) (other-number at i is))
 
 -- after some turns: these sessions are yet to take theirs, each once, and all others took theirs
 pub record AreTurning (old new : List Session) (ahead : List ℕ) : Type 0 where
@@ -131,19 +193,15 @@ turning-first slots busy are = record {
     at-most i (Some false) is = omega (arith, is)
     at-most i None is = omega (arith, is)
 
-    stays : (i : ℕ) (s : Session) → session_at (sessions_in slots) i ≡ NotOpen → TakesTurn (session_at (sessions_in slots) i) (session_at (sessions_in slots) i)
-    stays i s is = WasNotOpen is is
-
-    got : (i : ℕ) (o : Option Slot) → slice_get slots i ≡ o → slice_get (sessions_in slots) i ≡ slice_get (map (λ (s : Slot). session_of s.stage) slots) i
-    got i o is = refl
-
-    by-session : (i : ℕ) (s : Slot) (b : Bool) → is_session s.stage ≡ b → slice_get slots i ≡ Some s → times i busy ≡ 0 → session_at (sessions_in slots) i ≡ NotOpen
-    by-session i s true is here none = absurd (omega (arith, none, are i ∙ ap (λ (o : Option Bool). if unwrap_or o false then 1 else 0) (get-map (λ (x : Slot). is_session x.stage) slots i s here ∙ ap Some is)))
-    by-session i s false is here none = ap (λ o. unwrap_or o NotOpen) (get-map (λ (x : Slot). session_of x.stage) slots i s here) ∙ not-open s.stage is
+    closed : (i : ℕ) (s : Slot) (b : Bool) → is_session s.stage ≡ b → slice_get slots i ≡ Some s → times i busy ≡ 0 → is_session s.stage ≡ false
+    closed i s true is here none = absurd (omega (arith, none, are i ∙ ap (λ (o : Option Bool). if unwrap_or o false then 1 else 0) (get-map (λ (x : Slot). is_session x.stage) slots i s here ∙ ap Some is)))
+    closed i s false is here none = is
 
     shut : (i : ℕ) (o : Option Slot) → slice_get slots i ≡ o → times i busy ≡ 0 → TakesTurn (session_at (sessions_in slots) i) (session_at (sessions_in slots) i)
-    shut i (Some s) here none = let is = by-session i s (is_session s.stage) refl here none in WasNotOpen is is
-    shut i None here none = let is : session_at (sessions_in slots) i ≡ NotOpen = ap (λ o. unwrap_or o NotOpen) (get-map-none slots i here) in WasNotOpen is is
+    shut i (Some s) here none =
+        let is : session_at (sessions_in slots) i ≡ session_of s.stage = ap (λ o. unwrap_or o NotBegun) (get-map (λ (x : Slot). session_of x.stage) slots i s here) in
+        subst (λ (x : Session). TakesTurn x x) (sym is) (shut-stays s.stage (closed i s (is_session s.stage) refl here none))
+    shut i None here none = let is : session_at (sessions_in slots) i ≡ NotBegun = ap (λ o. unwrap_or o NotBegun) (get-map-none slots i here) in HadNotBegun is is
       where
         get-map-none : (xs : List Slot) (i : ℕ) → slice_get xs i ≡ None → slice_get (sessions_in xs) i ≡ None
         get-map-none [] i h = refl

@@ -12,7 +12,7 @@ ghost use Rattle.data_slots.specs.Done.{AreBack, ReportsCalled, ReportsServes};
 ghost use Rattle.data_slots.specs.Stages.{ForNothing, CanRetire, IsStage};
 ghost use Rattle.data_slots.specs.Index.{IsIndexOf};
 ghost use Rattle.data_slots.specs.Whole.{frames, held_in, places, unused_in, IsUsedAt, IsWhole, IsTurned, TakesFrom, HasSameEnds, state_of};
-ghost use Rattle.data_slots.specs.Sessions.{NotOpen, sessions_in, AllTakeTurns, KeepsSessions, OneTakesTurn};
+ghost use Rattle.data_slots.specs.Sessions.{NotBegun, sessions_in, AllTakeTurns, KeepsSessions, OneTakesTurn};
 
 use crate::done::{DataDone, SessionOver};
 use crate::finish::{finish_all, give_up_all, session_ends};
@@ -73,7 +73,7 @@ impl<'p> Ends<'p> {
           called = replicate calls None;
           served = [];
           opened = [];
-          sessions = replicate (length ends.entry.items) NotOpen;
+          sessions = replicate (length ends.entry.items) NotBegun;
           spent = false;
         }) }
         ensures retire { IfOk result (λ e. Each (λ s. CanRetire s.stage) e.slots.items) }

@@ -8,7 +8,7 @@ ghost use Rattle.task_duties.specs.GivenEnds.{done_view, fresh_view, given_at, r
 ghost use Rattle.data_slots.specs.Slots.{held_at};
 ghost use Rattle.data_slots.specs.Sides.{HasLaid, IsSideOf, seen_under, is_late_unused, is_late_side, is_late_done};
 
-use page_offer::{LaidPage, OpenClient, OpenServer};
+use page_offer::{LaidPage, OpenClient, OpenServer, UnlaidServer};
 use task_duties::{DataEnd, DoneEnd, PagePlace, RetiredEnd, UnusedEnd};
 use vchan_lifecycle::retire;
 use vchan_rule::{End, Retired};
@@ -72,13 +72,22 @@ pub(crate) fn open_server<'p>(end: UnusedEnd<'p>, laid: Option<LaidPage>) -> (En
 {
     match end {
         UnusedEnd::Laid(end) => (end, Side::Laid),
-        UnusedEnd::Server(side) => {
-            let Some(laid) = laid else { unreachable!() };
-            let (end, side) = side.open(laid);
-            (end, Side::Server(side))
-        }
+        UnusedEnd::Server(side) => open_laid(side, laid),
         UnusedEnd::Client(_) => unreachable!(),
     }
+}
+
+// Opens the end of a server that has laid its page.
+fn open_laid<'p>(side: UnlaidServer<'p>, laid: Option<LaidPage>) -> (End<'p>, Side)
+    requires { HasLaid (UnusedEnd.Server side) laid }
+    ensures unused { IsUnused (view result.0) × ((view result.0).role ≡ Server) }
+    ensures seen { seen_under result.1 (view result.0) ≡ fresh_view (UnusedEnd.Server side.entry) }
+    ensures side { IsSideOf result.1 (view result.0) }
+    ensures late { is_late_side result.1 ≡ true }
+{
+    let Some(laid) = laid else { unreachable!() };
+    let (end, side) = side.open(laid);
+    (end, Side::Server(side))
 }
 
 /// Retires a data end that no agent has, and that was never used.

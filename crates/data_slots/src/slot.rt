@@ -13,11 +13,11 @@ ghost use Rattle.task_duties.specs.GivenEnds.{done_view, fresh_view, retired_at}
 ghost use Rattle.channel_session.specs.declared.turned.Turned.{Turned as Answer};
 ghost use Rattle.channel_session.specs.Calling.{IsCalling, IsSameCall, CallerTurns};
 ghost use Rattle.channel_session.specs.Answering.{ServingAt, IsAnswering, IsAtWork, ServingTurns};
-ghost use Rattle.channel_session.specs.Turning.{first_pace};
+ghost use Rattle.channel_session.specs.Turning.{first_pace, KeepsBytes};
 ghost use Rattle.channel_session.specs.Ended.{done_of};
 ghost use Rattle.data_slots.specs.Slots.{held_of, held_at};
 ghost use Rattle.data_slots.specs.Done.{caller_done};
-ghost use Rattle.data_slots.specs.Sessions.{AwaitsPage, ServesWith, Begins, TakesTurn, session_of};
+ghost use Rattle.data_slots.specs.Sessions.{AwaitsPage, ServesWith, Begins, TakesTurn, LosesNothing, ComesToItsEnd, session_of};
 ghost use Rattle.data_slots.specs.Sides.{HasLaid, IsSideOf, seen_under, is_late_unused, is_late_side, is_late_done};
 ghost use Rattle.data_slots.specs.Stages.{ForCall, ForServing, IsStage, CanRetire, CanTurn, IsUnusedBy, IsNewCaller, IsNewServing, HasComeOut, IsReportOf, HasPage, is_nothing, is_session, is_late, use_of, told_of, result_of, framed, place_of, frame_of};
 
@@ -203,6 +203,7 @@ impl<'p> Slot<'p> {
         ensures stage { (version : ℕ) → IsStage version self.old.stage → IsStage version self.new.stage }
         ensures session { is_session self.new.stage ≡ false }
         ensures told { told_of (place_of self.old) (use_of self.old.stage) ≡ Some result }
+        ensures ends { ComesToItsEnd (session_of self.old.stage) (session_of self.new.stage) }
         ensures retire { CanRetire self.new.stage }
     {
         let told = self.told();
@@ -392,6 +393,7 @@ impl<'p> Stage<'p> {
         ensures stage { (version : ℕ) → IsStage version self.old → OnOk result (IsStage version self.new) }
         ensures over { IfOk result (λ outcome. IfSome outcome (λ o. HasComeOut o self.new)) }
         ensures turns { IfOk result (λ outcome. IfNone outcome (TakesTurn (session_of self.old) (session_of self.new))) }
+        ensures kept { OnOk result (LosesNothing (session_of self.old) (session_of self.new)) }
         ensures long { length scratch.new ≡ length scratch.old }
         ensures retire { CanRetire self.new }
     {
@@ -492,6 +494,7 @@ impl<'p> Stage<'p> {
         ensures frame { (place : PagePlace) → framed place result ≡ framed place self.entry }
         ensures stage { (version : ℕ) → IsStage version self.entry → IsStage version result }
         ensures session { is_session result ≡ false }
+        ensures ends { ComesToItsEnd (session_of self.entry) (session_of result) }
         ensures retire { CanRetire result }
     {
         match self {
@@ -709,6 +712,7 @@ fn turn_caller(session: &mut CallerSession, scratch: &mut [u8]) -> Result<Option
     ensures calling { OnOk result (IsCalling session.new.caller session.new.end) }
     ensures outcome { IfOk result (λ outcome. outcome ≡ session.new.caller.replies.outcome) }
     ensures turns { IfOk result (λ outcome. IfNone outcome ((turned : Answer) × CallerTurns turned session.old session.new)) }
+    ensures kept { OnOk result (KeepsBytes (view session.old.end) (view session.new.end)) }
     ensures long { length scratch.new ≡ length scratch.old }
 {
     if let Some(outcome) = session.outcome() {
@@ -729,6 +733,7 @@ fn turn_serving(session: &mut ServingSession, scratch: &mut [u8]) -> Result<Opti
     ensures answering { (owed : List ℕ → Triple) → IsAnswering owed session.old.serving session.old.end → OnOk result (IsAnswering owed session.new.serving session.new.end) }
     ensures outcome { IfOk result (λ outcome. outcome ≡ session.new.serving.answering.outcome) }
     ensures turns { IfOk result (λ outcome. IfNone outcome ((turned : Answer) × ServingTurns turned session.old session.new)) }
+    ensures kept { OnOk result (KeepsBytes (view session.old.end) (view session.new.end)) }
     ensures long { length scratch.new ≡ length scratch.old }
 {
     if let Some(outcome) = session.outcome() {

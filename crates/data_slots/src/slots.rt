@@ -49,7 +49,7 @@ impl<'p> DataSlots<'p> {
     ghost use Rattle.data_slots.specs.Slots.{held_at, late_count, IsGiven, AreApart};
     ghost use Rattle.data_slots.specs.Sides.{late_places};
     ghost use Rattle.data_slots.specs.Done.{AreBack, ReportsCalled, ReportsServes, TellsMore};
-    ghost use Rattle.data_slots.specs.Sessions.{NotOpen, AllTakeTurns, KeepsSessions};
+    ghost use Rattle.data_slots.specs.Sessions.{NotBegun, AllTakeTurns, KeepsSessions};
 
     /// Makes the data ends of an agent of this domain and version, 2 or 3, which has `calls` calls of its
     /// own. All ends are unused. Each is a server's if the domain calls on its page, and a client's if the
@@ -75,7 +75,7 @@ impl<'p> DataSlots<'p> {
           called = replicate calls None;
           served = [];
           opened = [];
-          sessions = replicate (length ends.entry.items) NotOpen;
+          sessions = replicate (length ends.entry.items) NotBegun;
           spent = false;
         }) }
         ensures unmade { IfErr result (λ given. given ≡ ends.entry) }
@@ -149,8 +149,9 @@ impl<'p> DataSlots<'p> {
     }
 
     /// One turn of each open session. Those that are over now are put behind `over`, each once, and are open
-    /// no more. Each other one moved something, was quiet or was passed over, as its own turn says, or awaits its
-    /// page still. It answers whether any moved bytes or is over, of which nothing is promised.
+    /// no more; their retired ends have all bytes that came and went. Each other one moved something, was quiet
+    /// or was passed over, as its own turn says, or awaits its page still. A session that was over stays as it
+    /// is. It answers whether any moved bytes or is over, of which nothing is promised.
     ///
     /// Returns `Memory` if memory runs out; the ends can only be given up then, and nothing is promised of
     /// `over`.

@@ -78,4 +78,4 @@ pub returns-clause-kept : goal.returns-clause-kept
 returns-clause-kept c =
     let e = c.args.self.now in
     let free = is-free e.slots.items c.in-Some.at (Payload e.domain c.args.to c.args.port) c.index_mut.result.now (subst (λ ss. IsUsedAt (frames ss) c.in-Some.at (Payload e.domain c.args.to c.args.port) ForNothing) c.deref.ensures.value c.in-Some.ensures.found) c.index_mut.ensures.value in
-    keeps-sessions e.slots.items c.in-Some.at c.index_mut.result.now c.call.new.self free.here (is-shut c.index_mut.result.now.stage free.unused)
+    keeps-sessions e.slots.items c.in-Some.at c.index_mut.result.now c.call.new.self free.here free.unused

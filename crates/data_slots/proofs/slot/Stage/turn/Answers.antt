@@ -6,7 +6,8 @@ use Rattle.data_slots.specs.Sides.{is_late_side}
 use Rattle.data_slots.specs.Stages.{ForCall, ForServing, Frame, framed, IsStage}
 use Rattle.data_slots.proofs.SideLaws.{same-held, calls-on, serves-on}
 use Rattle.data_slots.specs.Sessions.{Begins, TakesTurn, session_of}
-use Rattle.data_slots.proofs.SessionLaws.{call-takes, serving-takes, page-takes, told-then}
+use Rattle.data_slots.proofs.SessionLaws.{call-takes, serving-takes, page-takes, told-then, begins-keeps, call-keeps, serving-keeps-on}
+use Rattle.data_slots.proofs.TurnLaws.{turned-ok}
 use Rattle.data_slots.proofs.slot.Stage.turn.Goals as goal
 
 pub returns-in-Calls-clause-frame : goal.returns-in-Calls-clause-frame
@@ -36,14 +37,28 @@ returns-in-Serves-clause-stage c = λ version stage.
 pub returns-in-Calls-clause-turns : goal.returns-in-Calls-clause-turns
 returns-in-Calls-clause-turns c =
     let began = subst (λ s. Begins (session_of c.args.self.now) (session_of s)) c.in-Calls.is c.open_offered.ensures.begins in
-    told-then c.turn_caller.result _ _ (call-takes (session_of c.args.self.now) c.in-Calls.session c.turn_caller.new.session began) c.turn_caller.ensures.turns
+    told-then c.turn_caller.result c.turn_caller.new.session.caller.replies.outcome _ _ (call-takes (session_of c.args.self.now) c.in-Calls.session c.turn_caller.new.session began) c.turn_caller.ensures.outcome c.turn_caller.ensures.turns
 
 pub returns-in-Serves-clause-turns : goal.returns-in-Serves-clause-turns
 returns-in-Serves-clause-turns c =
     let began = subst (λ s. Begins (session_of c.args.self.now) (session_of s)) c.in-Serves.is c.open_offered.ensures.begins in
-    told-then c.turn_serving.result _ _ (serving-takes (session_of c.args.self.now) c.in-Serves.session c.turn_serving.new.session began) c.turn_serving.ensures.turns
+    told-then c.turn_serving.result c.turn_serving.new.session.serving.answering.outcome _ _ (serving-takes (session_of c.args.self.now) c.in-Serves.session c.turn_serving.new.session began) c.turn_serving.ensures.outcome
+    c.turn_serving.ensures.turns
 
 pub returns-in-Awaits-clause-turns : goal.returns-in-Awaits-clause-turns
 returns-in-Awaits-clause-turns c =
     let began = subst (λ s. Begins (session_of c.args.self.now) (session_of s)) c.in-Awaits.is c.open_offered.ensures.begins in
     subst (λ s. TakesTurn (session_of c.args.self.now) (session_of s)) (sym c.in-Awaits.is) (page-takes (session_of c.args.self.now) began)
+
+pub returns-in-Calls-clause-kept : goal.returns-in-Calls-clause-kept
+returns-in-Calls-clause-kept c =
+    let began = subst (λ s. Begins (session_of c.args.self.now) (session_of s)) c.in-Calls.is c.open_offered.ensures.begins in
+    turned-ok c.turn_caller.result _ _ (call-keeps (session_of c.args.self.now) c.in-Calls.session c.turn_caller.new.session began) c.turn_caller.ensures.kept
+
+pub returns-in-Serves-clause-kept : goal.returns-in-Serves-clause-kept
+returns-in-Serves-clause-kept c =
+    let began = subst (λ s. Begins (session_of c.args.self.now) (session_of s)) c.in-Serves.is c.open_offered.ensures.begins in
+    turned-ok c.turn_serving.result _ _ (serving-keeps-on (session_of c.args.self.now) c.in-Serves.session c.turn_serving.new.session began) c.turn_serving.ensures.kept
+
+pub returns-in-Awaits-clause-kept : goal.returns-in-Awaits-clause-kept
+returns-in-Awaits-clause-kept c = begins-keeps (session_of c.args.self.now) (session_of c.open_offered.new.self) c.open_offered.ensures.begins
