@@ -1,0 +1,5 @@
+use Rattle.standstill_laws.proofs.laws.page_stands_still.Goals as goal
+use Rattle.standstill_laws.proofs.PageLaws.{stands-still}
+
+pub returns : goal.returns
+returns c = stands-still

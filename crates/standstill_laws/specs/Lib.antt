@@ -1,0 +1,3 @@
+pub mod Page
+pub mod Session
+pub mod Turns

@@ -1,0 +1,54 @@
+-- Two sides of a session whose turns moved nothing, on a page on which nothing has changed since.
+-- Source: this project's own.
+use Rattle.std.specs.Prelude.{◌≡◌, ◌≢◌, Bool, ℕ, List, Some, None}
+use Rattle.ring_words.specs.declared.page.Role.{Role}
+use Rattle.ring_words.specs.declared.page.Role.TheVariants.{Server, Client}
+use Rattle.service_gate.specs.Triple.{Triple}
+use Rattle.vchan_protocol.specs.declared.call.EndState.TheVariants.{Shut}
+use Rattle.vchan_protocol.specs.Table.Ends.{read_ring, written_ring, peer_live, low8}
+use Rattle.vchan_protocol.specs.Answering.Loads.{loads_of}
+use Rattle.vchan_protocol.specs.History.Core.{Core, side_of, standing_of}
+use Rattle.vchan_protocol.specs.Honest.Lawful.{Lawful}
+use Rattle.vchan_protocol.specs.Honest.RingLaw.{word_at}
+use Rattle.vchan_rule.specs.Seated.{SeatedEnd}
+use Rattle.qrexec_data.specs.Laws.{IsVersion}
+use Rattle.channel_session.specs.declared.turned.Turned.TheVariants.{Quiet}
+use Rattle.channel_session.specs.Turning.{IsQuiet, SendsNone, NothingWaits, WasShut, RingIsFull, PeerIsShut}
+use Rattle.channel_session.specs.Calling.{CallerAt, CallerTurns, IsCalling}
+use Rattle.channel_session.specs.Answering.{ServingAt, ServingTurns, IsAnswering}
+use Rattle.standstill_laws.specs.Page.{peer_of, AreIndices, IsStanding}
+
+-- why nothing went is still so: the indices that the write answered with, or the live byte that it loaded, are those of the page; and a peer that was found shut earlier is shut
+abbrev pub SendsStill : Core → Role → (still : Type 0) → (waiting : List ℕ) → (was_shut : Bool) → (before now : SeatedEnd) → SendsNone still waiting was_shut before now → Type 0
+SendsStill core who still waiting was_shut before now (NothingWaits none same) = Unit {0}
+SendsStill core who still waiting was_shut before now (WasShut was same) = (side_of core (peer_of who)).state ≡ Shut
+SendsStill core who still waiting was_shut before now (RingIsFull some full) = IsStanding core who (standing_of before.side) × AreIndices core (written_ring who) full.prod full.cons
+SendsStill core who still waiting was_shut before now (PeerIsShut some shut) =
+    (loads_of (standing_of before.side) now.side.trail).live ≡ Some (low8 (word_at core.orders core.words (peer_live who)))
+
+-- the end stands as its quiet turn left it, and what the turn found is still so
+pub record IsQuietStill (core : Core) (who : Role) (still : Type 0) (waiting : List ℕ) (was_shut : Bool) (before now : SeatedEnd) (q : IsQuiet still waiting was_shut before now) : Type 0 where
+  pub is_now : now.side ≡ side_of core who
+  pub stood : IsStanding core who (standing_of q.found.side)
+  pub drained : AreIndices core (read_ring who) q.not_yet.prod q.not_yet.cons
+  pub sends : SendsStill core who still waiting was_shut q.left now q.sends
+
+-- the two sides of a session between honest ends, a caller on the server's end and a side that serves on the client's, neither of which is shut; nothing has decided, and each has made a quiet turn since which nothing changed
+pub record BothAreQuiet (core : Core) (owed : List ℕ → Triple) (c c' : CallerAt) (s s' : ServingAt) : Type 0 where
+  pub lawful : Lawful core
+  pub server_opened : core.server.state ≢ Shut
+  pub client_opened : core.client.state ≢ Shut
+  pub calls : IsCalling c.caller c.end
+  pub serves : IsAnswering owed s.serving s.end
+  pub caller_version : IsVersion c.caller.replies.own
+  pub serving_version : IsVersion s.serving.answering.own
+  pub caller_undecided : c.caller.replies.outcome ≡ None
+  pub serving_undecided : s.serving.answering.outcome ≡ None
+  pub caller_turn : CallerTurns Quiet c c'
+  pub serving_turn : ServingTurns Quiet s s'
+  pub caller_still : IsQuietStill core Server _ _ _ _ _ caller_turn.2
+  pub serving_still : IsQuietStill core Client _ _ _ _ _ serving_turn.2
+
+-- there are no such two
+abbrev pub NoSessionStandsStill : Type 0
+NoSessionStandsStill = (core : Core) (owed : List ℕ → Triple) (c c' : CallerAt) (s s' : ServingAt) → ¬ BothAreQuiet core owed c c' s s'

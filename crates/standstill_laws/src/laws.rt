@@ -1,0 +1,22 @@
+//! The laws, each the contract of a function with no body.
+ghost use Rattle.standstill_laws.specs.Page.{PageStandsStill};
+ghost use Rattle.standstill_laws.specs.Session.{SessionsGoOn};
+ghost use Rattle.standstill_laws.specs.Turns.{NoSessionStandsStill};
+
+/// If both ends of a page between honest ends drained it and found nothing, and no index changed since, then
+/// each has got all that the other sent, and no room that a write or a send lacked is still lacking.
+pub fn page_stands_still()
+    ensures { PageStandsStill }
+{}
+
+/// While nothing has decided a session, and each side has got all that the other sent, one of the two has
+/// something to send.
+pub fn sessions_go_on<S>()
+    ensures { SessionsGoOn S }
+{}
+
+/// An open session between honest ends doesn't stand still: it isn't so that both its sides made quiet turns
+/// and nothing changed since.
+pub fn no_session_stands_still()
+    ensures { NoSessionStandsStill }
+{}
