@@ -1,5 +1,6 @@
 -- A page at a standstill has nothing in its rings.
-use Rattle.std.proofs.Common.{◌≡◌, ℕ, ◌+◌, ◌-◌, ◌<◌, ◌≤◌, List, [], ◌∷◌, ◌++◌, length, Some, refl, subst, sym, ap, ◌∙◌, arith, append-nil}
+use Rattle.std.proofs.Common.{◌≡◌, ℕ, ◌+◌, ◌-◌, ◌<◌, ◌≤◌, List, [], ◌∷◌, ◌++◌, length, Option, Some, None, refl, subst, sym, ap, ◌∙◌, arith, append-nil}
+use Rattle.std.specs.Prelude.{IsSomeAnd}
 use Rattle.std.proofs.lemmas.List.{length-append}
 use Rattle.std.proofs.lemmas.Bool.Decides.{nat_tests}
 use Rattle.ring_words.specs.declared.order.Order.{Order}
@@ -11,17 +12,17 @@ use Rattle.ring_words.specs.declared.page.Ring.TheVariants.{Left, Right}
 use Rattle.ring_words.specs.Page.{order_of}
 use Rattle.ring_words.specs.Rings.{size, ready, room}
 use Rattle.ring_words.proofs.RingLaws.{diff_counts, size-within}
-use Rattle.vchan_protocol.specs.declared.call.Answer.TheVariants.{Full, NoRoom, NotYet}
+use Rattle.vchan_protocol.specs.declared.call.Answer.TheVariants.{Full, NoRoom, NotYet, Space}
 use Rattle.vchan_protocol.specs.declared.call.EndState.{EndState}
 use Rattle.vchan_protocol.specs.declared.call.EndState.TheVariants.{Fresh, Open, Shut}
 use Rattle.vchan_protocol.specs.Table.Ends.{Standing, read_ring, written_ring, read_order, write_order, peer_live, low8}
-use Rattle.vchan_protocol.specs.Answering.Loads.{Loads, Pair, first_of}
-use Rattle.vchan_protocol.specs.Answering.Causes.{DrainCause, WriteCause, SendCause, FoundNone, waiting_at, drain_got, drain_all_read, drain_not_yet, drain_peer_gone, write_closed, wrote_none, write_full, wrote_some, send_closed, send_no_room, sent_all}
+use Rattle.vchan_protocol.specs.Answering.Loads.{Loads, Pair, first_of, last_pair}
+use Rattle.vchan_protocol.specs.Answering.Causes.{DrainCause, WriteCause, SendCause, FoundNone, waiting_at, room_at, drain_got, drain_all_read, drain_not_yet, drain_peer_gone, write_closed, wrote_none, write_full, wrote_some, send_closed, send_no_room, sent_all}
 use Rattle.vchan_protocol.specs.History.Core.{Core, side_of, writer_of, reader_of}
 use Rattle.vchan_protocol.specs.History.Page.{live_word}
 use Rattle.vchan_protocol.specs.Honest.Lawful.{Lawful}
 use Rattle.vchan_protocol.specs.Honest.RingLaw.{IsLawful, IsPrefixOf, channel_of, index_at, word_at}
-use Rattle.standstill_laws.specs.Page.{peer_of, FoundNothing, RoomLacks, IsFull, HasNoRoom, FoundNoRoom, FoundPeerShut, PageStandsStill}
+use Rattle.standstill_laws.specs.Page.{peer_of, FoundNothing, RoomLacks, IsFull, HasNoRoom, HasLess, FoundNoRoom, FoundPeerShut, PageStandsStill}
 
 -- ---- the numbers of a ring
 
@@ -91,6 +92,16 @@ room-lacks e loads prod cons (HasNoRoom n fits cause) = by cause
         let here : room prod cons (write_order e) < n = subst (λ (k : ℕ). room k cons (write_order e) < n) p (subst (λ (k : ℕ). room last.prod k (write_order e) < n) c less) in
         omega (arith, here, fits)
     by (sent_all last last_is there enough is) = cc
+room-lacks e loads prod cons (HasLess n left fits less last_is cause) = by (last_pair loads) last_is cause
+  where
+    by : (o : Option Pair) → o ≡ Some (record { prod = prod; cons = cons }) → IsSomeAnd o (λ last. Space left ≡ Space (room_at e last)) → room prod cons (write_order e) < size (write_order e)
+    by None last_is tells = cc
+    by (Some last) last_is tells =
+        let p : last.prod ≡ prod = cc in
+        let c : last.cons ≡ cons = cc in
+        let found : room_at e last ≡ left = cc in
+        let here : room prod cons (write_order e) ≡ left = ap (λ (k : ℕ). room k cons (write_order e)) (sym p) ∙ ap (λ (k : ℕ). room last.prod k (write_order e)) (sym c) ∙ found in
+        omega (arith, here, fits, less)
 
 -- ---- a ring
 

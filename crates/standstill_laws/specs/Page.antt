@@ -1,15 +1,16 @@
 -- A page at a standstill: what the last calls of its ends found is still so.
 -- Source: libxenvchan's io.c for what a look at a ring finds; the statements are this project's own.
-use Rattle.std.specs.Prelude.{◌≡◌, ℕ, ◌≤◌, Some}
+use Rattle.std.specs.Prelude.{◌≡◌, ℕ, ◌<◌, ◌≤◌, Some}
 use Rattle.ring_words.specs.Rings.{size}
 use Rattle.ring_words.specs.declared.page.Role.{Role}
 use Rattle.ring_words.specs.declared.page.Role.TheVariants.{Server, Client}
 use Rattle.ring_words.specs.declared.page.Ring.{Ring}
-use Rattle.vchan_protocol.specs.declared.call.Answer.TheVariants.{Full, NoRoom, NotYet}
+use Rattle.vchan_protocol.specs.declared.call.Answer.TheVariants.{Full, NoRoom, NotYet, Space}
+use Rattle.vchan_protocol.specs.declared.call.Call.TheVariants.{BufferSpace}
 use Rattle.vchan_protocol.specs.declared.call.EndState.TheVariants.{Shut}
 use Rattle.vchan_protocol.specs.Table.Ends.{Standing, read_ring, written_ring, write_order, prod_word, cons_word, peer_live, low8}
-use Rattle.vchan_protocol.specs.Answering.Loads.{Loads}
-use Rattle.vchan_protocol.specs.Answering.Causes.{DrainCause, WriteCause, SendCause, FoundShut}
+use Rattle.vchan_protocol.specs.Answering.Loads.{Loads, last_pair}
+use Rattle.vchan_protocol.specs.Answering.Causes.{Cause, DrainCause, WriteCause, SendCause, FoundShut}
 use Rattle.vchan_protocol.specs.History.Core.{Core, side_of}
 use Rattle.vchan_protocol.specs.Honest.Lawful.{Lawful}
 use Rattle.vchan_protocol.specs.Honest.RingLaw.{word_at}
@@ -37,10 +38,11 @@ pub record FoundNothing (core : Core) (who : Role) : Type 0 where
   pub cause : DrainCause begun most loads (NotYet prod cons)
   pub still : AreIndices core (read_ring who) prod cons
 
--- why a call moved nothing into its ring: a write of some bytes found it full, or there was no room for a whole message that fits the ring
+-- why a call moved nothing into its ring: a write of some bytes found it full, or there was no room for a whole message that fits the ring, at its send or at a look before it
 pub data RoomLacks (begun : Standing) (loads : Loads) (prod cons : ℕ) : Type 0 where
   IsFull : (n : ℕ) → WriteCause begun n loads (Full prod cons) → RoomLacks begun loads prod cons
   HasNoRoom : (n : ℕ) → n ≤ size (write_order begun) → SendCause begun n loads (NoRoom prod cons) → RoomLacks begun loads prod cons
+  HasLess : (n left : ℕ) → n ≤ size (write_order begun) → left < n → last_pair loads ≡ Some (record { prod = prod; cons = cons }) → Cause begun BufferSpace loads (Space left) → RoomLacks begun loads prod cons
 
 -- a call of this end found too little room, and the indices that it answered with are still those of the page
 pub record FoundNoRoom (core : Core) (who : Role) : Type 0 where
