@@ -1,3 +1,4 @@
 mod PageLaws
 mod SessionLaws
 mod TurnLaws
+mod ControlLaws

@@ -1,3 +1,4 @@
 pub mod Page
 pub mod Session
 pub mod Turns
+pub mod Control

@@ -2,6 +2,7 @@
 ghost use Rattle.standstill_laws.specs.Page.{PageStandsStill};
 ghost use Rattle.standstill_laws.specs.Session.{SessionsGoOn};
 ghost use Rattle.standstill_laws.specs.Turns.{NoSessionStandsStill};
+ghost use Rattle.standstill_laws.specs.Control.{AllIsHeard};
 
 /// If both ends of a page between honest ends drained it and found nothing, and no index changed since, then
 /// each has got all that the other sent, and no room that a write or a send lacked is still lacking.
@@ -19,4 +20,10 @@ pub fn sessions_go_on<S>()
 /// and nothing changed since.
 pub fn no_session_stands_still()
     ensures { NoSessionStandsStill }
+{}
+
+/// Where a control page between honest ends stands still, each side has heard all that the other said behind
+/// its greeting, and nothing was wrong with it. A side whose peer hasn't greeted has heard nothing.
+pub fn all_is_heard()
+    ensures { AllIsHeard }
 {}
