@@ -1,5 +1,5 @@
 -- What an agent's calls on its control channel found.
-use Rattle.std.proofs.Common.{◌≡◌, ◌↔◌, ℕ, ◌<◌, ◌≤◌, Bool, true, false, List, [], ◌∷◌, ◌++◌, length, refl, ap, sym, ◌∙◌, subst, arith, Option, Some, None, inl, inr}
+use Rattle.std.proofs.Common.{◌≡◌, ◌↔◌, ℕ, ◌<◌, ◌≤◌, Bool, true, false, List, [], ◌∷◌, ◌++◌, length, take, refl, ap, sym, ◌∙◌, subst, arith, Option, Some, None, inl, inr}
 use Rattle.std.specs.Prelude.{◌⊎◌, is_some}
 use Rattle.std.specs.List.{flat_map}
 use Rattle.std.proofs.lemmas.List.{length-append}
@@ -25,12 +25,14 @@ use Rattle.qrexec_frame.specs.Messages.{written}
 use Rattle.control_port.specs.Port.{PortState, SentWhole}
 use Rattle.control_port.proofs.DrainLaws.{got-more}
 use Rattle.task_duties.specs.declared.done.ControlEnd.{ControlEnd}
+use Rattle.channel_session.specs.Turning.{KeepsBytes}
+use Rattle.channel_session.proofs.KeepingLaws.{keeps-all, keeps-then}
 use Rattle.agent_task.specs.declared.agent.Agent.{Agent}
 use Rattle.agent_task.specs.Standing.{KeepsPort}
 use Rattle.agent_task.specs.Ending.{end_by}
 use Rattle.agent_control.specs.declared.control.AgentControl.{AgentControl}
 use Rattle.agent_control.specs.Speaking.{SaysMore, Speaks}
-use Rattle.agent_task.specs.Moving.{Greets, WasSent, IsSent, IsUnsent, HearsNothing, Takes, Drains, Listens, SaysNoMore, TurnsControl}
+use Rattle.agent_task.specs.Moving.{Greets, WasSent, IsSent, IsUnsent, HearsNothing, Takes, Drains, Listens, SaysNoMore, HasNotGreeted, WasNotGreeted, HasStopped, TurnsControl, KeepsControl}
 
 pub greets-by : (old new : PortState) (answer : SendAnswer) → old.greeted ≡ false → (answer ≡ Sent → new.greeted ≡ true) × ((answer ≡ Sent → ⊥) → new.greeted ≡ false) → view new.end ≡ sent_to (view old.end) answer (written (Hello old.own))
     → Trace (standing_of old.end.side) (Send (packet.most_asked (written (Hello old.own)))) new.end.side.trail (send_told (packet.most_asked (written (Hello old.own))) answer)
@@ -48,6 +50,12 @@ drained-sent e (NotYet prod cons) after saw = refl
 drained-sent e AllRead after saw = refl
 drained-sent e (PeerGone prod cons) after saw = refl
 
+drained-got : (e : EndView) (drained : DrainAnswer) (after : List ℕ) (saw : Bool) → length e.got ≤ length (drained_to e drained after saw).got
+drained-got e (More count) after saw = omega (arith, length-append e.got (take count after))
+drained-got e (NotYet prod cons) after saw = omega arith
+drained-got e AllRead after saw = omega arith
+drained-got e (PeerGone prod cons) after saw = omega arith
+
 takes-by : (old new : SeatedEnd) (drained : DrainAnswer) (before after : List ℕ) (saw : Bool) → 0 < length before → length after ≡ length before → view new ≡ drained_to (view old) drained after saw
     → Trace (standing_of old.side) (Drain (most_asked before)) new.side.trail (drain_told drained)
     → ((other : DrainAnswer) → (drained ≡ other) ↔ DrainCause (standing_of old.side) (most_asked before) (loads_of (standing_of old.side) new.side.trail) (drain_told other)) → Takes drained old new
@@ -62,6 +70,7 @@ pub drains-by : (old new : SeatedEnd) (drained : DrainAnswer) (before after : Li
     → ((other : DrainAnswer) → (drained ≡ other) ↔ DrainCause (standing_of old.side) (most_asked before) (loads_of (standing_of old.side) new.side.trail) (drain_told other)) → Drains drained old new
 drains-by old new drained before after saw some long is trail cause = record {
   takes = takes-by old new drained before after saw some long is trail cause;
+  got = subst (λ (v : EndView). length (view old).got ≤ length v.got) (sym is) (drained-got (view old) drained after saw);
   sent = ap (λ (v : EndView). v.sent) is ∙ drained-sent (view old) drained after saw;
 }
 
@@ -85,6 +94,14 @@ listens-by old greeted heard drained greets got drains up = record {
   found = found-by old greeted heard drained greets got drains.takes up;
   sent = subst (λ (l : List ℕ). length (view old.end).sent ≤ length l) (sym drains.sent) (greets-sent old greeted greets);
 }
+
+-- and whether or not it is up after that, no byte is taken back
+pub listens-keep : (old greeted : PortState) (heard end : SeatedEnd) (drained : DrainAnswer) → Greets old greeted → (view greeted.end).got ≡ (view old.end).got → Drains drained greeted.end heard → KeepsBytes (view heard) (view end)
+    → KeepsBytes (view old.end) (view end)
+listens-keep old greeted heard end drained greets got drains settles =
+    let same = ap (λ (l : List ℕ). length l) got in
+    let none = ap (λ (l : List ℕ). length l) drains.sent in
+    record { got = omega (arith, same, drains.got, settles.got); sent = omega (arith, none, greets-sent old greeted greets, settles.sent) }
 
 -- ---- what was sent before stays so
 
@@ -121,3 +138,36 @@ turns-control old mid turned new calls listens end next keeps kept says same up 
       listens = subst (λ (p : PortState). Listens old.control.port p.end) (sym keeps.0) (listens still);
       says = says;
     }
+
+-- ---- whether or not the channel is up
+
+-- what is said takes no byte back
+says-keep : (calls : ℕ) (old new : AgentControl) → SaysNoMore calls old new → KeepsBytes (view old.port.end) (view new.port.end)
+says-keep calls old new (HasNotGreeted is same) = subst (λ (c : AgentControl). KeepsBytes (view old.port.end) (view c.port.end)) (sym same) (keeps-all (view old.port.end))
+says-keep calls old new (WasNotGreeted is same) = subst (λ (c : AgentControl). KeepsBytes (view old.port.end) (view c.port.end)) (sym same) (keeps-all (view old.port.end))
+says-keep calls old new (HasStopped more sent stops) = record { got = let same = ap (λ (l : List ℕ). length l) more.port.2 in omega (arith, same); sent = sent }
+
+pub control-same : (over over' : Option ControlEnd) (old new : AgentControl) → over' ≡ over → new.port ≡ old.port → KeepsControl over over' old new
+control-same over over' old new same port = record {
+  bytes = subst (λ (p : PortState). KeepsBytes (view old.port.end) (view p.end)) (sym port) (keeps-all (view old.port.end));
+  over = λ how was. (same ∙ was, port);
+}
+
+-- a step of a channel that is up
+pub control-heard : (over over' : Option ControlEnd) (old new : AgentControl) → is_some over ≡ false → KeepsBytes (view old.port.end) (view new.port.end) → KeepsControl over over' old new
+control-heard over over' old new up bytes = record { bytes = bytes; over = λ how was. never (sym (ap (λ (o : Option ControlEnd). is_some o) was) ∙ up) }
+  where
+    never : {A : Type 0} → true ≡ false → A
+    never e = cc
+
+pub control-said : (over over' : Option ControlEnd) (calls : ℕ) (old new : AgentControl) → is_some over ≡ false → SaysNoMore calls old new → KeepsControl over over' old new
+control-said over over' calls old new up says = control-heard over over' old new up (says-keep calls old new says)
+
+pub control-then : (o1 o2 o3 o4 : Option ControlEnd) (a b c d : AgentControl) → KeepsControl o1 o2 a b → KeepsControl o2 o3 b c → KeepsControl o3 o4 c d → KeepsControl o1 o4 a d
+control-then o1 o2 o3 o4 a b c d one two three = record {
+  bytes = keeps-then (view a.port.end) (view b.port.end) (view d.port.end) one.bytes (keeps-then (view b.port.end) (view c.port.end) (view d.port.end) two.bytes three.bytes);
+  over = λ how was.
+      let first = one.over how was in
+      let second = two.over how first.0 in
+      let third = three.over how second.0 in (third.0, third.1 ∙ (second.1 ∙ first.1));
+}

@@ -10,6 +10,8 @@ use Rattle.vchan_packet.specs.declared.SendAnswer.TheVariants.{Sent}
 use Rattle.vchan_packet.specs.Packet.{FailsToSend, sent_to}
 use Rattle.qrexec_frame.specs.declared.message.Message.TheVariants.{Hello}
 use Rattle.qrexec_frame.specs.Messages.{written}
+use Rattle.task_duties.specs.declared.done.ControlEnd.{ControlEnd}
+use Rattle.channel_session.specs.Turning.{KeepsBytes}
 use Rattle.control_port.specs.Port.{PortState}
 use Rattle.agent_control.specs.declared.control.AgentControl.{AgentControl}
 use Rattle.agent_control.specs.Speaking.{SaysMore}
@@ -30,9 +32,10 @@ Takes (NotYet prod cons) old new = FindsNotYet old new × ((view new).got ≡ (v
 Takes AllRead old new = Unit {0}
 Takes (PeerGone prod cons) old new = Unit {0}
 
--- and it sent nothing
+-- and it sent nothing; what came before stays so
 pub record Drains (drained : DrainAnswer) (old new : SeatedEnd) : Type 0 where
   pub takes : Takes drained old new
+  pub got : length (view old).got ≤ length (view new).got
   pub sent : (view new).sent ≡ (view old).sent
 
 -- after the greeting the drain found the ring empty and the broker there
@@ -73,3 +76,15 @@ pub record TurnsControl (calls : ℕ) (old new : AgentControl) : Type 0 where
 abbrev pub TurnsChannel : ℕ → Option AgentControl → Option AgentControl → Type 0
 TurnsChannel pages (Some old) (Some new) = TurnsControl (asked_at_most pages) old new
 TurnsChannel pages _ _ = ⊥
+
+-- ---- whether or not the channel is up
+
+-- no byte that came or went is taken back; and a channel that was over stays so, and nothing moves on it
+pub record KeepsControl (was now : Option ControlEnd) (old new : AgentControl) : Type 0 where
+  pub bytes : KeepsBytes (view old.port.end) (view new.port.end)
+  pub over : (how : ControlEnd) → was ≡ Some how → (now ≡ Some how) × (new.port ≡ old.port)
+
+-- the same of a task
+abbrev pub KeepsChannel : Option ControlEnd → Option ControlEnd → Option AgentControl → Option AgentControl → Type 0
+KeepsChannel was now (Some old) (Some new) = KeepsControl was now old new
+KeepsChannel was now _ _ = ⊥

@@ -5,7 +5,7 @@ use Rattle.task_duties.specs.GivenEnds.{all_retired}
 use Rattle.task_duties.specs.Agent.Given.{AgentPlan}
 use Rattle.agent_task.specs.Owing.{report_of}
 use Rattle.agent_task.specs.Telling.{TellsAll}
-use Rattle.agent_task.specs.Moving.{TurnsChannel}
+use Rattle.agent_task.specs.Moving.{TurnsChannel, KeepsChannel}
 use Rattle.agent_task.specs.State.{AgentState, task_given, TellsSoFar, TurnsEach}
 use Rattle.agent_task.specs.declared.task.AgentTurn.{AgentTurn}
 use Rattle.agent_task.specs.declared.task.AgentTurn.TheVariants as turn
@@ -22,9 +22,10 @@ Tells plan (turn.Again task) = TellsSoFar task
 Tells plan (turn.Done done) = TellsAll plan done
 Tells plan (turn.NoMemory ends) = Unit {0}
 
--- a task goes on only while its control channel is up or a session is open. Each of its sessions took its turn; and if the channel is up, bytes came on it or none were there, and what wasn't said has its reason
+-- A task goes on only while its control channel is up or a session is open. Each session that had begun took its turn. If the channel is up, bytes came on it or none were there, and what wasn't said has its reason.
+-- Up or over, it keeps its bytes, and it stays over once it is.
 abbrev pub GoesOn : AgentState → AgentTurn → Type 0
 GoesOn before (turn.Again task) = ((task.over ≡ None) ⊎ (task.opened ≢ [])) × TurnsEach before.sessions task.sessions
-    × (task.over ≡ None → TurnsChannel task.pages before.channel task.channel)
+    × (task.over ≡ None → TurnsChannel task.pages before.channel task.channel) × KeepsChannel before.over task.over before.channel task.channel
 GoesOn before (turn.Done done) = Unit {0}
 GoesOn before (turn.NoMemory ends) = Unit {0}

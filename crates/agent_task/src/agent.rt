@@ -3,7 +3,7 @@ ghost use Rattle.std.specs.Prelude.{◌≡◌, ◌≢◌, ◌⊎◌, ◌<◌, �
 ghost use Rattle.agent_task.specs.Standing.{IsUp, CanGiveUp, HasSameEnds, KeepsPort, OnlyTells, end_of};
 ghost use Rattle.data_slots.specs.Slots.{late_count};
 ghost use Rattle.data_slots.specs.Sessions.{AllTakeTurns};
-ghost use Rattle.agent_task.specs.Moving.{SaysNoMore, TurnsControl, asked_at_most};
+ghost use Rattle.agent_task.specs.Moving.{SaysNoMore, TurnsControl, KeepsControl, asked_at_most};
 ghost use Rattle.agent_task.specs.State.{TurnsEach};
 ghost use Rattle.agent_task.specs.Ending.{IsRunning};
 
@@ -52,6 +52,7 @@ impl<'p> Agent<'p> {
         ensures given { self.new.given ≡ self.old.given }
         ensures turns { OnOk result (TurnsEach self.old.slots.sessions self.new.slots.sessions) }
         ensures control { OnOk result (self.new.over ≡ None → TurnsControl (asked_at_most (late_count self.new.slots)) self.old.control self.new.control) }
+        ensures channel { OnOk result (KeepsControl self.old.over self.new.over self.old.control self.new.control) }
         ensures retire { CanGiveUp self.new }
         ensures long { length scratch.new ≡ length scratch.old }
     {

@@ -2,7 +2,7 @@
 ghost use Rattle.std.specs.Prelude.{◌≡◌, ◌≢◌, ◌⊎◌, ◌<◌, [], false, Some, None, IsSomeAnd, IfSome, IsSome, OnOk, length};
 ghost use Rattle.agent_task.specs.Standing.{CanGiveUp};
 ghost use Rattle.agent_task.specs.Ending.{IsOver, IsRunning};
-ghost use Rattle.agent_task.specs.Moving.{TurnsChannel};
+ghost use Rattle.agent_task.specs.Moving.{TurnsChannel, KeepsChannel};
 ghost use Rattle.agent_task.specs.State.{state_in, task_given, TurnsEach};
 
 use crate::agent::Agent;
@@ -24,6 +24,7 @@ pub(crate) fn go_round(
     ensures given { task_given (state_in agent.new) ≡ task_given (state_in agent.old) }
     ensures turns { OnOk result (TurnsEach (state_in agent.old).sessions (state_in agent.new).sessions) }
     ensures channel { OnOk result ((state_in agent.new).over ≡ None → TurnsChannel (state_in agent.new).pages (state_in agent.old).channel (state_in agent.new).channel) }
+    ensures kept { OnOk result (KeepsChannel (state_in agent.old).over (state_in agent.new).over (state_in agent.old).channel (state_in agent.new).channel) }
     ensures retire { IsSomeAnd agent.new CanGiveUp }
     ensures long { length scratch.new ≡ length scratch.old }
 {

@@ -4,6 +4,7 @@ ghost use Rattle.vchan_rule.specs.Seated.{view, IsOpen};
 ghost use Rattle.vchan_rule.specs.Ends.{IsSameEnd};
 ghost use Rattle.control_port.specs.Port.{HasFewerLeft};
 ghost use Rattle.agent_task.specs.Standing.{IsUp, IsHearing, HearsOn, HasHeardOut, HasSameEnds, KeepsOpen, CanGiveUp};
+ghost use Rattle.channel_session.specs.Turning.{KeepsBytes};
 ghost use Rattle.agent_task.specs.Moving.{Greets, Drains, Listens};
 ghost use Rattle.agent_task.specs.Ending.{IsDrained, IsRunning, end_by, over_by};
 
@@ -25,6 +26,7 @@ impl<'p> Agent<'p> {
         ensures next { OnOk result (self.new.control.queue.next ≡ self.old.control.queue.next) }
         ensures end { OnOk result (self.new.over ≡ None → IsSameEnd self.old.control.port.end self.new.control.port.end) }
         ensures listens { OnOk result (self.new.over ≡ None → Listens self.old.control.port self.new.control.port.end) }
+        ensures bytes { OnOk result (KeepsBytes (view self.old.control.port.end) (view self.new.control.port.end)) }
         ensures retire { CanGiveUp self.new }
         ensures long { length scratch.new ≡ length scratch.old }
     {
@@ -111,6 +113,7 @@ impl<'p> Agent<'p> {
         ensures slots { self.new.slots ≡ self.old.slots }
         ensures queue { self.new.control.queue ≡ self.old.control.queue }
         ensures up { self.new.over ≡ None → (self.new.control ≡ self.old.control) × (end_by drained ≡ None) }
+        ensures bytes { KeepsBytes (view self.old.control.port.end) (view self.new.control.port.end) }
         ensures retire { CanGiveUp self.new }
     {
         match over_by(self.control.port.fault(), drained) {

@@ -4,8 +4,8 @@ use Rattle.agent_task.specs.declared.agent.Agent.{Agent}
 use Rattle.vchan_rule.specs.Ends.{IsSameEnd}
 use Rattle.data_slots.specs.Slots.{SlotsState, late_count}
 use Rattle.agent_task.specs.Standing.{KeepsOpen}
-use Rattle.agent_task.specs.Moving.{Listens, SaysNoMore, TurnsControl, asked_at_most}
-use Rattle.agent_task.proofs.MovingLaws.{over-not-up, turns-control}
+use Rattle.agent_task.specs.Moving.{Listens, SaysNoMore, TurnsControl, KeepsControl, asked_at_most}
+use Rattle.agent_task.proofs.MovingLaws.{over-not-up, turns-control, control-same, control-heard, control-said, control-then}
 use Rattle.agent_task.proofs.RoundLaws.{running-up}
 use Rattle.agent_task.proofs.SessionLaws.{none-of, keeps-same, turns-each}
 use Rattle.agent_task.proofs.agent.Agent.go_round.Goals as goal
@@ -96,3 +96,43 @@ returns-else-moved-clause-control c =
           subst (λ (a : Agent). a.over ≡ None → TurnsControl (asked_at_most (late_count a.slots)) old.control a.control) (sym w.self-is)
           (λ up. over-not-up _ turned.over (c.is_none-2.ensures ∙ ap not w.if-is_none-2.false) up)
     ]
+
+pub returns-then-moved-clause-channel : goal.returns-then-moved-clause-channel
+returns-then-moved-clause-channel c =
+    let old = c.args.self.now in
+    let mid = c.if-is_none.self in
+    let turned = c.turn_sessions.new.self in
+    let first : KeepsControl old.over mid.over old.control mid.control = elim c.if-is_none.branch [
+      | then-is_none+in_ok-listen w ↦
+          subst (λ (a : Agent). KeepsControl old.over a.over old.control a.control) (sym w.self-is)
+          (control-heard old.over w.listen.new.self.over old.control w.listen.new.self.control (c.is_none.ensures ∙ ap not w.if-is_none.true) w.in_ok-listen.ensures.bytes)
+      | else-is_none w ↦ subst (λ (a : Agent). KeepsControl old.over a.over old.control a.control) (sym w.self-is) (control-same old.over old.over old.control old.control refl refl)
+    ] in
+    let second = control-same mid.over turned.over mid.control turned.control c.turn_sessions.ensures.same.1.1 c.turn_sessions.ensures.same.0 in
+    let third : KeepsControl turned.over c.if-is_none-2.self.over turned.control c.if-is_none-2.self.control = elim c.if-is_none-2.branch [
+      | then-is_none-2+in_ok-say w ↦
+          subst (λ (a : Agent). KeepsControl turned.over a.over turned.control a.control) (sym w.self-is)
+          (control-said turned.over w.say.new.self.over (asked_at_most (late_count turned.slots)) turned.control w.say.new.self.control (c.is_none-2.ensures ∙ ap not w.if-is_none-2.true) w.in_ok-say.ensures.says)
+      | else-is_none-2 w ↦ subst (λ (a : Agent). KeepsControl turned.over a.over turned.control a.control) (sym w.self-is) (control-same turned.over turned.over turned.control turned.control refl refl)
+    ] in
+    control-then old.over mid.over turned.over c.if-is_none-2.self.over old.control mid.control turned.control c.if-is_none-2.self.control first second third
+
+pub returns-else-moved-clause-channel : goal.returns-else-moved-clause-channel
+returns-else-moved-clause-channel c =
+    let old = c.args.self.now in
+    let mid = c.if-is_none.self in
+    let turned = c.turn_sessions.new.self in
+    let first : KeepsControl old.over mid.over old.control mid.control = elim c.if-is_none.branch [
+      | then-is_none+in_ok-listen w ↦
+          subst (λ (a : Agent). KeepsControl old.over a.over old.control a.control) (sym w.self-is)
+          (control-heard old.over w.listen.new.self.over old.control w.listen.new.self.control (c.is_none.ensures ∙ ap not w.if-is_none.true) w.in_ok-listen.ensures.bytes)
+      | else-is_none w ↦ subst (λ (a : Agent). KeepsControl old.over a.over old.control a.control) (sym w.self-is) (control-same old.over old.over old.control old.control refl refl)
+    ] in
+    let second = control-same mid.over turned.over mid.control turned.control c.turn_sessions.ensures.same.1.1 c.turn_sessions.ensures.same.0 in
+    let third : KeepsControl turned.over c.if-is_none-2.self.over turned.control c.if-is_none-2.self.control = elim c.if-is_none-2.branch [
+      | then-is_none-2+in_ok-say w ↦
+          subst (λ (a : Agent). KeepsControl turned.over a.over turned.control a.control) (sym w.self-is)
+          (control-said turned.over w.say.new.self.over (asked_at_most (late_count turned.slots)) turned.control w.say.new.self.control (c.is_none-2.ensures ∙ ap not w.if-is_none-2.true) w.in_ok-say.ensures.says)
+      | else-is_none-2 w ↦ subst (λ (a : Agent). KeepsControl turned.over a.over turned.control a.control) (sym w.self-is) (control-same turned.over turned.over turned.control turned.control refl refl)
+    ] in
+    control-then old.over mid.over turned.over c.if-is_none-2.self.over old.control mid.control turned.control c.if-is_none-2.self.control first second third

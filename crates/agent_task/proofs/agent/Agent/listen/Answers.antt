@@ -1,10 +1,11 @@
 use Rattle.std.proofs.Common.{◌∙◌, ap, sym, subst}
-use Rattle.vchan_rule.specs.Seated.{SeatedEnd, IsOpen}
+use Rattle.vchan_rule.specs.Seated.{SeatedEnd, view, IsOpen}
+use Rattle.channel_session.specs.Turning.{KeepsBytes}
 use Rattle.vchan_rule.specs.Ends.{IsSameEnd}
 use Rattle.call_queue.specs.Queue.{QueueState}
 use Rattle.agent_control.specs.declared.control.AgentControl.{AgentControl}
 use Rattle.agent_task.specs.Moving.{Listens}
-use Rattle.agent_task.proofs.MovingLaws.{listens-by}
+use Rattle.agent_task.proofs.MovingLaws.{listens-by, listens-keep}
 use Rattle.agent_task.proofs.PortLaws.{same-end-is, same-end-then}
 use Rattle.agent_task.proofs.RoundLaws.{still-rests}
 use Rattle.agent_task.proofs.agent.Agent.listen.Goals as goal
@@ -39,3 +40,9 @@ returns-clause-end c = λ up.
     let drained = c.drain.new.self.control.port.end in
     subst (λ (e : SeatedEnd). IsSameEnd old e) (sym (ap (λ (k : AgentControl). k.port.end) (c.settle.ensures.up up).0 ∙ c.hear_all.ensures.end))
     (same-end-then old c.greet.new.self.control.port.end drained c.greet.ensures.end c.drain.ensures.end)
+
+pub returns-clause-bytes : goal.returns-clause-bytes
+returns-clause-bytes c =
+    let settled = c.settle.new.self.control.port.end in
+    listens-keep c.args.self.now.control.port c.greet.new.self.control.port c.drain.new.self.control.port.end settled c.in_ok-drained.drained c.in_ok-greet.ensures.greets c.in_ok-greet.ensures.got c.in_ok-drained.ensures.drains
+    (subst (λ (e : SeatedEnd). KeepsBytes (view e) (view settled)) c.hear_all.ensures.end c.settle.ensures.bytes)

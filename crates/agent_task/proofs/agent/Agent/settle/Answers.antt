@@ -1,5 +1,8 @@
 use Rattle.std.proofs.Common.{sym, ◌∙◌, ap}
 use Rattle.agent_task.specs.Ending.{over_by}
+use Rattle.end_view.specs.EndView.{EndView}
+use Rattle.vchan_rule.specs.Seated.{view}
+use Rattle.channel_session.proofs.KeepingLaws.{keeps-all, same-bytes}
 use Rattle.agent_task.proofs.RoundLaws.{up-running, goes-on, is-over, running-rests}
 use Rattle.agent_task.proofs.agent.Agent.settle.Goals as goal
 
@@ -17,3 +20,10 @@ returns-in-Some-clause-retire c = running-rests _ (returns-in-Some-clause-runnin
 
 pub returns-in-None-clause-retire : goal.returns-in-None-clause-retire
 returns-in-None-clause-retire c = running-rests _ (returns-in-None-clause-running c)
+
+pub returns-in-Some-clause-bytes : goal.returns-in-Some-clause-bytes
+returns-in-Some-clause-bytes c =
+    same-bytes (view c.args.self.now.control.port.end) (view c.hang_up.new.self.end) (ap (λ (v : EndView). v.got) c.hang_up.ensures.view) (ap (λ (v : EndView). v.sent) c.hang_up.ensures.view)
+
+pub returns-in-None-clause-bytes : goal.returns-in-None-clause-bytes
+returns-in-None-clause-bytes c = keeps-all (view c.args.self.now.control.port.end)

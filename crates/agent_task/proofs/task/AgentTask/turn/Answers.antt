@@ -1,7 +1,7 @@
 use Rattle.std.proofs.Common.{◌≡◌, ◌≢◌, ◌∙◌, [], ap, subst, Option, None}
 use Rattle.std.specs.Prelude.{◌⊎◌}
 use Rattle.agent_task.specs.declared.agent.Agent.{Agent}
-use Rattle.agent_task.specs.Moving.{TurnsChannel}
+use Rattle.agent_task.specs.Moving.{TurnsChannel, KeepsChannel}
 use Rattle.agent_task.specs.State.{AgentState, state_in, TurnsEach}
 use Rattle.agent_task.proofs.TellingLaws.{tells-in}
 use Rattle.agent_task.proofs.task.AgentTask.turn.Goals as goal
@@ -19,4 +19,5 @@ returns-clause-goes c =
       subst (λ (o : Option Agent). ((state_in o).over ≡ None) ⊎ ((state_in o).opened ≢ [])) c.deref.ensures (c.over_at.ensures.none c.in-None.is),
       subst (λ (old : AgentState). TurnsEach old.sessions now.sessions) same c.in-Ok.ensures.turns,
       subst (λ (old : AgentState). now.over ≡ None → TurnsChannel now.pages old.channel now.channel) same c.in-Ok.ensures.channel,
+      subst (λ (old : AgentState). KeepsChannel old.over now.over old.channel now.channel) same c.in-Ok.ensures.kept,
     )
