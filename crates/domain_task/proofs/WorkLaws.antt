@@ -1,16 +1,28 @@
 -- What a turn says of a task raises the number of what the task has done, or is that of a turn that did nothing.
-use Rattle.std.proofs.Common.{◌≡◌, ℕ, ◌+◌, ◌-◌, ◌<◌, ◌≤◌, zero, suc, Bool, true, false, List, [], ◌∷◌, drop, length, Option, Some, None, refl, sym, ap, ◌∙◌, subst, arith, inl, inr}
-use Rattle.std.specs.Prelude.{◌⊎◌}
+use Rattle.std.proofs.Common.{◌≡◌, ◌≢◌, ℕ, ◌+◌, ◌-◌, ◌<◌, ◌≤◌, zero, suc, Bool, true, false, List, [], ◌∷◌, drop, length, Option, Some, None, refl, sym, ap, ◌∙◌, subst, arith, inl, inr}
+use Rattle.std.specs.Prelude.{◌⊎◌, is_some, IsSome}
 use Rattle.std.proofs.lemmas.Bool.{false≢true}
+use Rattle.qrexec_data.specs.declared.outcome.Outcome.{Outcome}
 use Rattle.scenario_file.specs.declared.acts.Act.{Act}
+use Rattle.end_view.specs.EndView.{EndView}
 use Rattle.vchan_rule.specs.Seated.{SeatedEnd, view}
 use Rattle.task_pool.specs.declared.task.Turn.{Turn}
 use Rattle.task_pool.specs.declared.task.Turn.TheVariants as turn
+use Rattle.task_duties.specs.declared.done.ControlEnd.{ControlEnd}
 use Rattle.task_duties.specs.Pairwise.{EachPair}
 use Rattle.task_duties.specs.Hostile.Given.{HostilePlan}
 use Rattle.control_port.specs.Port.{PortState}
+use Rattle.channel_session.specs.declared.turned.Turned.{Turned}
+use Rattle.channel_session.specs.declared.turned.Turned.TheVariants.{Moved, Quiet, Passed}
+use Rattle.channel_session.specs.Calling.{CallerAt, CallerTurns}
+use Rattle.channel_session.specs.Answering.{ServingAt, ServingTurns}
+use Rattle.channel_session.specs.Turning.{KeepsBytes, HasMoved as BytesMoved}
+use Rattle.channel_session.proofs.KeepingLaws.{caller-keeps, serving-keeps}
+use Rattle.data_slots.specs.Sessions.{Session, NotBegun, CallsWith, AwaitsPage, ServesWith, EndedWith, session_at, is_open, got_in, sent_in, TakesTurn}
+use Rattle.data_slots.specs.Sessions as by
 use Rattle.agent_control.specs.declared.control.AgentControl.{AgentControl}
-use Rattle.agent_task.specs.Moving.{HearsNothing, SaysNoMore, HasNotGreeted, WasNotGreeted, HasStopped, TurnsControl, TurnsChannel}
+use Rattle.agent_task.specs.State.{AgentState, TurnsEach}
+use Rattle.agent_task.specs.Moving.{HearsNothing, SaysNoMore, HasNotGreeted, WasNotGreeted, HasStopped, TurnsControl, TurnsChannel, KeepsChannel}
 use Rattle.broker_task.specs.Lines.{is_shut}
 use Rattle.broker_task.specs.Moving.{BrokerLine, HasMoved, IsQuiet, HasTurned}
 use Rattle.hostile_task.specs.Plan.{HostileState}
@@ -19,7 +31,7 @@ use Rattle.domain_task.specs.declared.done.TaskDone.{TaskDone}
 use Rattle.domain_task.specs.declared.task.Task.{Task}
 use Rattle.domain_task.specs.declared.task.Task.TheVariants.{Agent, Broker, Hostile}
 use Rattle.domain_task.specs.Turning.{TaskTurns}
-use Rattle.domain_task.specs.Working.{bytes_on, bytes_of, HearsAndSaysNothing, IsStill, one_if, work_with, work_with_all, Rests, turns_made, Works}
+use Rattle.domain_task.specs.Working.{bytes_on, bytes_of, HearsAndSaysNothing, IsStill, ChannelRests, IsUp, WasOver, SessionRests, CallerRests, ServingRests, PageCame, PageAwaited, HadNotBegun, HadEnded, AgentRests, one_if, work_in, work_in_all, work_of, work_with, work_with_all, Rests, turns_made, Works}
 
 more-or-same : (a b : ℕ) → a ≤ b → (a < b) ⊎ (a ≡ b)
 more-or-same zero zero within = inr refl
@@ -31,7 +43,7 @@ more-or-same (suc a) (suc b) within = lifted (more-or-same a b (omega (arith, wi
     lifted (inl less) = inl (omega (arith, less))
     lifted (inr same) = inr (ap (λ (n : ℕ). suc n) same)
 
--- ---- an agent
+-- ---- an agent, by its control channel
 
 says-got : (calls : ℕ) (old new : AgentControl) → SaysNoMore calls old new → (view new.port.end).got ≡ (view old.port.end).got
 says-got calls old new (HasNotGreeted is same) = ap (λ (c : AgentControl). (view c.port.end).got) same
@@ -43,8 +55,8 @@ says-sent calls old new (HasNotGreeted is same) = subst (λ (c : AgentControl). 
 says-sent calls old new (WasNotGreeted is same) = subst (λ (c : AgentControl). length (view old.port.end).sent ≤ length (view c.port.end).sent) (sym same) (omega arith)
 says-sent calls old new (HasStopped more sent stops) = sent
 
-control-works : (calls : ℕ) (old new : AgentControl) → TurnsControl calls old new → (bytes_on old.port.end ≤ bytes_on new.port.end) × ((bytes_on old.port.end < bytes_on new.port.end) ⊎ HearsAndSaysNothing old new)
-control-works calls old new t = by_found t.listens.found
+control-moves : (calls : ℕ) (old new : AgentControl) → TurnsControl calls old new → (bytes_on old.port.end < bytes_on new.port.end) ⊎ HearsAndSaysNothing old new
+control-moves calls old new t = by_found t.listens.found
   where
     got : length (view new.port.end).got ≡ length (view t.waiting.port.end).got
     got = ap (λ (l : List ℕ). length l) (says-got calls t.waiting new t.says)
@@ -53,21 +65,192 @@ control-works calls old new t = by_found t.listens.found
     sent = omega (arith, t.listens.sent, says-sent calls t.waiting new t.says)
 
     by_sent : (n : HearsNothing old.port t.waiting.port.end) → (length (view old.port.end).sent < length (view new.port.end).sent) ⊎ (length (view old.port.end).sent ≡ length (view new.port.end).sent)
-        → (bytes_on old.port.end ≤ bytes_on new.port.end) × ((bytes_on old.port.end < bytes_on new.port.end) ⊎ HearsAndSaysNothing old new)
-    by_sent n (inl more) = let none = ap (λ (l : List ℕ). length l) n.none in (omega (arith, got, none, more), inl (omega (arith, got, none, more)))
-    by_sent n (inr same) =
-        let none = ap (λ (l : List ℕ). length l) n.none in
-        (omega (arith, got, none, same), inr (record { heard = t.waiting.port.end; nothing = n; got = omega (arith, got, none); sent = sym same }))
+        → (bytes_on old.port.end < bytes_on new.port.end) ⊎ HearsAndSaysNothing old new
+    by_sent n (inl more) = let none = ap (λ (l : List ℕ). length l) n.none in inl (omega (arith, got, none, more))
+    by_sent n (inr same) = let none = ap (λ (l : List ℕ). length l) n.none in inr (record { heard = t.waiting.port.end; nothing = n; got = omega (arith, got, none); sent = sym same })
 
-    by_found : (length (view old.port.end).got < length (view t.waiting.port.end).got) ⊎ HearsNothing old.port t.waiting.port.end
-        → (bytes_on old.port.end ≤ bytes_on new.port.end) × ((bytes_on old.port.end < bytes_on new.port.end) ⊎ HearsAndSaysNothing old new)
-    by_found (inl more) = (omega (arith, got, sent, more), inl (omega (arith, got, sent, more)))
+    by_found : (length (view old.port.end).got < length (view t.waiting.port.end).got) ⊎ HearsNothing old.port t.waiting.port.end → (bytes_on old.port.end < bytes_on new.port.end) ⊎ HearsAndSaysNothing old new
+    by_found (inl more) = inl (omega (arith, got, sent, more))
     by_found (inr nothing) = by_sent nothing (more-or-same _ _ sent)
 
-channel-works : (pages : ℕ) (old new : Option AgentControl) → TurnsChannel pages old new → (bytes_of old ≤ bytes_of new) × ((bytes_of old < bytes_of new) ⊎ IsStill old new)
-channel-works pages (Some old) (Some new) t = control-works _ old new t
-channel-works pages (Some old) None t = absurd t
-channel-works pages None new t = absurd t
+channel-moves : (pages : ℕ) (old new : Option AgentControl) → TurnsChannel pages old new → (bytes_of old < bytes_of new) ⊎ IsStill old new
+channel-moves pages (Some old) (Some new) t = control-moves _ old new t
+channel-moves pages (Some old) None t = absurd t
+channel-moves pages None new t = absurd t
+
+channel-keeps : (was now : Option ControlEnd) (old new : Option AgentControl) → KeepsChannel was now old new → bytes_of old ≤ bytes_of new
+channel-keeps was now (Some old) (Some new) k = omega (arith, k.bytes.got, k.bytes.sent)
+channel-keeps was now (Some old) None k = absurd k
+channel-keeps was now None new k = absurd k
+
+channel-stays : (was now : Option ControlEnd) (old new : Option AgentControl) → KeepsChannel was now old new → (how : ControlEnd) → was ≡ Some how → now ≡ Some how
+channel-stays was now (Some old) (Some new) k how is = (k.over how is).0
+channel-stays was now (Some old) None k how is = absurd k
+channel-stays was now None new k how is = absurd k
+
+-- the bytes of the channel, and one more once it is over
+abbrev channel_work : AgentState → ℕ
+channel_work task = bytes_of task.channel + one_if (is_some task.over)
+
+channel-works : (old new : AgentState) → KeepsChannel old.over new.over old.channel new.channel → (new.over ≡ None → TurnsChannel new.pages old.channel new.channel)
+    → (channel_work old ≤ channel_work new) × ((channel_work old < channel_work new) ⊎ ChannelRests old new)
+channel-works old new keeps turns = by_over old.over new.over refl refl
+  where
+    bytes : bytes_of old.channel ≤ bytes_of new.channel
+    bytes = channel-keeps old.over new.over old.channel new.channel keeps
+
+    counted : (o : Option ControlEnd) (p : Option ControlEnd) → o ≡ p → one_if (is_some o) ≡ one_if (is_some p)
+    counted o p is = ap (λ (q : Option ControlEnd). one_if (is_some q)) is
+
+    by_moves : old.over ≡ None → new.over ≡ None → (bytes_of old.channel < bytes_of new.channel) ⊎ IsStill old.channel new.channel
+        → (channel_work old ≤ channel_work new) × ((channel_work old < channel_work new) ⊎ ChannelRests old new)
+    by_moves was is (inl more) =
+        let a = counted old.over None was in
+        let b = counted new.over None is in (omega (arith, bytes, a, b), inl (omega (arith, more, a, b)))
+    by_moves was is (inr still) =
+        let a = counted old.over None was in
+        let b = counted new.over None is in (omega (arith, bytes, a, b), inr (IsUp was is still))
+
+    by_over : (a b : Option ControlEnd) → old.over ≡ a → new.over ≡ b → (channel_work old ≤ channel_work new) × ((channel_work old < channel_work new) ⊎ ChannelRests old new)
+    by_over None None was is = by_moves was is (channel-moves new.pages old.channel new.channel (turns is))
+    by_over None (Some how) was is =
+        let a = counted old.over None was in
+        let b = counted new.over (Some how) is in (omega (arith, bytes, a, b), inl (omega (arith, bytes, a, b)))
+    by_over (Some how) b was is =
+        let stays = channel-stays old.over new.over old.channel new.channel keeps how was in
+        let a = counted old.over (Some how) was in
+        let b = counted new.over (Some how) stays in (omega (arith, bytes, a, b), inr (WasOver how was stays))
+
+-- ---- its sessions
+
+-- what a step makes of a number of work: it isn't lowered, and it is raised or `Rests` holds
+abbrev Works-or : ℕ → ℕ → Type 0 → Type 0
+Works-or old new Rests = (old ≤ new) × ((old < new) ⊎ Rests)
+
+not-moved : (turned : Turned) → (turned ≡ Quiet) ⊎ (turned ≡ Passed) → turned ≢ Moved
+not-moved turned (inl is) = λ e. never (sym is ∙ e)
+  where
+    never : Quiet ≡ Moved → ⊥
+    never e = cc
+not-moved turned (inr is) = λ e. never (sym is ∙ e)
+  where
+    never : Passed ≡ Moved → ⊥
+    never e = cc
+
+-- bytes came or went, and the call isn't over
+moved-bytes : (before now : EndView) (outcome : Option Outcome) → BytesMoved before now outcome → outcome ≡ None → length before.got + length before.sent < length now.got + length now.sent
+moved-bytes before now outcome moved none = by_more moved.more
+  where
+    by_more : (length before.got < length now.got) ⊎ (length before.sent < length now.sent) ⊎ IsSome outcome → length before.got + length before.sent < length now.got + length now.sent
+    by_more (inl more) = omega (arith, more, moved.kept.sent)
+    by_more (inr (inl more)) = omega (arith, more, moved.kept.got)
+    by_more (inr (inr over)) = absurd (false≢true (subst (λ (o : Option Outcome). IsSome o) none over))
+
+caller-moves : (turned : Turned) (before now : CallerAt) → CallerTurns turned before now → now.caller.replies.outcome ≡ None → (bytes_on before.end < bytes_on now.end) ⊎ (turned ≢ Moved)
+caller-moves Moved before now h none = inl (moved-bytes (view before.end) (view now.end) now.caller.replies.outcome h.0 none)
+caller-moves Quiet before now h none = inr (not-moved Quiet (inl refl))
+caller-moves Passed before now h none = inr (not-moved Passed (inr refl))
+
+serving-moves : (turned : Turned) (before now : ServingAt) → ServingTurns turned before now → now.serving.answering.outcome ≡ None → (bytes_on before.end < bytes_on now.end) ⊎ (turned ≢ Moved)
+serving-moves Moved before now h none = inl (moved-bytes (view before.end) (view now.end) now.serving.answering.outcome h.0 none)
+serving-moves Quiet before now h none = inr (not-moved Quiet (inl refl))
+serving-moves Passed before now h none = inr (not-moved Passed (inr refl))
+
+plus-none : (n : ℕ) → n + 0 ≡ n
+plus-none n = omega arith
+
+-- the number of a session that is open is that of its bytes
+open-worth : (session : Session) → is_open session ≡ true → work_in session ≡ length (got_in session) + length (sent_in session)
+open-worth NotBegun is = absurd (false≢true is)
+open-worth (CallsWith at) is = plus-none (bytes_on at.end)
+open-worth AwaitsPage is = refl
+open-worth (ServesWith at) is = plus-none (bytes_on at.end)
+open-worth (EndedWith end) is = absurd (false≢true is)
+
+-- a session that takes its turn
+session-works : (old new : Session) → TakesTurn old new → Works-or (work_in old) (work_in new) (SessionRests old new)
+session-works old new (by.HadNotBegun was is) =
+    let a : work_in old ≡ 0 = ap work_in was in
+    let b : work_in new ≡ 0 = ap work_in is in (omega (arith, a, b), inr (HadNotBegun was b))
+session-works old new (by.CallMade before now turned was is did none) = joined (ap work_in was) (ap work_in is) (caller-keeps turned before now did) (caller-moves turned before now did none)
+  where
+    joined : work_in old ≡ bytes_on before.end + 0 → work_in new ≡ bytes_on now.end + 0 → KeepsBytes (view before.end) (view now.end) → (bytes_on before.end < bytes_on now.end) ⊎ (turned ≢ Moved)
+        → Works-or (work_in old) (work_in new) (SessionRests old new)
+    joined a b keeps (inl more) = (omega (arith, a, b, more), inl (omega (arith, a, b, more)))
+    joined a b keeps (inr rests) = (omega (arith, a, b, keeps.got, keeps.sent), inr (CallerRests before now turned was is did rests))
+session-works old new (by.ServingMade before now turned was is did none) = joined (ap work_in was) (ap work_in is) (serving-keeps turned before now did) (serving-moves turned before now did none)
+  where
+    joined : work_in old ≡ bytes_on before.end + 0 → work_in new ≡ bytes_on now.end + 0 → KeepsBytes (view before.end) (view now.end) → (bytes_on before.end < bytes_on now.end) ⊎ (turned ≢ Moved)
+        → Works-or (work_in old) (work_in new) (SessionRests old new)
+    joined a b keeps (inl more) = (omega (arith, a, b, more), inl (omega (arith, a, b, more)))
+    joined a b keeps (inr rests) = (omega (arith, a, b, keeps.got, keeps.sent), inr (ServingRests before now turned was is did rests))
+session-works old new (by.PageCame before now turned was first is did none) = joined (ap work_in was) (ap work_in is) (serving-moves turned before now did none)
+  where
+    joined : work_in old ≡ 0 → work_in new ≡ bytes_on now.end + 0 → (bytes_on before.end < bytes_on now.end) ⊎ (turned ≢ Moved) → Works-or (work_in old) (work_in new) (SessionRests old new)
+    joined a b (inl more) = (omega (arith, a), inl (omega (arith, a, b, more)))
+    joined a b (inr rests) = (omega (arith, a), inr (PageCame before now turned was first is did rests))
+session-works old new (by.PageAwaited was is) =
+    let a : work_in old ≡ 0 = ap work_in was in
+    let b : work_in new ≡ 0 = ap work_in is in (omega (arith, a, b), inr (PageAwaited was is))
+session-works old new (by.IsOver ends) =
+    let a = open-worth old ends.was_open in
+    let b : work_in new ≡ length ends.end.got + length ends.end.sent + 1 = ap work_in ends.is in
+    let got : length (got_in new) ≡ length ends.end.got = ap (λ (s : Session). length (got_in s)) ends.is in
+    let sent : length (sent_in new) ≡ length ends.end.sent = ap (λ (s : Session). length (sent_in s)) ends.is in
+    (omega (arith, a, b, got, sent, ends.keeps.got, ends.keeps.sent), inl (omega (arith, a, b, got, sent, ends.keeps.got, ends.keeps.sent)))
+session-works old new (by.WasOver end was is) =
+    let same : work_in new ≡ work_in old = ap work_in (is ∙ sym was) in (omega (arith, same), inr (HadEnded end was is))
+
+-- one that hadn't begun before the turn may begin in it
+begun-works : (new : Session) → Works-or (work_in NotBegun) (work_in new) (SessionRests NotBegun new)
+begun-works new = (omega arith, by_work (more-or-same 0 (work_in new) (omega arith)))
+  where
+    by_work : (0 < work_in new) ⊎ (0 ≡ work_in new) → (work_in NotBegun < work_in new) ⊎ SessionRests NotBegun new
+    by_work (inl more) = inl more
+    by_work (inr none) = inr (HadNotBegun refl (sym none))
+
+at-works : (old new : Session) → (old ≢ NotBegun → TakesTurn old new) → Works-or (work_in old) (work_in new) (SessionRests old new)
+at-works NotBegun new takes = begun-works new
+at-works (CallsWith at) new takes = session-works (CallsWith at) new (takes (λ e. cc))
+at-works AwaitsPage new takes = session-works AwaitsPage new (takes (λ e. cc))
+at-works (ServesWith at) new takes = session-works (ServesWith at) new (takes (λ e. cc))
+at-works (EndedWith end) new takes = session-works (EndedWith end) new (takes (λ e. cc))
+
+abbrev AllRest : List Session → List Session → Type 0
+AllRest old new = (i : ℕ) → SessionRests (session_at old i) (session_at new i)
+
+-- the first session and all others
+joined-works : (a b m n : ℕ) (One All Both : Type 0) → (One → All → Both) → Works-or a b One → Works-or m n All → Works-or (a + m) (b + n) Both
+joined-works a b m n One All Both both one all = (omega (arith, one.0, all.0), by_parts one.1 all.1)
+  where
+    by_parts : (a < b) ⊎ One → (m < n) ⊎ All → (a + m < b + n) ⊎ Both
+    by_parts (inl more) rest = inl (omega (arith, more, all.0))
+    by_parts (inr first) (inl more) = inl (omega (arith, more, one.0))
+    by_parts (inr first) (inr rest) = inr (both first rest)
+
+rest-both : (old new : List Session) (a b : Session) → session_at old 0 ≡ a → session_at new 0 ≡ b → (olds news : List Session) → ((i : ℕ) → session_at old (suc i) ≡ session_at olds i) → ((i : ℕ) → session_at new (suc i) ≡ session_at news i)
+    → SessionRests a b → AllRest olds news → AllRest old new
+rest-both old new a b first second olds news behind after one all zero = subst (λ (s : Session). SessionRests s (session_at new 0)) (sym first) (subst (λ (s : Session). SessionRests a s) (sym second) one)
+rest-both old new a b first second olds news behind after one all (suc i) =
+    subst (λ (s : Session). SessionRests s (session_at new (suc i))) (sym (behind i)) (subst (λ (s : Session). SessionRests (session_at olds i) s) (sym (after i)) (all i))
+
+sessions-work : (old new : List Session) → ((i : ℕ) → session_at old i ≢ NotBegun → TakesTurn (session_at old i) (session_at new i)) → Works-or (work_in_all old) (work_in_all new) (AllRest old new)
+sessions-work [] [] takes = (omega arith, inr (λ i. HadNotBegun refl refl))
+sessions-work [] (y ∷ new) takes =
+    joined-works 0 (work_in y) 0 (work_in_all new) _ _ _ (rest-both [] (y ∷ new) NotBegun y refl refl [] new (λ i. refl) (λ i. refl))
+    (begun-works y) (sessions-work [] new (λ i begun. takes (suc i) begun))
+sessions-work (x ∷ old) [] takes =
+    joined-works (work_in x) 0 (work_in_all old) 0 _ _ _ (rest-both (x ∷ old) [] x NotBegun refl refl old [] (λ i. refl) (λ i. refl))
+    (at-works x NotBegun (takes 0)) (sessions-work old [] (λ i begun. takes (suc i) begun))
+sessions-work (x ∷ old) (y ∷ new) takes =
+    joined-works (work_in x) (work_in y) (work_in_all old) (work_in_all new) _ _ _ (rest-both (x ∷ old) (y ∷ new) x y refl refl old new (λ i. refl) (λ i. refl))
+    (at-works x y (takes 0)) (sessions-work old new (λ i begun. takes (suc i) begun))
+
+agent-works : (old new : AgentState) → TurnsEach old.sessions new.sessions → KeepsChannel old.over new.over old.channel new.channel → (new.over ≡ None → TurnsChannel new.pages old.channel new.channel)
+    → Works-or (work_of old) (work_of new) (AgentRests old new)
+agent-works old new takes keeps turns =
+    joined-works (channel_work old) (channel_work new) (work_in_all old.sessions) (work_in_all new.sessions) _ _ _ (λ channel sessions. record { channel = channel; sessions = sessions })
+    (channel-works old new keeps turns) (sessions-work old.sessions new.sessions takes)
 
 -- ---- the broker
 
@@ -126,12 +309,12 @@ turns-made-more before now goes =
 
 pub turns_work : (before : Task) (result : Turn Task TaskDone) → TaskTurns before result → Works before result
 turns_work before (turn.Done done) t = tt
-turns_work (Agent before) (turn.Again (Agent now)) t = λ up. channel-works now.pages before.channel now.channel (t.1.2 up)
+turns_work (Agent before) (turn.Again (Agent now)) t = agent-works before now t.1.1 t.1.3 t.1.2
 turns_work (Agent before) (turn.Again (Broker now)) t = absurd t
 turns_work (Agent before) (turn.Again (Hostile now)) t = absurd t
-turns_work (Broker before) (turn.Again (Broker now)) t = λ counted. lines-work before.lines now.lines t.1
+turns_work (Broker before) (turn.Again (Broker now)) t = lines-work before.lines now.lines t.1
 turns_work (Broker before) (turn.Again (Agent now)) t = absurd t
 turns_work (Broker before) (turn.Again (Hostile now)) t = absurd t
-turns_work (Hostile before) (turn.Again (Hostile now)) t = λ counted. let more = turns-made-more before now t in (omega (arith, more), inl more)
+turns_work (Hostile before) (turn.Again (Hostile now)) t = let more = turns-made-more before now t in (omega (arith, more), inl more)
 turns_work (Hostile before) (turn.Again (Agent now)) t = absurd t
 turns_work (Hostile before) (turn.Again (Broker now)) t = absurd t

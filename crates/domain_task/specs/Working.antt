@@ -1,11 +1,20 @@
 -- How much a task has done, as a number that no turn lowers, and what a turn is that doesn't raise it.
 -- Source: this project's own.
-use Rattle.std.specs.Prelude.{◌≡◌, ◌⊎◌, ℕ, ◌+◌, ◌-◌, ◌<◌, ◌≤◌, Bool, true, false, List, [], ◌∷◌, length, Option, Some, None}
+use Rattle.std.specs.Prelude.{◌≡◌, ◌≢◌, ◌⊎◌, ℕ, ◌+◌, ◌-◌, ◌<◌, ◌≤◌, Bool, true, false, List, [], ◌∷◌, length, Option, Some, None, is_some}
+use Rattle.end_view.specs.EndView.{EndView}
 use Rattle.vchan_rule.specs.Seated.{SeatedEnd, view}
 use Rattle.task_pool.specs.declared.task.Turn.{Turn}
 use Rattle.task_pool.specs.declared.task.Turn.TheVariants as turn
 use Rattle.task_duties.specs.Pairwise.{EachPair}
+use Rattle.task_duties.specs.declared.done.ControlEnd.{ControlEnd}
+use Rattle.channel_session.specs.declared.turned.Turned.{Turned}
+use Rattle.channel_session.specs.declared.turned.Turned.TheVariants.{Moved}
+use Rattle.channel_session.specs.Calling.{CallerAt, CallerTurns}
+use Rattle.channel_session.specs.Answering.{ServingAt, ServingTurns}
+use Rattle.channel_session.specs.Turning.{first_pace}
+use Rattle.data_slots.specs.Sessions.{Session, NotBegun, CallsWith, AwaitsPage, ServesWith, EndedWith, session_at, got_in, sent_in, has_ended}
 use Rattle.agent_control.specs.declared.control.AgentControl.{AgentControl}
+use Rattle.agent_task.specs.State.{AgentState}
 use Rattle.agent_task.specs.Moving.{HearsNothing}
 use Rattle.broker_task.specs.Lines.{is_shut}
 use Rattle.broker_task.specs.Moving.{BrokerLine, IsQuiet}
@@ -15,7 +24,11 @@ use Rattle.domain_task.specs.declared.done.TaskDone.{TaskDone}
 use Rattle.domain_task.specs.declared.task.Task.{Task}
 use Rattle.domain_task.specs.declared.task.Task.TheVariants.{Agent, Broker, Hostile}
 
--- ---- an agent, by its control channel
+abbrev pub one_if : Bool → ℕ
+one_if true = 1
+one_if false = 0
+
+-- ---- an agent, by its control channel and its sessions
 
 -- the bytes that came and went on an end
 abbrev pub bytes_on : SeatedEnd → ℕ
@@ -25,7 +38,18 @@ abbrev pub bytes_of : Option AgentControl → ℕ
 bytes_of (Some control) = bytes_on control.port.end
 bytes_of None = 0
 
--- nothing was heard on it, and nothing said: the broker was there, and had sent nothing more
+-- what came and went in a session, and one more once it is over
+abbrev pub work_in : Session → ℕ
+work_in session = length (got_in session) + length (sent_in session) + one_if (has_ended session)
+
+abbrev pub work_in_all : List Session → ℕ
+work_in_all [] = 0
+work_in_all (session ∷ sessions) = work_in session + work_in_all sessions
+
+abbrev pub work_of : AgentState → ℕ
+work_of task = bytes_of task.channel + one_if (is_some task.over) + work_in_all task.sessions
+
+-- nothing was heard on the channel, and nothing said: the broker was there, and had sent nothing more
 pub record HearsAndSaysNothing (old new : AgentControl) : Type 0 where
   pub heard : SeatedEnd
   pub nothing : HearsNothing old.port heard
@@ -36,11 +60,26 @@ abbrev pub IsStill : Option AgentControl → Option AgentControl → Type 0
 IsStill (Some old) (Some new) = HearsAndSaysNothing old new
 IsStill _ _ = ⊥
 
--- ---- the broker, by its domains
+-- or the channel had been over before the turn
+pub data ChannelRests (old new : AgentState) : Type 0 where
+  IsUp : old.over ≡ None → new.over ≡ None → IsStill old.channel new.channel → ChannelRests old new
+  WasOver : (how : ControlEnd) → old.over ≡ Some how → new.over ≡ Some how → ChannelRests old new
 
-abbrev pub one_if : Bool → ℕ
-one_if true = 1
-one_if false = 0
+-- a session moved nothing in a turn that it made or passed over; or the page that it awaits didn't come; or it hadn't begun before the turn, and has moved nothing since;
+-- or it had been over
+pub data SessionRests (old new : Session) : Type 0 where
+  CallerRests : (before now : CallerAt) (turned : Turned) → old ≡ CallsWith before → new ≡ CallsWith now → CallerTurns turned before now → turned ≢ Moved → SessionRests old new
+  ServingRests : (before now : ServingAt) (turned : Turned) → old ≡ ServesWith before → new ≡ ServesWith now → ServingTurns turned before now → turned ≢ Moved → SessionRests old new
+  PageCame : (before now : ServingAt) (turned : Turned) → old ≡ AwaitsPage → before.pace ≡ first_pace → new ≡ ServesWith now → ServingTurns turned before now → turned ≢ Moved → SessionRests old new
+  PageAwaited : old ≡ AwaitsPage → new ≡ AwaitsPage → SessionRests old new
+  HadNotBegun : old ≡ NotBegun → work_in new ≡ 0 → SessionRests old new
+  HadEnded : (end : EndView) → old ≡ EndedWith end → new ≡ EndedWith end → SessionRests old new
+
+pub record AgentRests (old new : AgentState) : Type 0 where
+  pub channel : ChannelRests old new
+  pub sessions : (i : ℕ) → SessionRests (session_at old.sessions i) (session_at new.sessions i)
+
+-- ---- the broker, by its domains
 
 -- what was heard from a domain and said to it, and one more once it was dropped
 abbrev pub work_with : BrokerLine → ℕ
@@ -63,23 +102,17 @@ turns_made task = all_turns task.plan.acts - turns_left task.plan.acts task.acts
 -- ---- any task
 
 abbrev pub work_done : Task → ℕ
-work_done (Agent task) = bytes_of task.channel
+work_done (Agent task) = work_of task
 work_done (Broker task) = work_with_all task.lines
 work_done (Hostile task) = turns_made task
 
 -- a turn in which nothing was done. A hostile domain makes none: each of its turns is one of its acts
 abbrev pub DoesNothing : Task → Task → Type 0
-DoesNothing (Agent before) (Agent now) = IsStill before.channel now.channel
+DoesNothing (Agent before) (Agent now) = AgentRests before now
 DoesNothing (Broker before) (Broker now) = EachPair Rests before.lines now.lines
 DoesNothing before now = ⊥
 
--- the work of an agent is counted while its control channel is up
-abbrev pub IsCounted : Task → Type 0
-IsCounted (Agent task) = task.over ≡ None
-IsCounted (Broker task) = Unit {0}
-IsCounted (Hostile task) = Unit {0}
-
 -- a turn undoes nothing, and either it did something more or it did nothing
 abbrev pub Works : Task → Turn Task TaskDone → Type 0
-Works before (turn.Again now) = IsCounted now → (work_done before ≤ work_done now) × ((work_done before < work_done now) ⊎ DoesNothing before now)
+Works before (turn.Again now) = (work_done before ≤ work_done now) × ((work_done before < work_done now) ⊎ DoesNothing before now)
 Works before (turn.Done done) = Unit {0}

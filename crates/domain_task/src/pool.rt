@@ -20,7 +20,8 @@ impl<'p> PoolTask for Task<'p> {
 
     /// Makes one turn. Beside what the task owes it tells what its own crate tells of a turn: that the task goes
     /// on as one of its kind, and that something moved, or why nothing did. No turn lowers the number of what the
-    /// task has done, and one that doesn't raise it did nothing.
+    /// task has done, of an agent on its control channel and in all its sessions; and a turn that doesn't raise
+    /// it did nothing.
     #[tactic(auto, using(crate::proofs::WorkLaws::turns_work))]
     fn turn(self) -> Turn<Self>
         ensures pays { Pays Owes self.entry result }
