@@ -5,13 +5,12 @@ use Rattle.std.proofs.lemmas.Bool.{false≢true}
 use Rattle.qrexec_data.specs.declared.outcome.Outcome.{Outcome}
 use Rattle.scenario_file.specs.declared.acts.Act.{Act}
 use Rattle.end_view.specs.EndView.{EndView}
-use Rattle.vchan_rule.specs.Seated.{SeatedEnd, view}
+use Rattle.vchan_rule.specs.Seated.{view}
 use Rattle.task_pool.specs.declared.task.Turn.{Turn}
 use Rattle.task_pool.specs.declared.task.Turn.TheVariants as turn
 use Rattle.task_duties.specs.declared.done.ControlEnd.{ControlEnd}
 use Rattle.task_duties.specs.Pairwise.{EachPair}
 use Rattle.task_duties.specs.Hostile.Given.{HostilePlan}
-use Rattle.control_port.specs.Port.{PortState}
 use Rattle.channel_session.specs.declared.turned.Turned.{Turned}
 use Rattle.channel_session.specs.declared.turned.Turned.TheVariants.{Moved, Quiet, Passed}
 use Rattle.channel_session.specs.Calling.{CallerAt, CallerTurns}
