@@ -2,3 +2,4 @@ mod PageLaws
 mod SessionLaws
 mod TurnLaws
 mod ControlLaws
+mod SayingLaws

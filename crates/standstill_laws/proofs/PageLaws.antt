@@ -112,7 +112,7 @@ ring-lawful core l Right = l.right.lawful
 order-is : (core : Core) (who : Role) (e : Standing) → (e.role ≡ who) × (e.orders ≡ core.orders) → read_order e ≡ order_of core.orders (read_ring who)
 order-is core who e is = ap (λ (o : Orders). order_of o (read_ring e.role)) is.1 ∙ ap (λ (r : Role). order_of core.orders (read_ring r)) is.0
 
-write-order-is : (core : Core) (who : Role) (e : Standing) → (e.role ≡ who) × (e.orders ≡ core.orders) → write_order e ≡ order_of core.orders (written_ring who)
+pub write-order-is : (core : Core) (who : Role) (e : Standing) → (e.role ≡ who) × (e.orders ≡ core.orders) → write_order e ≡ order_of core.orders (written_ring who)
 write-order-is core who e is = ap (λ (o : Orders). order_of o (written_ring e.role)) is.1 ∙ ap (λ (r : Role). order_of core.orders (written_ring r)) is.0
 
 -- all that was sent was got, where the reader's drain found nothing

@@ -2,3 +2,4 @@ pub mod Page
 pub mod Session
 pub mod Turns
 pub mod Control
+pub mod Saying

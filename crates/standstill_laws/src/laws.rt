@@ -3,6 +3,7 @@ ghost use Rattle.standstill_laws.specs.Page.{PageStandsStill};
 ghost use Rattle.standstill_laws.specs.Session.{SessionsGoOn};
 ghost use Rattle.standstill_laws.specs.Turns.{NoSessionStandsStill};
 ghost use Rattle.standstill_laws.specs.Control.{AllIsHeard};
+ghost use Rattle.standstill_laws.specs.Saying.{AgentsHaveSaidAll, BrokerHasSaidAll};
 
 /// If both ends of a page between honest ends drained it and found nothing, and no index changed since, then
 /// each has got all that the other sent, and no room that a write or a send lacked is still lacking.
@@ -26,4 +27,17 @@ pub fn no_session_stands_still()
 /// its greeting, and nothing was wrong with it. A side whose peer hasn't greeted has heard nothing.
 pub fn all_is_heard()
     ensures { AllIsHeard }
+{}
+
+/// Where its control page stands still, an agent that said no more has said the end of each session that is
+/// over, and its next call isn't due, or it asked for as many calls as it might in one turn. Messages fit
+/// the ring.
+pub fn agents_have_said_all()
+    ensures { AgentsHaveSaidAll }
+{}
+
+/// Where the control page of a domain stands still, the broker has sent it each letter that isn't held, if
+/// the domain has greeted. Messages fit the ring.
+pub fn broker_has_said_all()
+    ensures { BrokerHasSaidAll }
 {}

@@ -1,0 +1,83 @@
+-- Nothing that may be said is left unsaid where a control page stands still.
+use Rattle.std.proofs.Common.{◌≡◌, ◌≢◌, ℕ, ◌+◌, ◌<◌, ◌≤◌, List, [], length, Bool, true, Option, Some, None, inl, inr, refl, subst, sym, ap, ◌∙◌, arith}
+use Rattle.std.specs.Prelude.{◌⊎◌}
+use Rattle.ring_words.specs.Rings.{size}
+use Rattle.ring_words.specs.Page.{order_of}
+use Rattle.ring_words.specs.declared.order.Order.{Order}
+use Rattle.ring_words.specs.declared.page.Role.{Role}
+use Rattle.ring_words.specs.declared.page.Role.TheVariants.{Server, Client}
+use Rattle.vchan_protocol.specs.declared.call.Answer.TheVariants.{PeerClosed as TellsClosed, Space}
+use Rattle.vchan_protocol.specs.declared.call.EndState.TheVariants.{Shut}
+use Rattle.vchan_protocol.specs.Table.Ends.{Standing, written_ring, write_order}
+use Rattle.vchan_protocol.specs.Answering.Loads.{Loads, Pair, loads_of, last_pair}
+use Rattle.vchan_protocol.specs.Answering.Causes.{SendCause, FoundShut, send_closed, send_no_room, sent_all}
+use Rattle.vchan_protocol.specs.History.Core.{Core, side_of, standing_of}
+use Rattle.vchan_rule.specs.Seated.{SeatedEnd}
+use Rattle.vchan_packet.specs.Packet.{FailsToSend, send_told, most_asked}
+use Rattle.vchan_packet.specs.declared.SendAnswer.{SendAnswer}
+use Rattle.vchan_packet.specs.declared.SendAnswer.TheVariants.{Sent, NoRoom, PeerClosed}
+use Rattle.call_queue.specs.Queue.{IsHeld}
+use Rattle.agent_control.specs.declared.control.AgentControl.{AgentControl}
+use Rattle.agent_control.specs.Stopping.{FindsLess, Stops, AtAnEnd, AtTheLimit, AtATrigger, HoldsBack, NothingIsDue, HasLessRoom, DidNotGo}
+use Rattle.broker_task.specs.Moving.{SaysNothing, has_not_greeted, all_held, greeting_waits, letter_waits}
+use Rattle.standstill_laws.specs.Page.{peer_of, IsStanding, HasNoRoom, HasLess, StandsStill}
+use Rattle.standstill_laws.specs.Saying.{Fits, AnswerStill, FailsStill, LessStill, HoldsBackStill, StopsStill, SaysNothingStill, IsStill, AgentsHaveSaidAll, BrokerHasSaidAll}
+use Rattle.standstill_laws.proofs.PageLaws.{stands-still, write-order-is}
+
+page-of : (core : Core) → IsStill core → StandsStill core
+page-of core p = stands-still core p.lawful p.server_found p.client_found
+
+there : (core : Core) → IsStill core → (who : Role) → (side_of core (peer_of who)).state ≢ Shut
+there core p Server = p.client_opened
+there core p Client = p.server_opened
+
+shut-by : (e : Standing) (n : ℕ) (loads : Loads) → SendCause e n loads TellsClosed → FoundShut loads
+shut-by e n loads (send_closed shut is) = shut
+shut-by e n loads (send_no_room last last_is open_then less is) = cc
+shut-by e n loads (sent_all last last_is open_then enough is) = cc
+
+fits-order : (core : Core) (who : Role) (e : Standing) (n count : ℕ) → IsStanding core who e → Fits core who count → n ≤ count → n ≤ size (write_order e)
+fits-order core who e n count stood fits less = subst (λ (o : Order). n ≤ size o) (sym (write-order-is core who e stood)) (omega (arith, fits, less))
+
+-- no send of what fits the ring is still failing
+fails-never : (core : Core) → IsStill core → (who : Role) (bytes : List ℕ) (before now : SeatedEnd) (f : FailsToSend bytes before now) → ¬ FailsStill core who bytes before now f
+fails-never core p who bytes before now f s = by_answer f.answer f.refused f.cause s.found
+  where
+    begun : Standing
+    begun = standing_of before.side
+
+    loads : Loads
+    loads = loads_of (standing_of before.side) now.side.trail
+
+    by_answer : (answer : SendAnswer) → answer ≢ Sent → SendCause begun (most_asked bytes) loads (send_told (most_asked bytes) answer) → AnswerStill core who loads answer → ⊥
+    by_answer Sent refused cause found = refused refl
+    by_answer (NoRoom prod cons) refused cause found =
+        let fits : most_asked bytes ≤ size (write_order begun) = fits-order core who begun (most_asked bytes) (length bytes) s.stood s.fits (omega arith) in
+        (page-of core p).has_room who (record { begun = begun; stood = s.stood; loads = loads; prod = prod; cons = cons; lacks = HasNoRoom (most_asked bytes) fits cause; still = found })
+    by_answer PeerClosed refused cause found =
+        there core p who ((page-of core p).is_shut who (record { loads = loads; shut = shut-by begun (most_asked bytes) loads cause; still = found }))
+
+less-never : (core : Core) → IsStill core → (who : Role) (count : ℕ) (before now : SeatedEnd) (f : FindsLess before now count) → ¬ LessStill core who count before now f
+less-never core p who count before now f s =
+    (page-of core p).has_room who (record {
+      begun = standing_of before.side;
+      stood = s.stood;
+      loads = loads_of (standing_of before.side) now.side.trail;
+      prod = s.last.prod;
+      cons = s.last.cons;
+      lacks = HasLess count f.room (fits-order core who (standing_of before.side) count count s.stood s.fits (omega arith)) f.less s.last_is f.cause;
+      still = s.found;
+    })
+
+pub agents-have-said-all : AgentsHaveSaidAll
+agents-have-said-all core calls old new p (AtAnEnd w) still = absurd (fails-never core p Server _ w.before new.port.end w.fails still)
+agents-have-said-all core calls old new p (AtTheLimit none next) still = (none, inr next)
+agents-have-said-all core calls old new p (AtATrigger none (NothingIsDue held)) still = (none, inl held)
+agents-have-said-all core calls old new p (AtATrigger none (HasLessRoom w)) still = absurd (less-never core p Server _ w.before new.port.end w.finds still)
+agents-have-said-all core calls old new p (AtATrigger none (DidNotGo w)) still = absurd (fails-never core p Server _ w.before new.port.end w.finds still)
+
+pub broker-has-said-all : BrokerHasSaidAll
+broker-has-said-all core line old new p (has_not_greeted none same) still = inl none
+broker-has-said-all core line old new p (all_held greets held same) still = inr (greets, held)
+broker-has-said-all core line old new p (greeting_waits none same fails) still = absurd (fails-never core p Client _ old new fails still)
+broker-has-said-all core line old new p (letter_waits at l greets is ready before same fails) still = absurd (fails-never core p Client _ old new fails still)
