@@ -1,9 +1,8 @@
 -- At a standstill of a control page each side has heard all that the other said.
-use Rattle.std.proofs.Common.{◌≡◌, ℕ, ◌<◌, ◌≤◌, ◌^◌, List, [], ◌∷◌, map, Option, Some, None, Bool, true, false, refl, subst, sym, ap, ◌∙◌, arith}
+use Rattle.std.proofs.Common.{◌≡◌, ℕ, List, [], ◌∷◌, map, Some, None, Bool, true, false, refl, subst, sym, ap, ◌∙◌, arith}
 use Rattle.std.specs.Prelude.{min, nat_lt}
 use Rattle.std.specs.List.{flat_map}
 use Rattle.std.proofs.lemmas.Bool.Decides.{nat_tests}
-use Rattle.ring_words.specs.declared.page.Role.TheVariants.{Server, Client}
 use Rattle.vchan_protocol.specs.declared.side.Side.{Side}
 use Rattle.qrexec_frame.specs.declared.channel.Channel.TheVariants.{Control}
 use Rattle.qrexec_frame.specs.declared.message.Message.{Message}
@@ -23,7 +22,7 @@ use Rattle.control_port.specs.Talking.{may_say, may_hear}
 use Rattle.control_port.specs.declared.talk.Talker.{Talker}
 use Rattle.control_port.specs.declared.talk.Talker.TheVariants.{Agent, Broker}
 use Rattle.standstill_laws.specs.Page.{StandsStill}
-use Rattle.standstill_laws.specs.Control.{Talks, Hears, AllIsHeard}
+use Rattle.standstill_laws.specs.Control.{Hears, AllIsHeard}
 use Rattle.standstill_laws.proofs.PageLaws.{stands-still}
 
 -- ---- a stream of messages that may be said

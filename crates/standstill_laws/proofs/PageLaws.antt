@@ -22,6 +22,7 @@ use Rattle.vchan_protocol.specs.History.Core.{Core, side_of, writer_of, reader_o
 use Rattle.vchan_protocol.specs.History.Page.{live_word}
 use Rattle.vchan_protocol.specs.Honest.Lawful.{Lawful}
 use Rattle.vchan_protocol.specs.Honest.RingLaw.{IsLawful, IsPrefixOf, channel_of, index_at, word_at}
+use Rattle.vchan_protocol.proofs.Honest.ChannelLaws.{prefix_within}
 use Rattle.standstill_laws.specs.Page.{peer_of, FoundNothing, RoomLacks, IsFull, HasNoRoom, HasLess, FoundNoRoom, FoundPeerShut, PageStandsStill}
 
 -- ---- the numbers of a ring
@@ -47,9 +48,6 @@ whole-prefix xs ys h long = go h.0 h.1
     go : (rest : List ℕ) → xs ++ rest ≡ ys → xs ≡ ys
     go [] e = sym (append-nil xs) ∙ e
     go (x ∷ rest) e = absurd (omega (arith, long, ap (λ (l : List ℕ). length l) e, length-append xs (x ∷ rest)))
-
-prefix-fits : (xs ys : List ℕ) → IsPrefixOf xs ys → length xs ≤ length ys
-prefix-fits xs ys h = omega (arith, ap (λ (l : List ℕ). length l) h.1, length-append xs h.0)
 
 -- ---- what a call found
 
@@ -126,7 +124,7 @@ all-got core who l f =
     ap (λ (n : ℕ). ready n (index_at core.start (length got)) (order_of core.orders (read_ring who))) (sym (f.still.0 ∙ r.prod))
     ∙ ap (λ (n : ℕ). ready f.prod n (order_of core.orders (read_ring who))) (sym (f.still.1 ∙ r.cons))
     ∙ ap (λ (o : Order). ready f.prod f.cons o) (sym (order-is core who f.begun f.stood)) ∙ none in
-    let past = prefix-fits got sent r.prefix in
+    let past = prefix_within got sent r.prefix in
     let is = ready-is core.start (length got) (length sent) (order_of core.orders (read_ring who)) past r.fits in
     whole-prefix got sent r.prefix (omega (arith, here, is))
 

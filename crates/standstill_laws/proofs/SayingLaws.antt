@@ -1,27 +1,23 @@
 -- Nothing that may be said is left unsaid where a control page stands still.
-use Rattle.std.proofs.Common.{◌≡◌, ◌≢◌, ℕ, ◌+◌, ◌<◌, ◌≤◌, List, [], length, Bool, true, Option, Some, None, inl, inr, refl, subst, sym, ap, ◌∙◌, arith}
-use Rattle.std.specs.Prelude.{◌⊎◌}
+use Rattle.std.proofs.Common.{◌≢◌, ℕ, ◌≤◌, List, length, inl, inr, refl, subst, sym, arith}
 use Rattle.ring_words.specs.Rings.{size}
-use Rattle.ring_words.specs.Page.{order_of}
 use Rattle.ring_words.specs.declared.order.Order.{Order}
 use Rattle.ring_words.specs.declared.page.Role.{Role}
 use Rattle.ring_words.specs.declared.page.Role.TheVariants.{Server, Client}
-use Rattle.vchan_protocol.specs.declared.call.Answer.TheVariants.{PeerClosed as TellsClosed, Space}
+use Rattle.vchan_protocol.specs.declared.call.Answer.TheVariants.{PeerClosed as TellsClosed}
 use Rattle.vchan_protocol.specs.declared.call.EndState.TheVariants.{Shut}
-use Rattle.vchan_protocol.specs.Table.Ends.{Standing, written_ring, write_order}
-use Rattle.vchan_protocol.specs.Answering.Loads.{Loads, Pair, loads_of, last_pair}
+use Rattle.vchan_protocol.specs.Table.Ends.{Standing, write_order}
+use Rattle.vchan_protocol.specs.Answering.Loads.{Loads, loads_of}
 use Rattle.vchan_protocol.specs.Answering.Causes.{SendCause, FoundShut, send_closed, send_no_room, sent_all}
 use Rattle.vchan_protocol.specs.History.Core.{Core, side_of, standing_of}
 use Rattle.vchan_rule.specs.Seated.{SeatedEnd}
 use Rattle.vchan_packet.specs.Packet.{FailsToSend, send_told, most_asked}
 use Rattle.vchan_packet.specs.declared.SendAnswer.{SendAnswer}
 use Rattle.vchan_packet.specs.declared.SendAnswer.TheVariants.{Sent, NoRoom, PeerClosed}
-use Rattle.call_queue.specs.Queue.{IsHeld}
-use Rattle.agent_control.specs.declared.control.AgentControl.{AgentControl}
-use Rattle.agent_control.specs.Stopping.{FindsLess, Stops, AtAnEnd, AtTheLimit, AtATrigger, HoldsBack, NothingIsDue, HasLessRoom, DidNotGo}
-use Rattle.broker_task.specs.Moving.{SaysNothing, has_not_greeted, all_held, greeting_waits, letter_waits}
+use Rattle.agent_control.specs.Stopping.{FindsLess, AtAnEnd, AtTheLimit, AtATrigger, NothingIsDue, HasLessRoom, DidNotGo}
+use Rattle.broker_task.specs.Moving.{has_not_greeted, all_held, greeting_waits, letter_waits}
 use Rattle.standstill_laws.specs.Page.{peer_of, IsStanding, HasNoRoom, HasLess, StandsStill}
-use Rattle.standstill_laws.specs.Saying.{Fits, AnswerStill, FailsStill, LessStill, HoldsBackStill, StopsStill, SaysNothingStill, IsStill, AgentsHaveSaidAll, BrokerHasSaidAll}
+use Rattle.standstill_laws.specs.Saying.{Fits, AnswerStill, FailsStill, LessStill, IsStill, AgentsHaveSaidAll, BrokerHasSaidAll}
 use Rattle.standstill_laws.proofs.PageLaws.{stands-still, write-order-is}
 
 page-of : (core : Core) → IsStill core → StandsStill core
