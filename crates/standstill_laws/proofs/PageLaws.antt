@@ -18,12 +18,13 @@ use Rattle.vchan_protocol.specs.declared.call.EndState.TheVariants.{Fresh, Open,
 use Rattle.vchan_protocol.specs.Table.Ends.{Standing, read_ring, written_ring, read_order, write_order, peer_live, low8}
 use Rattle.vchan_protocol.specs.Answering.Loads.{Loads, Pair, first_of, last_pair}
 use Rattle.vchan_protocol.specs.Answering.Causes.{DrainCause, WriteCause, SendCause, FoundNone, waiting_at, room_at, drain_got, drain_all_read, drain_not_yet, drain_peer_gone, write_closed, wrote_none, write_full, wrote_some, send_closed, send_no_room, sent_all}
-use Rattle.vchan_protocol.specs.History.Core.{Core, side_of, writer_of, reader_of}
+use Rattle.vchan_protocol.specs.History.Core.{Core, opened, side_of, writer_of, reader_of, standing_of}
 use Rattle.vchan_protocol.specs.History.Page.{live_word}
 use Rattle.vchan_protocol.specs.Honest.Lawful.{Lawful}
 use Rattle.vchan_protocol.specs.Honest.RingLaw.{IsLawful, IsPrefixOf, channel_of, index_at, word_at}
 use Rattle.vchan_protocol.proofs.Honest.ChannelLaws.{prefix_within}
-use Rattle.standstill_laws.specs.Page.{peer_of, FoundNothing, RoomLacks, IsFull, HasNoRoom, HasLess, FoundNoRoom, FoundPeerShut, PageStandsStill}
+use Rattle.vchan_protocol.proofs.Honest.LawfulSteps.{lawful_opened}
+use Rattle.standstill_laws.specs.Page.{peer_of, FoundNothing, RoomLacks, IsFull, HasNoRoom, HasLess, FoundNoRoom, FoundPeerShut, PageStandsStill, StillPagesAreThere}
 
 -- ---- the numbers of a ring
 
@@ -174,3 +175,28 @@ stands-still core l server client = record {
     by_role : (who : Role) → ¬ FoundNoRoom core who
     by_role Server = no-lack core Server l (all-got core Client l client)
     by_role Client = no-lack core Client l (all-got core Server l server)
+
+-- ---- a page that was just opened
+
+-- what a drain of it loaded: the peer's index, that the peer is open, and that it is here
+abbrev first-loads : Loads
+first-loads = record { pairs = record { prod = 0; cons = 0 } ∷ []; next_pair = Some (record { prod = 0; cons = 0 }); live = Some 1; gone = Some 0; left_order = None; right_order = None; pending = None }
+
+first-drain : (e : Standing) → DrainCause e 1 first-loads (NotYet 0 0)
+first-drain e = drain_not_yet (record { prod = 0; cons = 0 }) refl (ready-is 0 0 0 (read_order e) (omega arith) (omega arith), tt) (λ all. let shut = all.0 in cc) refl refl
+
+abbrev opened-core : Orders → Core
+opened-core orders = opened orders 0 (0, 0) Open
+
+pub still-pages-are-there : (orders : Orders) → StillPagesAreThere orders
+still-pages-are-there orders = (
+  opened-core orders,
+  record {
+    lawful = lawful_opened orders 0 (0, 0) Open (omega arith) (omega arith) (omega arith) (λ is. cc);
+    server_opened = λ is. cc;
+    client_opened = λ is. cc;
+    server_found = record { begun = standing_of (opened-core orders).server; stood = (refl, refl); most = 1; loads = first-loads; prod = 0; cons = 0; cause = first-drain (standing_of (opened-core orders).server); still = (refl, refl) };
+    client_found = record { begun = standing_of (opened-core orders).client; stood = (refl, refl); most = 1; loads = first-loads; prod = 0; cons = 0; cause = first-drain (standing_of (opened-core orders).client); still = (refl, refl) };
+  },
+  refl,
+)

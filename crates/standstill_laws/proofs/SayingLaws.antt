@@ -16,8 +16,8 @@ use Rattle.vchan_packet.specs.declared.SendAnswer.{SendAnswer}
 use Rattle.vchan_packet.specs.declared.SendAnswer.TheVariants.{Sent, NoRoom, PeerClosed}
 use Rattle.agent_control.specs.Stopping.{FindsLess, AtAnEnd, AtTheLimit, AtATrigger, NothingIsDue, HasLessRoom, DidNotGo}
 use Rattle.broker_task.specs.Moving.{has_not_greeted, all_held, greeting_waits, letter_waits}
-use Rattle.standstill_laws.specs.Page.{peer_of, IsStanding, HasNoRoom, HasLess, StandsStill}
-use Rattle.standstill_laws.specs.Saying.{Fits, AnswerStill, FailsStill, LessStill, IsStill, AgentsHaveSaidAll, BrokerHasSaidAll}
+use Rattle.standstill_laws.specs.Page.{peer_of, IsStanding, IsStill, HasNoRoom, HasLess, StandsStill}
+use Rattle.standstill_laws.specs.Saying.{Fits, AnswerStill, FailsStill, LessStill, AgentsHaveSaidAll, BrokerHasSaidAll}
 use Rattle.standstill_laws.proofs.PageLaws.{stands-still, write-order-is}
 
 page-of : (core : Core) → IsStill core → StandsStill core

@@ -1,7 +1,8 @@
 -- A page at a standstill: what the last calls of its ends found is still so.
 -- Source: libxenvchan's io.c for what a look at a ring finds; the statements are this project's own.
-use Rattle.std.specs.Prelude.{◌≡◌, ℕ, ◌<◌, ◌≤◌, Some}
+use Rattle.std.specs.Prelude.{◌≡◌, ◌≢◌, ℕ, ◌<◌, ◌≤◌, Some}
 use Rattle.ring_words.specs.Rings.{size}
+use Rattle.ring_words.specs.declared.order.Orders.{Orders}
 use Rattle.ring_words.specs.declared.page.Role.{Role}
 use Rattle.ring_words.specs.declared.page.Role.TheVariants.{Server, Client}
 use Rattle.ring_words.specs.declared.page.Ring.{Ring}
@@ -69,3 +70,15 @@ pub record StandsStill (core : Core) : Type 0 where
 
 abbrev pub PageStandsStill : Type 0
 PageStandsStill = (core : Core) → Lawful core → FoundNothing core Server → FoundNothing core Client → StandsStill core
+
+-- a page that stands still, neither of whose ends is shut
+pub record IsStill (core : Core) : Type 0 where
+  pub lawful : Lawful core
+  pub server_opened : core.server.state ≢ Shut
+  pub client_opened : core.client.state ≢ Shut
+  pub server_found : FoundNothing core Server
+  pub client_found : FoundNothing core Client
+
+-- there are such pages, of any orders
+abbrev pub StillPagesAreThere : Orders → Type 0
+StillPagesAreThere orders = (core : Core) × IsStill core × (core.orders ≡ orders)

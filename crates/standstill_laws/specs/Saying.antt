@@ -1,15 +1,13 @@
 -- What an agent and the broker left unsaid in a turn, on a page that stands still.
 -- Source: this project's own.
-use Rattle.std.specs.Prelude.{◌≡◌, ◌≢◌, ◌⊎◌, ℕ, ◌+◌, ◌≤◌, true, List, [], length, Some, None}
+use Rattle.std.specs.Prelude.{◌≡◌, ◌⊎◌, ℕ, ◌+◌, ◌≤◌, true, List, [], length, Some, None}
 use Rattle.ring_words.specs.Rings.{size}
 use Rattle.ring_words.specs.Page.{order_of}
 use Rattle.ring_words.specs.declared.page.Role.{Role}
 use Rattle.ring_words.specs.declared.page.Role.TheVariants.{Server, Client}
-use Rattle.vchan_protocol.specs.declared.call.EndState.TheVariants.{Shut}
 use Rattle.vchan_protocol.specs.Table.Ends.{written_ring, peer_live, low8}
 use Rattle.vchan_protocol.specs.Answering.Loads.{Loads, Pair, loads_of, last_pair}
 use Rattle.vchan_protocol.specs.History.Core.{Core, standing_of}
-use Rattle.vchan_protocol.specs.Honest.Lawful.{Lawful}
 use Rattle.vchan_protocol.specs.Honest.RingLaw.{word_at}
 use Rattle.vchan_rule.specs.Seated.{SeatedEnd}
 use Rattle.vchan_packet.specs.Packet.{FailsToSend}
@@ -24,7 +22,7 @@ use Rattle.agent_control.specs.Speaking.{terminated}
 use Rattle.agent_control.specs.Stopping.{FindsLess, Stops, AtAnEnd, AtTheLimit, AtATrigger, HoldsBack, NothingIsDue, HasLessRoom, DidNotGo}
 use Rattle.broker_task.specs.Letters.{AreHeld}
 use Rattle.broker_task.specs.Moving.{BrokerLine, SaysNothing, has_not_greeted, all_held, greeting_waits, letter_waits}
-use Rattle.standstill_laws.specs.Page.{AreIndices, IsStanding, FoundNothing}
+use Rattle.standstill_laws.specs.Page.{AreIndices, IsStanding, IsStill}
 
 -- this many bytes fit the ring that an end writes
 abbrev pub Fits : Core → Role → ℕ → Type 0
@@ -67,15 +65,7 @@ SaysNothingStill core line old new (all_held greets held same) = Unit {0}
 SaysNothingStill core line old new (greeting_waits none same fails) = FailsStill core Client (written (Hello broker_version)) old new fails
 SaysNothingStill core line old new (letter_waits at l greets there ready before same fails) = FailsStill core Client (written l.message) old new fails
 
--- a control page that stands still, neither of whose ends is shut
-pub record IsStill (core : Core) : Type 0 where
-  pub lawful : Lawful core
-  pub server_opened : core.server.state ≢ Shut
-  pub client_opened : core.client.state ≢ Shut
-  pub server_found : FoundNothing core Server
-  pub client_found : FoundNothing core Client
-
--- then an agent that stopped has said the end of each session, and the next call isn't due, or it asked for as many as it might
+-- where the control page stands still, an agent that stopped has said the end of each session, and the next call isn't due, or it asked for as many as it might
 abbrev pub AgentsHaveSaidAll : Type 0
 AgentsHaveSaidAll = (core : Core) (calls : ℕ) (old new : AgentControl) → IsStill core → (s : Stops calls old new) → StopsStill core calls old new s
     → (new.unsaid.items ≡ []) × (IsHeld new.queue ⊎ (new.queue.next ≡ old.queue.next + calls))

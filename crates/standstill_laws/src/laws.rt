@@ -1,5 +1,6 @@
 //! The laws, each the contract of a function with no body.
-ghost use Rattle.standstill_laws.specs.Page.{PageStandsStill};
+ghost use Rattle.ring_words.specs.declared.order.Orders.{Orders};
+ghost use Rattle.standstill_laws.specs.Page.{PageStandsStill, StillPagesAreThere};
 ghost use Rattle.standstill_laws.specs.Session.{SessionsGoOn};
 ghost use Rattle.standstill_laws.specs.Turns.{NoSessionStandsStill};
 ghost use Rattle.standstill_laws.specs.Control.{AllIsHeard};
@@ -40,4 +41,9 @@ pub fn agents_have_said_all()
 /// the domain has greeted. Messages fit the ring.
 pub fn broker_has_said_all()
     ensures { BrokerHasSaidAll }
+{}
+
+/// Pages that stand still exist, whatever their orders: one that was just opened, which both ends have drained.
+pub fn still_pages_are_there()
+    ensures { (orders : Orders) → StillPagesAreThere orders }
 {}
