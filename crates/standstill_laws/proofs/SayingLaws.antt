@@ -16,14 +16,14 @@ use Rattle.vchan_packet.specs.declared.SendAnswer.{SendAnswer}
 use Rattle.vchan_packet.specs.declared.SendAnswer.TheVariants.{Sent, NoRoom, PeerClosed}
 use Rattle.agent_control.specs.Stopping.{FindsLess, AtAnEnd, AtTheLimit, AtATrigger, NothingIsDue, HasLessRoom, DidNotGo}
 use Rattle.broker_task.specs.Moving.{has_not_greeted, all_held, greeting_waits, letter_waits}
-use Rattle.standstill_laws.specs.Page.{peer_of, IsStanding, IsStill, HasNoRoom, HasLess, StandsStill}
+use Rattle.standstill_laws.specs.Page.{peer_of, IsStanding, IsStillPage, HasNoRoom, HasLess, StandsStill}
 use Rattle.standstill_laws.specs.Saying.{Fits, AnswerStill, FailsStill, LessStill, AgentsHaveSaidAll, BrokerHasSaidAll}
 use Rattle.standstill_laws.proofs.PageLaws.{stands-still, write-order-is}
 
-page-of : (core : Core) → IsStill core → StandsStill core
+page-of : (core : Core) → IsStillPage core → StandsStill core
 page-of core p = stands-still core p.lawful p.server_found p.client_found
 
-there : (core : Core) → IsStill core → (who : Role) → (side_of core (peer_of who)).state ≢ Shut
+there : (core : Core) → IsStillPage core → (who : Role) → (side_of core (peer_of who)).state ≢ Shut
 there core p Server = p.client_opened
 there core p Client = p.server_opened
 
@@ -36,7 +36,7 @@ fits-order : (core : Core) (who : Role) (e : Standing) (n count : ℕ) → IsSta
 fits-order core who e n count stood fits less = subst (λ (o : Order). n ≤ size o) (sym (write-order-is core who e stood)) (omega (arith, fits, less))
 
 -- no send of what fits the ring is still failing
-fails-never : (core : Core) → IsStill core → (who : Role) (bytes : List ℕ) (before now : SeatedEnd) (f : FailsToSend bytes before now) → ¬ FailsStill core who bytes before now f
+fails-never : (core : Core) → IsStillPage core → (who : Role) (bytes : List ℕ) (before now : SeatedEnd) (f : FailsToSend bytes before now) → ¬ FailsStill core who bytes before now f
 fails-never core p who bytes before now f s = by_answer f.answer f.refused f.cause s.found
   where
     begun : Standing
@@ -53,7 +53,7 @@ fails-never core p who bytes before now f s = by_answer f.answer f.refused f.cau
     by_answer PeerClosed refused cause found =
         there core p who ((page-of core p).is_shut who (record { loads = loads; shut = shut-by begun (most_asked bytes) loads cause; still = found }))
 
-less-never : (core : Core) → IsStill core → (who : Role) (count : ℕ) (before now : SeatedEnd) (f : FindsLess before now count) → ¬ LessStill core who count before now f
+less-never : (core : Core) → IsStillPage core → (who : Role) (count : ℕ) (before now : SeatedEnd) (f : FindsLess before now count) → ¬ LessStill core who count before now f
 less-never core p who count before now f s =
     (page-of core p).has_room who (record {
       begun = standing_of before.side;

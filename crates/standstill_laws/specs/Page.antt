@@ -28,7 +28,7 @@ AreIndices core ring prod cons = (prod ≡ word_at core.orders core.words (prod_
 abbrev pub IsStanding : Core → Role → Standing → Type 0
 IsStanding core who e = (e.role ≡ who) × (e.orders ≡ core.orders)
 
--- a drain of this end found no byte, and the indices that it answered with are still those of the page
+-- by what it loaded a drain of this end finds no byte, and the indices that it answers with are those of the page
 pub record FoundNothing (core : Core) (who : Role) : Type 0 where
   pub begun : Standing
   pub stood : IsStanding core who begun
@@ -55,11 +55,15 @@ pub record FoundNoRoom (core : Core) (who : Role) : Type 0 where
   pub lacks : RoomLacks begun loads prod cons
   pub still : AreIndices core (written_ring who) prod cons
 
+-- the live byte of the peer that a call loaded is that of the page
+abbrev pub IsLiveStill : Core → Role → Loads → Type 0
+IsLiveStill core who loads = loads.live ≡ Some (low8 (word_at core.orders core.words (peer_live who)))
+
 -- a call of this end found the peer shut, and the peer's live byte is still as it was
 pub record FoundPeerShut (core : Core) (who : Role) : Type 0 where
   pub loads : Loads
   pub shut : FoundShut loads
-  pub still : loads.live ≡ Some (low8 (word_at core.orders core.words (peer_live who)))
+  pub still : IsLiveStill core who loads
 
 -- at a standstill of a page between honest ends each has got what the other sent, none lacks room, and a peer that was found shut is shut
 pub record StandsStill (core : Core) : Type 0 where
@@ -72,7 +76,7 @@ abbrev pub PageStandsStill : Type 0
 PageStandsStill = (core : Core) → Lawful core → FoundNothing core Server → FoundNothing core Client → StandsStill core
 
 -- a page that stands still, neither of whose ends is shut
-pub record IsStill (core : Core) : Type 0 where
+pub record IsStillPage (core : Core) : Type 0 where
   pub lawful : Lawful core
   pub server_opened : core.server.state ≢ Shut
   pub client_opened : core.client.state ≢ Shut
@@ -81,4 +85,4 @@ pub record IsStill (core : Core) : Type 0 where
 
 -- there are such pages, of any orders
 abbrev pub StillPagesAreThere : Orders → Type 0
-StillPagesAreThere orders = (core : Core) × IsStill core × (core.orders ≡ orders)
+StillPagesAreThere orders = (core : Core) × IsStillPage core × (core.orders ≡ orders)

@@ -5,10 +5,9 @@ use Rattle.ring_words.specs.Rings.{size}
 use Rattle.ring_words.specs.Page.{order_of}
 use Rattle.ring_words.specs.declared.page.Role.{Role}
 use Rattle.ring_words.specs.declared.page.Role.TheVariants.{Server, Client}
-use Rattle.vchan_protocol.specs.Table.Ends.{written_ring, peer_live, low8}
+use Rattle.vchan_protocol.specs.Table.Ends.{written_ring}
 use Rattle.vchan_protocol.specs.Answering.Loads.{Loads, Pair, loads_of, last_pair}
 use Rattle.vchan_protocol.specs.History.Core.{Core, standing_of}
-use Rattle.vchan_protocol.specs.Honest.RingLaw.{word_at}
 use Rattle.vchan_rule.specs.Seated.{SeatedEnd}
 use Rattle.vchan_packet.specs.Packet.{FailsToSend}
 use Rattle.vchan_packet.specs.declared.SendAnswer.{SendAnswer}
@@ -22,7 +21,7 @@ use Rattle.agent_control.specs.Speaking.{terminated}
 use Rattle.agent_control.specs.Stopping.{FindsLess, Stops, AtAnEnd, AtTheLimit, AtATrigger, HoldsBack, NothingIsDue, HasLessRoom, DidNotGo}
 use Rattle.broker_task.specs.Letters.{AreHeld}
 use Rattle.broker_task.specs.Moving.{BrokerLine, SaysNothing, has_not_greeted, all_held, greeting_waits, letter_waits}
-use Rattle.standstill_laws.specs.Page.{AreIndices, IsStanding, IsStill}
+use Rattle.standstill_laws.specs.Page.{AreIndices, IsStanding, IsLiveStill, IsStillPage}
 
 -- this many bytes fit the ring that an end writes
 abbrev pub Fits : Core → Role → ℕ → Type 0
@@ -32,7 +31,7 @@ Fits core who count = count ≤ size (order_of core.orders (written_ring who))
 abbrev pub AnswerStill : Core → Role → Loads → SendAnswer → Type 0
 AnswerStill core who loads Sent = Unit {0}
 AnswerStill core who loads (NoRoom prod cons) = AreIndices core (written_ring who) prod cons
-AnswerStill core who loads PeerClosed = loads.live ≡ Some (low8 (word_at core.orders core.words (peer_live who)))
+AnswerStill core who loads PeerClosed = IsLiveStill core who loads
 
 pub record FailsStill (core : Core) (who : Role) (bytes : List ℕ) (before now : SeatedEnd) (f : FailsToSend bytes before now) : Type 0 where
   pub stood : IsStanding core who (standing_of before.side)
@@ -67,10 +66,10 @@ SaysNothingStill core line old new (letter_waits at l greets there ready before 
 
 -- where the control page stands still, an agent that stopped has said the end of each session, and the next call isn't due, or it asked for as many as it might
 abbrev pub AgentsHaveSaidAll : Type 0
-AgentsHaveSaidAll = (core : Core) (calls : ℕ) (old new : AgentControl) → IsStill core → (s : Stops calls old new) → StopsStill core calls old new s
+AgentsHaveSaidAll = (core : Core) (calls : ℕ) (old new : AgentControl) → IsStillPage core → (s : Stops calls old new) → StopsStill core calls old new s
     → (new.unsaid.items ≡ []) × (IsHeld new.queue ⊎ (new.queue.next ≡ old.queue.next + calls))
 
 -- and the broker has said all that it may: the domain hasn't greeted, or each letter for it is held
 abbrev pub BrokerHasSaidAll : Type 0
-BrokerHasSaidAll = (core : Core) (line : BrokerLine) (old new : SeatedEnd) → IsStill core → (s : SaysNothing line.version line.greeted line.letters old new) → SaysNothingStill core line old new s
+BrokerHasSaidAll = (core : Core) (line : BrokerLine) (old new : SeatedEnd) → IsStillPage core → (s : SaysNothing line.version line.greeted line.letters old new) → SaysNothingStill core line old new s
     → (line.version ≡ None) ⊎ ((line.greeted ≡ true) × AreHeld line.letters)

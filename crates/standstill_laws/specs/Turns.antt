@@ -1,30 +1,28 @@
 -- Two sides of a session whose turns moved nothing, on a page on which nothing has changed since.
 -- Source: this project's own.
-use Rattle.std.specs.Prelude.{◌≡◌, ◌≢◌, Bool, ℕ, List, Some, None}
+use Rattle.std.specs.Prelude.{◌≡◌, ◌≢◌, Bool, ℕ, List, None}
 use Rattle.ring_words.specs.declared.page.Role.{Role}
 use Rattle.ring_words.specs.declared.page.Role.TheVariants.{Server, Client}
 use Rattle.service_gate.specs.Triple.{Triple}
 use Rattle.vchan_protocol.specs.declared.call.EndState.TheVariants.{Shut}
-use Rattle.vchan_protocol.specs.Table.Ends.{read_ring, written_ring, peer_live, low8}
+use Rattle.vchan_protocol.specs.Table.Ends.{read_ring, written_ring}
 use Rattle.vchan_protocol.specs.Answering.Loads.{loads_of}
 use Rattle.vchan_protocol.specs.History.Core.{Core, side_of, standing_of}
 use Rattle.vchan_protocol.specs.Honest.Lawful.{Lawful}
-use Rattle.vchan_protocol.specs.Honest.RingLaw.{word_at}
 use Rattle.vchan_rule.specs.Seated.{SeatedEnd}
 use Rattle.qrexec_data.specs.Laws.{IsVersion}
 use Rattle.channel_session.specs.declared.turned.Turned.TheVariants.{Quiet}
 use Rattle.channel_session.specs.Turning.{IsQuiet, SendsNone, NothingWaits, WasShut, RingIsFull, PeerIsShut}
 use Rattle.channel_session.specs.Calling.{CallerAt, CallerTurns, IsCalling}
 use Rattle.channel_session.specs.Answering.{ServingAt, ServingTurns, IsAnswering}
-use Rattle.standstill_laws.specs.Page.{peer_of, AreIndices, IsStanding}
+use Rattle.standstill_laws.specs.Page.{peer_of, AreIndices, IsStanding, IsLiveStill}
 
 -- why nothing went is still so: the indices that the write answered with, or the live byte that it loaded, are those of the page; and a peer that was found shut earlier is shut
 abbrev pub SendsStill : Core → Role → (still : Type 0) → (waiting : List ℕ) → (was_shut : Bool) → (before now : SeatedEnd) → SendsNone still waiting was_shut before now → Type 0
 SendsStill core who still waiting was_shut before now (NothingWaits none same) = Unit {0}
 SendsStill core who still waiting was_shut before now (WasShut was same) = (side_of core (peer_of who)).state ≡ Shut
 SendsStill core who still waiting was_shut before now (RingIsFull some full) = IsStanding core who (standing_of before.side) × AreIndices core (written_ring who) full.prod full.cons
-SendsStill core who still waiting was_shut before now (PeerIsShut some shut) =
-    (loads_of (standing_of before.side) now.side.trail).live ≡ Some (low8 (word_at core.orders core.words (peer_live who)))
+SendsStill core who still waiting was_shut before now (PeerIsShut some shut) = IsLiveStill core who (loads_of (standing_of before.side) now.side.trail)
 
 -- the end stands as its quiet turn left it, and what the turn found is still so
 pub record IsQuietStill (core : Core) (who : Role) (still : Type 0) (waiting : List ℕ) (was_shut : Bool) (before now : SeatedEnd) (q : IsQuiet still waiting was_shut before now) : Type 0 where

@@ -7,7 +7,8 @@ ghost use Rattle.standstill_laws.specs.Control.{AllIsHeard};
 ghost use Rattle.standstill_laws.specs.Saying.{AgentsHaveSaidAll, BrokerHasSaidAll};
 
 /// If both ends of a page between honest ends drained it and found nothing, and no index changed since, then
-/// each has got all that the other sent, and no room that a write or a send lacked is still lacking.
+/// each has got all that the other sent, and no room that a write, a send or a look lacked is still lacking. A
+/// peer that was found shut, and whose live byte hasn't changed since, is shut.
 pub fn page_stands_still()
     ensures { PageStandsStill }
 {}
@@ -19,7 +20,8 @@ pub fn sessions_go_on<S>()
 {}
 
 /// An open session between honest ends doesn't stand still: it isn't so that both its sides made quiet turns
-/// and nothing changed since.
+/// and nothing changed since. A side that keeps that its peer is shut has such a peer, and the end that its
+/// drain left is an end of the page with its role.
 pub fn no_session_stands_still()
     ensures { NoSessionStandsStill }
 {}
@@ -43,7 +45,7 @@ pub fn broker_has_said_all()
     ensures { BrokerHasSaidAll }
 {}
 
-/// Pages that stand still exist, whatever their orders: one that was just opened, which both ends have drained.
+/// Pages that stand still exist, whatever their orders: one that was just opened, by what a drain of it loads.
 pub fn still_pages_are_there()
     ensures { (orders : Orders) → StillPagesAreThere orders }
 {}
