@@ -23,7 +23,7 @@ use Rattle.vchan_rule.specs.Seated.{SeatedEnd, view}
 use Rattle.vchan_rule.specs.Ends.{IsSameEnd}
 use Rattle.channel_session.specs.Calling.{CallerAt, CallerTurns, CallerReads, CallerWrites}
 use Rattle.channel_session.specs.Answering.{ServingAt, ServingTurns, ServingReads, ServingWrites, HasNothing}
-use Rattle.channel_session.specs.Turning.{Pace, IsMade, KeepsBytes, FindsFull, FindsShut, SendsNone, NothingWaits, WasShut, RingIsFull, PeerIsShut, KeepsShut, turned_by}
+use Rattle.channel_session.specs.Turning.{Pace, IsMade, KeepsBytes, FindsFull, FindsShut, SendsNone, NothingWaits, WasShut, RingIsFull, PeerIsShut, HasSeenShut, KeepsShut, turned_by}
 
 -- ---- bytes
 
@@ -68,9 +68,13 @@ finds-shut at now piece trail cause = record { trail = trail; cause = (cause IsS
 
 -- ---- the parts of a turn
 
+-- the same end of the same page, over two calls
+same-end-then : (a b c : SeatedEnd) → IsSameEnd a b → IsSameEnd b c → IsSameEnd a c
+same-end-then a b c one two = (two.0 ∙ one.0, two.1 ∙ one.1, two.2 ∙ one.2, two.3 ∙ one.3)
+
 sends-as : (P Q : Type 0) (waiting : List ℕ) (shut shut' : Bool) (before now : SeatedEnd) → (P → Q) → shut ≡ shut' → SendsNone P waiting shut before now → SendsNone Q waiting shut' before now
 sends-as P Q waiting shut shut' before now f same (NothingWaits still is) = NothingWaits (f still) is
-sends-as P Q waiting shut shut' before now f same (WasShut was is) = WasShut (sym same ∙ was) is
+sends-as P Q waiting shut shut' before now f same (WasShut was saw is) = WasShut (sym same ∙ was) saw is
 sends-as P Q waiting shut shut' before now f same (RingIsFull some full) = RingIsFull some full
 sends-as P Q waiting shut shut' before now f same (PeerIsShut some found) = PeerIsShut some found
 
@@ -93,25 +97,25 @@ serving-went : (went : Bool) (b c : ServingAt) → ServingWrites went b c → le
 serving-went true b c more = omega (arith, more)
 serving-went false b c rests = as-long (view b.end).sent (view c.end).sent rests.0
 
-pub caller-turns : (came went : Bool) (old a b c : CallerAt) (pace : Pace) → IsSameEnd old.end a.end → view a.end ≡ view old.end → a.caller ≡ old.caller → a.pace ≡ old.pace → old.caller.replies.outcome ≡ None
+pub caller-turns : (came went : Bool) (old a b c : CallerAt) (pace : Pace) → IsSameEnd old.end a.end → IsSameEnd a.end b.end → IsSameEnd b.end c.end → view a.end ≡ view old.end → a.caller ≡ old.caller → a.pace ≡ old.pace → old.caller.replies.outcome ≡ None
     → CallerReads came a b → b.pace ≡ a.pace → (view b.end).sent ≡ (view a.end).sent
     → CallerWrites went b c → (view c.end).got ≡ (view b.end).got → c.caller.replies.outcome ≡ b.caller.replies.outcome
     → IsMade (not (came || went)) pace → CallerTurns (turned_by (came || went)) old (record { caller = c.caller; end = c.end; pace = pace })
-caller-turns true went old a b c pace same is caller was none reads paced sent writes got outcome made =
+caller-turns true went old a b c pace same same' same'' is caller was none reads paced sent writes got outcome made =
     (record { kept = turn-keeps (view old.end) (view a.end) (view b.end) (view c.end) is reads.0 sent got (caller-went went b c writes); more = by_read reads.1 }, made)
   where
     by_read : (length (view a.end).got < length (view b.end).got) ⊎ IsSome b.caller.replies.outcome
         → (length (view old.end).got < length (view c.end).got) ⊎ (length (view old.end).sent < length (view c.end).sent) ⊎ IsSome c.caller.replies.outcome
     by_read (inl more) = inl (subst (λ v. length v.got < length (view c.end).got) is (subst (λ g. length (view a.end).got < length g) (sym got) more))
     by_read (inr over) = inr (inr (subst IsSome (sym outcome) over))
-caller-turns false true old a b c pace same is caller was none reads paced sent more got outcome made = (
+caller-turns false true old a b c pace same same' same'' is caller was none reads paced sent more got outcome made = (
   record {
     kept = turn-keeps (view old.end) (view a.end) (view b.end) (view c.end) is (as-long (view a.end).got (view b.end).got reads.1) sent got (caller-went true b c more);
     more = inr (inl (subst (λ s. length s < length (view c.end).sent) (sent ∙ ap (λ v. v.sent) is) more));
   },
   made,
 )
-caller-turns false false old a b c pace same is caller was none reads paced sent rests got outcome made =
+caller-turns false false old a b c pace same same' same'' is caller was none reads paced sent rests got outcome made =
     let kept = reads.0 ∙ caller in (
       (got ∙ (reads.1 ∙ ap (λ v. v.got) is), rests.0 ∙ (sent ∙ ap (λ v. v.sent) is), outcome ∙ (ap (λ k. k.replies.outcome) kept ∙ none)),
       made,
@@ -119,6 +123,8 @@ caller-turns false false old a b c pace same is caller was none reads paced sent
         found = a.end;
         left = b.end;
         same = same;
+        same_left = same';
+        same_now = same'';
         view_is = is;
         not_yet = reads.2;
         sends = sends-as (IsStill b.caller) (IsStill old.caller) c.caller.requests.waiting b.pace.peer_shut old.pace.peer_shut b.end c.end (subst IsStill kept) (ap (λ p. p.peer_shut) (paced ∙ was)) rests.1;
@@ -132,25 +138,25 @@ answers-still old b serving got sent nothing owed h =
       stands = subst (λ s. ServingStandsFor builtin_owes owed s (view b.end).sent) (sym serving) (subst (λ l. ServingStandsFor builtin_owes owed old.serving l) (sym sent) h.stands);
     }))
 
-pub serving-turns : (came went : Bool) (old a b c : ServingAt) (pace : Pace) → IsSameEnd old.end a.end → view a.end ≡ view old.end → a.serving ≡ old.serving → a.pace ≡ old.pace → old.serving.answering.outcome ≡ None
+pub serving-turns : (came went : Bool) (old a b c : ServingAt) (pace : Pace) → IsSameEnd old.end a.end → IsSameEnd a.end b.end → IsSameEnd b.end c.end → view a.end ≡ view old.end → a.serving ≡ old.serving → a.pace ≡ old.pace → old.serving.answering.outcome ≡ None
     → ServingReads came a b → b.pace ≡ a.pace → (view b.end).sent ≡ (view a.end).sent
     → ServingWrites went b c → (view c.end).got ≡ (view b.end).got → (IsSome b.serving.answering.outcome → IsSome c.serving.answering.outcome)
     → IsMade (not (came || went)) pace → ServingTurns (turned_by (came || went)) old (record { serving = c.serving; end = c.end; pace = pace })
-serving-turns true went old a b c pace same is serving was none reads paced sent writes got outcome made =
+serving-turns true went old a b c pace same same' same'' is serving was none reads paced sent writes got outcome made =
     (record { kept = turn-keeps (view old.end) (view a.end) (view b.end) (view c.end) is reads.0 sent got (serving-went went b c writes); more = by_read reads.1 }, made)
   where
     by_read : (length (view a.end).got < length (view b.end).got) ⊎ IsSome b.serving.answering.outcome
         → (length (view old.end).got < length (view c.end).got) ⊎ (length (view old.end).sent < length (view c.end).sent) ⊎ IsSome c.serving.answering.outcome
     by_read (inl more) = inl (subst (λ v. length v.got < length (view c.end).got) is (subst (λ g. length (view a.end).got < length g) (sym got) more))
     by_read (inr over) = inr (inr (outcome over))
-serving-turns false true old a b c pace same is serving was none reads paced sent more got outcome made = (
+serving-turns false true old a b c pace same same' same'' is serving was none reads paced sent more got outcome made = (
   record {
     kept = turn-keeps (view old.end) (view a.end) (view b.end) (view c.end) is (as-long (view a.end).got (view b.end).got reads.1) sent got (serving-went true b c more);
     more = inr (inl (subst (λ s. length s < length (view c.end).sent) (sent ∙ ap (λ v. v.sent) is) more));
   },
   made,
 )
-serving-turns false false old a b c pace same is serving was none reads paced sent rests got outcome made =
+serving-turns false false old a b c pace same same' same'' is serving was none reads paced sent rests got outcome made =
     let kept = reads.0 ∙ serving in
     let got_is = reads.1 ∙ ap (λ v. v.got) is in
     let sent_is = sent ∙ ap (λ v. v.sent) is in (
@@ -160,12 +166,25 @@ serving-turns false false old a b c pace same is serving was none reads paced se
         found = a.end;
         left = b.end;
         same = same;
+        same_left = same';
+        same_now = same'';
         view_is = is;
         not_yet = reads.2;
         sends = sends-as (HasNothing b) (HasNothing old) c.serving.answering.waiting b.pace.peer_shut old.pace.peer_shut b.end c.end (answers-still old b kept got_is sent_is) (ap (λ p. p.peer_shut) (paced ∙ was)) rests.2;
       },
     )
 
+-- ---- the peer
+
+-- an end that has seen its peer's end has seen it after more events too
+pub saw-stays : (peer_shut noticed : Bool) (before now : SeatedEnd) → HasSeenShut peer_shut before → now.side.saw ≡ (before.side.saw || noticed) → HasSeenShut peer_shut now
+saw-stays peer_shut noticed before now seen is shut = is ∙ ap (λ saw. saw || noticed) (seen shut)
+
 -- what is kept of the peer, after the look and the drain
-pub keeps-shut : (old mid new : Pace) (now : SeatedEnd) → mid ≡ old → KeepsShut mid new now → KeepsShut old new now
-keeps-shut old mid new now same keeps shut = subst (λ p. KeepsShut p new now) same keeps shut
+pub keeps-shut : (old mid new : Pace) (before at left now : SeatedEnd) → mid ≡ old → IsSameEnd before at → IsSameEnd at left → KeepsShut mid new left now → KeepsShut old new before now
+keeps-shut old mid new before at left now same one two keeps = subst (λ p. KeepsShut p new before now) same (keeps.0, λ shut. by_found (keeps.1 shut))
+  where
+    by_found : (mid.peer_shut ≡ true) ⊎ ((end : SeatedEnd) × (count : ℕ) × IsSameEnd left end × FindsShut end now count)
+        → (mid.peer_shut ≡ true) ⊎ ((end : SeatedEnd) × (count : ℕ) × IsSameEnd before end × FindsShut end now count)
+    by_found (inl was) = inl was
+    by_found (inr found) = inr (found.0, found.1, same-end-then before left found.0 (same-end-then before at left one two) found.2, found.3)

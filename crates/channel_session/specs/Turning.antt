@@ -59,19 +59,21 @@ pub record FindsShut (before now : SeatedEnd) (count : ℕ) : Type 0 where
   pub trail : Trace (standing_of before.side) (Write count) now.side.trail PeerClosed
   pub cause : Cause (standing_of before.side) (Write count) (loads_of (standing_of before.side) now.side.trail) PeerClosed
 
--- why nothing went, where these bytes wait: nothing may go, the peer was found shut in an earlier turn, or the write found no room or the peer shut
+-- why nothing went, where these bytes wait: nothing may go, the peer was found shut in an earlier turn, of which its end knows, or the write found no room or the peer shut
 pub data SendsNone (still : Type 0) (waiting : List ℕ) (was_shut : Bool) (before now : SeatedEnd) : Type 0 where
   NothingWaits : still → now ≡ before → SendsNone still waiting was_shut before now
-  WasShut : was_shut ≡ true → now ≡ before → SendsNone still waiting was_shut before now
+  WasShut : was_shut ≡ true → (view before).saw ≡ true → now ≡ before → SendsNone still waiting was_shut before now
   RingIsFull : 0 < length waiting → FindsFull before now (most_asked waiting) → SendsNone still waiting was_shut before now
   PeerIsShut : 0 < length waiting → FindsShut before now (most_asked waiting) → SendsNone still waiting was_shut before now
 
 -- the drain of a turn found nothing, and then nothing went
 pub record IsQuiet (still : Type 0) (waiting : List ℕ) (was_shut : Bool) (before now : SeatedEnd) : Type 0 where
-  -- the end as the drain found it, and as it left it
+  -- the end as the drain found it, and as it left it: the same end of the same page throughout
   pub found : SeatedEnd
   pub left : SeatedEnd
   pub same : IsSameEnd before found
+  pub same_left : IsSameEnd found left
+  pub same_now : IsSameEnd left now
   pub view_is : view found ≡ view before
   pub not_yet : FindsNotYet found left
   pub sends : SendsNone still waiting was_shut left now
@@ -95,9 +97,15 @@ pub record IsPassed (old new : Pace) (before now : SeatedEnd) : Type 0 where
 
 -- ---- the peer
 
--- that the peer is shut is kept only of a write that found it so, in this turn or an earlier one
-abbrev pub KeepsShut : Pace → Pace → SeatedEnd → Type 0
-KeepsShut old new now = new.peer_shut ≡ true → (old.peer_shut ≡ true) ⊎ ((before : SeatedEnd) × (count : ℕ) × FindsShut before now count)
+-- a session that keeps that its peer is shut has an end that found it so while it wasn't shut itself
+abbrev pub HasSeenShut : Bool → SeatedEnd → Type 0
+HasSeenShut peer_shut end = peer_shut ≡ true → (view end).saw ≡ true
+
+-- that the peer is shut is kept for good, and only of a write of this end that found it so, in this turn or an earlier one
+abbrev pub KeepsShut : Pace → Pace → SeatedEnd → SeatedEnd → Type 0
+KeepsShut old new before now =
+    (old.peer_shut ≡ true → new.peer_shut ≡ true)
+    × (new.peer_shut ≡ true → (old.peer_shut ≡ true) ⊎ ((left : SeatedEnd) × (count : ℕ) × IsSameEnd before left × FindsShut left now count))
 
 -- ---- the answer
 

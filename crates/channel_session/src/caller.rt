@@ -5,7 +5,7 @@ ghost use Rattle.vchan_rule.specs.Ends.{IsSameEnd};
 ghost use Rattle.task_duties.specs.Agent.Sessions.{CallerOwes};
 ghost use Rattle.channel_session.specs.Calling.{IsCalling, IsSameCall, IsRetired, CallerTurns, CallerReads, CallerWrites, IsDueOrPasses};
 ghost use Rattle.channel_session.specs.Ended.{done_of};
-ghost use Rattle.channel_session.specs.Turning.{first_pace, KeepsShut};
+ghost use Rattle.channel_session.specs.Turning.{first_pace, HasSeenShut, KeepsShut};
 
 use crate::pause::Pause;
 use crate::turned::Turned;
@@ -30,10 +30,13 @@ pub struct CallerSession<'p> {
 
 impl<'p> Model for CallerSession<'p> {
     ghost use Rattle.channel_session.specs.Calling.{CallerAt};
+    ghost use Rattle.channel_session.specs.Turning.{HasSeenShut};
 
     ghost Value = { CallerAt };
 
     ghost view = { λ s. record { caller = s.caller; end = s.end; pace = record { peer_shut = s.peer_shut; quiet = s.pause.quiet; passed = s.pause.passed } } };
+
+    ghost invariant = { λ s. HasSeenShut s.peer_shut s.end };
 }
 
 impl<'p> CallerSession<'p> {
@@ -71,7 +74,8 @@ impl<'p> CallerSession<'p> {
         ensures long { length buf.new ≡ length buf.old }
         ensures calling { OnOk result (IsCalling self.new.caller self.new.end) }
         ensures turned { IfOk result (λ turned. CallerTurns turned self.old self.new) }
-        ensures shut { OnOk result (KeepsShut self.old.pace self.new.pace self.new.end) }
+        ensures shut { OnOk result (KeepsShut self.old.pace self.new.pace self.old.end self.new.end) }
+        ensures seen { OnOk result (HasSeenShut self.new.pace.peer_shut self.new.end) }
     {
         if !self.is_due() {
             self.pause.pass();
@@ -133,7 +137,7 @@ impl<'p> CallerSession<'p> {
         ensures went { IfOk result (λ went. CallerWrites went self.old self.new) }
         ensures kept { OnOk result ((view self.new.end).got ≡ (view self.old.end).got) }
         ensures outcome { OnOk result (self.new.caller.replies.outcome ≡ self.old.caller.replies.outcome) }
-        ensures shut { OnOk result (KeepsShut self.old.pace self.new.pace self.new.end) }
+        ensures shut { OnOk result (KeepsShut self.old.pace self.new.pace self.old.end self.new.end) }
     {
         if self.peer_shut {
             return Ok(false);

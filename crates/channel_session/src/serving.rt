@@ -8,7 +8,7 @@ ghost use Rattle.vchan_rule.specs.Ends.{IsSameEnd};
 ghost use Rattle.channel_session.specs.Calling.{IsRetired};
 ghost use Rattle.channel_session.specs.Answering.{IsFreshCall, IsOpenCall, IsAnswering, IsAtWork, ServingTurns, ServingReads, ServingWrites};
 ghost use Rattle.channel_session.specs.Calling.{IsDueOrPasses};
-ghost use Rattle.channel_session.specs.Turning.{first_pace, KeepsShut};
+ghost use Rattle.channel_session.specs.Turning.{first_pace, HasSeenShut, KeepsShut};
 ghost use Rattle.task_duties.specs.Agent.Sessions.{IsService, ServingOwes};
 
 use crate::pause::Pause;
@@ -35,10 +35,13 @@ pub struct ServingSession<'p> {
 
 impl<'p> Model for ServingSession<'p> {
     ghost use Rattle.channel_session.specs.Answering.{ServingAt};
+    ghost use Rattle.channel_session.specs.Turning.{HasSeenShut};
 
     ghost Value = { ServingAt };
 
     ghost view = { λ s. record { serving = s.serving; end = s.end; pace = record { peer_shut = s.peer_shut; quiet = s.pause.quiet; passed = s.pause.passed } } };
+
+    ghost invariant = { λ s. HasSeenShut s.peer_shut s.end };
 }
 
 impl<'p> ServingSession<'p> {
@@ -100,7 +103,8 @@ impl<'p> ServingSession<'p> {
         ensures work { OnOk result (IsAtWork self.new.serving self.new.end) }
         ensures answering { (owed : List ℕ → Triple) → IsAnswering owed self.old.serving self.old.end → OnOk result (IsAnswering owed self.new.serving self.new.end) }
         ensures turned { IfOk result (λ turned. ServingTurns turned self.old self.new) }
-        ensures shut { OnOk result (KeepsShut self.old.pace self.new.pace self.new.end) }
+        ensures shut { OnOk result (KeepsShut self.old.pace self.new.pace self.old.end self.new.end) }
+        ensures seen { OnOk result (HasSeenShut self.new.pace.peer_shut self.new.end) }
     {
         if !self.is_due() {
             self.pause.pass();
@@ -166,7 +170,7 @@ impl<'p> ServingSession<'p> {
         ensures went { IfOk result (λ went. ServingWrites went self.old self.new) }
         ensures kept { OnOk result ((view self.new.end).got ≡ (view self.old.end).got) }
         ensures outcome { OnOk result (IsSome self.old.serving.answering.outcome → IsSome self.new.serving.answering.outcome) }
-        ensures shut { OnOk result (KeepsShut self.old.pace self.new.pace self.new.end) }
+        ensures shut { OnOk result (KeepsShut self.old.pace self.new.pace self.old.end self.new.end) }
     {
         if self.peer_shut {
             return Ok(false);

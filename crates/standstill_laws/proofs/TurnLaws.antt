@@ -1,5 +1,5 @@
 -- Two quiet turns of a session, one of each side, can't both be still so.
-use Rattle.std.proofs.Common.{◌≡◌, ◌≢◌, ℕ, Bool, List, subst, sym, ap, ◌∙◌}
+use Rattle.std.proofs.Common.{◌≡◌, ◌≢◌, ℕ, Bool, true, List, subst, sym, ap, ◌∙◌}
 use Rattle.ring_words.specs.declared.page.Role.{Role}
 use Rattle.ring_words.specs.declared.page.Role.TheVariants.{Server, Client}
 use Rattle.service_gate.specs.Owing.{builtin_owes}
@@ -11,12 +11,14 @@ use Rattle.vchan_protocol.specs.Table.Ends.{Standing}
 use Rattle.vchan_protocol.specs.Answering.Loads.{Loads, loads_of}
 use Rattle.vchan_protocol.specs.Answering.Causes.{WriteCause, FoundShut, write_closed, wrote_none, write_full, wrote_some}
 use Rattle.vchan_protocol.specs.History.Core.{Core, side_of, standing_of}
+use Rattle.vchan_protocol.specs.Honest.Lawful.{Lawful, IsEnd}
 use Rattle.vchan_rule.specs.Seated.{SeatedEnd}
+use Rattle.vchan_rule.specs.Ends.{IsSameEnd}
 use Rattle.vchan_stream.specs.Stream.{most_asked}
 use Rattle.channel_session.specs.Turning.{IsQuiet, SendsNone, NothingWaits, WasShut, RingIsFull, PeerIsShut}
 use Rattle.qrexec_data.specs.CallerSide.{CallerStandsFor}
 use Rattle.qrexec_data.specs.ServingSide.{ServingStandsFor}
-use Rattle.standstill_laws.specs.Page.{peer_of, FoundNothing, IsFull, StandsStill}
+use Rattle.standstill_laws.specs.Page.{peer_of, IsStanding, FoundNothing, IsFull, StandsStill}
 use Rattle.standstill_laws.specs.Turns.{SendsStill, IsQuietStill, NoSessionStandsStill}
 use Rattle.standstill_laws.proofs.PageLaws.{stands-still}
 use Rattle.standstill_laws.proofs.SessionLaws.{sessions-go-on}
@@ -28,12 +30,28 @@ closed-by e n loads (wrote_none there none is) = cc
 closed-by e n loads (write_full last last_is there some none is) = cc
 closed-by e n loads (wrote_some last last_is there some room is) = cc
 
+-- an end of the page by its role has that role and the page's orders
+is-end : (core : Core) (who : Role) → Lawful core → IsEnd who core.orders (side_of core who)
+is-end core Server lawful = lawful.server_end
+is-end core Client lawful = lawful.client_end
+
+-- so had it before its last calls
+stood : (core : Core) (who : Role) (before now : SeatedEnd) → Lawful core → IsSameEnd before now → now.side ≡ side_of core who → IsStanding core who (standing_of before.side)
+stood core who before now lawful same is =
+    let end = is-end core who lawful in
+    (sym same.1 ∙ ap (λ (x : Side). x.role) is ∙ end.role_is, sym same.2 ∙ ap (λ (x : Side). x.orders) is ∙ end.orders_are)
+
+-- an end that has seen its peer's end has a peer that is shut
+peer-is-shut : (core : Core) (who : Role) → Lawful core → (side_of core who).saw ≡ true → (side_of core (peer_of who)).state ≡ Shut
+peer-is-shut core Server lawful saw = lawful.lives.server_sight.saw saw
+peer-is-shut core Client lawful saw = lawful.lives.client_sight.saw saw
+
 -- the drain of a quiet turn that is still so
-found-nothing : (core : Core) (who : Role) (still : Type 0) (waiting : List ℕ) (was_shut : Bool) (before now : SeatedEnd) (q : IsQuiet still waiting was_shut before now)
+found-nothing : (core : Core) (who : Role) (still : Type 0) (waiting : List ℕ) (was_shut : Bool) (before now : SeatedEnd) (q : IsQuiet still waiting was_shut before now) → Lawful core
     → IsQuietStill core who still waiting was_shut before now q → FoundNothing core who
-found-nothing core who still waiting was_shut before now q h = record {
+found-nothing core who still waiting was_shut before now q lawful h = record {
   begun = standing_of q.found.side;
-  stood = h.stood;
+  stood = stood core who q.found now lawful (q.same_now.0 ∙ q.same_left.0, q.same_now.1 ∙ q.same_left.1, q.same_now.2 ∙ q.same_left.2, q.same_now.3 ∙ q.same_left.3) h.is_now;
   most = q.not_yet.most;
   loads = loads_of (standing_of q.found.side) q.left.side.trail;
   prod = q.not_yet.prod;
@@ -43,13 +61,22 @@ found-nothing core who still waiting was_shut before now q h = record {
 }
 
 -- where the page stands still and the peer is open, nothing went since there was nothing to send
-nothing-waits : (core : Core) (who : Role) (still : Type 0) (waiting : List ℕ) (was_shut : Bool) (before now : SeatedEnd) → StandsStill core → (side_of core (peer_of who)).state ≢ Shut
-    → (sends : SendsNone still waiting was_shut before now) → SendsStill core who still waiting was_shut before now sends → still
-nothing-waits core who still waiting was_shut before now page there (NothingWaits none same) h = none
-nothing-waits core who still waiting was_shut before now page there (WasShut was same) h = absurd (there h)
-nothing-waits core who still waiting was_shut before now page there (RingIsFull some full) h =
-    absurd (page.has_room who (record { begun = standing_of before.side; stood = h.0; loads = loads_of (standing_of before.side) now.side.trail; prod = full.prod; cons = full.cons; lacks = IsFull (most_asked waiting) full.cause; still = h.1 }))
-nothing-waits core who still waiting was_shut before now page there (PeerIsShut some shut) h =
+nothing-waits : (core : Core) (who : Role) (still : Type 0) (waiting : List ℕ) (was_shut : Bool) (before now : SeatedEnd) → Lawful core → StandsStill core → (side_of core (peer_of who)).state ≢ Shut
+    → IsSameEnd before now → now.side ≡ side_of core who → (sends : SendsNone still waiting was_shut before now) → SendsStill core who still waiting was_shut before now sends → still
+nothing-waits core who still waiting was_shut before now lawful page there same is (NothingWaits none kept) h = none
+nothing-waits core who still waiting was_shut before now lawful page there same is (WasShut was saw kept) h =
+    absurd (there (peer-is-shut core who lawful (sym (ap (λ (x : Side). x.saw) is) ∙ ap (λ (e : SeatedEnd). e.side.saw) kept ∙ saw)))
+nothing-waits core who still waiting was_shut before now lawful page there same is (RingIsFull some full) h =
+    absurd (page.has_room who (record {
+      begun = standing_of before.side;
+      stood = stood core who before now lawful same is;
+      loads = loads_of (standing_of before.side) now.side.trail;
+      prod = full.prod;
+      cons = full.cons;
+      lacks = IsFull (most_asked waiting) full.cause;
+      still = h;
+    }))
+nothing-waits core who still waiting was_shut before now lawful page there same is (PeerIsShut some shut) h =
     absurd (there (page.is_shut who (record {
       loads = loads_of (standing_of before.side) now.side.trail;
       shut = closed-by (standing_of before.side) (most_asked waiting) (loads_of (standing_of before.side) now.side.trail) shut.cause;
@@ -69,12 +96,12 @@ no-session-stands-still core owed c c' s s' b =
       caller_undecided = b.caller_undecided;
       serving_undecided = b.serving_undecided;
     }) (
-      nothing-waits core Server _ _ _ _ _ page b.client_opened b.caller_turn.2.sends b.caller_still.sends,
-      nothing-waits core Client _ _ _ _ _ page b.server_opened b.serving_turn.2.sends b.serving_still.sends owed b.serves,
+      nothing-waits core Server _ _ _ _ _ b.lawful page b.client_opened b.caller_turn.2.same_now b.caller_still.is_now b.caller_turn.2.sends b.caller_still.sends,
+      nothing-waits core Client _ _ _ _ _ b.lawful page b.server_opened b.serving_turn.2.same_now b.serving_still.is_now b.serving_turn.2.sends b.serving_still.sends owed b.serves,
     )
   where
     page : StandsStill core
-    page = stands-still core b.lawful (found-nothing core Server _ _ _ _ _ b.caller_turn.2 b.caller_still) (found-nothing core Client _ _ _ _ _ b.serving_turn.2 b.serving_still)
+    page = stands-still core b.lawful (found-nothing core Server _ _ _ _ _ b.caller_turn.2 b.lawful b.caller_still) (found-nothing core Client _ _ _ _ _ b.serving_turn.2 b.lawful b.serving_still)
 
     caller_sent : c.end.side.sent ≡ core.server.sent
     caller_sent = sym b.caller_turn.0.1 ∙ ap (λ (x : Side). x.sent) b.caller_still.is_now

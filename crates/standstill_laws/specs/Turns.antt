@@ -15,19 +15,18 @@ use Rattle.channel_session.specs.declared.turned.Turned.TheVariants.{Quiet}
 use Rattle.channel_session.specs.Turning.{IsQuiet, SendsNone, NothingWaits, WasShut, RingIsFull, PeerIsShut}
 use Rattle.channel_session.specs.Calling.{CallerAt, CallerTurns, IsCalling}
 use Rattle.channel_session.specs.Answering.{ServingAt, ServingTurns, IsAnswering}
-use Rattle.standstill_laws.specs.Page.{peer_of, AreIndices, IsStanding, IsLiveStill}
+use Rattle.standstill_laws.specs.Page.{AreIndices, IsLiveStill}
 
--- why nothing went is still so: the indices that the write answered with, or the live byte that it loaded, are those of the page; and a peer that was found shut earlier is shut
+-- why nothing went is still so: the indices that the write answered with, or the live byte that it loaded, are those of the page
 abbrev pub SendsStill : Core → Role → (still : Type 0) → (waiting : List ℕ) → (was_shut : Bool) → (before now : SeatedEnd) → SendsNone still waiting was_shut before now → Type 0
 SendsStill core who still waiting was_shut before now (NothingWaits none same) = Unit {0}
-SendsStill core who still waiting was_shut before now (WasShut was same) = (side_of core (peer_of who)).state ≡ Shut
-SendsStill core who still waiting was_shut before now (RingIsFull some full) = IsStanding core who (standing_of before.side) × AreIndices core (written_ring who) full.prod full.cons
+SendsStill core who still waiting was_shut before now (WasShut was saw same) = Unit {0}
+SendsStill core who still waiting was_shut before now (RingIsFull some full) = AreIndices core (written_ring who) full.prod full.cons
 SendsStill core who still waiting was_shut before now (PeerIsShut some shut) = IsLiveStill core who (loads_of (standing_of before.side) now.side.trail)
 
--- the end stands as its quiet turn left it, and what the turn found is still so
+-- the end is as its quiet turn left it, and what the turn found is still so
 pub record IsQuietStill (core : Core) (who : Role) (still : Type 0) (waiting : List ℕ) (was_shut : Bool) (before now : SeatedEnd) (q : IsQuiet still waiting was_shut before now) : Type 0 where
   pub is_now : now.side ≡ side_of core who
-  pub stood : IsStanding core who (standing_of q.found.side)
   pub drained : AreIndices core (read_ring who) q.not_yet.prod q.not_yet.cons
   pub sends : SendsStill core who still waiting was_shut q.left now q.sends
 

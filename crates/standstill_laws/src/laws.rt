@@ -20,8 +20,7 @@ pub fn sessions_go_on<S>()
 {}
 
 /// An open session between honest ends doesn't stand still: it isn't so that both its sides made quiet turns
-/// and nothing changed since. A side that keeps that its peer is shut has such a peer, and the end that its
-/// drain left is an end of the page with its role.
+/// and nothing changed since.
 pub fn no_session_stands_still()
     ensures { NoSessionStandsStill }
 {}

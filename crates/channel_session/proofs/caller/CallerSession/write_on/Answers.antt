@@ -1,4 +1,4 @@
-use Rattle.std.proofs.Common.{ap, inr, rules}
+use Rattle.std.proofs.Common.{refl, ap, inr, rules}
 use Rattle.vchan_stream.specs.Stream.{most_asked}
 use Rattle.channel_session.specs.Calling.{CallerAt}
 use Rattle.channel_session.specs.Turning.{RingIsFull}
@@ -14,5 +14,7 @@ returns-in-Full-clause-went c = (
 )
 
 pub returns-in-PeerClosed-clause-shut : goal.returns-in-PeerClosed-clause-shut
-returns-in-PeerClosed-clause-shut c = λ shut.
-    inr (c.self.inside.end, most_asked c.in_ok-piece.piece.now, finds-shut c.self.inside.end c.write.new.end c.in_ok-piece.piece.now c.in-PeerClosed.ensures.trail c.in-PeerClosed.ensures.cause)
+returns-in-PeerClosed-clause-shut c = (
+  λ was. refl,
+  λ shut. inr (c.self.inside.end, most_asked c.in_ok-piece.piece.now, search rules, finds-shut c.self.inside.end c.write.new.end c.in_ok-piece.piece.now c.in-PeerClosed.ensures.trail c.in-PeerClosed.ensures.cause),
+)
