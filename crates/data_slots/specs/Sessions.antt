@@ -62,12 +62,12 @@ sent_in AwaitsPage = []
 sent_in (ServesWith at) = (view at.end).sent
 sent_in (EndedWith end) = end.sent
 
--- no byte that came or went is taken back
+-- no fewer bytes came and went than before
 pub record LosesNothing (old new : Session) : Type 0 where
   pub got : length (got_in old) ≤ length (got_in new)
   pub sent : length (sent_in old) ≤ length (sent_in new)
 
--- an open session is over now, and its end is retired with all bytes that came and went
+-- an open session is over now, and its end is retired; no fewer bytes came and went on it than before
 pub record ComesToItsEnd (old new : Session) : Type 0 where
   pub end : EndView
   pub was_open : is_open old ≡ true

@@ -149,9 +149,9 @@ impl<'p> DataSlots<'p> {
     }
 
     /// One turn of each open session. Those that are over now are put behind `over`, each once, and are open
-    /// no more; their retired ends have all bytes that came and went. Each other one moved something, was quiet
-    /// or was passed over, as its own turn says, or awaits its page still. A session that was over stays as it
-    /// is. It answers whether any moved bytes or is over, of which nothing is promised.
+    /// no more; no fewer bytes came and went on their retired ends than before the turn. Each other one moved
+    /// something, was quiet or was passed over, as its own turn says, or awaits its page still. A session that
+    /// was over stays as it is. It answers whether any moved bytes or is over, of which nothing is promised.
     ///
     /// Returns `Memory` if memory runs out; the ends can only be given up then, and nothing is promised of
     /// `over`.
