@@ -36,7 +36,7 @@ use Rattle.broker_task.specs.Rounds.{IsReady, GoesOn, IsSettled}
 use Rattle.broker_task.specs.Standing.{Stands}
 use Rattle.broker_task.specs.Turns.{Pays, StandsAfter, Finishes}
 use Rattle.broker_task.proofs.HearingSteps.{place-of-domain, item-at}
-use Rattle.broker_task.proofs.RoundSteps.{at-one}
+use Rattle.broker_task.proofs.Lists.{at-one}
 use Rattle.broker_task.proofs.StandingLaws.{said-by, awaited-at, stands-done}
 
 -- ---- what was given is the same

@@ -15,7 +15,7 @@ use Rattle.broker_task.specs.Lines.{end_of, first_view, IsLine, IsSameDaemon, Ke
 use Rattle.broker_task.specs.Posting.{EachAt, EachMoves, SameEnd}
 use Rattle.broker_task.specs.Given.{IsGivenBack}
 use Rattle.broker_task.proofs.PostLaws.{moves-one, moves-none, moves-as, moves-then}
-use Rattle.broker_task.proofs.RoundSteps.{at-one}
+use Rattle.broker_task.proofs.Lists.{at-one}
 
 -- ---- one domain
 

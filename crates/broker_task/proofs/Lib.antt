@@ -8,6 +8,7 @@ pub mod HearingSteps
 pub mod SendingSteps
 pub mod ReleaseSteps
 pub mod DropSteps
+pub mod HoldingLaws
 pub mod RoundSteps
 pub mod KeepingSteps
 pub mod MovingLaws

@@ -2,6 +2,7 @@
 use Rattle.std.proofs.Common.{◌≡◌, ℕ, ◌<◌, suc, zero, List, [], ◌∷◌, ◌++◌, length, map, get_or, refl, sym, ap, ◌∙◌, arith}
 use Rattle.std.proofs.Math.ListN.{set}
 use Rattle.task_duties.specs.Pairwise.{EachPair}
+use Rattle.broker_task.specs.Letters.{IsAt}
 
 -- a list of which the first few elements were changed
 abbrev pub mapped : {A : Type 0} → (A → A) → List A → ℕ → List A
@@ -28,3 +29,24 @@ pairs-push R [] [] x y all one = (one, tt)
 pairs-push R [] (b ∷ bs) x y all one = absurd all
 pairs-push R (a ∷ others) [] x y all one = absurd all
 pairs-push R (a ∷ others) (b ∷ bs) x y all one = (all.0, pairs-push R others bs x y all.1 one)
+
+-- ---- elements at their places
+
+pub at-mapped : {A B : Type 0} (f : A → B) (xs : List A) (i : ℕ) (y : B) → IsAt (map f xs) i y → (x : A) × IsAt xs i x × (y ≡ f x)
+at-mapped f [] i y at = absurd (omega (arith, at.within))
+at-mapped f (x ∷ xs) zero y at = (x, record { within = omega arith; is = refl }, at.is)
+at-mapped f (x ∷ xs) (suc i) y at =
+    let rest = at-mapped f xs i y (record { within = omega (arith, at.within); is = at.is }) in
+    (rest.0, record { within = omega (arith, rest.1.within); is = rest.1.is }, rest.2)
+
+pub mapped-at : {A B : Type 0} (f : A → B) (xs : List A) (i : ℕ) (x : A) → IsAt xs i x → IsAt (map f xs) i (f x)
+mapped-at f [] i x at = absurd (omega (arith, at.within))
+mapped-at f (y ∷ xs) zero x at = record { within = omega arith; is = ap f at.is }
+mapped-at f (y ∷ xs) (suc i) x at =
+    let rest = mapped-at f xs i x (record { within = omega (arith, at.within); is = at.is }) in
+    record { within = omega (arith, rest.within); is = rest.is }
+
+pub at-one : {A : Type 0} (xs : List A) (i : ℕ) (x y : A) → IsAt xs i x → IsAt xs i y → x ≡ y
+at-one [] i x y a b = absurd (omega (arith, a.within))
+at-one (z ∷ xs) zero x y a b = a.is ∙ sym b.is
+at-one (z ∷ xs) (suc i) x y a b = at-one xs i x y (record { within = omega (arith, a.within); is = a.is }) (record { within = omega (arith, b.within); is = b.is })

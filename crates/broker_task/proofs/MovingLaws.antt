@@ -22,7 +22,7 @@ use Rattle.broker_task.specs.Lines.{end_of, is_shut, is_gone, OnlyPort}
 use Rattle.broker_task.specs.Posting.{EachMoves, LetsGo, Posts}
 use Rattle.broker_task.specs.Moving.{BrokerLine, line_of, IsLater, HearsNothing, SaysNothing, has_not_greeted, all_held, greeting_waits, letter_waits, Grows, HasMoved, IsQuiet, HasTurned, StandsBy, FindsHere, Listens, ListensAsTold, Decides, SendsMore, SendsOrNot, SendsSoFar, IsDropped, Turns, Steps}
 use Rattle.broker_task.proofs.PostLaws.{moves-one, moves-as, moves-then, same-number}
-use Rattle.broker_task.proofs.RoundSteps.{at-one}
+use Rattle.broker_task.proofs.Lists.{at-one}
 use Rattle.broker_task.proofs.SendingSteps.{Alone}
 
 -- ---- letters

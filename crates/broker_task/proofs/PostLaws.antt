@@ -3,6 +3,7 @@ use Rattle.std.proofs.Common.{◌≡◌, ◌≢◌, ℕ, ◌+◌, ◌-◌, ◌<�
 use Rattle.std.specs.Prelude.{◌==◌, Result, Ok, Err, OnOk}
 use Rattle.std.proofs.Math.ListN.{set}
 use Rattle.std.proofs.lemmas.List.{append-nil, get_or-set_same, get_or-set_other, length-set}
+use Rattle.std.proofs.lemmas.Bool.{false≢true}
 use Rattle.std.proofs.lemmas.Bool.Decides.{nat_tests}
 use Rattle.qrexec_frame.specs.declared.message.Message.{Message}
 use Rattle.qrexec_frame.specs.declared.message.Message.TheVariants as message
@@ -18,7 +19,7 @@ use Rattle.broker_task.specs.declared.daemon.Daemon.{Daemon}
 use Rattle.broker_task.specs.declared.reply.Reply.TheVariants.{Nothing, Refused, Accepted}
 use Rattle.broker_task.specs.Letters.{IsAt, messages_in}
 use Rattle.broker_task.specs.Replies.{IsReplyTo, IsFit}
-use Rattle.broker_task.specs.Posting.{EachAt, EachMoves, SamePort, Posts, IsFree, one_if}
+use Rattle.broker_task.specs.Posting.{EachAt, EachMoves, SamePort, Posts, IsFree, IsCallOf, one_if}
 
 -- ---- lists of domains
 
@@ -104,8 +105,9 @@ moves-letter ds k l n x y some there adds =
 -- ---- the replies
 
 posts-from : (hub : Domains) (e : Event) (decided : Decision) (d : ℕ) (more : List Letter) (n : ℕ) (x y : Daemon) → Adds more n x y → messages_in more ≡ puts hub d e decided
-    → Each (λ l. IsFit hub l.message) more → Each (λ l. l.held ≡ false → IsFree l.message) more → n ≡ one_if (is_answer d e decided) → Posts hub (record { event = e; decision = decided }) d x y
-posts-from hub e decided d more n x y a are fit free counted = record {
+    → Each (λ l. IsFit hub l.message) more → Each (λ l. l.held ≡ false → IsFree l.message) more → Each (λ l. l.held ≡ true → IsCallOf e decided d l.message) more → n ≡ one_if (is_answer d e decided)
+    → Posts hub (record { event = e; decision = decided }) d x y
+posts-from hub e decided d more n x y a are fit free held counted = record {
   domain = a.domain;
   port = a.port;
   awaited = a.awaited;
@@ -114,16 +116,17 @@ posts-from hub e decided d more n x y a are fit free counted = record {
   are = are;
   replies = fit;
   free = free;
+  held = held;
   counted = a.counted ∙ ap (λ k. x.answered + k) counted;
 }
 
 pub posts-nothing : (hub : Domains) (e : Event) (decided : Decision) (d : ℕ) (x : Daemon) → IsReplyTo hub e decided Nothing → Posts hub (record { event = e; decision = decided }) d x x
 posts-nothing hub (Trigger f t s i) (decision.Accepted to port) d x is = absurd is
 posts-nothing hub (Trigger f t s i) (decision.Refused cause) d x is = absurd is
-posts-nothing hub (Trigger f t s i) (decision.Ended a b port) d x is = posts-from hub (Trigger f t s i) (decision.Ended a b port) d [] 0 x x (adds-none x) refl tt tt refl
-posts-nothing hub (Trigger f t s i) decision.PassedOver d x is = posts-from hub (Trigger f t s i) decision.PassedOver d [] 0 x x (adds-none x) refl tt tt refl
-posts-nothing hub (Terminated f o p) decided d x is = posts-from hub (Terminated f o p) decided d [] 0 x x (adds-none x) refl tt tt refl
-posts-nothing hub (Dropped o) decided d x is = posts-from hub (Dropped o) decided d [] 0 x x (adds-none x) refl tt tt refl
+posts-nothing hub (Trigger f t s i) (decision.Ended a b port) d x is = posts-from hub (Trigger f t s i) (decision.Ended a b port) d [] 0 x x (adds-none x) refl tt tt tt refl
+posts-nothing hub (Trigger f t s i) decision.PassedOver d x is = posts-from hub (Trigger f t s i) decision.PassedOver d [] 0 x x (adds-none x) refl tt tt tt refl
+posts-nothing hub (Terminated f o p) decided d x is = posts-from hub (Terminated f o p) decided d [] 0 x x (adds-none x) refl tt tt tt refl
+posts-nothing hub (Dropped o) decided d x is = posts-from hub (Dropped o) decided d [] 0 x x (adds-none x) refl tt tt tt refl
 
 pub posts-refused : (hub : Domains) (e : Event) (decided : Decision) (from d : ℕ) (m : Message) (x y : Daemon) → is_from from e ≡ true → IsReplyTo hub e decided (Refused m) → IsFit hub m
     → Adds (letter_if (d == from) (record { message = m; held = false })) (count_if (d == from) 1) x y → Posts hub (record { event = e; decision = decided }) d x y
@@ -133,13 +136,13 @@ posts-refused hub (Trigger f t s i) (decision.Refused cause) from d m x y own is
   where
     by_test : (b : Bool) → (d == f) ≡ b → Adds (letter_if b (record { message = m; held = false })) (count_if b 1) x y → Posts hub (record { event = Trigger f t s i; decision = decision.Refused cause }) d x y
     by_test true here a' =
-        posts-from hub (Trigger f t s i) (decision.Refused cause) d (record { message = m; held = false } ∷ []) 1 x y a' (rw here (ap (λ k. k ∷ []) is)) (fit, tt) ((λ free. subst IsFree (sym is) tt), tt)
+        posts-from hub (Trigger f t s i) (decision.Refused cause) d (record { message = m; held = false } ∷ []) 1 x y a' (rw here (ap (λ k. k ∷ []) is)) (fit, tt) ((λ free. subst IsFree (sym is) tt), tt) ((λ held. absurd (false≢true held)), tt)
         (rw (swap here) refl)
       where
         swap : (d == f) ≡ true → (f == d) ≡ true
         swap h = grind (arith, nat_tests, h)
     by_test false away a' =
-        posts-from hub (Trigger f t s i) (decision.Refused cause) d [] 0 x y a' (rw away refl) tt tt (rw (swap away) refl)
+        posts-from hub (Trigger f t s i) (decision.Refused cause) d [] 0 x y a' (rw away refl) tt tt tt (rw (swap away) refl)
       where
         swap : (d == f) ≡ false → (f == d) ≡ false
         swap h = grind (arith, nat_tests, h)
@@ -165,13 +168,13 @@ posts-accepted hub (Trigger f t s i) (decision.Accepted q port) from to d exec c
         → Posts hub (record { event = Trigger f t s i; decision = decision.Accepted q port }) d x y
     by_tests true true here there a' =
         posts-from hub (Trigger f t s i) (decision.Accepted q port) d (record { message = connect; held = true } ∷ record { message = exec; held = false } ∷ []) 1 x y a'
-        (rw (here, there) (ap (λ k. k ∷ exec ∷ []) is.2 ∙ ap (λ k. message.Connect q port i ∷ k ∷ []) is.1)) (fit.1, (fit.0, tt)) ((λ free. cc), ((λ free. subst IsFree (sym is.1) tt), tt)) (rw (swap true here) refl)
+        (rw (here, there) (ap (λ k. k ∷ exec ∷ []) is.2 ∙ ap (λ k. message.Connect q port i ∷ k ∷ []) is.1)) (fit.1, (fit.0, tt)) ((λ free. cc), ((λ free. subst IsFree (sym is.1) tt), tt)) ((λ held. (same-number d f here, is.2)), ((λ held. absurd (false≢true held)), tt)) (rw (swap true here) refl)
     by_tests true false here there a' =
-        posts-from hub (Trigger f t s i) (decision.Accepted q port) d (record { message = connect; held = true } ∷ []) 1 x y a' (rw (here, there) (ap (λ k. k ∷ []) is.2)) (fit.1, tt) ((λ free. cc), tt) (rw (swap true here) refl)
+        posts-from hub (Trigger f t s i) (decision.Accepted q port) d (record { message = connect; held = true } ∷ []) 1 x y a' (rw (here, there) (ap (λ k. k ∷ []) is.2)) (fit.1, tt) ((λ free. cc), tt) ((λ held. (same-number d f here, is.2)), tt) (rw (swap true here) refl)
     by_tests false true here there a' =
-        posts-from hub (Trigger f t s i) (decision.Accepted q port) d (record { message = exec; held = false } ∷ []) 0 x y a' (rw (here, there) (ap (λ k. k ∷ []) is.1)) (fit.0, tt) ((λ free. subst IsFree (sym is.1) tt), tt) (rw (swap false here) refl)
+        posts-from hub (Trigger f t s i) (decision.Accepted q port) d (record { message = exec; held = false } ∷ []) 0 x y a' (rw (here, there) (ap (λ k. k ∷ []) is.1)) (fit.0, tt) ((λ free. subst IsFree (sym is.1) tt), tt) ((λ held. absurd (false≢true held)), tt) (rw (swap false here) refl)
     by_tests false false here there a' =
-        posts-from hub (Trigger f t s i) (decision.Accepted q port) d [] 0 x y a' (rw (here, there) refl) tt tt (rw (swap false here) refl)
+        posts-from hub (Trigger f t s i) (decision.Accepted q port) d [] 0 x y a' (rw (here, there) refl) tt tt tt (rw (swap false here) refl)
 posts-accepted hub (Trigger f t s i) (decision.Refused cause) from to d exec connect x y own is fit a = absurd is
 posts-accepted hub (Trigger f t s i) (decision.Ended q r port) from to d exec connect x y own is fit a = absurd is
 posts-accepted hub (Trigger f t s i) decision.PassedOver from to d exec connect x y own is fit a = absurd is

@@ -162,19 +162,23 @@ waiting-released t meant f old new i less moves =
 
 -- ---- nothing was sent
 
+-- only the port of a domain has moved to which nothing was sent
+pub unsent-moves : {said_to : List Message} (i : ℕ) (x y : Daemon) → ((said : List Message) → HasSaid x.port said → SendsOne x y said None) → HasSaid x.port said_to → IsOpen x.port.end → IsSameDaemon x y → y.answered ≡ x.answered
+    → IsLine y.domain y → IsOpen y.port.end → MovesPort (i + 1) x y
+unsent-moves {said_to} i x y sends says up same counted line opens = record {
+  domain = same.domain;
+  awaited = same.awaited;
+  outbox = (sends said_to says).0;
+  counted = counted;
+  gone = is-up y opens ∙ sym (is-up x up);
+  line = λ l. subst (λ n. IsLine n y) (same.domain ∙ l.number) line;
+  said = λ said s. (sends said s).1;
+}
+
 pub sending-moves : (hub : Domains) (journal : List Entry) (domain : ℕ) (ds : List Daemon) (i : ℕ) (x y : Daemon) → IsAt ds i x → i + 1 ≡ domain → ((said : List Message) → HasSaid x.port said → SendsOne x y said None)
     → IsSameDaemon x y → y.answered ≡ x.answered → IsLine y.domain y → IsOpen y.port.end → ((events : List Event) → HasRead x events → HasRead y events) → IsSending hub domain journal ds → IsSending hub domain journal (set ds i y)
 sending-moves hub journal domain ds i x y there number sends same counted line opens read p =
-    let h = p.posting.posted i x there in
-    let moves : MovesPort (i + 1) x y = record {
-      domain = same.domain;
-      awaited = same.awaited;
-      outbox = (sends (p.posting.said (i + 1)) h.says).0;
-      counted = counted;
-      gone = is-up y opens ∙ sym (is-up x (p.opened i x there number));
-      line = λ l. subst (λ n. IsLine n y) (same.domain ∙ l.number) line;
-      said = λ said s. (sends said s).1;
-    } in
+    let moves = unsent-moves i x y sends (p.posting.posted i x there).says (p.opened i x there number) same counted line opens in
     let alone = moves-alone domain (λ a b. (a ≡ x) × (b ≡ y)) ds i x y there number (refl, refl) in
     record {
       posting = posting-next hub journal ds i x y there moves p.posting;

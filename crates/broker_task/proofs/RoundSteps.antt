@@ -1,5 +1,5 @@
 -- One domain that is attended to, step by step.
-use Rattle.std.proofs.Common.{◌≡◌, ◌≢◌, ℕ, ◌+◌, ◌≤◌, ◌<◌, Option, Some, None, Bool, true, false, List, [], ◌∷◌, length, refl, sym, ap, ◌∙◌, subst, arith, suc, zero, inr}
+use Rattle.std.proofs.Common.{◌≡◌, ◌≢◌, ℕ, ◌+◌, ◌≤◌, ◌<◌, Option, Some, None, Bool, true, false, List, length, refl, sym, ap, ◌∙◌, subst, arith, inr}
 use Rattle.std.specs.Prelude.{◌==◌, ◌&&◌, nat_le, is_none, IsSome, Result, Ok, Err, OnOk, IfOk}
 use Rattle.std.proofs.Math.ListN.{set}
 use Rattle.std.proofs.lemmas.List.{get_or-set_same, length-set}
@@ -19,18 +19,16 @@ use Rattle.broker_task.specs.Letters.{IsAt}
 use Rattle.broker_task.specs.Lines.{end_of, broker_end, is_gone, first_view, MayDrop, IsGoing, IsLine, ReadsOn, HasRead, IsSameDaemon, OnlyPort}
 use Rattle.broker_task.specs.Replies.{HasShortNames}
 use Rattle.broker_task.specs.Posting.{EachAt, EachMoves, SameEnd, LetsGo, MovesPort, IsPosting, HasHeardOut, HaveRead}
+use Rattle.broker_task.specs.Holding.{lines_of, HoldsForExecs}
 use Rattle.broker_task.specs.Rounds.{IsReady, GoesOn, IsThere, HasListened}
 use Rattle.broker_task.proofs.PostLaws.{moves-one, moves-none, moves-as, moves-then, each-moved, same-number}
+use Rattle.broker_task.proofs.Lists.{at-one}
 use Rattle.broker_task.proofs.HearingSteps.{posting-next}
+use Rattle.broker_task.proofs.HoldingLaws.{holds-next}
 use Rattle.broker_task.proofs.SendingSteps.{each-alone, moves-alone}
 use Rattle.broker_task.proofs.ReleaseSteps.{same-daemon, same-moves}
 
 -- ---- a domain at its place
-
-pub at-one : {A : Type 0} (xs : List A) (i : ℕ) (x y : A) → IsAt xs i x → IsAt xs i y → x ≡ y
-at-one [] i x y a b = absurd (omega (arith, a.within))
-at-one (z ∷ xs) zero x y a b = a.is ∙ sym b.is
-at-one (z ∷ xs) (suc i) x y a b = at-one xs i x y (record { within = omega (arith, a.within); is = a.is }) (record { within = omega (arith, b.within); is = b.is })
 
 pub each-here : (P : Daemon → Type 0) (domain : ℕ) (ds : List Daemon) (i : ℕ) (x : Daemon) → IsAt ds i x → i + 1 ≡ domain → P x → EachAt (λ d y. d ≡ domain → P y) ds
 each-here P domain ds i x there number p = λ j y at same.
@@ -52,9 +50,10 @@ is-there false y opens cause = cause refl
 
 pub listened : {E : Type 0} (hub : Domains) (domain : ℕ) (journal : List Entry) (ds : List Daemon) (i : ℕ) (x y : Daemon) (r : Result Bool E) → IsAt ds i x → i + 1 ≡ domain → IsPosting hub journal ds → HaveRead journal ds
     → is_gone x ≡ false → OnlyPort x y → OnOk r (IsLine y.domain y) → OnOk r (is_gone y ≡ false) → ((said : List Message) → HasSaid x.port said → OnOk r (HasSaid y.port said))
-    → ((events : List Event) → ReadsOn x events → OnOk r (ReadsOn y events)) → (r ≡ Ok true → IsOpen y.port.end × (IsGoing (end_of x) → IsGoing (end_of y))) → (r ≡ Ok false → MayDrop (broker_end y)) → IfOk r (λ there. HasListened hub domain journal (set ds i y) there)
-listened hub domain journal ds i x y (Err e) there number p read up only line now said reads opens cause = tt
-listened hub domain journal ds i x y (Ok b) there number p read up only line now said reads opens cause =
+    → ((events : List Event) → ReadsOn x events → OnOk r (ReadsOn y events)) → (r ≡ Ok true → IsOpen y.port.end × (IsGoing (end_of x) → IsGoing (end_of y))) → (r ≡ Ok false → MayDrop (broker_end y)) → HoldsForExecs (lines_of ds)
+    → IfOk r (λ there. HasListened hub domain journal (set ds i y) there)
+listened hub domain journal ds i x y (Err e) there number p read up only line now said reads opens cause holds = tt
+listened hub domain journal ds i x y (Ok b) there number p read up only line now said reads opens cause holds =
     let domain_is : y.domain ≡ x.domain = ap (λ (z : Daemon). z.domain) only in
     let moves : MovesPort (i + 1) x y = record {
       domain = domain_is;
@@ -80,6 +79,7 @@ listened hub domain journal ds i x y (Ok b) there number p read up only line now
             (λ d a apart q same. absurd (apart same)) read;
       };
       whether = each-here (IsThere b) domain (set ds i y) i y here number (is-there b y (λ is. let o = opens (ap (λ (k : Bool). Ok k) is) in (o.0, o.1 ((read i x there).going up))) (λ is. cause (ap (λ (k : Bool). Ok k) is)));
+      holds = holds-next ds i x y there moves holds;
     }
 
 -- ---- what it sent was heard
@@ -129,10 +129,11 @@ goes-then a b c first second = record {
 }
 
 pub goes-on : (s0 s1 s2 s3 : Switchboard) → IsReady s0 → s1.broker ≡ s0.broker → EachMoves (λ d. IsSameDaemon) s0.daemons.items s1.daemons.items → s2.broker.hub ≡ s1.broker.hub → EachMoves SameEnd s1.daemons.items s2.daemons.items
-    → s3.broker.hub ≡ s2.broker.hub → EachMoves (λ d. IsSameDaemon) s2.daemons.items s3.daemons.items → IsPosting s3.broker.hub s3.broker.journal s3.daemons.items → HaveRead s3.broker.journal s3.daemons.items → GoesOn s0 s3
-goes-on s0 s1 s2 s3 ready broker first hub ends hub' last posting read =
+    → s3.broker.hub ≡ s2.broker.hub → EachMoves (λ d. IsSameDaemon) s2.daemons.items s3.daemons.items → IsPosting s3.broker.hub s3.broker.journal s3.daemons.items → HaveRead s3.broker.journal s3.daemons.items → HoldsForExecs (lines_of s3.daemons.items)
+    → GoesOn s0 s3
+goes-on s0 s1 s2 s3 ready broker first hub ends hub' last posting read holds =
     let all : s3.broker.hub ≡ s0.broker.hub = hub' ∙ hub ∙ ap (λ (b : Brokered). b.hub) broker in record {
-      ready = record { names = subst (λ (h : Domains). HasShortNames h) (sym all) ready.names; posting = posting; read = read };
+      ready = record { names = subst (λ (h : Domains). HasShortNames h) (sym all) ready.names; posting = posting; read = read; holds = holds };
       hub = all;
       same =
           same-moves s0.daemons.items s1.daemons.items s3.daemons.items first
@@ -141,9 +142,9 @@ goes-on s0 s1 s2 s3 ready broker first hub ends hub' last posting read =
 
 pub goes-on-ok : {A E : Type 0} (r : Result A E) (s0 s1 s2 s3 : Switchboard) → IsReady s0 → s1.broker ≡ s0.broker → EachMoves (λ d. IsSameDaemon) s0.daemons.items s1.daemons.items → s2.broker.hub ≡ s1.broker.hub
     → EachMoves SameEnd s1.daemons.items s2.daemons.items → s3.broker.hub ≡ s2.broker.hub → OnOk r (EachMoves (λ d. IsSameDaemon) s2.daemons.items s3.daemons.items) → OnOk r (IsPosting s3.broker.hub s3.broker.journal s3.daemons.items)
-    → OnOk r (HaveRead s3.broker.journal s3.daemons.items) → OnOk r (GoesOn s0 s3)
-goes-on-ok (Ok a) s0 s1 s2 s3 ready broker first hub ends hub' last posting read = goes-on s0 s1 s2 s3 ready broker first hub ends hub' last posting read
-goes-on-ok (Err e) s0 s1 s2 s3 ready broker first hub ends hub' last posting read = tt
+    → OnOk r (HaveRead s3.broker.journal s3.daemons.items) → OnOk r (HoldsForExecs (lines_of s3.daemons.items)) → OnOk r (GoesOn s0 s3)
+goes-on-ok (Ok a) s0 s1 s2 s3 ready broker first hub ends hub' last posting read holds = goes-on s0 s1 s2 s3 ready broker first hub ends hub' last posting read holds
+goes-on-ok (Err e) s0 s1 s2 s3 ready broker first hub ends hub' last posting read holds = tt
 
 -- ---- a release, domain by domain
 

@@ -1,7 +1,7 @@
 -- What stands of the task between two turns, and once all ends are given back.
 use Rattle.std.proofs.Common.{◌≡◌, ◌≢◌, ℕ, ◌+◌, ◌-◌, suc, zero, Bool, true, false, List, [], ◌∷◌, ◌++◌, length, map, refl, sym, ap, ◌∙◌, subst, arith, inl, inr, Option, None}
 use Rattle.std.specs.Prelude.{IsPermutation, IsSome, filter_map, slice_index_or}
-use Rattle.std.proofs.lemmas.List.{length-append, length-map}
+use Rattle.std.proofs.lemmas.List.{append-nil, length-append, length-map}
 use Rattle.std.proofs.lemmas.List.Sorted.{length_permutation}
 use Rattle.vchan_lifecycle.specs.Lifecycle.{retired_view}
 use Rattle.vchan_protocol.specs.declared.side.EndedBy.{EndedBy}
@@ -29,11 +29,14 @@ use Rattle.broker_task.specs.declared.letter.Letter.{Letter}
 use Rattle.broker_task.specs.declared.daemon.Daemon.{Daemon}
 use Rattle.broker_task.specs.declared.switchboard.Switchboard.{Switchboard}
 use Rattle.broker_task.specs.Letters.{IsAt, messages_in}
-use Rattle.broker_task.specs.Lines.{end_of, BrokerEnd, broker_end, heard_by, is_gone, MayDrop, MustDrop, IsGoing, IsLine, HasRead}
-use Rattle.broker_task.specs.Posting.{EachAt, MayGo, HasPosted}
+use Rattle.broker_task.specs.Lines.{end_of, BrokerEnd, broker_end, heard_by, is_shut, is_gone, MayDrop, MustDrop, IsGoing, IsLine, HasRead}
+use Rattle.broker_task.specs.Moving.{BrokerLine, line_of}
+use Rattle.broker_task.specs.Posting.{EachAt, MayGo, HasPosted, IsPosting}
 use Rattle.broker_task.specs.Given.{retired_end, IsRetiredOf}
+use Rattle.broker_task.specs.Holding.{lines_of, HoldsForExecs, NoneIsLost}
 use Rattle.broker_task.specs.Rounds.{IsReady, IsSettled}
 use Rattle.broker_task.specs.Standing.{IsAttended, Stands, AreSettled}
+use Rattle.broker_task.proofs.Lists.{at-mapped}
 use Rattle.broker_task.proofs.RoundSteps.{domain-there}
 
 -- ---- what was said
@@ -112,13 +115,6 @@ attended hub journal said d x e line posted read same = record {
 
 -- ---- all domains
 
-at-mapped : {A B : Type 0} (f : A → B) (xs : List A) (i : ℕ) (y : B) → IsAt (map f xs) i y → (x : A) × IsAt xs i x × (y ≡ f x)
-at-mapped f [] i y at = absurd (omega (arith, at.within))
-at-mapped f (x ∷ xs) zero y at = (x, record { within = omega arith; is = refl }, at.is)
-at-mapped f (x ∷ xs) (suc i) y at =
-    let rest = at-mapped f xs i y (record { within = omega (arith, at.within); is = at.is }) in
-    (rest.0, record { within = omega (arith, rest.1.within); is = rest.1.is }, rest.2)
-
 at-paired : {A B : Type 0} (R : A → B → Type 0) (xs : List A) (ys : List B) (i : ℕ) (y : B) → EachPair R xs ys → IsAt ys i y → (x : A) × IsAt xs i x × R x y
 at-paired R [] [] i y all at = absurd (omega (arith, at.within))
 at-paired R [] (b ∷ ys) i y all at = absurd all
@@ -184,11 +180,22 @@ settled-within s ready all = λ i x at up.
           none-left x.outbox.letters.items (sym (length-map x.outbox.letters.items (λ (l : Letter). l.message)) ∙ went),
     )
 
+-- a domain that isn't dropped lost no letter
+none-lost : (hub : Domains) (journal : List Entry) (ds : List Daemon) (p : IsPosting hub journal ds) → NoneIsLost hub journal p.said (lines_of ds)
+none-lost hub journal ds p = λ place line at up.
+    let of = at-mapped line_of ds place line at in
+    let h = p.posted place of.0 of.1 in
+    let none : h.lost ≡ [] = h.none_lost (ap (λ (l : BrokerLine). is_shut (view l.end).state) (sym of.2) ∙ up) in
+    subst (λ (l : BrokerLine). IsPermutation (p.said (place + 1) ++ messages_in l.letters) (outbox hub journal (place + 1))) (sym of.2)
+    (subst (λ (w : List Message). IsPermutation (p.said (place + 1) ++ w) (outbox hub journal (place + 1))) (append-nil (messages_in of.0.outbox.letters.items))
+    (subst (λ (l : List Message). IsPermutation (p.said (place + 1) ++ (messages_in of.0.outbox.letters.items ++ l)) (outbox hub journal (place + 1))) none h.kept))
+
 -- what stands of a task that goes on
 pub goes-on : (s : Switchboard) → IsReady s → (EachAt (IsSettled s.broker.hub s.broker.journal (length s.daemons.items)) s.daemons.items → ⊥)
     → (st : Stands s.broker.hub s.broker.journal (map broker_end s.daemons.items)) × (AreSettled s.broker.hub (map (λ x. x.awaited) s.daemons.items) s.broker.journal st.said → ⊥)
+    × NoneIsLost s.broker.hub s.broker.journal st.said (lines_of s.daemons.items) × HoldsForExecs (lines_of s.daemons.items)
 unfolding stands
-goes-on s ready unsettled = (stands s ready, λ all. unsettled (settled-within s ready all))
+goes-on s ready unsettled = (stands s ready, (λ all. unsettled (settled-within s ready all)), none-lost s.broker.hub s.broker.journal s.daemons.items ready.posting, ready.holds)
 
 -- ---- all ends are given back
 

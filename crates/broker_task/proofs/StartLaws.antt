@@ -18,6 +18,7 @@ use Rattle.broker_task.specs.Posting.{IsLetter, HasPosted, IsPosting, HaveRead}
 use Rattle.broker_task.specs.Given.{given_now}
 use Rattle.broker_task.specs.Starting.{IsStarted, AreStarted}
 use Rattle.broker_task.specs.Rounds.{IsReady}
+use Rattle.broker_task.proofs.HoldingLaws.{holds-none}
 
 -- ---- one domain more
 
@@ -113,6 +114,7 @@ ready-new s awaited controls first names count are =
       names = names;
       posting = subst (λ (j : List Entry). IsPosting s.broker.hub j s.daemons.items) (sym first) both.0;
       read = subst (λ (j : List Entry). HaveRead j s.daemons.items) (sym first) both.1;
+      holds = holds-none s.daemons.items (started-at (λ d x. x.outbox.letters.items ≡ []) (λ d a e x is. is.outbox) 1 awaited controls s.daemons.items are);
     }
 
 pub given-new : (s : Switchboard) (awaited : List ℕ) (controls : List SeatedEnd) → AreStarted 1 awaited controls s.daemons.items → given_now s ≡ broker_given s.broker.hub awaited (map view controls)

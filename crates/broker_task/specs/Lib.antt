@@ -3,6 +3,7 @@ pub mod Lines
 pub mod Replies
 pub mod Posting
 pub mod Moving
+pub mod Holding
 pub mod Given
 pub mod Standing
 pub mod Starting

@@ -5,6 +5,10 @@ use Rattle.qrexec_frame.specs.declared.message.Message.{Message}
 use Rattle.qrexec_frame.specs.declared.message.Message.TheVariants.{Exec, Connect}
 use Rattle.qrexec_frame.specs.Streams.{Each}
 use Rattle.control_port.specs.Port.{HasSaid}
+use Rattle.call_broker.specs.declared.event.Event.{Event}
+use Rattle.call_broker.specs.declared.event.Event.TheVariants.{Trigger}
+use Rattle.call_broker.specs.declared.decision.Decision.{Decision}
+use Rattle.call_broker.specs.declared.decision.Decision.TheVariants.{Accepted}
 use Rattle.call_broker.specs.declared.decision.Entry.{Entry}
 use Rattle.call_broker.specs.Domains.{Domains, count_of}
 use Rattle.call_broker.specs.Journal.{IsJournal, AreNumbered, is_dropped}
@@ -84,6 +88,11 @@ abbrev pub IsFree : Message → Type 0
 IsFree (Connect t port ident) = ⊥
 IsFree m = Unit {0}
 
+-- a letter that is held is the Connect of the call that this event was accepted for, put for the caller
+abbrev pub IsCallOf : Event → Decision → ℕ → Message → Type 0
+IsCallOf (Trigger from target service ident) (Accepted to port) d m = (d ≡ from) × (m ≡ Connect to port ident)
+IsCallOf event decided d m = ⊥
+
 -- one more if so
 abbrev pub one_if : Bool → ℕ
 one_if true = 1
@@ -99,6 +108,7 @@ pub record Posts (hub : Domains) (e : Entry) (d : ℕ) (x y : Daemon) : Type 0 w
   pub are : messages_in more ≡ puts hub d e.event e.decision
   pub replies : Each (λ l. IsFit hub l.message) more
   pub free : Each (λ l. l.held ≡ false → IsFree l.message) more
+  pub held : Each (λ l. l.held ≡ true → IsCallOf e.event e.decision d l.message) more
   pub counted : y.answered ≡ x.answered + one_if (is_answer d e.event e.decision)
 
 -- ---- a port that moves

@@ -11,12 +11,14 @@ use Rattle.broker_task.specs.declared.switchboard.Switchboard.{Switchboard}
 use Rattle.broker_task.specs.Lines.{end_of, broker_end, is_gone, MayDrop, IsGoing, IsSameDaemon}
 use Rattle.broker_task.specs.Replies.{HasShortNames}
 use Rattle.broker_task.specs.Posting.{EachAt, EachMoves, IsPosting, IsHearing, HaveRead}
+use Rattle.broker_task.specs.Holding.{lines_of, HoldsForExecs}
 
 -- all that was read was decided, and what follows was sent or waits
 pub record IsReady (s : Switchboard) : Type 0 where
   pub names : HasShortNames s.broker.hub
   pub posting : IsPosting s.broker.hub s.broker.journal s.daemons.items
   pub read : HaveRead s.broker.journal s.daemons.items
+  pub holds : HoldsForExecs (lines_of s.daemons.items)
 
 -- it goes on with what it was given
 pub record GoesOn (old new : Switchboard) : Type 0 where
@@ -40,6 +42,7 @@ pub record HasListened (hub : Domains) (domain : ℕ) (journal : List Entry) (ds
   pub posting : IsPosting hub journal ds
   pub hearing : IsHearing domain journal ds
   pub whether : EachAt (λ d x. d ≡ domain → IsThere there x) ds
+  pub holds : HoldsForExecs (lines_of ds)
 
 -- ---- the end
 

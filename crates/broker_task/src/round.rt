@@ -3,6 +3,7 @@ ghost use Rattle.std.specs.Prelude.{◌≡◌, ◌<◌, ℕ, length, true, None,
 ghost use Rattle.call_broker.specs.Domains.{is_domain};
 ghost use Rattle.broker_task.specs.Lines.{broker_end, MayDrop, IsSameDaemon, KeepsEnd};
 ghost use Rattle.broker_task.specs.Posting.{EachAt, EachMoves, LetsGo, IsPosting, HasHeardOut, HaveRead, AreIdle};
+ghost use Rattle.broker_task.specs.Holding.{lines_of, HoldsForExecs};
 ghost use Rattle.broker_task.specs.Rounds.{IsReady, GoesOn, IsUp, HasListened};
 ghost use Rattle.broker_task.specs.Moving.{Steps, ListensAsTold, IsDropped, Turns};
 
@@ -76,11 +77,13 @@ impl<'p> Switchboard<'p> {
         requires posting { IsPosting self.old.broker.hub self.old.broker.journal self.old.daemons.items }
         requires heard { HasHeardOut domain self.old.broker.journal self.old.daemons.items }
         requires cause { EachAt (λ d x. d ≡ domain → MayDrop (broker_end x)) self.old.daemons.items }
+        requires holds { HoldsForExecs (lines_of self.old.daemons.items) }
         ensures hub { self.new.broker.hub ≡ self.old.broker.hub }
         ensures idle { AreIdle self.new.daemons.items }
         ensures kept { EachMoves (λ d. KeepsEnd) self.old.daemons.items self.new.daemons.items }
         ensures posting { OnOk result (IsPosting self.new.broker.hub self.new.broker.journal self.new.daemons.items) }
         ensures read { OnOk result (HaveRead self.new.broker.journal self.new.daemons.items) }
+        ensures holds { OnOk result (HoldsForExecs (lines_of self.new.daemons.items)) }
         ensures same { OnOk result (EachMoves (λ d. IsSameDaemon) self.old.daemons.items self.new.daemons.items) }
         ensures steps { OnOk result (EachMoves (Steps domain IsDropped) self.old.daemons.items self.new.daemons.items) }
     {

@@ -10,6 +10,7 @@ ghost use Rattle.broker_task.specs.Letters.{IsAt};
 ghost use Rattle.broker_task.specs.Moving.{Steps, StandsBy, Decides, SendsAsTold, SendsOrNot};
 ghost use Rattle.broker_task.specs.Replies.{IsReplyTo, IsWithin, AreFit, HasShortNames};
 ghost use Rattle.broker_task.specs.Posting.{EachMoves, Posts, SamePort, IsPosting, IsHearing, HasHeardOut, SameEnd, IsSending, HasGone, AreIdle, waiting_in};
+ghost use Rattle.broker_task.specs.Holding.{lines_of, HoldsForExecs, IsLetGo, HoldsBut};
 ghost use Rattle.broker_task.specs.Lines.{HasRoom, IsSameDaemon, KeepsEnd};
 ghost use Rattle.call_broker.specs.Pair.{decision};
 ghost use Rattle.call_broker.specs.Journal.{events};
@@ -43,9 +44,11 @@ impl<'p> Switchboard<'p> {
         requires names { HasShortNames self.old.broker.hub }
         requires number { is_domain self.old.broker.hub domain ≡ true }
         requires hearing { IsHearing domain self.old.broker.journal self.old.daemons.items }
+        requires holds { HoldsForExecs (lines_of self.old.daemons.items) }
         ensures hub { self.new.broker.hub ≡ self.old.broker.hub }
         ensures posting { OnOk result (IsPosting self.new.broker.hub self.new.broker.journal self.new.daemons.items) }
         ensures heard { OnOk result (HasHeardOut domain self.new.broker.journal self.new.daemons.items) }
+        ensures holds { OnOk result (HoldsForExecs (lines_of self.new.daemons.items)) }
         ensures ends { EachMoves SameEnd self.old.daemons.items self.new.daemons.items }
         ensures steps { OnOk result (EachMoves (Steps domain Decides) self.old.daemons.items self.new.daemons.items) }
     {
@@ -59,10 +62,12 @@ impl<'p> Switchboard<'p> {
     pub(crate) fn send(&mut self, domain: u32) -> Result<(), Memory>
         requires number { is_domain self.old.broker.hub domain ≡ true }
         requires sending { IsSending self.old.broker.hub domain self.old.broker.journal self.old.daemons.items }
+        requires holds { HoldsForExecs (lines_of self.old.daemons.items) }
         ensures broker { self.new.broker ≡ self.old.broker }
         ensures idle { AreIdle self.new.daemons.items }
         ensures kept { EachMoves (λ d. KeepsEnd) self.old.daemons.items self.new.daemons.items }
         ensures sending { OnOk result (IsSending self.new.broker.hub domain self.new.broker.journal self.new.daemons.items) }
+        ensures holds { OnOk result (HoldsForExecs (lines_of self.new.daemons.items)) }
         ensures same { OnOk result (EachMoves (λ d. IsSameDaemon) self.old.daemons.items self.new.daemons.items) }
         ensures steps { OnOk result (EachMoves (Steps domain SendsOrNot) self.old.daemons.items self.new.daemons.items) }
     {
@@ -74,10 +79,12 @@ impl<'p> Switchboard<'p> {
     fn send_one(&mut self, domain: u32) -> Result<bool, Memory>
         requires number { is_domain self.old.broker.hub domain ≡ true }
         requires sending { IsSending self.old.broker.hub domain self.old.broker.journal self.old.daemons.items }
+        requires holds { HoldsForExecs (lines_of self.old.daemons.items) }
         ensures broker { self.new.broker ≡ self.old.broker }
         ensures idle { AreIdle self.new.daemons.items }
         ensures kept { EachMoves (λ d. KeepsEnd) self.old.daemons.items self.new.daemons.items }
         ensures sending { OnOk result (IsSending self.new.broker.hub domain self.new.broker.journal self.new.daemons.items) }
+        ensures holds { OnOk result (HoldsForExecs (lines_of self.new.daemons.items)) }
         ensures same { OnOk result (EachMoves (λ d. IsSameDaemon) self.old.daemons.items self.new.daemons.items) }
         ensures steps { IfOk result (λ more. EachMoves (Steps domain (SendsAsTold more)) self.old.daemons.items self.new.daemons.items) }
         ensures fewer { result ≡ Ok true → waiting_in self.new.daemons.items (domain - 1) < waiting_in self.old.daemons.items (domain - 1) }
@@ -93,9 +100,11 @@ impl<'p> Switchboard<'p> {
 
     // Once an Exec was sent to a domain, the Connect of its call may be sent.
     fn let_go(&mut self, domain: u32, gone: &Message)
-        requires { HasGone self.old.broker.hub domain self.old.broker.journal self.old.daemons.items gone.now }
+        requires went { HasGone self.old.broker.hub domain self.old.broker.journal self.old.daemons.items gone.now }
+        requires holds { HoldsBut (IsLetGo domain gone.now) (lines_of self.old.daemons.items) }
         ensures broker { self.new.broker ≡ self.old.broker }
         ensures sending { IsSending self.old.broker.hub domain self.old.broker.journal self.new.daemons.items }
+        ensures holds { HoldsForExecs (lines_of self.new.daemons.items) }
         ensures same { EachMoves (λ d. IsSameDaemon) self.old.daemons.items self.new.daemons.items }
         ensures by { EachMoves (λ d. StandsBy) self.old.daemons.items self.new.daemons.items }
         ensures waiting { (i : ℕ) → i < length self.old.daemons.items → waiting_in self.new.daemons.items i ≡ waiting_in self.old.daemons.items i }
@@ -120,11 +129,13 @@ impl<'p> Switchboard<'p> {
         requires sender { is_domain self.old.broker.hub from ≡ true }
         requires own { is_from from event ≡ true }
         requires room { HasRoom event }
+        requires holds { HoldsForExecs (lines_of self.old.daemons.items) }
         ensures ports { EachMoves SamePort self.old.daemons.items self.new.daemons.items }
         ensures by { OnOk result (EachMoves (λ d. StandsBy) self.old.daemons.items self.new.daemons.items) }
         ensures hub { self.new.broker.hub ≡ self.old.broker.hub }
         ensures entry { OnOk result (self.new.broker.journal ≡ self.old.broker.journal ++ record { event = event; decision = decision self.old.broker.hub (events self.old.broker.journal) event } ∷ []) }
         ensures posting { OnOk result (IsPosting self.new.broker.hub self.new.broker.journal self.new.daemons.items) }
+        ensures holds { OnOk result (HoldsForExecs (lines_of self.new.daemons.items)) }
     {
         let alloc = *self.daemons.allocator();
         let decision = self.broker.event(event)?;

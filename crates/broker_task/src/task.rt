@@ -125,7 +125,9 @@ impl<'p> BrokerTask<'p> {
     ///
     /// After each turn every domain that must be dropped is dropped, and no other without a cause. No domain
     /// was greeted before it greeted. If a Connect was sent, the Exec of its call was sent too, or the target
-    /// was dropped. A task that wants another turn isn't settled.
+    /// was dropped. A task that wants another turn isn't settled. Then each message for a domain that isn't dropped
+    /// was sent or waits, and one that is held is the Connect of a call whose Exec still waits for its target,
+    /// which isn't dropped.
     ///
     /// Of each domain that isn't dropped something was heard in the turn, or something said to it; or there was
     /// nothing to hear, and nothing that could be said: all that waits is held, or there was no room. Of no domain

@@ -3,3 +3,4 @@ mod SessionLaws
 mod TurnLaws
 mod ControlLaws
 mod SayingLaws
+mod LetterLaws

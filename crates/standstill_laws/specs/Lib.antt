@@ -3,3 +3,4 @@ pub mod Session
 pub mod Turns
 pub mod Control
 pub mod Saying
+pub mod Letters

@@ -5,6 +5,7 @@ ghost use Rattle.standstill_laws.specs.Session.{SessionsGoOn};
 ghost use Rattle.standstill_laws.specs.Turns.{NoSessionStandsStill};
 ghost use Rattle.standstill_laws.specs.Control.{AllIsHeard};
 ghost use Rattle.standstill_laws.specs.Saying.{AgentsHaveSaidAll, BrokerHasSaidAll};
+ghost use Rattle.standstill_laws.specs.Letters.{AllAnswersAreSaid};
 
 /// If both ends of a page between honest ends drained it and found nothing, and no index changed since, then
 /// each has got all that the other sent, and no room that a write, a send or a look lacked is still lacking. A
@@ -42,6 +43,12 @@ pub fn agents_have_said_all()
 /// the domain has greeted. Messages fit the ring.
 pub fn broker_has_said_all()
     ensures { BrokerHasSaidAll }
+{}
+
+/// Where the control page of each domain that wasn't dropped stands still, and each of them has greeted, no
+/// letter waits at the broker for any of them: all that its journal puts into their outboxes was sent.
+pub fn all_answers_are_said()
+    ensures { AllAnswersAreSaid }
 {}
 
 /// Pages that stand still exist, whatever their orders: one that was just opened, by what a drain of it loads.

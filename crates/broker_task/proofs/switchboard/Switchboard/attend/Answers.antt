@@ -38,12 +38,12 @@ returns-clause-kept c =
 pub returns-then-not-there-clause-goes : goal.returns-then-not-there-clause-goes
 returns-then-not-there-clause-goes c =
     goes-on-ok c.drop_domain.result c.args.self.now c.listen.new.self c.hear.new.self c.drop_domain.new.self c.requires.ready c.listen.ensures.broker c.in_ok-there.ensures.same c.hear.ensures.hub c.hear.ensures.ends
-    c.drop_domain.ensures.hub c.drop_domain.ensures.same c.drop_domain.ensures.posting c.drop_domain.ensures.read
+    c.drop_domain.ensures.hub c.drop_domain.ensures.same c.drop_domain.ensures.posting c.drop_domain.ensures.read c.drop_domain.ensures.holds
 
 pub returns-then-not-is_fine-clause-goes : goal.returns-then-not-is_fine-clause-goes
 returns-then-not-is_fine-clause-goes c =
     goes-on-ok c.drop_domain-then-not-is_fine.result c.args.self.now c.listen.new.self c.hear.new.self c.drop_domain-then-not-is_fine.new.self c.requires.ready c.listen.ensures.broker c.in_ok-there.ensures.same c.hear.ensures.hub
-    c.hear.ensures.ends c.drop_domain-then-not-is_fine.ensures.hub c.drop_domain-then-not-is_fine.ensures.same c.drop_domain-then-not-is_fine.ensures.posting c.drop_domain-then-not-is_fine.ensures.read
+    c.hear.ensures.ends c.drop_domain-then-not-is_fine.ensures.hub c.drop_domain-then-not-is_fine.ensures.same c.drop_domain-then-not-is_fine.ensures.posting c.drop_domain-then-not-is_fine.ensures.read c.drop_domain-then-not-is_fine.ensures.holds
 
 pub send-requires-clause-sending : goal.send-requires-clause-sending
 send-requires-clause-sending c =
@@ -67,7 +67,7 @@ send-requires-clause-sending c =
 pub returns-clause-goes : goal.returns-clause-goes
 returns-clause-goes c =
     goes-on-ok c.send.result c.args.self.now c.listen.new.self c.hear.new.self c.send.new.self c.requires.ready c.listen.ensures.broker c.in_ok-there.ensures.same c.hear.ensures.hub c.hear.ensures.ends
-    (ap (λ (b : Brokered). b.hub) c.send.ensures.broker) c.send.ensures.same (on-ok c.send.result c.send.ensures.sending (λ p. p.posting)) (on-ok c.send.result c.send.ensures.sending (λ p. p.read))
+    (ap (λ (b : Brokered). b.hub) c.send.ensures.broker) c.send.ensures.same (on-ok c.send.result c.send.ensures.sending (λ p. p.posting)) (on-ok c.send.result c.send.ensures.sending (λ p. p.read)) c.send.ensures.holds
 
 pub returns-then-is_gone-clause-turns : goal.returns-then-is_gone-clause-turns
 returns-then-is_gone-clause-turns c =

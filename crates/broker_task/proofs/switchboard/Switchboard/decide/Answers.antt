@@ -10,6 +10,8 @@ use Rattle.broker_task.proofs.ReplyLaws.{within-reply, last-entry, written-back,
 use Rattle.broker_task.proofs.PostingLaws.{posting-more}
 use Rattle.broker_task.specs.Moving.{StandsBy}
 use Rattle.broker_task.proofs.MovingLaws.{by-posts}
+use Rattle.broker_task.specs.Holding.{lines_of, HoldsForExecs}
+use Rattle.broker_task.proofs.HoldingLaws.{holds-posts}
 use Rattle.broker_task.proofs.switchboard.Switchboard.decide.Goals as goal
 
 pub post-requires-clause-target : goal.post-requires-clause-target
@@ -68,3 +70,24 @@ returns-clause-by c =
     (subst (λ (l : List Daemon). EachMoves (Posts c.event.new.self.hub e) l new) c.as_mut_slice.ensures.value moved) in
     let back = written-back new ds c.args.self.now.daemons.len moves.count (omega (arith, c.args.self.now.daemons.ok.0)) in
     subst (λ (l : List Daemon). EachMoves (λ d. StandsBy) ds l) (sym back) (moves-as (Posts old.hub e) (λ d. StandsBy) ds new moves (λ d x y p. by-posts old.hub e d x y p)))
+
+pub returns-clause-holds : goal.returns-clause-holds
+returns-clause-holds c =
+    let old = c.args.self.now.broker in
+    let ds = c.args.self.now.daemons.items in
+    let new = c.post.new.daemons in
+    let e : Entry = record { event = c.args.event; decision = c.in_ok-decision.decision } in
+    let kept = c.in_ok-decision.ensures.kept in
+    let after = c.journal-journal.result.now in
+    let journal_is : after ≡ old.journal ++ e ∷ [] = c.journal-journal.ensures.entries ∙ ap (λ (b : Brokered). b.journal) kept in
+    let last = last-entry old.journal e c.index-journal-journal.result (length after) (ap length journal_is)
+    (c.index-journal-journal.is ∙ ap (λ (l : List Entry). get_or l (length after - 1) c.index-journal-journal.result) journal_is) in
+    let reply = subst (λ (x : Entry). IsReplyTo c.event.new.self.hub x.event c.in_ok-decision.decision c.in_ok-reply.reply) (sym c.index-journal-journal.is ∙ last) c.in_ok-reply.ensures.reply in
+    on-ok c.post.result (c.post.ensures.posts c.event.new.self.hub c.args.event c.in_ok-decision.decision c.requires.own reply c.in_ok-reply.ensures.fits)
+    (λ moved.
+    let moves : EachMoves (Posts old.hub e) ds new =
+    subst (λ (b : Brokered). EachMoves (Posts b.hub e) ds new) kept
+    (subst (λ (l : List Daemon). EachMoves (Posts c.event.new.self.hub e) l new) c.as_mut_slice.ensures.value moved) in
+    let back = written-back new ds c.args.self.now.daemons.len moves.count (omega (arith, c.args.self.now.daemons.ok.0)) in
+    subst (λ (l : List Daemon). HoldsForExecs (lines_of l)) (sym back)
+    (holds-posts old.hub old.journal ds new c.args.event c.in_ok-decision.decision moves c.requires.posting c.in_ok-decision.ensures.decided c.requires.holds))

@@ -14,6 +14,8 @@ use Rattle.broker_task.proofs.DropSteps.{HangsUp, without}
 use Rattle.broker_task.proofs.KeepingSteps.{keeps-none, keeps-daemons}
 use Rattle.broker_task.specs.Moving.{Steps, IsDropped}
 use Rattle.broker_task.proofs.MovingLaws.{drops, grows-shut}
+use Rattle.broker_task.specs.Holding.{lines_of, HoldsForExecs}
+use Rattle.broker_task.proofs.HoldingLaws.{holds-dropped}
 use Rattle.broker_task.proofs.switchboard.Switchboard.drop_domain.Goals as goal
 
 pub returns-in_err-event-clause-kept : goal.returns-in_err-event-clause-kept
@@ -121,3 +123,29 @@ returns-clause-steps c =
     let lets : EachMoves (λ d. LetsGo t None) mid new = subst (λ (l : List Daemon). EachMoves (λ d. LetsGo t None) l new) c.as_mut_slice.ensures.value c.release_target.ensures in
     let back = written-back new mid s.daemons.len lets.count (omega (arith, s.daemons.ok.0, length-set ds (t - 1) y)) in
     subst (λ (l : List Daemon). EachMoves (Steps t IsDropped) ds l) (sym back) (drops t ds (t - 1) x y new there place.1 dropped lets)
+
+pub returns-clause-holds : goal.returns-clause-holds
+returns-clause-holds c =
+    let s = c.args.self.now in
+    let old = s.broker in
+    let ds = s.daemons.items in
+    let t = c.args.domain in
+    let x = c.index_mut.result.now in
+    let y = c.hang_up.new.self in
+    let place = place-of-domain old.hub ds t c.requires.number c.requires.posting.count in
+    let there : IsAt ds (t - 1) x = record { within = place.0; is = c.index_mut.ensures.value } in
+    let up : HangsUp x y = record {
+      gone = c.hang_up.ensures.gone;
+      line = c.hang_up.ensures.line;
+      said = λ said h. c.hang_up.ensures.said said h;
+      got = c.hang_up.ensures.got;
+      version = c.hang_up.ensures.version;
+      letters = c.hang_up.ensures.outbox;
+      same = c.hang_up.ensures.same.0;
+      counted = c.hang_up.ensures.same.1;
+    } in
+    let mid = set ds (t - 1) y in
+    let new = c.release_target.new.daemons in
+    let lets : EachMoves (λ d. LetsGo t None) mid new = subst (λ (l : List Daemon). EachMoves (λ d. LetsGo t None) l new) c.as_mut_slice.ensures.value c.release_target.ensures in
+    let back = written-back new mid s.daemons.len lets.count (omega (arith, s.daemons.ok.0, length-set ds (t - 1) y)) in
+    subst (λ (l : List Daemon). HoldsForExecs (lines_of l)) (sym back) (holds-dropped t ds mid new (moves-alone t HangsUp ds (t - 1) x y there place.1 up) lets c.requires.holds)

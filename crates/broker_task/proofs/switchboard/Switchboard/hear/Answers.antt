@@ -13,6 +13,7 @@ use Rattle.broker_task.proofs.HearingSteps.{place-of-domain, next-moves, posting
 use Rattle.std.proofs.Math.ListN.{set}
 use Rattle.broker_task.specs.Moving.{Decides, StandsBy}
 use Rattle.broker_task.proofs.MovingLaws.{steps-self, steps-then, steps-by, decides-self, decides-by, decides-next}
+use Rattle.broker_task.proofs.HoldingLaws.{holds-next}
 use Rattle.broker_task.proofs.switchboard.Switchboard.hear.Goals as goal
 
 pub decide-requires-clause-posting : goal.decide-requires-clause-posting
@@ -34,7 +35,7 @@ returns-clause-posting c =
     (next-moves (c.args.domain - 1 + 1) c.index_mut.result.now c.next.new.self c.next.ensures.port c.next.ensures.end c.next.ensures.line (λ said h. c.next.ensures.said said h)) inv.posting
 
 pub loop-event-init : goal.loop-event-init
-loop-event-init c = record { hub = refl; posting = c.requires.posting; hearing = c.requires.hearing; ends = ends-none c.args.self.now.daemons.items; steps = steps-self c.args.domain Decides c.args.self.now.daemons.items (λ i x at here. decides-self x) }
+loop-event-init c = record { hub = refl; posting = c.requires.posting; hearing = c.requires.hearing; holds = c.requires.holds; ends = ends-none c.args.self.now.daemons.items; steps = steps-self c.args.domain Decides c.args.self.now.daemons.items (λ i x at here. decides-self x) }
 
 pub loop-event-smaller : goal.loop-event-smaller
 loop-event-smaller c =
@@ -65,6 +66,7 @@ loop-event-preserved c =
       hearing = subst (λ (j : List Entry). IsHearing c.args.domain j c.decide.new.self.daemons.items) (sym c.in_ok-decide.ensures.entry)
           (hearing-next c.args.domain b.journal e c.loop-event.self.daemons.items c.decide.new.self.daemons.items i x y there place.1 own.0
           (λ es reads. subst (λ o. HandsOut y es o) c.in-Some.is (c.in_ok-event.ensures.hands es reads)) c.decide.ensures.ports inv.hearing);
+      holds = c.in_ok-decide.ensures.holds;
       ends = ends-decided c.args.self.now.daemons.items _ c.decide.new.self.daemons.items
           (ends-next c.args.self.now.daemons.items c.loop-event.self.daemons.items i x y inv.ends there c.next.ensures.port c.next.ensures.end) c.decide.ensures.ports;
       steps = steps-then c.args.domain Decides StandsBy Decides c.args.self.now.daemons.items (set c.loop-event.self.daemons.items i y) c.decide.new.self.daemons.items (λ a b z s by. decides-by a b z s by)
@@ -103,3 +105,21 @@ returns-clause-steps c =
     let place = place-of-domain c.loop-event.self.broker.hub c.loop-event.self.daemons.items c.args.domain there_is inv.posting.count in
     let there : IsAt c.loop-event.self.daemons.items (c.args.domain - 1) c.index_mut.result.now = record { within = place.0; is = c.index_mut.ensures.value } in
     decides-next c.args.domain c.args.self.now.daemons.items c.loop-event.self.daemons.items (c.args.domain - 1) c.index_mut.result.now c.next.new.self inv.steps there place.1 c.next.ensures.port c.next.ensures.end
+
+pub decide-requires-clause-holds : goal.decide-requires-clause-holds
+decide-requires-clause-holds c =
+    let inv = c.loop-event.invariant in
+    let there_is = subst (λ (h : Domains). is_domain h c.args.domain ≡ true) (sym inv.hub) c.requires.number in
+    let place = place-of-domain c.loop-event.self.broker.hub c.loop-event.self.daemons.items c.args.domain there_is inv.posting.count in
+    let there : IsAt c.loop-event.self.daemons.items (c.args.domain - 1) c.index_mut.result.now = record { within = place.0; is = c.index_mut.ensures.value } in
+    holds-next c.loop-event.self.daemons.items (c.args.domain - 1) c.index_mut.result.now c.next.new.self there
+    (next-moves (c.args.domain - 1 + 1) c.index_mut.result.now c.next.new.self c.next.ensures.port c.next.ensures.end c.next.ensures.line (λ said h. c.next.ensures.said said h)) inv.holds
+
+pub returns-clause-holds : goal.returns-clause-holds
+returns-clause-holds c =
+    let inv = c.loop-event.invariant in
+    let there_is = subst (λ (h : Domains). is_domain h c.args.domain ≡ true) (sym inv.hub) c.requires.number in
+    let place = place-of-domain c.loop-event.self.broker.hub c.loop-event.self.daemons.items c.args.domain there_is inv.posting.count in
+    let there : IsAt c.loop-event.self.daemons.items (c.args.domain - 1) c.index_mut.result.now = record { within = place.0; is = c.index_mut.ensures.value } in
+    holds-next c.loop-event.self.daemons.items (c.args.domain - 1) c.index_mut.result.now c.next.new.self there
+    (next-moves (c.args.domain - 1 + 1) c.index_mut.result.now c.next.new.self c.next.ensures.port c.next.ensures.end c.next.ensures.line (λ said h. c.next.ensures.said said h)) inv.holds

@@ -9,6 +9,8 @@ use Rattle.broker_task.proofs.SendingSteps.{moves-alone}
 use Rattle.broker_task.proofs.ReleaseSteps.{sending-released, same-one, same-let-go, same-daemon, waiting-released}
 use Rattle.broker_task.specs.Moving.{StandsBy}
 use Rattle.broker_task.proofs.MovingLaws.{by-alone, by-self}
+use Rattle.broker_task.specs.Holding.{lines_of, IsLetGo, HoldsBut}
+use Rattle.broker_task.proofs.HoldingLaws.{holds-let-go, holds-as-is}
 use Rattle.broker_task.proofs.switchboard.Switchboard.let_go.Goals as goal
 
 pub returns-in-Exec-clause-sending : goal.returns-in-Exec-clause-sending
@@ -17,7 +19,7 @@ returns-in-Exec-clause-sending c =
     let journal = c.args.self.now.broker.journal in
     let ds = c.args.self.now.daemons.items in
     let f = c.in-Exec.caller in
-    let gone = subst (λ (m : Message). HasGone hub c.args.domain journal ds m) c.in-Exec.is c.requires in
+    let gone = subst (λ (m : Message). HasGone hub c.args.domain journal ds m) c.in-Exec.is c.requires.went in
     let place = place-of-domain hub ds f gone.2 gone.0.posting.count in
     let x = c.index_mut.result.now in
     let there : IsAt ds (f - 1) x = record { within = place.0; is = c.index_mut.ensures.value } in
@@ -29,7 +31,7 @@ returns-in-Exec-clause-same c =
     let hub = c.args.self.now.broker.hub in
     let ds = c.args.self.now.daemons.items in
     let f = c.in-Exec.caller in
-    let gone = subst (λ (m : Message). HasGone hub c.args.domain c.args.self.now.broker.journal ds m) c.in-Exec.is c.requires in
+    let gone = subst (λ (m : Message). HasGone hub c.args.domain c.args.self.now.broker.journal ds m) c.in-Exec.is c.requires.went in
     let place = place-of-domain hub ds f gone.2 gone.0.posting.count in
     let x = c.index_mut.result.now in
     let there : IsAt ds (f - 1) x = record { within = place.0; is = c.index_mut.ensures.value } in
@@ -41,7 +43,7 @@ returns-in-Exec-clause-waiting c = λ i less.
     let hub = c.args.self.now.broker.hub in
     let ds = c.args.self.now.daemons.items in
     let f = c.in-Exec.caller in
-    let gone = subst (λ (m : Message). HasGone hub c.args.domain c.args.self.now.broker.journal ds m) c.in-Exec.is c.requires in
+    let gone = subst (λ (m : Message). HasGone hub c.args.domain c.args.self.now.broker.journal ds m) c.in-Exec.is c.requires.went in
     let place = place-of-domain hub ds f gone.2 gone.0.posting.count in
     let x = c.index_mut.result.now in
     let there : IsAt ds (f - 1) x = record { within = place.0; is = c.index_mut.ensures.value } in
@@ -49,7 +51,7 @@ returns-in-Exec-clause-waiting c = λ i less.
     waiting-released c.args.domain (Some c.in-Exec.port) f ds _ i less (moves-alone f (LetsGo c.args.domain (Some c.in-Exec.port)) ds (f - 1) x _ there place.1 lets)
 
 pub returns-in_default-clause-sending : goal.returns-in_default-clause-sending
-returns-in_default-clause-sending c = c.requires.0
+returns-in_default-clause-sending c = c.requires.went.0
 
 pub returns-in_default-clause-same : goal.returns-in_default-clause-same
 returns-in_default-clause-same c = moves-none (λ d. IsSameDaemon) c.args.self.now.daemons.items (λ d x. same-daemon x)
@@ -59,7 +61,7 @@ returns-in-Exec-clause-by c =
     let hub = c.args.self.now.broker.hub in
     let ds = c.args.self.now.daemons.items in
     let f = c.in-Exec.caller in
-    let gone = subst (λ (m : Message). HasGone hub c.args.domain c.args.self.now.broker.journal ds m) c.in-Exec.is c.requires in
+    let gone = subst (λ (m : Message). HasGone hub c.args.domain c.args.self.now.broker.journal ds m) c.in-Exec.is c.requires.went in
     let place = place-of-domain hub ds f gone.2 gone.0.posting.count in
     let x = c.index_mut.result.now in
     let there : IsAt ds (f - 1) x = record { within = place.0; is = c.index_mut.ensures.value } in
@@ -68,3 +70,19 @@ returns-in-Exec-clause-by c =
 
 pub returns-in_default-clause-by : goal.returns-in_default-clause-by
 returns-in_default-clause-by c = moves-none (λ d. StandsBy) c.args.self.now.daemons.items (λ d x. by-self x)
+
+pub returns-in-Exec-clause-holds : goal.returns-in-Exec-clause-holds
+returns-in-Exec-clause-holds c =
+    let hub = c.args.self.now.broker.hub in
+    let ds = c.args.self.now.daemons.items in
+    let f = c.in-Exec.caller in
+    let gone = subst (λ (m : Message). HasGone hub c.args.domain c.args.self.now.broker.journal ds m) c.in-Exec.is c.requires.went in
+    let place = place-of-domain hub ds f gone.2 gone.0.posting.count in
+    let x = c.index_mut.result.now in
+    let there : IsAt ds (f - 1) x = record { within = place.0; is = c.index_mut.ensures.value } in
+    let lets : LetsGo c.args.domain (Some c.in-Exec.port) x (record x { outbox = c.release_call.new.self }) = record { port = refl; domain = refl; awaited = refl; counted = refl; letters = c.release_call.ensures } in
+    holds-let-go c.args.domain f c.in-Exec.port c.in-Exec.line ds _ (moves-alone f (LetsGo c.args.domain (Some c.in-Exec.port)) ds (f - 1) x _ there place.1 lets)
+    (subst (λ (m : Message). HoldsBut (IsLetGo c.args.domain m) (lines_of ds)) c.in-Exec.is c.requires.holds)
+
+pub returns-in_default-clause-holds : goal.returns-in_default-clause-holds
+returns-in_default-clause-holds c = holds-as-is c.args.domain c.args.gone.now c.args.self.now.daemons.items (λ f port text is. c.in_default.not-Exec f port text is) c.requires.holds

@@ -25,7 +25,7 @@ returns-clause-listened c =
     let place = place-of-domain s.broker.hub ds c.args.domain c.requires.number ready.posting.count in
     let there : IsAt ds (c.args.domain - 1) x = record { within = place.0; is = c.index_mut.ensures.value } in
     listened s.broker.hub c.args.domain s.broker.journal ds (c.args.domain - 1) x c.listen.new.self c.listen.result there place.1 ready.posting ready.read (c.requires.up (c.args.domain - 1) x there place.1)
-    c.listen.ensures.port c.listen.ensures.line c.listen.ensures.up (λ said h. c.listen.ensures.said said h) (λ events h. c.listen.ensures.read events h) c.listen.ensures.«open» c.listen.ensures.cause
+    c.listen.ensures.port c.listen.ensures.line c.listen.ensures.up (λ said h. c.listen.ensures.said said h) (λ events h. c.listen.ensures.read events h) c.listen.ensures.«open» c.listen.ensures.cause ready.holds
 
 pub returns-clause-same : goal.returns-clause-same
 returns-clause-same c =

@@ -17,12 +17,13 @@ returns-clause-kept c =
     keeps-all c.args.self.now.daemons.items c.letters.self.daemons.items c.send_one.new.self.daemons.items (keeps-daemons c.args.self.now.daemons.items c.letters.self.daemons.items c.letters.invariant.same) c.send_one.ensures.kept
 
 pub letters-init : goal.letters-init
-letters-init c = record { broker = refl; sending = c.requires.sending; same = moves-none (λ d. IsSameDaemon) c.args.self.now.daemons.items (λ d x. same-daemon x); steps = steps-self c.args.domain SendsSoFar c.args.self.now.daemons.items (λ i x at here. inl refl) }
+letters-init c = record { broker = refl; sending = c.requires.sending; holds = c.requires.holds; same = moves-none (λ d. IsSameDaemon) c.args.self.now.daemons.items (λ d x. same-daemon x); steps = steps-self c.args.domain SendsSoFar c.args.self.now.daemons.items (λ i x at here. inl refl) }
 
 pub letters-preserved : goal.letters-preserved
 letters-preserved c = let more : c.in_ok-send_one.field-0 ≡ true = cc in record {
   broker = c.send_one.ensures.broker ∙ c.letters.invariant.broker;
   sending = c.in_ok-send_one.ensures.sending;
+  holds = c.in_ok-send_one.ensures.holds;
   same = same-moves c.args.self.now.daemons.items c.letters.self.daemons.items c.send_one.new.self.daemons.items c.letters.invariant.same c.in_ok-send_one.ensures.same;
   steps = steps-then c.args.domain SendsSoFar SendsMore SendsSoFar c.args.self.now.daemons.items c.letters.self.daemons.items c.send_one.new.self.daemons.items (λ a b z s m. inr (sends-on a b z s m)) c.letters.invariant.steps
       (subst (λ (b : Bool). EachMoves (Steps c.args.domain (SendsAsTold b)) c.letters.self.daemons.items c.send_one.new.self.daemons.items) more c.in_ok-send_one.ensures.steps);

@@ -6,14 +6,15 @@ use Rattle.broker_task.specs.Letters.{IsAt}
 use Rattle.broker_task.specs.Lines.{SendsOne}
 use Rattle.broker_task.specs.Posting.{IsSending, waiting_in}
 use Rattle.broker_task.proofs.HearingSteps.{place-of-domain}
-use Rattle.broker_task.proofs.SendingSteps.{Sends, gone-one}
-use Rattle.broker_task.proofs.ReleaseSteps.{sending-moves, waiting-sent, same-one, same-moves, idle-posting}
+use Rattle.broker_task.proofs.SendingSteps.{Sends, moves-alone, gone-one}
+use Rattle.broker_task.proofs.ReleaseSteps.{unsent-moves, sending-moves, waiting-sent, same-one, same-moves, idle-posting}
 use Rattle.broker_task.proofs.KeepingSteps.{keeps-one, keeps-all, keeps-daemons}
 use Rattle.std.proofs.Common.{Option}
 use Rattle.std.specs.Prelude.{is_some}
 use Rattle.qrexec_frame.specs.declared.message.Message.{Message}
 use Rattle.broker_task.specs.Moving.{StandsBy, SendsAsTold, SendsMore, SendsOrNot}
 use Rattle.broker_task.proofs.MovingLaws.{steps-one, steps-then, steps-by, sends-by}
+use Rattle.broker_task.proofs.HoldingLaws.{holds-next, holds-sent}
 use Rattle.broker_task.proofs.switchboard.Switchboard.send_one.Goals as goal
 
 pub returns-in_err-message-clause-kept : goal.returns-in_err-message-clause-kept
@@ -37,8 +38,8 @@ returns-in-Some-clause-kept c =
     (keeps-one c.args.self.now.daemons.items (c.args.domain - 1) c.index_mut.result.now c.send.new.self there c.send.ensures.kept)
     (keeps-daemons mid c.let_go.new.self.daemons.items c.let_go.ensures.same)
 
-pub let_go-requires : goal.let_go-requires
-let_go-requires c =
+pub let_go-requires-clause-went : goal.let_go-requires-clause-went
+let_go-requires-clause-went c =
     let p = c.requires.sending in
     let x = c.index_mut.result.now in
     let y = c.send.new.self in
@@ -132,3 +133,36 @@ returns-in-None-clause-steps c =
     let place = place-of-domain c.args.self.now.broker.hub ds c.args.domain c.requires.number p.posting.count in
     let there : IsAt ds i x = record { within = place.0; is = c.index_mut.ensures.value } in
     steps-one c.args.domain SendsOrNot ds i x y there place.1 (subst (λ (o : Option Message). SendsAsTold (is_some o) x y) c.in-None.is c.in_ok-message.ensures.moves)
+
+pub let_go-requires-clause-holds : goal.let_go-requires-clause-holds
+let_go-requires-clause-holds c =
+    let p = c.requires.sending in
+    let ds = c.args.self.now.daemons.items in
+    let i = c.args.domain - 1 in
+    let x = c.index_mut.result.now in
+    let y = c.send.new.self in
+    let place = place-of-domain c.args.self.now.broker.hub ds c.args.domain c.requires.number p.posting.count in
+    let there : IsAt ds i x = record { within = place.0; is = c.index_mut.ensures.value } in
+    let sends : Sends c.in-Some.message x y = record {
+      sends = λ said h. subst (λ o. SendsOne x y said o) c.in-Some.is (c.in_ok-message.ensures.sends said h);
+      same = c.in_ok-message.ensures.same.0;
+      counted = c.in_ok-message.ensures.same.1;
+      line = c.in_ok-message.ensures.line;
+      up = p.opened i x there place.1;
+      opened = c.in_ok-message.ensures.«open»;
+      read = λ events h. c.in_ok-message.ensures.read events h;
+    } in
+    holds-sent c.args.self.now.broker.hub c.args.self.now.broker.journal c.args.domain c.in-Some.message ds (set ds i y) (moves-alone c.args.domain (Sends c.in-Some.message) ds i x y there place.1 sends) p.posting c.requires.holds
+
+pub returns-in-None-clause-holds : goal.returns-in-None-clause-holds
+returns-in-None-clause-holds c =
+    let p = c.requires.sending in
+    let ds = c.args.self.now.daemons.items in
+    let i = c.args.domain - 1 in
+    let x = c.index_mut.result.now in
+    let y = c.send.new.self in
+    let place = place-of-domain c.args.self.now.broker.hub ds c.args.domain c.requires.number p.posting.count in
+    let there : IsAt ds i x = record { within = place.0; is = c.index_mut.ensures.value } in
+    holds-next ds i x y there
+    (unsent-moves i x y (λ said h. subst (λ o. SendsOne x y said o) c.in-None.is (c.in_ok-message.ensures.sends said h)) (p.posting.posted i x there).says (p.opened i x there place.1) c.in_ok-message.ensures.same.0 c.in_ok-message.ensures.same.1
+    c.in_ok-message.ensures.line c.in_ok-message.ensures.«open») c.requires.holds

@@ -1,0 +1,26 @@
+-- No letter of the broker waits once all control pages stand still.
+use Rattle.std.proofs.Common.{◌≡◌, ℕ, ◌+◌, ◌∙◌, ◌++◌, List, [], Option, None, inl, inr, ap, subst}
+use Rattle.std.specs.Prelude.{◌⊎◌, true, IsPermutation, IsSome}
+use Rattle.std.proofs.lemmas.List.{append-nil}
+use Rattle.qrexec_frame.specs.declared.message.Message.{Message}
+use Rattle.task_duties.specs.Broker.Outbox.{outbox}
+use Rattle.broker_task.specs.Letters.{AreHeld, messages_in}
+use Rattle.broker_task.specs.Moving.{BrokerLine}
+use Rattle.broker_task.proofs.HoldingLaws.{none-waits}
+use Rattle.standstill_laws.specs.Letters.{IsAtRest, AllAnswersAreSaid}
+use Rattle.standstill_laws.proofs.SayingLaws.{broker-has-said-all}
+
+at-rest-held : (line : BrokerLine) → IsAtRest line → AreHeld line.letters
+at-rest-held line rest = by_cause (broker-has-said-all rest.core line rest.old rest.new rest.page rest.says rest.still)
+  where
+    by_cause : (line.version ≡ None) ⊎ ((line.greeted ≡ true) × AreHeld line.letters) → AreHeld line.letters
+    by_cause (inl none) = let greets : IsSome {T = ℕ} None = subst (λ (o : Option ℕ). IsSome o) none rest.greets in cc greets
+    by_cause (inr held) = held.1
+
+pub all-answers-are-said : AllAnswersAreSaid
+all-answers-are-said hub journal said lines holds kept rest place line at up =
+    let none : line.letters ≡ [] = none-waits lines holds (λ p l there upright. at-rest-held l (rest p l there upright)) place line at up in
+    let empty : messages_in line.letters ≡ [] = ap messages_in none in (
+      none,
+      subst (λ (w : List Message). IsPermutation w (outbox hub journal (place + 1))) (ap (λ (w : List Message). said (place + 1) ++ w) empty ∙ append-nil (said (place + 1))) (kept place line at up),
+    )
