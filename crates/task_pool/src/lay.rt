@@ -3,6 +3,7 @@ ghost use Rattle.std.specs.Prelude.{◌≡◌, ◌<◌, ◌^◌, ◌++◌, [], l
 ghost use Rattle.crossbeam_queue.specs.Passes.{view, IsPassOf, ruled_capacity};
 ghost use Rattle.task_pool.specs.Hand.{hand, all_parts};
 
+use crate::pool::MOST_WORKERS;
 use crate::queue::{Laying, TaskPass, TaskQueue};
 use crate::task::PoolTask;
 use crate::waiting::Waiting;
@@ -19,7 +20,9 @@ pub(crate) fn lay_all<T: PoolTask, R: Wait>(
     requires few { vec_len tasks < 2 ^ 32 }
     ensures { IfOk result (λ q. IsPassOf q.0 q.1 × (view q.1 ≡ hand all_parts tasks.items [])) }
 {
-    let (queue, mut pass) = TaskQueue::ruled(alloc, tasks.len())?;
+    // A worker that was stopped while it took a task holds its slot. In a queue of just this size the others would
+    // need that slot at their next push, and wait for it.
+    let (queue, mut pass) = TaskQueue::ruled(alloc, tasks.len() * 2 + MOST_WORKERS as usize)?;
     let mut place = 0u32;
     for task in tasks {
         match queue.push_as::<Laying<T>, R>(rt, &mut pass, Waiting { place, task }) {

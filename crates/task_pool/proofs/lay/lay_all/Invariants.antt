@@ -1,4 +1,4 @@
-use Rattle.std.proofs.Common.{◌≡◌, ◌++◌, [], length}
+use Rattle.std.proofs.Common.{◌≡◌, ◌≤◌, ◌++◌, [], length}
 use Rattle.std.specs.Vec.Iter.{into_iter_items}
 use Rattle.crossbeam_queue.specs.Passes.{view, IsPassOf, ruled_capacity}
 use Rattle.task_pool.specs.Hand.{hand, all_parts}
@@ -10,7 +10,7 @@ invariant-loop-task g l = record {
   can_next : (goal.iterator-loop-task g).can_next l.task-iterator;
   is_finite : (goal.iterator-loop-task g).is_finite l.task-iterator;
   pass : IsPassOf l.queue l.pass;
-  size : ruled_capacity l.queue ≡ length l.fn.tasks.items;
+  size : length l.fn.tasks.items ≤ ruled_capacity l.queue;
   view : view l.pass ≡ hand all_parts l.yielded [];
   place : l.place ≡ length l.yielded;
   left : l.yielded ++ into_iter_items l.task-iterator ≡ l.fn.tasks.items;
