@@ -2,11 +2,15 @@
 use crossbeam_utils::CachePadded;
 use std::sync::Wait;
 use std::sync::atomic::{AtomicU64, Ordering};
-use std::thread;
 use std::time::Duration;
+use std::{hint, thread};
 
 /// The longest sleep, in milliseconds. A wake that is missed costs this much time, but never a run.
 const LONGEST: u64 = 1;
+
+/// How often a worker looks for a move before it sleeps: some 20 microseconds long, as a turn takes that moves a
+/// small ring. To sleep and to be woken takes as long.
+const LOOKS: u32 = 16_384;
 
 /// What the workers share beside the queue. Nothing is claimed of its counts.
 #[derive(Drop)]
@@ -28,6 +32,8 @@ struct Counts {
     begun: AtomicU64,
     // How many workers sleep, or are about to.
     asleep: AtomicU64,
+    // How many of them sleep until a turn moves something.
+    parked: AtomicU64,
     // Workers that are one too many sleep on it. It stays 0.
     spare: AtomicU64,
 }
@@ -43,6 +49,7 @@ impl Progress {
                 moves: AtomicU64::new(0),
                 begun: AtomicU64::new(0),
                 asleep: AtomicU64::new(0),
+                parked: AtomicU64::new(0),
                 spare: AtomicU64::new(0),
             }),
         }
@@ -67,7 +74,7 @@ impl Progress {
     /// Notes that a turn has moved something, and that its task can be taken again.
     pub(crate) fn note_move(&self) {
         self.counts.moves.fetch_add(1, Ordering::SeqCst);
-        if self.counts.asleep.load(Ordering::SeqCst) > 0 {
+        if self.counts.parked.load(Ordering::SeqCst) > 0 {
             self.counts.moves.wake_all();
         }
     }
@@ -94,22 +101,40 @@ impl Progress {
         self.counts.asleep.fetch_sub(1, Ordering::SeqCst);
     }
 
-    /// Yields once, if `yields` is set, and then sleeps while the count of moves is `seen`, for at
-    /// most 1 ms. The last worker awake does neither: only its turns can bring what the others wait
-    /// for.
+    /// Yields once, if `yields` is set, looks for a while whether something moves, and then sleeps while
+    /// the count of moves is `seen`, for at most 1 ms. The last worker awake does none of this: only its
+    /// turns can bring what the others wait for.
     pub(crate) fn wait<R: Wait>(&self, rt: &R, seen: u64, yields: bool) {
         let others = self.counts.asleep.fetch_add(1, Ordering::SeqCst);
         if others.saturating_add(1) < self.counts.begun.load(Ordering::SeqCst) {
             if yields {
                 thread::yield_now();
             }
-            if self.moves() == seen {
-                let word = (seen & 0xffff_ffff) as u32;
-                self.counts
-                    .moves
-                    .park_timeout(rt, word, Duration::from_millis(LONGEST));
+            if !self.moves_soon(seen) {
+                self.park(rt, seen);
             }
         }
         self.counts.asleep.fetch_sub(1, Ordering::SeqCst);
+    }
+
+    // Looks for a while whether the count of moves is `seen` no more.
+    fn moves_soon(&self, seen: u64) -> bool {
+        for _look in 0..LOOKS {
+            if self.moves() != seen {
+                return true;
+            }
+            hint::spin_loop();
+        }
+        false
+    }
+
+    // Sleeps while the count of moves is `seen`, for at most 1 ms.
+    fn park<R: Wait>(&self, rt: &R, seen: u64) {
+        self.counts.parked.fetch_add(1, Ordering::SeqCst);
+        let word = (seen & 0xffff_ffff) as u32;
+        self.counts
+            .moves
+            .park_timeout(rt, word, Duration::from_millis(LONGEST));
+        self.counts.parked.fetch_sub(1, Ordering::SeqCst);
     }
 }
