@@ -7,7 +7,7 @@ ghost use Rattle.vchan_block.specs.Pipe.{GetsAll, HasEnded, HasPiped, IsEndOf, M
 
 use crate::wait::wait_waking;
 use crate::waking::{Sleepers, Waking};
-use crate::writing::write_waking;
+use crate::writing::{BlockWrite, write_waking};
 use ring_words::Orders;
 use std::alloc::Global;
 use std::sync::Wait;
@@ -22,6 +22,32 @@ use vchan_rule::{End, IdleSeat, Page, Retired, Settled};
 struct Received {
     end: Retired,
     bytes: Vec<u8>,
+}
+
+/// The most bytes that the writer of a pipe sends at once: the reader gets them while the next ones are written.
+/// A large ring would else be filled first and then emptied, by one thread at a time.
+const PIECE: usize = 65_536;
+
+/// Sends all bytes, piece by piece. It ends before that only if it finds its peer shut.
+fn write_pieces<R: Wait + Clock>(rt: &R, end: &mut End<'_>, bytes: &[u8], waking: Waking<'_>)
+    requires open { IsOpen end.old }
+    requires none { (view end.old).sent ≡ [] }
+    ensures same { IsSameEnd end.old end.new }
+    ensures open { IsOpen end.new }
+    ensures sent { SendsAll (view end.new) bytes.now }
+{
+    let mut sent = 0usize;
+    'pieces: for _ in rt.forever() {
+        let more = (bytes.len() - sent).min(PIECE);
+        match write_waking(rt, end, &bytes[sent..sent + more], waking) {
+            BlockWrite::Wrote { before: _, last: _ } => sent += more,
+            BlockWrite::PeerClosed { before: _ } => return,
+        }
+        if sent == bytes.len() {
+            return;
+        }
+    }
+    unreachable!()
 }
 
 /// Connects as the client, sends all bytes and retires.
@@ -39,7 +65,7 @@ fn write_all_and_retire<R: Wait + Clock>(
     let mut end = page.attach(seat);
     match connect(&mut end) {
         Ok(()) => {
-            let _ = write_waking(rt, &mut end, bytes, waking);
+            write_pieces(rt, &mut end, bytes, waking);
             retire(end)
         }
         Err(_) => retire(end),
@@ -194,8 +220,9 @@ pub fn pipe<R: Threads + Wait + Clock + Sync>(
     ensures bytes { IfOk result (λ piped. piped.0.items ≡ bytes.items) }
     ensures page { IfOk result (λ piped. HasPiped (record { orders = orders; start = start }) bytes.items piped.1) }
 {
-    let buf = vec![in alloc; 0u8; bytes.len() + 1]?;
     let (page, server, client) = Page::open(alloc, orders, start)?;
+    // After the page, so that it lies where the page's start words were.
+    let buf = vec![in alloc; 0u8; bytes.len() + 1]?;
     let (client, received) = write_and_read(rt, &page, server, client, bytes.as_slice(), buf)?;
     let Received { end: server, bytes } = received;
     let settled = page.finish(server, client);
