@@ -5,7 +5,7 @@ ghost use Rattle.standstill_laws.specs.Session.{SessionsGoOn};
 ghost use Rattle.standstill_laws.specs.Turns.{NoSessionStandsStill};
 ghost use Rattle.standstill_laws.specs.Control.{AllIsHeard};
 ghost use Rattle.standstill_laws.specs.Saying.{AgentsHaveSaidAll, BrokerHasSaidAll};
-ghost use Rattle.standstill_laws.specs.Letters.{AllAnswersAreSaid};
+ghost use Rattle.standstill_laws.specs.Letters.{AllAnswersAreSaid, AllAnswersAreHeard};
 
 /// If both ends of a page between honest ends drained it and found nothing, and no index changed since, then
 /// each has got all that the other sent, and no room that a write, a send or a look lacked is still lacking. A
@@ -49,6 +49,12 @@ pub fn broker_has_said_all()
 /// letter waits at the broker for any of them: all that its journal puts into their outboxes was sent.
 pub fn all_answers_are_said()
     ensures { AllAnswersAreSaid }
+{}
+
+/// Then the agent of each of them has heard just what the broker's journal puts into the domain's outbox: the
+/// answer to each of its triggers, and each Exec.
+pub fn all_answers_are_heard()
+    ensures { AllAnswersAreHeard }
 {}
 
 /// Pages that stand still exist, whatever their orders: one that was just opened, by what a drain of it loads.
