@@ -4,3 +4,4 @@ mod TurnLaws
 mod ControlLaws
 mod SayingLaws
 mod LetterLaws
+mod AnswerLaws

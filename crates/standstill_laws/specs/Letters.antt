@@ -44,6 +44,7 @@ AllAnswersAreSaid = (hub : Domains) (journal : List Entry) (said : ℕ → List 
 pub record IsPortOf (line : BrokerLine) (b : PortState) : Type 0 where
   pub end : b.end ≡ line.end
   pub greeted : b.greeted ≡ line.greeted
+  pub version : b.version ≡ line.version
 
 -- and each of their agents has heard just what the journal puts there: the answer to each of its triggers, and each Exec
 abbrev pub AllAnswersAreHeard : Type 0

@@ -4,3 +4,4 @@ pub mod Turns
 pub mod Control
 pub mod Saying
 pub mod Letters
+pub mod Answers

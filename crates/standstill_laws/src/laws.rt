@@ -6,6 +6,7 @@ ghost use Rattle.standstill_laws.specs.Turns.{NoSessionStandsStill};
 ghost use Rattle.standstill_laws.specs.Control.{AllIsHeard};
 ghost use Rattle.standstill_laws.specs.Saying.{AgentsHaveSaidAll, BrokerHasSaidAll};
 ghost use Rattle.standstill_laws.specs.Letters.{AllAnswersAreSaid, AllAnswersAreHeard};
+ghost use Rattle.standstill_laws.specs.Answers.{EachTriggerIsAnswered, AllCallsAreAnswered};
 
 /// If both ends of a page between honest ends drained it and found nothing, and no index changed since, then
 /// each has got all that the other sent, and no room that a write, a send or a look lacked is still lacking. A
@@ -55,6 +56,17 @@ pub fn all_answers_are_said()
 /// answer to each of its triggers, and each Exec.
 pub fn all_answers_are_heard()
     ensures { AllAnswersAreHeard }
+{}
+
+/// A journal puts as many answers into the outbox of a domain that wasn't dropped as triggers were read from it.
+pub fn each_trigger_is_answered()
+    ensures { EachTriggerIsAnswered }
+{}
+
+/// Where the control page of each domain that wasn't dropped stands still, and each of them has greeted, its agent
+/// has heard as many answers as it asked for calls.
+pub fn all_calls_are_answered()
+    ensures { AllCallsAreAnswered }
 {}
 
 /// Pages that stand still exist, whatever their orders: one that was just opened, by what a drain of it loads.
