@@ -9,5 +9,6 @@ mod SessionLaws
 mod GivenLaws
 mod BeginLaws
 mod TurnLaws
+mod AgreeLaws
 mod FinishLaws
 pub mod AgentLaws

@@ -43,7 +43,7 @@ opened-set fs (n ∷ numbers) at f none = by_test (n == at) refl (opened-set fs 
         let same : session_at (set fs at f) n ≡ session_at fs n = ap (λ (o : Option Frame). unwrap_or (told_by o) (record { domain = 0; port = 0; number = None })) (get-set-other fs at n f (λ k. other-number n at is (sym k))) in
         ap (λ s. s ∷ opened_in (set fs at f) numbers) same ∙ ap (λ l. session_at fs n ∷ l) (more (omega (arith, parts, none, e)))
 
-session-here : (fs : List Frame) (at : ℕ) (f : Frame) (told : SessionOver) → slice_get fs at ≡ Some f → told_of f.held.place f.used ≡ Some told → session_at fs at ≡ told
+pub session-here : (fs : List Frame) (at : ℕ) (f : Frame) (told : SessionOver) → slice_get fs at ≡ Some f → told_of f.held.place f.used ≡ Some told → session_at fs at ≡ told
 session-here fs at f told here is =
     ap (λ (o : Option Frame). unwrap_or (told_by o) (record { domain = 0; port = 0; number = None })) here ∙ ap (λ (o : Option SessionOver). unwrap_or o (record { domain = 0; port = 0; number = None })) is
 
@@ -129,7 +129,7 @@ session-told f t p (ServingIsOver number service came end) is = cc
 session-told f t p Taken is = cc
 
 -- and lies where it is reported to lie
-told-place : (domain : ℕ) (calls : List (Option CallNote)) (served : List ServedNote) (f t p : ℕ) (used : Use) (told : SessionOver) → IsNoted domain calls served (Payload f t p) used → told_of (Payload f t p) used ≡ Some told
+pub told-place : (domain : ℕ) (calls : List (Option CallNote)) (served : List ServedNote) (f t p : ℕ) (used : Use) (told : SessionOver) → IsNoted domain calls served (Payload f t p) used → told_of (Payload f t p) used ≡ Some told
     → place_at domain told.number told.domain told.port ≡ Payload f t p
 told-place domain calls served f t p ForNothing told noted is = cc
 told-place domain calls served f t p (ForCall number input) told noted is =
@@ -147,9 +147,15 @@ told-place domain calls served f t p (ForServing number service) told noted is =
     let own : t ≡ domain = cc in
     subst (λ (x : SessionOver). place_at domain x.number x.domain x.port ≡ Payload f t p) same (ap (λ (d : ℕ). Payload f d p) (sym own))
 
+-- an element is the same, whatever is read where there is none
+pub read-any : (xs : List ℕ) (k : ℕ) → k < length xs → get_or xs k 0 ≡ get_or xs k (get_or xs k 0)
+read-any [] k less = absurd (omega (arith, less))
+read-any (x ∷ xs) zero less = refl
+read-any (x ∷ xs) (suc k) less = read-any xs k (omega (arith, less))
+
 -- how many of the open sessions are on such pages
 pub late-counted : (e : Ends) → IsWhole e → count_by (is_late_at (frames e.slots.items)) e.busy.items ≡ late_count (state_of e false)
-late-counted e whole = each e.busy.items (λ k less. open-at (sessions slots) e.busy.items k (get_or e.busy.items k 0) whole.are_open less (get_or-any e.busy.items k less))
+late-counted e whole = each e.busy.items (λ k less. open-at (sessions slots) e.busy.items k (get_or e.busy.items k 0) whole.are_open less (read-any e.busy.items k less))
   where
     slots : List Slot
     slots = e.slots.items
@@ -159,11 +165,6 @@ late-counted e whole = each e.busy.items (λ k less. open-at (sessions slots) e.
 
     is_on_late : SessionOver → Bool
     is_on_late o = has_place (place_at e.domain o.number o.domain o.port) (late_in fs)
-
-    get_or-any : (xs : List ℕ) (k : ℕ) → k < length xs → get_or xs k 0 ≡ get_or xs k (get_or xs k 0)
-    get_or-any [] k less = absurd (omega (arith, less))
-    get_or-any (x ∷ xs) zero less = refl
-    get_or-any (x ∷ xs) (suc k) less = get_or-any xs k (omega (arith, less))
 
     one : (n : ℕ) → slice_get (sessions slots) n ≡ Some true → is_late_at fs n ≡ is_on_late (session_at fs n)
     one n is =
@@ -187,11 +188,6 @@ late-counted e whole = each e.busy.items (λ k less. open-at (sessions slots) e.
         ∙ sym (sum_by-cons (λ o. if is_on_late o then 1 else 0) (session_at fs n) (opened_in fs numbers))))
 
 -- ---- one after another
-
-read-any : (xs : List ℕ) (k : ℕ) → k < length xs → get_or xs k 0 ≡ get_or xs k (get_or xs k 0)
-read-any [] k less = absurd (omega (arith, less))
-read-any (x ∷ xs) zero less = refl
-read-any (x ∷ xs) (suc k) less = read-any xs k (omega (arith, less))
 
 pub late-read : (slots : List Slot) (busy d : List ℕ) (k : ℕ) → AreOpen (sessions slots) busy → d ≡ busy → k < length d → get_or d k 0 < length slots
 late-read slots busy d k h same less =

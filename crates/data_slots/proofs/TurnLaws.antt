@@ -2,7 +2,7 @@
 use Rattle.std.proofs.Common.{◌≡◌, ℕ, ◌<◌, List, [], ◌∷◌, ◌++◌, length, map, set, get_or, refl, ap, sym, ◌∙◌, arith, append_assoc, subst, Option, Some, None}
 use Rattle.std.specs.Prelude.{true, false, slice_get, option_map, IsPermutation, Result, Ok, Err, OnOk}
 use Rattle.std.specs.List.{swap_remove}
-use Rattle.std.proofs.lemmas.List.{map-set, length-map}
+use Rattle.std.proofs.lemmas.List.{append-nil, map-set, length-map}
 use Rattle.std.proofs.lemmas.List.Sorted.{IsPermutation-refl, IsPermutation-trans, IsPermutation-append_right}
 use Rattle.std.proofs.lemmas.Option.{slice_get_within, get_or_from_slice_get}
 use Rattle.qrexec_frame.specs.Streams.{Each}
@@ -141,10 +141,6 @@ tells-begun e at slot told whole here tells =
 
 pub tells-none : (s : SlotsState) (opened before : List SessionOver) → opened ≡ s.opened → TellsMore s (record s { opened = opened }) before before
 tells-none s opened before same = ([], sym (append-nil before), subst (λ l. IsPermutation l s.opened) (sym same) (IsPermutation-refl s.opened), tt)
-  where
-    append-nil : (xs : List SessionOver) → xs ++ [] ≡ xs
-    append-nil [] = refl
-    append-nil (x ∷ xs) = ap (λ ys. x ∷ ys) (append-nil xs)
 
 tells-after : (s s' s'' : SlotsState) (before mid now : List SessionOver) → s'.called ≡ s.called → s'.served ≡ s.served → TellsMore s s' before mid → TellsMore s' s'' mid now → TellsMore s s'' before now
 tells-after s s' s'' before mid now called served one two = (

@@ -1,6 +1,7 @@
 pub mod Sessions
 pub mod Slots
 pub mod Done
+pub mod Agreeing
 pub mod Reports
 pub mod Sides
 pub mod Stages

@@ -9,6 +9,7 @@ ghost use Rattle.task_duties.specs.GivenEnds.{all_given, all_retired, retired_at
 ghost use Rattle.data_slots.specs.Slots.{held_at, late_count, IsGiven, AreApart};
 ghost use Rattle.data_slots.specs.Sides.{late_places};
 ghost use Rattle.data_slots.specs.Done.{AreBack, ReportsCalled, ReportsServes};
+ghost use Rattle.data_slots.specs.Agreeing.{Agrees};
 ghost use Rattle.data_slots.specs.Stages.{ForNothing, CanRetire, IsStage};
 ghost use Rattle.data_slots.specs.Index.{IsIndexOf};
 ghost use Rattle.data_slots.specs.Whole.{frames, held_in, places, unused_in, IsUsedAt, IsWhole, IsTurned, TakesFrom, HasSameEnds, state_of};
@@ -186,6 +187,12 @@ impl<'p> Ends<'p> {
         self.slots[at].serve(number, seen, serving);
         Ok(())
     }
+
+    /// Says that what is kept of the ends agrees with their sessions. It does nothing: proofs read it.
+    pub(crate) fn agree(&self)
+        requires whole { IsWhole self.now }
+        ensures { Agrees (state_of self.now false) }
+    {}
 
     /// Makes one turn of each open session, and appends those that are over now to `over`. Returns whether
     /// any moved bytes or is over. It first gives back the pages of sessions that are over at both ends.

@@ -49,6 +49,7 @@ impl<'p> DataSlots<'p> {
     ghost use Rattle.data_slots.specs.Slots.{held_at, late_count, IsGiven, AreApart};
     ghost use Rattle.data_slots.specs.Sides.{late_places};
     ghost use Rattle.data_slots.specs.Done.{AreBack, ReportsCalled, ReportsServes, TellsMore};
+    ghost use Rattle.data_slots.specs.Agreeing.{Agrees};
     ghost use Rattle.data_slots.specs.Sessions.{NotBegun, AllTakeTurns, KeepsSessions};
 
     /// Makes the data ends of an agent of this domain and version, 2 or 3, which has `calls` calls of its
@@ -175,6 +176,15 @@ impl<'p> DataSlots<'p> {
         ensures { result ≡ late_count self.now }
     {
         self.ends.pages_in_use()
+    }
+
+    /// Says that an end is unused as long as its session hasn't begun, and that the sessions that are told of as
+    /// open are. It does nothing: proofs read it.
+    pub fn agree(&self)
+        requires whole { self.now.spent ≡ false }
+        ensures { Agrees self.now }
+    {
+        self.ends.agree();
     }
 
     /// Returns whether no session is open.

@@ -1,0 +1,77 @@
+-- What is kept of the ends agrees with the session of each.
+use Rattle.std.proofs.Common.{◌≡◌, ℕ, ◌<◌, List, [], ◌∷◌, ◌++◌, length, get_or, map, refl, ap, sym, ◌∙◌, arith, Option, Some, zero, suc, subst}
+use Rattle.std.specs.Prelude.{true, false, slice_get, unwrap_or}
+use Rattle.qrexec_frame.specs.Streams.{Each}
+use Rattle.task_duties.specs.declared.place.PagePlace.{PagePlace}
+use Rattle.task_duties.specs.declared.place.PagePlace.TheVariants.{Payload}
+use Rattle.data_slots.specs.declared.slot.Slot.{Slot}
+use Rattle.data_slots.specs.declared.slot.Stage.{Stage}
+use Rattle.data_slots.specs.declared.slot.Stage.TheVariants.{Unused, Calls, Awaits, Serves, CallIsOver, ServingIsOver, Taken}
+use Rattle.data_slots.specs.declared.ends.Ends.{Ends}
+use Rattle.data_slots.specs.Slots.{Held, place_at}
+use Rattle.data_slots.specs.Sessions.{Session, NotBegun, session_of, sessions_in, is_open}
+use Rattle.data_slots.specs.declared.done.SessionOver.{SessionOver}
+use Rattle.data_slots.specs.Agreeing.{place_if_free, places_free, IsOpenAt, Agrees}
+use Rattle.data_slots.specs.Stages.{Frame, place_of, frame_of, use_of, is_session, IsStage}
+use Rattle.data_slots.specs.Whole.{frames, held_in, sessions, unused_at, unused_in, session_at, opened_in, IsNoted, IsWhole, state_of}
+use Rattle.data_slots.proofs.ListLaws.{get-map, get-map-back, each-get}
+use Rattle.data_slots.proofs.OpenLaws.{open-at}
+use Rattle.data_slots.proofs.TurnLaws.{tells-begun}
+use Rattle.data_slots.proofs.OpenedLaws.{session-here, session-told, told-place, read-any}
+use Rattle.std.specs.List.{cons_option}
+
+one-free : (version : ℕ) (place : PagePlace) (stage : Stage) (rest : List PagePlace) → IsStage version stage → cons_option (unused_at place (use_of stage)) rest ≡ place_if_free place (session_of stage) ++ rest
+one-free version place (Unused end) rest h = refl
+one-free version place (Calls number input side session) rest h = refl
+one-free version place (Awaits number service serving side) rest h = refl
+one-free version place (Serves number service side session) rest h = refl
+one-free version place (CallIsOver number input came end) rest h = refl
+one-free version place (ServingIsOver number service came end) rest h = refl
+one-free version place Taken rest h = absurd h
+
+all-free : (version : ℕ) (slots : List Slot) → Each (λ s. IsStage version s.stage) slots → unused_in (frames slots) ≡ places_free (map (λ (h : Held). h.place) (held_in slots)) (sessions_in slots)
+all-free version [] each = refl
+all-free version (s ∷ slots) each =
+    one-free version (place_of s) s.stage (unused_in (frames slots)) each.0 ∙ ap (λ l. place_if_free (place_of s) (session_of s.stage) ++ l) (all-free version slots each.1)
+
+still-open : (stage : Stage) → is_session stage ≡ true → is_open (session_of stage) ≡ true
+still-open (Unused end) h = cc
+still-open (Calls number input side session) h = refl
+still-open (Awaits number service serving side) h = refl
+still-open (Serves number service side session) h = refl
+still-open (CallIsOver number input came end) h = cc
+still-open (ServingIsOver number service came end) h = cc
+still-open Taken h = cc
+
+pub agrees : (e : Ends) → IsWhole e → Agrees (state_of e false)
+agrees e whole = record {
+  unused = all-free e.version slots whole.stages;
+  opened = each e.busy.items (λ k less. open-at (sessions slots) e.busy.items k (get_or e.busy.items k 0) whole.are_open less (read-any e.busy.items k less));
+}
+  where
+    slots : List Slot
+    slots = e.slots.items
+
+    fs : List Frame
+    fs = frames slots
+
+    one : (n : ℕ) → slice_get (sessions slots) n ≡ Some true → IsOpenAt (state_of e false) (session_at fs n)
+    one n is =
+        let back = get-map-back (λ (s : Slot). is_session s.stage) slots n true is in
+        let slot = back.0 in
+        let here : slice_get fs n ≡ Some (frame_of slot) = get-map frame_of slots n slot back.1 in
+        let told = session-told slot.from slot.to slot.port slot.stage back.2 in
+        let noted = each-get (λ f. IsNoted e.domain e.calls.items e.served.items f.held.place f.used) fs n (frame_of slot) whole.noted here in
+        let lies = told-place e.domain e.calls.items e.served.items slot.from slot.to slot.port (use_of slot.stage) told.0 noted told.1 in
+        let held : slice_get (held_in slots) n ≡ Some (frame_of slot).held = get-map (λ (s : Slot). (frame_of s).held) slots n slot back.1 in
+        let at : slice_get (sessions_in slots) n ≡ Some (session_of slot.stage) = get-map (λ (s : Slot). session_of s.stage) slots n slot back.1 in
+        subst (λ (o : SessionOver). IsOpenAt (state_of e false) o) (sym (session-here fs n (frame_of slot) told.0 here told.1)) (record {
+          begun = tells-begun e n slot told.0 whole back.1 told.1;
+          at = n;
+          place_is = get-map (λ (h : Held). h.place) (held_in slots) n (frame_of slot).held held ∙ ap (λ (p : PagePlace). Some p) (sym lies);
+          is_open = ap (λ (o : Option Session). is_open (unwrap_or o NotBegun)) at ∙ still-open slot.stage back.2;
+        })
+
+    each : (numbers : List ℕ) → ((k : ℕ) → k < length numbers → slice_get (sessions slots) (get_or numbers k 0) ≡ Some true) → Each (IsOpenAt (state_of e false)) (opened_in fs numbers)
+    each [] h = tt
+    each (n ∷ numbers) h = (one n (h 0 (omega arith)), each numbers (λ k less. h (suc k) (omega (arith, less))))

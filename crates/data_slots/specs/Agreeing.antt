@@ -1,0 +1,33 @@
+-- How what is kept of the ends agrees with the session of each.
+-- Source: this project's own.
+use Rattle.std.specs.Prelude.{◌≡◌, ℕ, true, List, [], ◌∷◌, ◌++◌, map, slice_get, Some}
+use Rattle.qrexec_frame.specs.Streams.{Each}
+use Rattle.task_duties.specs.declared.place.PagePlace.{PagePlace}
+use Rattle.data_slots.specs.declared.done.SessionOver.{SessionOver}
+use Rattle.data_slots.specs.Slots.{Held, SlotsState, place_at}
+use Rattle.data_slots.specs.Sessions.{Session, NotBegun, is_open, session_at}
+use Rattle.data_slots.specs.Done.{IsToldOver}
+
+-- the places at which no session has begun
+abbrev pub place_if_free : PagePlace → Session → List PagePlace
+place_if_free place NotBegun = place ∷ []
+place_if_free place session = []
+
+abbrev pub places_free : List PagePlace → List Session → List PagePlace
+places_free (place ∷ places) (session ∷ sessions) = place_if_free place session ++ places_free places sessions
+places_free _ _ = []
+
+abbrev pub places_of : SlotsState → List PagePlace
+places_of s = map (λ h. h.place) s.held
+
+-- a session that is told of as open was begun, and is open at the place where it is told to be
+pub record IsOpenAt (s : SlotsState) (o : SessionOver) : Type 0 where
+  pub begun : IsToldOver s o
+  pub at : ℕ
+  pub place_is : slice_get (places_of s) at ≡ Some (place_at s.domain o.number o.domain o.port)
+  pub is_open : is_open (session_at s.sessions at) ≡ true
+
+-- an end is unused as long as its session hasn't begun, and those of the sessions that are told of as open are
+pub record Agrees (s : SlotsState) : Type 0 where
+  pub unused : s.unused ≡ places_free (places_of s) s.sessions
+  pub opened : Each (IsOpenAt s) s.opened
