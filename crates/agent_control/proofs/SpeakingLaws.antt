@@ -1,6 +1,6 @@
 -- What an agent has sent, through one message more.
-use Rattle.std.proofs.Common.{◌≡◌, ℕ, ◌+◌, ◌<◌, ◌≤◌, List, [], ◌∷◌, ◌++◌, length, length-append, refl, ap, sym, ◌∙◌, inl, inr, Option, Some, None, subst, append_assoc, zero, suc, arith, drop, Bor}
-use Rattle.std.specs.Prelude.{◌⊎◌, Bool, true, false, map, is_some, nat_lt, slice_get, slice_set, if◌then◌else◌}
+use Rattle.std.proofs.Common.{◌≡◌, ◌≢◌, ℕ, ◌+◌, ◌<◌, ◌≤◌, List, [], ◌∷◌, ◌++◌, length, length-append, refl, ap, sym, ◌∙◌, inl, inr, Option, Some, None, subst, append_assoc, zero, suc, arith, drop, Bor}
+use Rattle.std.specs.Prelude.{◌⊎◌, Bool, true, false, map, is_some, not, nat_lt, slice_get, slice_set, if◌then◌else◌}
 use Rattle.std.specs.Slice.{IsItemAt}
 use Rattle.std.specs.Option.{option_copied}
 use Rattle.std.proofs.lemmas.List.{append-nil, length-map, map-append}
@@ -11,8 +11,8 @@ use Rattle.vchan_rule.specs.Ends.{IsSameEnd}
 use Rattle.scenario_file.specs.declared.scenario.CallPlan.{CallPlan}
 use Rattle.task_duties.specs.Pairwise.{SomeOf}
 use Rattle.task_duties.specs.Words.{ident_of}
-use Rattle.task_duties.specs.Agent.Answers.{Asked}
-use Rattle.task_duties.specs.Agent.Saying.{asking, AsksToServe, is_at, IsOfVersion, IsTold}
+use Rattle.task_duties.specs.Agent.Answers.{Answer, Asked}
+use Rattle.task_duties.specs.Agent.Saying.{asking, AsksToServe, is_at, is_refusal, IsOfVersion, IsTold}
 use Rattle.call_queue.specs.Queue.{Queued, QueueState, asked_as, asked_by, IsDue, HasToSay, trigger_of, after_trigger, IsConnectedAt}
 use Rattle.call_queue.specs.Asking.{Asks}
 use Rattle.call_queue.proofs.Places.{map-got, map-set-same, get-within}
@@ -20,16 +20,95 @@ use Rattle.call_queue.proofs.AskingLaws.{asks-stranger}
 use Rattle.control_port.specs.Port.{PortState}
 use Rattle.agent_control.specs.declared.control.AgentControl.{AgentControl}
 use Rattle.agent_control.specs.declared.control.SessionEnd.{SessionEnd}
-use Rattle.agent_control.specs.Speaking.{MayTell, IsTellable, HasCall, Speaks, CanSpeak, SaysMore, Tells, Says, IsSpoken, terminated}
+use Rattle.agent_control.specs.Speaking.{MayTell, IsTellable, HasCall, Speaks, CanSpeak, StaysOpen, OpenAfter, SaysMore, Tells, Says, IsSpoken, terminated}
 
 each-more : {A : Type 0} (P : A → Type 0) (xs : List A) (x : A) → Each P xs → P x → Each P (xs ++ x ∷ [])
 each-more P [] x each last = (last, tt)
 each-more P (y ∷ xs) x each last = (each.0, each-more P xs x each.1 last)
 
+each-both : {A : Type 0} (P : A → Type 0) (xs ys : List A) → Each P xs → Each P ys → Each P (xs ++ ys)
+each-both P [] ys a b = b
+each-both P (x ∷ xs) ys a b = (a.0, each-both P xs ys a.1 b)
+
 some-at : {A : Type 0} (P : A → Type 0) (xs : List A) (i : ℕ) (x : A) → slice_get xs i ≡ Some x → P x → SomeOf P xs
 some-at P [] i x is h = cc
 some-at {A} P (y ∷ xs) zero x is h = let same : y ≡ x = cc in inl (subst P (sym same) h)
 some-at P (y ∷ xs) (suc i) x is h = inr (some-at P xs i x is h)
+
+-- ---- which calls are open
+
+got-set : {A : Type 0} (xs : List A) (i j : ℕ) (y x : A) → slice_get (slice_set xs i y) j ≡ Some x → ((j ≡ i) × (y ≡ x)) ⊎ ((j ≢ i) × (slice_get xs j ≡ Some x))
+got-set [] i j y x h = cc
+got-set (z ∷ xs) zero zero y x h = inl (refl, cc)
+got-set (z ∷ xs) zero (suc j) y x h = inr (λ e. absurd (omega (arith, e)), h)
+got-set (z ∷ xs) (suc i) zero y x h = inr (λ e. absurd (omega (arith, e)), h)
+got-set (z ∷ xs) (suc i) (suc j) y x h = further (got-set xs i j y x h)
+  where
+    further : ((j ≡ i) × (y ≡ x)) ⊎ ((j ≢ i) × (slice_get xs j ≡ Some x)) → ((suc j ≡ suc i) × (y ≡ x)) ⊎ ((suc j ≢ suc i) × (slice_get xs j ≡ Some x))
+    further (inl here) = inl (ap suc here.0, here.1)
+    further (inr there) = inr (λ e. there.0 (omega (arith, e)), there.1)
+
+-- which calls stay open, or were asked for
+abbrev AreOpen : List SessionEnd → QueueState → ℕ → Queued → Type 0
+AreOpen told old place c = StaysOpen told old place c.answer ⊎ ((old.next ≤ place) × (is_refusal c.answer ≡ false))
+
+stays : (told : List SessionEnd) (old : QueueState) (place : ℕ) (c : Queued) → slice_get old.calls place ≡ Some c → c.is_open ≡ true → Each (λ e. e.call ≢ Some place) told → AreOpen told old place c
+stays told old place c was is untold = inl (record { call = c; was = was; answer_is = refl; was_open = is; untold = untold })
+
+open-same : (old new : QueueState) → new ≡ old → OpenAfter [] old new
+open-same old new same place c at is = stays [] old place c (ap (λ (q : QueueState). slice_get q.calls place) (sym same) ∙ at) is tt
+
+open-then : (told told' : List SessionEnd) (a b c : QueueState) → a.next ≤ b.next → OpenAfter told a b → OpenAfter told' b c → OpenAfter (told ++ told') a c
+open-then told told' a b c more p q place x at is = by_last (q place x at is)
+  where
+    by_first : (s : StaysOpen told' b place x.answer) → AreOpen told a place s.call → AreOpen (told ++ told') a place x
+    by_first s (inl r) = inl (record {
+      call = r.call;
+      was = r.was;
+      answer_is = r.answer_is ∙ s.answer_is;
+      was_open = r.was_open;
+      untold = each-both (λ (e : SessionEnd). e.call ≢ Some place) told told' r.untold s.untold;
+    })
+    by_first s (inr late) = inr (late.0, subst (λ (y : Answer). is_refusal y ≡ false) s.answer_is late.1)
+
+    by_last : AreOpen told' b place x → AreOpen (told ++ told') a place x
+    by_last (inl s) = by_first s (p place s.call s.was s.was_open)
+    by_last (inr late) = inr (omega (arith, more, late.0), late.1)
+
+-- a call whose end is reported is no longer open
+open-ended : (old new : QueueState) (e : SessionEnd) (at : ℕ) (c : Queued) → e.call ≡ Some at → new.calls ≡ slice_set old.calls at (record c { is_open = false }) → OpenAfter (e ∷ []) old new
+open-ended old new e at c own calls place x there is = by_place (got-set old.calls at place (record c { is_open = false }) x (ap (λ l. slice_get l place) (sym calls) ∙ there))
+  where
+    shut : false ≡ true → ⊥
+    shut bad = cc
+
+    same-some : Some at ≡ Some place → place ≡ at
+    same-some h = cc
+
+    by_place : ((place ≡ at) × (record c { is_open = false } ≡ x)) ⊎ ((place ≢ at) × (slice_get old.calls place ≡ Some x)) → AreOpen (e ∷ []) old place x
+    by_place (inl here) = absurd (shut (ap (λ (y : Queued). y.is_open) here.1 ∙ is))
+    by_place (inr other) = stays (e ∷ []) old place x other.1 is (λ same. other.0 (same-some (sym own ∙ same)), tt)
+
+-- the end of what the agent served changes no call
+open-other : (old new : QueueState) (e : SessionEnd) → e.call ≡ None → new ≡ old → OpenAfter (e ∷ []) old new
+open-other old new e none same place x at is = stays (e ∷ []) old place x (ap (λ (q : QueueState). slice_get q.calls place) (sym same) ∙ at) is (λ own. bad (sym none ∙ own), tt)
+  where
+    bad : None ≡ Some place → ⊥
+    bad h = cc
+
+-- a call that is asked for is open, unless it was refused
+open-asked : (old new : QueueState) (c : Queued) → new.calls ≡ slice_set old.calls old.next (record c { is_open = not (is_refusal c.answer) }) → OpenAfter [] old new
+open-asked old new c calls place x there is = by_place (got-set old.calls old.next place (record c { is_open = not (is_refusal c.answer) }) x (ap (λ l. slice_get l place) (sym calls) ∙ there))
+  where
+    unrefused : (b : Bool) → not b ≡ true → b ≡ false
+    unrefused true h = cc
+    unrefused false h = refl
+
+    by_place : ((place ≡ old.next) × (record c { is_open = not (is_refusal c.answer) } ≡ x)) ⊎ ((place ≢ old.next) × (slice_get old.calls place ≡ Some x)) → AreOpen [] old place x
+    by_place (inl here) =
+        let was_open : not (is_refusal c.answer) ≡ true = ap (λ (y : Queued). y.is_open) here.1 ∙ is in
+        inr (omega (arith, here.0), subst (λ (y : Queued). is_refusal y.answer ≡ false) here.1 (unrefused (is_refusal c.answer) was_open))
+    by_place (inr other) = stays [] old place x other.1 is tt
 
 -- ---- nothing more
 
@@ -55,6 +134,8 @@ says-nothing old new w end s = record {
   heard = s.heard;
   told = [];
   unsaid = sym (ap (λ u. u.items) s.unsaid);
+  next = omega (arith, ap (λ (q : QueueState). q.next) s.queue);
+  opened = open-same old.queue new.queue s.queue;
   speaks = λ heard said h. ([], subst (λ l. Speaks new heard l) (sym (append-nil said)) (still old new w heard said s h), spoken-none new.unsaid.items);
 }
 
@@ -66,6 +147,8 @@ tells-nothing old new e w end s = record {
   asked = ap asked_by s.queue;
   heard = s.heard;
   unsaid = s.unsaid;
+  next = ap (λ (q : QueueState). q.next) s.queue;
+  opened = open-same old.queue new.queue s.queue;
   speaks = λ heard said h may. subst (λ l. Speaks new heard l) (sym (append-nil said)) (still old new w heard said s h);
 }
 
@@ -78,6 +161,8 @@ says-same c can = record {
   heard = λ heard h. h;
   told = [];
   unsaid = refl;
+  next = omega arith;
+  opened = open-same c.queue c.queue refl;
   speaks = λ heard said h. ([], subst (λ l. Speaks c heard l) (sym (append-nil said)) h, spoken-none c.unsaid.items);
 }
 
@@ -90,10 +175,6 @@ no-triggers (x ∷ xs) few = absurd (omega (arith, few))
 both-empty : {A : Type 0} (xs ys : List A) → [] ≡ xs ++ ys → (xs ≡ []) × (ys ≡ [])
 both-empty [] ys is = (refl, sym is)
 both-empty (x ∷ xs) ys is = cc
-
-each-both : {A : Type 0} (P : A → Type 0) (xs ys : List A) → Each P xs → Each P ys → Each P (xs ++ ys)
-each-both P [] ys a b = b
-each-both P (x ∷ xs) ys a b = (a.0, each-both P xs ys a.1 b)
 
 -- ends and then more, or, if no end waits, triggers and then more
 spoken-then : (n k : ℕ) (told mid told' rest : List SessionEnd) (more more' : List Message) → mid ≡ told' ++ rest → (n ≡ 0) ⊎ (mid ≡ []) → IsSpoken n told mid more → IsSpoken k told' rest more'
@@ -129,6 +210,8 @@ says-then n k a b c first p q = record {
   heard = λ heard h. q.heard heard (p.heard heard h);
   told = p.told ++ q.told;
   unsaid = p.unsaid ∙ ap (λ l. p.told ++ l) q.unsaid ∙ sym (append_assoc p.told q.told c.unsaid.items);
+  next = omega (arith, p.next, q.next);
+  opened = open-then p.told q.told a.queue b.queue c.queue p.next p.opened q.opened;
   speaks = λ heard said h.
       let x = p.speaks heard said h in
       let y = q.speaks heard (said ++ x.0) x.1 in
@@ -145,6 +228,8 @@ says-few n k a b less p = record {
   heard = p.heard;
   told = p.told;
   unsaid = p.unsaid;
+  next = p.next;
+  opened = p.opened;
   speaks = λ heard said h.
       let x = p.speaks heard said h in
       (x.0, x.1, record { triggers = x.2.triggers; is = x.2.is; each = x.2.each; few = omega (arith, x.2.few, less); last = x.2.last });
@@ -190,6 +275,8 @@ tells-other old mid e none end s = record {
   asked = ap asked_by s.queue;
   heard = s.heard;
   unsaid = s.unsaid;
+  next = ap (λ (q : QueueState). q.next) s.queue;
+  opened = open-other old.queue mid.queue e none s.queue;
   speaks = λ heard said h may.
       let there : SomeOf (AsksToServe e.domain e.port) heard = subst (λ o. MayTell (asked_by old.queue) heard o e.domain e.port) none may in
       goes old mid mid.queue (m.Terminated e.domain e.port) heard said s refl (asks-stranger mid.queue e.domain e.port said (subst (λ q. Asks q said) (sym s.queue) h.asks)) tt (inr there) h;
@@ -208,6 +295,8 @@ tells-own old mid queue e place own within end s is asks =
       asked = same ∙ ap asked_by s.queue;
       heard = s.heard;
       unsaid = s.unsaid;
+      next = ap (λ (q : QueueState). q.next) (is at.0 at.1) ∙ ap (λ (q : QueueState). q.next) s.queue;
+      opened = subst (λ (q : QueueState). OpenAfter (e ∷ []) q queue) s.queue (open-ended mid.queue queue e place at.0 own (ap (λ (q : QueueState). q.calls) (is at.0 at.1)));
       speaks = λ heard said h may. told heard said h same (subst (λ o. MayTell (asked_by old.queue) heard o e.domain e.port) own may);
     }
   where
@@ -259,6 +348,8 @@ says-trigger old mid queue version w v end s says none is asks =
       heard = s.heard;
       told = [];
       unsaid = sym (ap (λ u. u.items) s.unsaid);
+      next = omega (arith, ap (λ (q : QueueState). q.next) (is now.0 now.1), ap (λ (q : QueueState). q.next) s.queue);
+      opened = subst (λ (q : QueueState). OpenAfter [] q queue) s.queue (open-asked mid.queue queue now.0 (ap (λ (q : QueueState). q.calls) (is now.0 now.1)));
       speaks = λ heard said h. (
         w ∷ [],
         goes old mid queue w heard said s same (asks said version w now (subst (λ q. Asks q said) (sym s.queue) h.asks)) of_version (subst (λ x. IsTold (asked_by queue) heard x) (sym now.2) (is-told (asked_by queue) heard version now.0.call)) h,
@@ -298,6 +389,8 @@ tells-first old mid new e rest t first rest_is new_is =
       heard = t.heard;
       told = e ∷ [];
       unsaid = was ∙ ap (λ l. e ∷ l) (sym rest_is);
+      next = omega (arith, t.next);
+      opened = t.opened;
       speaks = λ heard said h.
           let may = subst (λ l. Each (IsTellable (asked_by old.queue) heard) l) was h.unsaid in
           let more = t.speaks heard said h may.0 in (
@@ -323,6 +416,8 @@ tells-not old mid e rest t first = record {
   heard = t.heard;
   told = [];
   unsaid = sym (ap (λ u. u.items) t.unsaid);
+  next = omega (arith, t.next);
+  opened = t.opened;
   speaks = λ heard said h. ([], t.speaks heard said h (subst (λ l. Each (IsTellable (asked_by old.queue) heard) l) first h.unsaid).0, spoken-none mid.unsaid.items);
 }
 

@@ -1,17 +1,17 @@
 -- What an agent sends on its control channel: its port and the queue of its calls, tied to the messages that were sent and heard.
 -- Source: the messages are those of the qrexec protocol; the order and the limit are this project's own.
-use Rattle.std.specs.Prelude.{◌≡◌, ◌⊎◌, ℕ, ◌<◌, ◌≤◌, Bool, true, false, List, [], ◌∷◌, ◌++◌, length, map, slice_get, Option, Some, None, is_some, if◌then◌else◌}
+use Rattle.std.specs.Prelude.{◌≡◌, ◌≢◌, ◌⊎◌, ℕ, ◌<◌, ◌≤◌, Bool, true, false, List, [], ◌∷◌, ◌++◌, length, map, slice_get, Option, Some, None, is_some, if◌then◌else◌}
 use Rattle.qrexec_frame.specs.declared.message.Message.{Message}
 use Rattle.qrexec_frame.specs.declared.message.Message.TheVariants.{Terminated}
 use Rattle.qrexec_frame.specs.Streams.{Each}
 use Rattle.vchan_rule.specs.Seated.{view, IsOpen}
 use Rattle.vchan_rule.specs.Ends.{IsSameEnd}
 use Rattle.task_duties.specs.Pairwise.{SomeOf}
-use Rattle.task_duties.specs.Agent.Answers.{Asked}
-use Rattle.task_duties.specs.Agent.Saying.{asking, is_at, IsOfVersion, IsTold, AsksToServe}
+use Rattle.task_duties.specs.Agent.Answers.{Answer, Asked}
+use Rattle.task_duties.specs.Agent.Saying.{asking, is_at, is_refusal, IsOfVersion, IsTold, AsksToServe}
 use Rattle.control_port.specs.Port.{PortState, HasSaid, HasHeard, OnlySends}
 use Rattle.control_port.specs.declared.talk.Talker.TheVariants.{Agent}
-use Rattle.call_queue.specs.Queue.{asked_by}
+use Rattle.call_queue.specs.Queue.{Queued, QueueState, asked_by}
 use Rattle.call_queue.specs.Asking.{Asks}
 use Rattle.agent_control.specs.declared.control.AgentControl.{AgentControl}
 use Rattle.agent_control.specs.declared.control.SessionEnd.{SessionEnd}
@@ -60,6 +60,19 @@ pub record IsSpoken (calls : ℕ) (told waiting : List SessionEnd) (more : List 
   pub few : length triggers ≤ calls
   pub last : (triggers ≡ []) ⊎ (waiting ≡ [])
 
+-- the call at a place with this answer was open before, and its end isn't among those that were reported
+pub record StaysOpen (told : List SessionEnd) (old : QueueState) (place : ℕ) (answer : Answer) : Type 0 where
+  pub call : Queued
+  pub was : slice_get old.calls place ≡ Some call
+  pub answer_is : call.answer ≡ answer
+  pub was_open : call.is_open ≡ true
+  pub untold : Each (λ e. e.call ≢ Some place) told
+
+-- which calls are open once these ends were reported and then triggers were sent: those that were open and whose end wasn't reported, and those that were asked for now and weren't refused before
+abbrev pub OpenAfter : List SessionEnd → QueueState → QueueState → Type 0
+OpenAfter told old new =
+    (place : ℕ) (c : Queued) → slice_get new.calls place ≡ Some c → c.is_open ≡ true → StaysOpen told old place c.answer ⊎ ((old.next ≤ place) × (is_refusal c.answer ≡ false))
+
 -- only the end of the port moved, which got nothing and came to no end
 abbrev pub OnlyTalks : PortState → PortState → Type 0
 OnlyTalks old new = OnlySends old new × ((view new.end).ended ≡ (view old.end).ended) × ((view new.end).got ≡ (view old.end).got)
@@ -73,6 +86,8 @@ pub record SaysMore (calls : ℕ) (old new : AgentControl) : Type 0 where
   pub heard : (heard : List Message) → HasHeard old.port heard → HasHeard new.port heard
   pub told : List SessionEnd
   pub unsaid : old.unsaid.items ≡ told ++ new.unsaid.items
+  pub next : old.queue.next ≤ new.queue.next
+  pub opened : OpenAfter told old.queue new.queue
   pub speaks : (heard said : List Message) → Speaks old heard said → (more : List Message) × Speaks new heard (said ++ more) × IsSpoken calls told new.unsaid.items more
 
 -- an end of a session was reported, or there was no room for it; it isn't removed from those to report
@@ -83,6 +98,8 @@ pub record Tells (old new : AgentControl) (e : SessionEnd) (gone : Bool) : Type 
   pub asked : asked_by new.queue ≡ asked_by old.queue
   pub heard : (heard : List Message) → HasHeard old.port heard → HasHeard new.port heard
   pub unsaid : new.unsaid ≡ old.unsaid
+  pub next : new.queue.next ≡ old.queue.next
+  pub opened : OpenAfter (if gone then e ∷ [] else []) old.queue new.queue
   pub speaks : (heard said : List Message) → Speaks old heard said → IsTellable (asked_by old.queue) heard e
       → Speaks new heard (said ++ (if gone then terminated e ∷ [] else []))
 

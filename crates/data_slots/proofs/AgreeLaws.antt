@@ -11,7 +11,7 @@ use Rattle.data_slots.specs.declared.ends.Ends.{Ends}
 use Rattle.data_slots.specs.Slots.{Held, place_at}
 use Rattle.data_slots.specs.Sessions.{Session, NotBegun, session_of, sessions_in, is_open}
 use Rattle.data_slots.specs.declared.done.SessionOver.{SessionOver}
-use Rattle.data_slots.specs.Agreeing.{place_if_free, places_free, IsOpenAt, Agrees}
+use Rattle.data_slots.specs.Agreeing.{place_if_free, places_free, SessionStands, IsOpenAt, Agrees}
 use Rattle.data_slots.specs.Stages.{Frame, place_of, frame_of, use_of, is_session, IsStage}
 use Rattle.data_slots.specs.Whole.{frames, held_in, sessions, unused_at, unused_in, session_at, opened_in, IsNoted, IsWhole, state_of}
 use Rattle.data_slots.proofs.ListLaws.{get-map, get-map-back, each-get}
@@ -34,6 +34,19 @@ all-free version [] each = refl
 all-free version (s ∷ slots) each =
     one-free version (place_of s) s.stage (unused_in (frames slots)) each.0 ∙ ap (λ l. place_if_free (place_of s) (session_of s.stage) ++ l) (all-free version slots each.1)
 
+all-stand : (version : ℕ) (slots : List Slot) → Each (λ s. IsStage version s.stage) slots → Each (SessionStands version) (sessions_in slots)
+all-stand version [] each = tt
+all-stand version (s ∷ slots) each = (by_stage s.stage each.0, all-stand version slots each.1)
+  where
+    by_stage : (stage : Stage) → IsStage version stage → SessionStands version (session_of stage)
+    by_stage (Unused end) h = tt
+    by_stage (Calls number input side session) h = (h.0, h.1)
+    by_stage (Awaits number service serving side) h = tt
+    by_stage (Serves number service side session) h = (h.0, h.1, (service.value, h.2))
+    by_stage (CallIsOver number input came end) h = tt
+    by_stage (ServingIsOver number service came end) h = tt
+    by_stage Taken h = absurd h
+
 still-open : (stage : Stage) → is_session stage ≡ true → is_open (session_of stage) ≡ true
 still-open (Unused end) h = cc
 still-open (Calls number input side session) h = refl
@@ -45,6 +58,8 @@ still-open Taken h = cc
 
 pub agrees : (e : Ends) → IsWhole e → Agrees (state_of e false)
 agrees e whole = record {
+  version = whole.version_is;
+  sessions = all-stand e.version slots whole.stages;
   unused = all-free e.version slots whole.stages;
   opened = each e.busy.items (λ k less. open-at (sessions slots) e.busy.items k (get_or e.busy.items k 0) whole.are_open less (read-any e.busy.items k less));
 }

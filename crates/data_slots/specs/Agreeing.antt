@@ -1,11 +1,15 @@
 -- How what is kept of the ends agrees with the session of each.
 -- Source: this project's own.
-use Rattle.std.specs.Prelude.{◌≡◌, ℕ, true, List, [], ◌∷◌, ◌++◌, map, slice_get, Some}
+use Rattle.std.specs.Prelude.{◌≡◌, ℕ, ◌≤◌, true, List, [], ◌∷◌, ◌++◌, map, slice_get, Some}
 use Rattle.qrexec_frame.specs.Streams.{Each}
 use Rattle.task_duties.specs.declared.place.PagePlace.{PagePlace}
+use Rattle.service_gate.specs.Owing.{builtin_owes}
+use Rattle.service_gate.specs.declared.builtin.Builtin.{Builtin}
+use Rattle.channel_session.specs.Calling.{IsCalling}
+use Rattle.channel_session.specs.Answering.{IsAnswering, IsAtWork}
 use Rattle.data_slots.specs.declared.done.SessionOver.{SessionOver}
 use Rattle.data_slots.specs.Slots.{Held, SlotsState, place_at}
-use Rattle.data_slots.specs.Sessions.{Session, NotBegun, is_open, session_at}
+use Rattle.data_slots.specs.Sessions.{Session, NotBegun, CallsWith, ServesWith, is_open, session_at}
 use Rattle.data_slots.specs.Done.{IsToldOver}
 
 -- the places at which no session has begun
@@ -27,7 +31,16 @@ pub record IsOpenAt (s : SlotsState) (o : SessionOver) : Type 0 where
   pub place_is : slice_get (places_of s) at ≡ Some (place_at s.domain o.number o.domain o.port)
   pub is_open : is_open (session_at s.sessions at) ≡ true
 
--- an end is unused as long as its session hasn't begun, and those of the sessions that are told of as open are
+-- the two parts of a session that is open agree, in this version
+abbrev pub SessionStands : ℕ → Session → Type 0
+SessionStands version (CallsWith at) = IsCalling at.caller at.end × (at.caller.replies.own ≡ version)
+SessionStands version (ServesWith at) =
+    IsAtWork at.serving at.end × (at.serving.answering.own ≡ version) × ((service : Builtin) × IsAnswering (builtin_owes service) at.serving at.end)
+SessionStands version session = Unit {0}
+
+-- an end is unused as long as its session hasn't begun, the parts of each session agree, and those that are told of as open are
 pub record Agrees (s : SlotsState) : Type 0 where
+  pub version : (2 ≤ s.version) × (s.version ≤ 3)
+  pub sessions : Each (SessionStands s.version) s.sessions
   pub unused : s.unused ≡ places_free (places_of s) s.sessions
   pub opened : Each (IsOpenAt s) s.opened
