@@ -20,7 +20,7 @@ use Rattle.call_queue.proofs.AskingLaws.{asks-stranger}
 use Rattle.control_port.specs.Port.{PortState}
 use Rattle.agent_control.specs.declared.control.AgentControl.{AgentControl}
 use Rattle.agent_control.specs.declared.control.SessionEnd.{SessionEnd}
-use Rattle.agent_control.specs.Speaking.{MayTell, IsTellable, HasCall, Speaks, CanSpeak, StaysOpen, OpenAfter, SaysMore, Tells, Says, IsSpoken, terminated}
+use Rattle.agent_control.specs.Speaking.{MayTell, IsTellable, HasCall, Speaks, CanSpeak, StaysOpen, IsAskedNow, OpenAfter, SaysMore, Tells, Says, IsSpoken, terminated}
 
 each-more : {A : Type 0} (P : A → Type 0) (xs : List A) (x : A) → Each P xs → P x → Each P (xs ++ x ∷ [])
 each-more P [] x each last = (last, tt)
@@ -49,19 +49,19 @@ got-set (z ∷ xs) (suc i) (suc j) y x h = further (got-set xs i j y x h)
     further (inr there) = inr (λ e. there.0 (omega (arith, e)), there.1)
 
 -- which calls stay open, or were asked for
-abbrev AreOpen : List SessionEnd → QueueState → ℕ → Queued → Type 0
-AreOpen told old place c = StaysOpen told old place c.answer ⊎ ((old.next ≤ place) × (is_refusal c.answer ≡ false))
+abbrev IsOpenNow : List SessionEnd → QueueState → QueueState → ℕ → Queued → Type 0
+IsOpenNow told old new place c = StaysOpen told old place c.answer ⊎ IsAskedNow old new place c.answer
 
-stays : (told : List SessionEnd) (old : QueueState) (place : ℕ) (c : Queued) → slice_get old.calls place ≡ Some c → c.is_open ≡ true → Each (λ e. e.call ≢ Some place) told → AreOpen told old place c
-stays told old place c was is untold = inl (record { call = c; was = was; answer_is = refl; was_open = is; untold = untold })
+stays : (told : List SessionEnd) (old new : QueueState) (place : ℕ) (c : Queued) → slice_get old.calls place ≡ Some c → c.is_open ≡ true → Each (λ e. e.call ≢ Some place) told → IsOpenNow told old new place c
+stays told old new place c was is untold = inl (record { call = c; was = was; answer_is = refl; was_open = is; untold = untold })
 
 open-same : (old new : QueueState) → new ≡ old → OpenAfter [] old new
-open-same old new same place c at is = stays [] old place c (ap (λ (q : QueueState). slice_get q.calls place) (sym same) ∙ at) is tt
+open-same old new same place c at is = stays [] old new place c (ap (λ (q : QueueState). slice_get q.calls place) (sym same) ∙ at) is tt
 
-open-then : (told told' : List SessionEnd) (a b c : QueueState) → a.next ≤ b.next → OpenAfter told a b → OpenAfter told' b c → OpenAfter (told ++ told') a c
-open-then told told' a b c more p q place x at is = by_last (q place x at is)
+open-then : (told told' : List SessionEnd) (a b c : QueueState) → a.next ≤ b.next → b.next ≤ c.next → OpenAfter told a b → OpenAfter told' b c → OpenAfter (told ++ told') a c
+open-then told told' a b c more further p q place x at is = by_last (q place x at is)
   where
-    by_first : (s : StaysOpen told' b place x.answer) → AreOpen told a place s.call → AreOpen (told ++ told') a place x
+    by_first : (s : StaysOpen told' b place x.answer) → IsOpenNow told a b place s.call → IsOpenNow (told ++ told') a c place x
     by_first s (inl r) = inl (record {
       call = r.call;
       was = r.was;
@@ -69,11 +69,11 @@ open-then told told' a b c more p q place x at is = by_last (q place x at is)
       was_open = r.was_open;
       untold = each-both (λ (e : SessionEnd). e.call ≢ Some place) told told' r.untold s.untold;
     })
-    by_first s (inr late) = inr (late.0, subst (λ (y : Answer). is_refusal y ≡ false) s.answer_is late.1)
+    by_first s (inr late) = inr (record { from = late.from; below = omega (arith, late.below, further); unrefused = subst (λ (y : Answer). is_refusal y ≡ false) s.answer_is late.unrefused })
 
-    by_last : AreOpen told' b place x → AreOpen (told ++ told') a place x
+    by_last : IsOpenNow told' b c place x → IsOpenNow (told ++ told') a c place x
     by_last (inl s) = by_first s (p place s.call s.was s.was_open)
-    by_last (inr late) = inr (omega (arith, more, late.0), late.1)
+    by_last (inr late) = inr (record { from = omega (arith, more, late.from); below = late.below; unrefused = late.unrefused })
 
 -- a call whose end is reported is no longer open
 open-ended : (old new : QueueState) (e : SessionEnd) (at : ℕ) (c : Queued) → e.call ≡ Some at → new.calls ≡ slice_set old.calls at (record c { is_open = false }) → OpenAfter (e ∷ []) old new
@@ -85,30 +85,30 @@ open-ended old new e at c own calls place x there is = by_place (got-set old.cal
     same-some : Some at ≡ Some place → place ≡ at
     same-some h = cc
 
-    by_place : ((place ≡ at) × (record c { is_open = false } ≡ x)) ⊎ ((place ≢ at) × (slice_get old.calls place ≡ Some x)) → AreOpen (e ∷ []) old place x
+    by_place : ((place ≡ at) × (record c { is_open = false } ≡ x)) ⊎ ((place ≢ at) × (slice_get old.calls place ≡ Some x)) → IsOpenNow (e ∷ []) old new place x
     by_place (inl here) = absurd (shut (ap (λ (y : Queued). y.is_open) here.1 ∙ is))
-    by_place (inr other) = stays (e ∷ []) old place x other.1 is (λ same. other.0 (same-some (sym own ∙ same)), tt)
+    by_place (inr other) = stays (e ∷ []) old new place x other.1 is (λ same. other.0 (same-some (sym own ∙ same)), tt)
 
 -- the end of what the agent served changes no call
 open-other : (old new : QueueState) (e : SessionEnd) → e.call ≡ None → new ≡ old → OpenAfter (e ∷ []) old new
-open-other old new e none same place x at is = stays (e ∷ []) old place x (ap (λ (q : QueueState). slice_get q.calls place) (sym same) ∙ at) is (λ own. bad (sym none ∙ own), tt)
+open-other old new e none same place x at is = stays (e ∷ []) old new place x (ap (λ (q : QueueState). slice_get q.calls place) (sym same) ∙ at) is (λ own. bad (sym none ∙ own), tt)
   where
     bad : None ≡ Some place → ⊥
     bad h = cc
 
 -- a call that is asked for is open, unless it was refused
-open-asked : (old new : QueueState) (c : Queued) → new.calls ≡ slice_set old.calls old.next (record c { is_open = not (is_refusal c.answer) }) → OpenAfter [] old new
-open-asked old new c calls place x there is = by_place (got-set old.calls old.next place (record c { is_open = not (is_refusal c.answer) }) x (ap (λ l. slice_get l place) (sym calls) ∙ there))
+open-asked : (old new : QueueState) (c : Queued) → new.next ≡ old.next + 1 → new.calls ≡ slice_set old.calls old.next (record c { is_open = not (is_refusal c.answer) }) → OpenAfter [] old new
+open-asked old new c next calls place x there is = by_place (got-set old.calls old.next place (record c { is_open = not (is_refusal c.answer) }) x (ap (λ l. slice_get l place) (sym calls) ∙ there))
   where
     unrefused : (b : Bool) → not b ≡ true → b ≡ false
     unrefused true h = cc
     unrefused false h = refl
 
-    by_place : ((place ≡ old.next) × (record c { is_open = not (is_refusal c.answer) } ≡ x)) ⊎ ((place ≢ old.next) × (slice_get old.calls place ≡ Some x)) → AreOpen [] old place x
+    by_place : ((place ≡ old.next) × (record c { is_open = not (is_refusal c.answer) } ≡ x)) ⊎ ((place ≢ old.next) × (slice_get old.calls place ≡ Some x)) → IsOpenNow [] old new place x
     by_place (inl here) =
         let was_open : not (is_refusal c.answer) ≡ true = ap (λ (y : Queued). y.is_open) here.1 ∙ is in
-        inr (omega (arith, here.0), subst (λ (y : Queued). is_refusal y.answer ≡ false) here.1 (unrefused (is_refusal c.answer) was_open))
-    by_place (inr other) = stays [] old place x other.1 is tt
+        inr (record { from = omega (arith, here.0); below = omega (arith, here.0, next); unrefused = subst (λ (y : Queued). is_refusal y.answer ≡ false) here.1 (unrefused (is_refusal c.answer) was_open) })
+    by_place (inr other) = stays [] old new place x other.1 is tt
 
 -- ---- nothing more
 
@@ -211,7 +211,7 @@ says-then n k a b c first p q = record {
   told = p.told ++ q.told;
   unsaid = p.unsaid ∙ ap (λ l. p.told ++ l) q.unsaid ∙ sym (append_assoc p.told q.told c.unsaid.items);
   next = omega (arith, p.next, q.next);
-  opened = open-then p.told q.told a.queue b.queue c.queue p.next p.opened q.opened;
+  opened = open-then p.told q.told a.queue b.queue c.queue p.next q.next p.opened q.opened;
   speaks = λ heard said h.
       let x = p.speaks heard said h in
       let y = q.speaks heard (said ++ x.0) x.1 in
@@ -349,7 +349,7 @@ says-trigger old mid queue version w v end s says none is asks =
       told = [];
       unsaid = sym (ap (λ u. u.items) s.unsaid);
       next = omega (arith, ap (λ (q : QueueState). q.next) (is now.0 now.1), ap (λ (q : QueueState). q.next) s.queue);
-      opened = subst (λ (q : QueueState). OpenAfter [] q queue) s.queue (open-asked mid.queue queue now.0 (ap (λ (q : QueueState). q.calls) (is now.0 now.1)));
+      opened = subst (λ (q : QueueState). OpenAfter [] q queue) s.queue (open-asked mid.queue queue now.0 (ap (λ (q : QueueState). q.next) (is now.0 now.1)) (ap (λ (q : QueueState). q.calls) (is now.0 now.1)));
       speaks = λ heard said h. (
         w ∷ [],
         goes old mid queue w heard said s same (asks said version w now (subst (λ q. Asks q said) (sym s.queue) h.asks)) of_version (subst (λ x. IsTold (asked_by queue) heard x) (sym now.2) (is-told (asked_by queue) heard version now.0.call)) h,

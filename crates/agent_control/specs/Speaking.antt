@@ -68,10 +68,16 @@ pub record StaysOpen (told : List SessionEnd) (old : QueueState) (place : ℕ) (
   pub was_open : call.is_open ≡ true
   pub untold : Each (λ e. e.call ≢ Some place) told
 
+-- the call at a place was asked for now, and hadn't been refused
+pub record IsAskedNow (old new : QueueState) (place : ℕ) (answer : Answer) : Type 0 where
+  pub from : old.next ≤ place
+  pub below : place < new.next
+  pub unrefused : is_refusal answer ≡ false
+
 -- which calls are open once these ends were reported and then triggers were sent: those that were open and whose end wasn't reported, and those that were asked for now and weren't refused before
 abbrev pub OpenAfter : List SessionEnd → QueueState → QueueState → Type 0
 OpenAfter told old new =
-    (place : ℕ) (c : Queued) → slice_get new.calls place ≡ Some c → c.is_open ≡ true → StaysOpen told old place c.answer ⊎ ((old.next ≤ place) × (is_refusal c.answer ≡ false))
+    (place : ℕ) (c : Queued) → slice_get new.calls place ≡ Some c → c.is_open ≡ true → StaysOpen told old place c.answer ⊎ IsAskedNow old new place c.answer
 
 -- only the end of the port moved, which got nothing and came to no end
 abbrev pub OnlyTalks : PortState → PortState → Type 0
