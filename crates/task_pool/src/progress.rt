@@ -8,8 +8,8 @@ use std::{hint, thread};
 /// The longest sleep, in milliseconds. A wake that is missed costs this much time, but never a run.
 const LONGEST: u64 = 1;
 
-/// How often a worker looks for a move before it sleeps: some 20 microseconds long, as a turn takes that moves a
-/// small ring. To sleep and to be woken takes as long.
+/// How often a worker looks for a move before it sleeps: some ten microseconds long, as a turn takes that moves a
+/// small ring. To sleep and to be woken takes at least as long.
 const LOOKS: u32 = 16_384;
 
 /// What the workers share beside the queue. Nothing is claimed of its counts.
