@@ -12,8 +12,6 @@ mod progress;
 mod say;
 mod spell;
 mod task;
-#[cfg(test)]
-mod tests;
 
 pub use domain::HostileDomain;
 pub use pages::field_of;

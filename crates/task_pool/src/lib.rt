@@ -13,8 +13,6 @@ mod progress;
 mod queue;
 mod quiet;
 mod task;
-#[cfg(test)]
-mod tests;
 mod turn;
 mod waiting;
 mod worker;

@@ -1,6 +1,5 @@
-//! How many turns a task takes. Clauses say how many are left at most.
-use crate::domain::HostileDomain;
-use crate::task::{HostileTask, HostileTurn};
+//! How many turns the task of a hostile domain takes. Clauses say how many are left at most.
+use hostile_task::{HostileDomain, HostileTask, HostileTurn};
 use scenario_file::{Domain, Scenario, read};
 use std::alloc::Global;
 use std::test::Fail;

@@ -1,12 +1,13 @@
+//! Pools of workers whose tasks count their turns, or wait for one another.
 ghost use Rattle.std.specs.Prelude.{◌≡◌, ◌+◌, ◌<◌, ◌^◌, IfOk, vec_len};
 
-use super::*;
 use service_gate::{Gate, OpenGate};
 use std::alloc::{AllocError, Global};
 use std::sync::atomic::{AtomicBool, AtomicU64, Ordering};
 use std::test::Fail;
 use std::time::Duration;
 use std::{hint, thread};
+use task_pool::{PoolTask, Turn, run_pool};
 
 // A task of this many turns, which answers how many it made.
 #[derive(Drop)]
