@@ -14,6 +14,3 @@ mod piece;
 pub use decode::decode_text;
 pub use error::{DecodeError, DecodeKind};
 pub use qrexec_frame::Channel;
-
-#[cfg(test)]
-mod tests;

@@ -1,9 +1,10 @@
 //! The texts of errors, which no contract has.
 use std::test::Fail;
 use step_script::{ScriptError, ScriptKind};
+use stream_text::{DecodeError, DecodeKind};
 
 #[test]
-fn errors_are_told_in_words(rt: HostRuntime) -> Result<(), Fail> {
+fn errors_of_scripts_are_told_in_words(rt: HostRuntime) -> Result<(), Fail> {
     let told = format!(in rt.alloc();
         "{}; {}; {}; {}; {}; {}; {}; {}",
         ScriptKind::BadHeader,
@@ -28,5 +29,16 @@ fn errors_are_told_in_words(rt: HostRuntime) -> Result<(), Fail> {
         format!(in rt.alloc(); "{bad}")?.as_str(),
         "line 7: bad hex"
     );
+    Ok(())
+}
+
+#[test]
+fn errors_of_streams_are_told_in_words(rt: HostRuntime) -> Result<(), Fail> {
+    let bad = DecodeError::Bad {
+        line: 7,
+        kind: DecodeKind::BadHex,
+    };
+    let told = format!(in rt.alloc(); "{bad}; {}", DecodeError::Memory)?;
+    assert_eq!(rt; told.as_str(), "line 7 is bad; out of memory");
     Ok(())
 }
