@@ -6,6 +6,7 @@
 //! own.
 #![tactic(auto)]
 
+mod digits;
 mod lines;
 mod report;
 mod standing;

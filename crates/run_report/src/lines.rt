@@ -4,6 +4,7 @@ ghost use Rattle.run_report.specs.Lines.{call_line, cause_word, outcome_word, re
 ghost use Rattle.qrexec_frame.specs.Lines.{shown_bytes};
 ghost use Rattle.hex.specs.Hex.{encode_lower};
 
+use crate::digits::encode_digits;
 use itoa::{Buffer, Integer};
 use run_laws::{CallLine, CallResult, MixedOutcome, ServedLine};
 use scenario_file::LineCause;
@@ -135,6 +136,6 @@ fn push_hex(out: &mut Vec<u8>, bytes: &[u8]) -> Result<(), AllocError>
     };
     out.reserve(room)?;
     out.resize(start + room, 0)?;
-    hex::encode_to_slice(bytes, &mut out[start..]).unwrap();
+    encode_digits(bytes, &mut out[start..]);
     Ok(())
 }
