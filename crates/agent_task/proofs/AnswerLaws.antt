@@ -74,7 +74,7 @@ other-bytes xs ys apart = by_test (bytes_eq xs ys) refl
     by_test true is = absurd (apart ((bytes_eq-Decides xs ys).0 is))
     by_test false is = is
 
-abbrev asked_ident : Asked → List ℕ
+abbrev pub asked_ident : Asked → List ℕ
 asked_ident a = ident_of a.call.number
 
 not-answered : (ident : List ℕ) (answer : Answer) (asked : List Asked) → Each (λ i. ident ≡ i → ⊥) (map asked_ident asked) → answered ident answer asked ≡ asked
@@ -83,7 +83,7 @@ not-answered ident answer (a ∷ asked) apart =
     let other : bytes_eq (asked_ident a) ident ≡ false = other-bytes (asked_ident a) ident (λ e. apart.0 (sym e)) in
     rw other (ap (λ r. a ∷ r) (not-answered ident answer asked apart.1))
 
-named : (ident : List ℕ) (a : Asked) → waits_as ident a ≡ true → asked_ident a ≡ ident
+pub named : (ident : List ℕ) (a : Asked) → waits_as ident a ≡ true → asked_ident a ≡ ident
 named ident a w = (bytes_eq-Decides (asked_ident a) ident).0 (and-parts (bytes_eq (asked_ident a) ident) (waits a.answer) w).0
 
 -- an answer with a port gives the one call of the ident a session

@@ -3,6 +3,7 @@ mod HeardLaws
 mod PortLaws
 mod SpeakLaws
 mod AnswerLaws
+mod AskingLaws
 mod KeptLaws
 mod StepLaws
 mod SessionLaws

@@ -1,6 +1,6 @@
 -- A round of an agent: what it sends, and how its control channel ends.
 use Rattle.std.proofs.Common.{◌≡◌, ℕ, List, ◌++◌, refl, ap, sym, ◌∙◌, Some, None, Option, subst}
-use Rattle.std.specs.Prelude.{map}
+use Rattle.std.specs.Prelude.{false, map}
 use Rattle.qrexec_frame.specs.declared.message.Message.{Message}
 use Rattle.qrexec_data.specs.declared.fault.SessionFault.{SessionFault}
 use Rattle.vchan_rule.specs.Seated.{view, IsOpen}
@@ -26,6 +26,7 @@ use Rattle.agent_task.specs.Standing.{IsHearing, HasHeardOut, IsUp, HasSameEnds,
 use Rattle.agent_task.specs.Ending.{HasEnded, end_by, over_by, IsDrained, heard_at, IsOver, IsRunning, RunsAs}
 use Rattle.agent_task.proofs.PortLaws.{with_port, PortKeeps, port-stands, same-end-then, still-all}
 use Rattle.agent_task.proofs.KeptLaws.{kept-said, kept-still}
+use Rattle.agent_task.proofs.AskingLaws.{calls-said}
 
 -- ---- open or over
 
@@ -40,6 +41,14 @@ running-over a how running is = subst (λ (o : Option ControlEnd). RunsAs o a) i
 
 pub over-running : (a : Agent) (how : ControlEnd) → IsOver how a → IsRunning a
 over-running a how over = subst (λ (o : Option ControlEnd). RunsAs o a) (sym over.over_is) over
+
+-- memory didn't run out in any turn of its sessions
+pub running-whole : (a : Agent) → IsRunning a → a.slots.spent ≡ false
+running-whole a running = by_over a.over refl
+  where
+    by_over : (o : Option ControlEnd) → a.over ≡ o → a.slots.spent ≡ false
+    by_over None is = (running-up a running is).hearing.stands.slots.whole
+    by_over (Some how) is = (running-over a how running is).stands.slots.whole
 
 -- ---- what can be given up
 
@@ -110,7 +119,11 @@ says-up a control calls up more =
           speaks = speaks.1;
           quiet = λ none. let some : control.port.version ≡ Some more.can.version = more.can.version_is in cc;
         };
-        keeps = kept-said a.over a.slots.called a.control.unsaid.items control.unsaid.items more.told a.slots.opened h.heard h.said speaks.0 calls more.unsaid speaks.2 h.keeps;
+        keeps = (
+          kept-said a.over a.slots.called a.control.unsaid.items control.unsaid.items more.told a.slots.opened h.heard h.said speaks.0 calls more.unsaid speaks.2 h.keeps.0,
+          λ running. calls-said a.control.queue control.queue a.control.unsaid.items control.unsaid.items more.told a.slots.opened h.heard h.said speaks.0 calls more.unsaid speaks.2 more.opened more.asked h.stands.speaks.unsaid
+              h.stands.speaks.asks more.next (h.keeps.1 running),
+        );
         hears = more.heard h.heard h.hears;
         sound = record { fine = ap (λ (p : PortState). p.fault) more.port.0 ∙ h.sound.fine; is_open = more.can.is_open; up = h.sound.up };
       };
@@ -199,7 +212,7 @@ is-over a port drained how hung out ended over =
       heard = out.heard;
       said = out.said;
       stands = record { port = stands.port; calls = stands.calls; slots = stands.slots; answers = stands.answers; asked_for = stands.asked_for; speaks = stands.speaks; quiet = stands.quiet };
-      keeps = kept-still a.over how a.slots.called a.control.unsaid.items a.slots.opened out.heard out.said out.keeps;
+      keeps = (kept-still a.over how a.slots.called a.control.unsaid.items a.slots.opened out.heard out.said out.keeps.0, λ up. absurd (never up));
       all = all-hung_up a.control.port port out.heard hung out.all;
       how_is = control-over a port drained how a.control.port.fault hung out ended refl over;
       fault_is = λ f is. fault-over drained how f a.control.port.fault (sym (ap (λ (h : Heard). h.fault) (heard-hung_up a.control.port port hung ∙ out.all)) ∙ is) over;
@@ -207,3 +220,6 @@ is-over a port drained how hung out ended over =
       idle = ap (λ (v : EndView). v.idle) hung.view_is ∙ out.is_open.0;
       retired = ap (λ (v : EndView). v.retired) hung.view_is;
     }
+  where
+    never : Some how ≡ None → ⊥
+    never e = cc

@@ -24,6 +24,8 @@ use Rattle.agent_task.specs.State.{TurnsEach}
 use Rattle.agent_task.specs.Ending.{IsOver, IsRunning}
 use Rattle.agent_task.proofs.ListLaws.{each-mapped}
 use Rattle.agent_task.specs.Ends.{AreKept}
+use Rattle.agent_task.specs.Asking.{CallsStand}
+use Rattle.agent_task.proofs.AskingLaws.{calls-over}
 use Rattle.agent_task.proofs.KeptLaws.{kept-over, kept-lost}
 use Rattle.agent_task.proofs.RoundLaws.{running-up, up-running, running-over, over-running}
 use Rattle.agent_task.proofs.StepLaws.{tells-stand}
@@ -64,10 +66,13 @@ slots-over how a s told is p over_is over = record {
   heard = over.heard;
   said = over.said;
   stands = slots-stand a s over.heard over.said is over.stands;
-  keeps = subst (λ (c : List (Option Called)). AreKept a.over c a.control.unsaid.items s.opened over.heard over.said) (sym (ap (λ (x : SlotsState). x.called) is))
-      (subst (λ (o : Option ControlEnd). AreKept o a.slots.called a.control.unsaid.items s.opened over.heard over.said) (sym over_is)
-      (kept-lost how a.slots.called a.control.unsaid.items a.slots.opened s.opened told over.heard over.said p
-      (subst (λ (o : Option ControlEnd). AreKept o a.slots.called a.control.unsaid.items a.slots.opened over.heard over.said) over_is over.keeps)));
+  keeps = (
+    subst (λ (c : List (Option Called)). AreKept a.over c a.control.unsaid.items s.opened over.heard over.said) (sym (ap (λ (x : SlotsState). x.called) is))
+        (subst (λ (o : Option ControlEnd). AreKept o a.slots.called a.control.unsaid.items s.opened over.heard over.said) (sym over_is)
+        (kept-lost how a.slots.called a.control.unsaid.items a.slots.opened s.opened told over.heard over.said p
+        (subst (λ (o : Option ControlEnd). AreKept o a.slots.called a.control.unsaid.items a.slots.opened over.heard over.said) over_is over.keeps.0))),
+    λ up. absurd (never (sym over_is ∙ up)),
+  );
   all = over.all;
   how_is = over.how_is;
   fault_is = over.fault_is;
@@ -75,6 +80,9 @@ slots-over how a s told is p over_is over = record {
   idle = over.idle;
   retired = over.retired;
 }
+  where
+    never : Some how ≡ None → ⊥
+    never e = cc
 
 pub slots-running : (a : Agent) (s : SlotsState) (told : List SessionOver) → IsRunning a → is_some a.over ≡ true → s ≡ record a.slots { opened = s.opened; sessions = s.sessions } → IsPermutation (told ++ s.opened) a.slots.opened → IsRunning (with_slots a s)
 slots-running a s told running some is p = by_over a.over refl some
@@ -100,7 +108,7 @@ asked-to-serve heard (x ∷ served) d p each (inl h) = subst (λ (n : ℕ). Some
 asked-to-serve heard (x ∷ served) d p each (inr h) = asked-to-serve heard served d p each.1 h
 
 -- the end of such a session may be reported
-over-tellable : (a : Agent) (heard said : List Message) (over : SessionOver) → Stands a heard said → IsToldOver a.slots over → IsTellable (asked_by a.control.queue) heard (end_of over)
+pub over-tellable : (a : Agent) (heard said : List Message) (over : SessionOver) → Stands a heard said → IsToldOver a.slots over → IsTellable (asked_by a.control.queue) heard (end_of over)
 over-tellable a heard said over stands begun = by_call over.number begun
   where
     by_call : (call : Option ℕ) → IsBegun a.slots call over.domain over.port → MayTell (asked_by a.control.queue) heard call over.domain over.port
@@ -123,8 +131,11 @@ notes-up a s new over up is only told p each =
         heard = h.heard;
         said = h.said;
         stands = subst P only (tells-stand (with_slots a s) new (map end_of over) h.heard h.said only told tellable (slots-stand a s h.heard h.said is h.stands));
-        keeps = subst (λ (c : List (Option Called)). AreKept a.over c new.control.unsaid.items s.opened h.heard h.said) (sym (ap (λ (x : SlotsState). x.called) is))
-            (kept-over a.over a.slots.called a.control.unsaid.items new.control.unsaid.items a.slots.opened s.opened over h.heard h.said told p h.keeps);
+        keeps = (
+          subst (λ (c : List (Option Called)). AreKept a.over c new.control.unsaid.items s.opened h.heard h.said) (sym (ap (λ (x : SlotsState). x.called) is))
+              (kept-over a.over a.slots.called a.control.unsaid.items new.control.unsaid.items a.slots.opened s.opened over h.heard h.said told p h.keeps.0),
+          λ running. subst (λ (l : List SessionEnd). CallsStand a.control.queue l s.opened h.said) (sym told) (calls-over a.control.queue a.control.unsaid.items a.slots.opened s.opened over h.said p (h.keeps.1 running)),
+        );
         hears = h.hears;
         sound = record { fine = h.sound.fine; is_open = h.sound.is_open; up = h.sound.up };
       };

@@ -29,6 +29,8 @@ use Rattle.agent_task.proofs.PortLaws.{same-end-is}
 use Rattle.task_duties.specs.declared.done.ControlEnd.{ControlEnd}
 use Rattle.data_slots.specs.Sides.{late_places}
 use Rattle.agent_task.specs.Ends.{AreKept}
+use Rattle.agent_task.specs.Asking.{CallsStand}
+use Rattle.agent_task.proofs.AskingLaws.{calls-fresh}
 use Rattle.agent_task.proofs.KeptLaws.{kept-first}
 use Rattle.agent_task.proofs.RoundLaws.{up-running}
 
@@ -78,8 +80,11 @@ starts a new unsaid over = up-running a (record {
       speaks = record { said_is = new.port.said; asks = new.queue.asks; of_version = tt; told = tt; unsaid = subst (λ l. Each (IsTellable (asked_by a.control.queue) []) l) (sym unsaid) tt };
       quiet = λ none. refl;
     };
-    keeps = subst (λ (o : Option ControlEnd). AreKept o a.slots.called a.control.unsaid.items a.slots.opened [] []) (sym over)
-        (kept-first calls a.slots.called a.control.unsaid.items a.slots.opened (ap (λ (s : SlotsState). s.called) new.slots ∙ fresh-called calls) unsaid (ap (λ (s : SlotsState). s.opened) new.slots));
+    keeps = (
+      subst (λ (o : Option ControlEnd). AreKept o a.slots.called a.control.unsaid.items a.slots.opened [] []) (sym over)
+          (kept-first calls a.slots.called a.control.unsaid.items a.slots.opened (ap (λ (s : SlotsState). s.called) new.slots ∙ fresh-called calls) unsaid (ap (λ (s : SlotsState). s.opened) new.slots)),
+      λ up. subst (λ (q : QueueState). CallsStand q a.control.unsaid.items a.slots.opened []) (sym new.queue.queue_is) (calls-fresh calls a.control.unsaid.items a.slots.opened []),
+    );
     hears = new.port.heard;
     sound = record { fine = new.port.fine; is_open = subst (λ (e : SeatedEnd). IsOpen e) (sym new.port.end) (open-first a.given.control.value new.port.unused new.port.server); up = over };
   };

@@ -22,11 +22,13 @@ use Rattle.agent_task.specs.declared.agent.Agent.{Agent}
 use Rattle.agent_task.specs.Given.{plan_of}
 use Rattle.agent_task.specs.Lines.{IsNamed}
 use Rattle.agent_task.specs.Ends.{session_asked, AreKept}
-use Rattle.agent_task.specs.Standing.{Stands, AreAnswers, AreCallsOf, AreSlotsOf, AreAskedFor, IsServedBy, IsHearing, Awaits, OnlyTells, called_of}
+use Rattle.agent_task.specs.Asking.{CallsStand}
+use Rattle.agent_task.specs.Standing.{Stands, KeepsEnds, AreAnswers, AreCallsOf, AreSlotsOf, AreAskedFor, IsServedBy, IsHearing, Awaits, OnlyTells, called_of}
 use Rattle.agent_task.proofs.ListLaws.{each-to, some-more, some-last, and-right-false}
 use Rattle.agent_task.proofs.SpeakLaws.{hears-more, answers-more, tells-more}
 use Rattle.agent_task.proofs.AnswerLaws.{takes-last, asked-answered, still-calls, called-refused, called-answered, some-waits, waits-none}
 use Rattle.agent_task.proofs.ListLaws.{and-parts}
+use Rattle.agent_task.proofs.AskingLaws.{calls-opened, calls-unserved, calls-called, calls-refused}
 use Rattle.agent_task.proofs.KeptLaws.{kept-passed, kept-called, kept-served, kept-unserved}
 
 -- ---- what one message makes of the answers
@@ -71,7 +73,7 @@ stands-on a q s heard said w stands calls slots are asked_for speaks = record {
 }
 
 acts : (a : Agent) (q : QueueState) (s : SlotsState) (w : Message) (awaits : Awaits a w) → Stands (with_answers a q s) (awaits.heard ++ w ∷ []) awaits.said
-    → AreKept a.over s.called a.control.unsaid.items s.opened (awaits.heard ++ w ∷ []) awaits.said → IsHearing (with_answers a q s)
+    → KeepsEnds (with_answers a q s) (awaits.heard ++ w ∷ []) awaits.said → IsHearing (with_answers a q s)
 acts a q s w awaits stands keeps = record {
   heard = awaits.heard ++ w ∷ [];
   said = awaits.said;
@@ -94,7 +96,7 @@ passed-stands a heard said w stands same =
 pub passes : (a : Agent) (w : Message) (awaits : Awaits a w) → takes a.given.domain (made_of a awaits.heard) w ≡ made_of a awaits.heard → session_asked w ≡ None → IsHearing a
 passes a w awaits same none =
     acts a a.control.queue a.slots w awaits (passed-stands a awaits.heard awaits.said w awaits.stands same)
-    (kept-passed a.over a.slots.called a.control.unsaid.items a.slots.opened awaits.heard awaits.said w none awaits.keeps)
+    (kept-passed a.over a.slots.called a.control.unsaid.items a.slots.opened awaits.heard awaits.said w none awaits.keeps.0, awaits.keeps.1)
 
 pub passes-other : (a : Agent) (w : Message) → Awaits a w → ((d p : ℕ) (i : List ℕ) → w ≡ m.Connect d p i → ⊥) → ((i : List ℕ) → w ≡ m.Refused i → ⊥) → ((d p : ℕ) (l : List ℕ) → w ≡ m.Exec d p l → ⊥)
     → ((d p : ℕ) (l : List ℕ) → w ≡ m.JustExec d p l → ⊥) → IsHearing a
@@ -167,7 +169,7 @@ pub connect-taken : (a : Agent) (to port : ℕ) (ident : List ℕ) (place : ℕ)
 connect-taken a to port ident place input q s awaits waiting there q_is asks stdin s_is =
     acts a q s w awaits (stands-on a q s heard said w stands (still-calls a.given a.control.queue q ident (At to port) asked stands.calls) slots are
     (subst (λ l. AreAskedFor (heard ++ w ∷ []) l) (sym (ap (λ (x : SlotsState). x.served) s_is)) (asked-for-more heard (w ∷ []) a.slots.served stands.asked_for))
-    (hears-more (record a.control { queue = q }) heard (w ∷ []) said (answers-more a.control q ident (At to port) heard said asked asks stands.speaks))) keeps
+    (hears-more (record a.control { queue = q }) heard (w ∷ []) said (answers-more a.control q ident (At to port) heard said asked asks stands.speaks))) (keeps, calls)
   where
     w : Message
     w = m.Connect to port ident
@@ -214,7 +216,13 @@ connect-taken a to port ident place input q s awaits waiting there q_is asks std
     keeps : AreKept a.over s.called a.control.unsaid.items s.opened (heard ++ w ∷ []) said
     keeps =
         subst (λ (x : SlotsState). AreKept a.over x.called a.control.unsaid.items x.opened (heard ++ w ∷ []) said) (sym s_is)
-        (kept-called a.over a.slots.called a.control.unsaid.items a.slots.opened heard said w place (record { to = to; port = port; input = input }) (call-number a w place ident awaits waiting) refl awaits.keeps)
+        (kept-called a.over a.slots.called a.control.unsaid.items a.slots.opened heard said w place (record { to = to; port = port; input = input }) (call-number a w place ident awaits waiting) refl awaits.keeps.0)
+
+    calls : a.over ≡ None → CallsStand q a.control.unsaid.items s.opened said
+    calls up =
+        subst (λ (x : SlotsState). CallsStand q a.control.unsaid.items x.opened said) (sym s_is)
+        (subst (λ (x : QueueState). CallsStand x a.control.unsaid.items (a.slots.opened ++ record { domain = to; port = port; number = Some place } ∷ []) said) (sym q_is)
+        (calls-called a.control.queue ident to port place a.control.unsaid.items a.slots.opened said stands.calls.apart waiting (awaits.keeps.1 up)))
 
     are : AreAnswers (takes a.given.domain made w) q s
     are = subst (λ (x : Answers). AreAnswers x q s) (sym takes_is) (record {
@@ -241,8 +249,10 @@ refuse-taken a ident q awaits q_is asks =
       served = stands.answers.served;
     })
     (asked-for-more heard (w ∷ []) a.slots.served stands.asked_for)
-    (hears-more (record a.control { queue = q }) heard (w ∷ []) said (answers-more a.control q ident IsRefused heard said asked asks stands.speaks)))
-    (kept-passed a.over a.slots.called a.control.unsaid.items a.slots.opened heard said w refl awaits.keeps)
+    (hears-more (record a.control { queue = q }) heard (w ∷ []) said (answers-more a.control q ident IsRefused heard said asked asks stands.speaks))) (
+      kept-passed a.over a.slots.called a.control.unsaid.items a.slots.opened heard said w refl awaits.keeps.0,
+      λ up. subst (λ (x : QueueState). CallsStand x a.control.unsaid.items a.slots.opened said) (sym q_is) (calls-refused a.control.queue ident a.control.unsaid.items a.slots.opened said (awaits.keeps.1 up)),
+    )
 
 -- ---- MSG_EXEC_CMDLINE
 
@@ -283,7 +293,12 @@ serve-taken a from port line service s awaits named there s_is = by_name (servic
     keeps : AreKept a.over s.called a.control.unsaid.items s.opened (heard ++ w ∷ []) said
     keeps =
         subst (λ (x : SlotsState). AreKept a.over x.called a.control.unsaid.items x.opened (heard ++ w ∷ []) said) (sym s_is)
-        (kept-served a.over a.slots.called a.control.unsaid.items a.slots.opened heard said w (record { domain = from; port = port; number = None }) refl awaits.keeps)
+        (kept-served a.over a.slots.called a.control.unsaid.items a.slots.opened heard said w (record { domain = from; port = port; number = None }) refl awaits.keeps.0)
+
+    calls : a.over ≡ None → CallsStand a.control.queue a.control.unsaid.items s.opened said
+    calls up =
+        subst (λ (x : SlotsState). CallsStand a.control.queue a.control.unsaid.items x.opened said) (sym s_is)
+        (calls-opened a.control.queue a.control.unsaid.items a.slots.opened (record { domain = from; port = port; number = None } ∷ []) said (awaits.keeps.1 up))
 
     by_name : (o : Option (List ℕ)) → service_of_line line ≡ o → IsNamed o (Some service) → IsHearing (with_answers a a.control.queue s)
     by_name None is named = absurd named
@@ -301,7 +316,7 @@ serve-taken a from port line service s awaits named there s_is = by_name (servic
         acts a a.control.queue s w awaits (stands-on a a.control.queue s heard said w stands stands.calls slots are
         (subst (λ l. AreAskedFor (heard ++ w ∷ []) l) (sym served_is)
         (asked-last (heard ++ w ∷ []) a.slots.served (record { from = from; port = port; service = service }) (asked-for-more heard (w ∷ []) a.slots.served stands.asked_for) (some-last (AsksToServe from port) heard w (refl, refl))))
-        (hears-more a.control heard (w ∷ []) said stands.speaks)) keeps
+        (hears-more a.control heard (w ∷ []) said stands.speaks)) (keeps, calls)
 
 -- ---- which ends are to be reported
 
@@ -325,12 +340,16 @@ unserved old new d p w awaits asks names same only told =
     let after = tells-stand old new (record { domain = d; port = p; call = None } ∷ []) (awaits.heard ++ w ∷ []) awaits.said only told (some-last (AsksToServe d p) awaits.heard w asks, tt) stands in
     let P : Agent → Type 0 = λ x. Stands x (awaits.heard ++ w ∷ []) awaits.said in
     let Q : Agent → Type 0 = λ x. IsHearing x in
-    let keeps = kept-unserved old.over old.slots.called old.control.unsaid.items old.slots.opened awaits.heard awaits.said w (record { domain = d; port = p; call = None }) names awaits.keeps in
+    let keeps = kept-unserved old.over old.slots.called old.control.unsaid.items old.slots.opened awaits.heard awaits.said w (record { domain = d; port = p; call = None }) names awaits.keeps.0 in
+    let calls = λ (up : old.over ≡ None). calls-unserved old.control.queue old.control.unsaid.items (record { domain = d; port = p; call = None } ∷ []) old.slots.opened awaits.said (awaits.keeps.1 up) in
     subst Q (sym only) (record {
       heard = awaits.heard ++ w ∷ [];
       said = awaits.said;
       stands = subst P only after;
-      keeps = subst (λ l. AreKept old.over old.slots.called l old.slots.opened (awaits.heard ++ w ∷ []) awaits.said) (sym told) keeps;
+      keeps = (
+        subst (λ l. AreKept old.over old.slots.called l old.slots.opened (awaits.heard ++ w ∷ []) awaits.said) (sym told) keeps,
+        λ up. subst (λ l. CallsStand old.control.queue l old.slots.opened awaits.said) (sym told) (calls up),
+      );
       hears = awaits.hears;
       sound = record { fine = awaits.sound.fine; is_open = awaits.sound.is_open; up = awaits.sound.up };
     })

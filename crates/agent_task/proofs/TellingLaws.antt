@@ -1,6 +1,6 @@
 -- What an agent has reported of the ends of its sessions.
-use Rattle.std.proofs.Common.{◌≡◌, ◌≢◌, ℕ, List, [], ◌∷◌, ◌++◌, refl, ap, sym, ◌∙◌, Some, None, Option, subst, inl, inr}
-use Rattle.std.specs.Prelude.{◌⊎◌, Bool, true, false, map, filter_map, IsSomeAnd, IsPermutation}
+use Rattle.std.proofs.Common.{◌≡◌, ◌≢◌, ℕ, ◌<◌, List, [], ◌∷◌, ◌++◌, refl, ap, sym, ◌∙◌, Some, None, Option, subst, inl, inr, arith}
+use Rattle.std.specs.Prelude.{◌⊎◌, Bool, true, false, map, filter_map, take, slice_get, IsSomeAnd, IsPermutation}
 use Rattle.std.specs.List.{flat_map}
 use Rattle.qrexec_frame.specs.declared.message.Message.{Message}
 use Rattle.qrexec_frame.specs.declared.message.Message.TheVariants.{Hello}
@@ -8,22 +8,35 @@ use Rattle.qrexec_frame.specs.Messages.{written, IsSpellable}
 use Rattle.qrexec_frame.specs.Streams.{Each}
 use Rattle.vchan_rule.specs.Seated.{view}
 use Rattle.task_duties.specs.declared.done.ControlEnd.{ControlEnd}
-use Rattle.task_duties.specs.Pairwise.{IsPartOf}
+use Rattle.task_duties.specs.Pairwise.{IsPartOf, SomeOf}
 use Rattle.task_duties.specs.Hearing.{to_agent, to_broker, IsSaid, Heard, hears}
-use Rattle.task_duties.specs.Agent.Answers.{answers}
+use Rattle.task_duties.specs.TaskOwes.{EndAt, places_in}
+use Rattle.task_duties.specs.Agent.Answers.{Answer, Waits, IsRefused, At, answers}
+use Rattle.task_duties.specs.Agent.Saying.{asking_of}
+use Rattle.call_queue.specs.Queue.{Queued, asked_as, asked_by}
+use Rattle.call_queue.proofs.Places.{map-get}
+use Rattle.qrexec_data.specs.Laws.{IsVersion}
 use Rattle.control_port.specs.Port.{PortState, HasSaid, HasHeardAll, SentWhole}
 use Rattle.control_port.specs.Talking.{may_say, may_hear}
 use Rattle.control_port.specs.declared.talk.Talker.{Talker}
 use Rattle.control_port.specs.declared.talk.Talker.TheVariants.{Agent as OfAgent}
 use Rattle.data_slots.specs.declared.done.SessionOver.{SessionOver}
+use Rattle.data_slots.specs.Slots.{held_at, place_at}
+use Rattle.data_slots.specs.Agreeing.{places_free, places_of, SessionStands, IsOpenAt, Agrees}
+use Rattle.agent_control.specs.declared.control.SessionEnd.{SessionEnd}
+use Rattle.agent_control.specs.Speaking.{IsTellable}
 use Rattle.agent_task.specs.declared.agent.Agent.{Agent}
-use Rattle.agent_task.specs.Given.{plan_of}
-use Rattle.agent_task.specs.Standing.{Stands, KeepsEnds}
+use Rattle.agent_task.specs.Given.{plan_of, data_ends}
+use Rattle.agent_task.specs.Asking.{IsUnderWay, CallStands, CallsStand}
+use Rattle.agent_task.specs.Standing.{Stands, KeepsEnds, end_of}
 use Rattle.agent_task.specs.Ending.{IsRunning, heard_at}
 use Rattle.agent_task.specs.Ends.{AreKept, session_told, session_unsaid, session_over, sessions_owed}
 use Rattle.agent_task.specs.Telling.{heard_on, TellsOnce}
-use Rattle.agent_task.specs.State.{state_of, state_in, TellsSoFar}
+use Rattle.agent_task.specs.State.{state_of, state_in, IsOpenSession, IsOpenFor, ActsSoFar, TellsSoFar}
 use Rattle.agent_task.proofs.KeptLaws.{kept-told, kept-waits}
+use Rattle.agent_task.proofs.ListLaws.{each-mapped, some-more}
+use Rattle.agent_task.proofs.AskingLaws.{some-after, some-mapped, some-each, own-end}
+use Rattle.agent_task.proofs.SessionLaws.{over-tellable}
 use Rattle.agent_task.proofs.RoundLaws.{running-up, running-over}
 
 said-whole : (greeted : Bool) (own : ℕ) (said : List Message) (sent : List ℕ) → SentWhole greeted own said sent → ((sent ≡ []) × (said ≡ [])) ⊎ (sent ≡ flat_map written (Hello own ∷ said))
@@ -51,29 +64,111 @@ tells-once a heard said stands keeps all = record {
   said = said;
   says = is-said a.control.port said a.given.version stands.port.own stands.port.talker stands.speaks.said_is;
   told = subst (λ (l : List Message). IsPartOf (filter_map session_told said) (sessions_owed (answers (plan_of a.given) l).asked l)) (heard-all a heard said stands all)
-      (kept-told a.over a.slots.called (answers (plan_of a.given) heard).asked a.control.unsaid.items a.slots.opened heard said stands.answers.called keeps);
+      (kept-told a.over a.slots.called (answers (plan_of a.given) heard).asked a.control.unsaid.items a.slots.opened heard said stands.answers.called keeps.0);
 }
 
-tells-so-far : (a : Agent) → IsRunning a → TellsSoFar (state_of a)
-tells-so-far a running = by_over a.over refl
+-- ---- its calls and its sessions so far
+
+asked-calls : (calls : List Queued) → map (λ c. asking_of c.call) calls ≡ map asking_of (map (λ a. a.call) (map asked_as calls))
+asked-calls [] = refl
+asked-calls (c ∷ calls) = ap (λ l. asking_of c.call ∷ l) (asked-calls calls)
+
+held-places : (ends : List EndAt) → map (λ h. h.place) (map held_at ends) ≡ places_in ends
+held-places [] = refl
+held-places (e ∷ ends) = ap (λ l. e.place ∷ l) (held-places ends)
+
+-- a call that is open is so for a reason
+open-for : (a : Agent) (heard said : List Message) → Stands a heard said → Agrees a.slots → CallsStand a.control.queue a.control.unsaid.items a.slots.opened said → (place : ℕ) (c : Queued) → slice_get a.control.queue.calls place ≡ Some c
+    → c.is_open ≡ true → (place < a.control.queue.next) × IsOpenFor (map session_unsaid a.control.unsaid.items ++ map session_over a.slots.opened) said place c.answer
+open-for a heard said stands agrees stand place c there is_open = ((stand place c there).0 is_open, by_answer c.answer refl (stand place c there).1)
+  where
+    waiting : List (ℕ × ℕ)
+    waiting = map session_unsaid a.control.unsaid.items
+
+    opened : List (ℕ × ℕ)
+    opened = map session_over a.slots.opened
+
+    Own : SessionEnd → Type 0
+    Own e = e.call ≡ Some place
+
+    Tellable : SessionEnd → Type 0
+    Tellable e = IsTellable (asked_by a.control.queue) heard e
+
+    own : (to port : ℕ) → c.answer ≡ At to port → (e : SessionEnd) → Own e × Tellable e → session_unsaid e ≡ (to, port)
+    own to port is e h =
+        let parts = own-end (asked_by a.control.queue) heard place (asked_as c) e to port (map-get asked_as a.control.queue.calls place c there) is h.0 h.1 in
+        ap (λ (d : ℕ). (d, e.port)) parts.0 ∙ ap (λ (p : ℕ). (to, p)) parts.1
+
+    under-way : (to port : ℕ) → c.answer ≡ At to port → IsUnderWay a.control.unsaid.items a.slots.opened place → SomeOf (λ s. s ≡ (to, port)) (waiting ++ opened)
+    under-way to port is (inl e) =
+        some-more (λ s. s ≡ (to, port)) waiting opened
+        (some-mapped (λ e. Own e × Tellable e) (λ s. s ≡ (to, port)) session_unsaid a.control.unsaid.items (own to port is) (some-each Own Tellable a.control.unsaid.items stands.speaks.unsaid e))
+    under-way to port is (inr o) =
+        some-after (λ s. s ≡ (to, port)) waiting opened
+        (some-mapped (λ o. Own (end_of o) × IsOpenAt a.slots o) (λ s. s ≡ (to, port)) session_over a.slots.opened (λ o h. own to port is (end_of o) (h.0, over-tellable a heard said o stands h.1.begun))
+        (some-each (λ o. Own (end_of o)) (IsOpenAt a.slots) a.slots.opened agrees.opened o))
+
+    by_answer : (x : Answer) → c.answer ≡ x → CallStands a.control.unsaid.items a.slots.opened said place c.is_open x → IsOpenFor (waiting ++ opened) said place x
+    by_answer Waits is h = tt
+    by_answer IsRefused is h = let bad : false ≡ true = sym h ∙ is_open in cc
+    by_answer (At to port) is (inl h) = inl (under-way to port is h)
+    by_answer (At to port) is (inr h) = inr (h.1 is_open)
+
+acts-so-far : (a : Agent) (heard said : List Message) → Stands a heard said → KeepsEnds a heard said → HasHeardAll a.control.port heard → Agrees a.slots → ActsSoFar (state_of a) said
+acts-so-far a heard said stands keeps all agrees = record {
+  channel = record {
+    control = refl;
+    talker = stands.port.talker;
+    own = stands.port.own;
+    says = stands.speaks.said_is;
+    hears = subst (λ (l : List Message). HasHeardAll a.control.port l) heard_is all;
+    waiting = refl;
+    calls = stands.calls.calls;
+    answered = stands.answers.asked ∙ ap (λ l. (answers (plan_of a.given) l).asked) heard_is;
+    asks = stands.speaks.asks.asked ∙ ap (λ l. take a.control.queue.next l) (asked-calls a.control.queue.calls ∙ ap (λ l. map asking_of l) stands.calls.calls);
+    opened = λ up. open-for a heard said stands agrees (keeps.1 up);
+  };
+  begun = ap (λ l. (answers (plan_of a.given) l).unused) (sym heard_is) ∙ (sym stands.answers.unused ∙ (agrees.unused ∙ ap (λ l. places_free l a.slots.sessions) places_are));
+  version = subst (λ (v : ℕ). IsVersion v) stands.slots.version (record { least = agrees.version.0; small = omega (arith, agrees.version.1) });
+  sessions = subst (λ (v : ℕ). Each (SessionStands v) a.slots.sessions) stands.slots.version agrees.sessions;
+  opened = each-mapped (IsOpenAt a.slots) (IsOpenSession (state_of a)) session_over a.slots.opened is-open agrees.opened;
+}
+  where
+    heard_is : heard ≡ (heard_on (plan_of a.given) (view a.control.port.end)).messages
+    heard_is = heard-all a heard said stands all
+
+    places_are : places_of a.slots ≡ places_in (data_ends a.given)
+    places_are = ap (λ l. map (λ h. h.place) l) stands.slots.held ∙ held-places (data_ends a.given)
+
+    is-open : (o : SessionOver) → IsOpenAt a.slots o → IsOpenSession (state_of a) (session_over o)
+    is-open o h = record {
+      at = h.at;
+      number = o.number;
+      place_is = ap (λ l. slice_get l h.at) (sym places_are) ∙ (h.place_is ∙ ap (λ (d : ℕ). Some (place_at d o.number o.domain o.port)) stands.slots.domain);
+      is_open = h.is_open;
+    }
+
+tells-so-far : (a : Agent) → IsRunning a → Agrees a.slots → TellsSoFar (state_of a)
+tells-so-far a running agrees = by_over a.over refl
   where
     so_far : (heard said : List Message) → Stands a heard said → KeepsEnds a heard said → HasHeardAll a.control.port heard → TellsSoFar (state_of a)
     so_far heard said stands keeps all = record {
       once = tells-once a heard said stands keeps all;
+      acts = acts-so-far a heard said stands keeps all agrees;
       waits = λ up.
           subst (λ (l : List Message). IsPermutation (filter_map session_told said ++ (map session_unsaid a.control.unsaid.items ++ map session_over a.slots.opened)) (sessions_owed (answers (plan_of a.given) l).asked l))
           (heard-all a heard said stands all)
           (kept-waits a.slots.called (answers (plan_of a.given) heard).asked a.control.unsaid.items a.slots.opened heard said stands.answers.called
-          (subst (λ (o : Option ControlEnd). AreKept o a.slots.called a.control.unsaid.items a.slots.opened heard said) up keeps));
+          (subst (λ (o : Option ControlEnd). AreKept o a.slots.called a.control.unsaid.items a.slots.opened heard said) up keeps.0));
     }
 
     by_over : (o : Option ControlEnd) → a.over ≡ o → TellsSoFar (state_of a)
     by_over None is = let up = running-up a running is in so_far up.hearing.heard up.hearing.said up.hearing.stands up.hearing.keeps up.all
     by_over (Some how) is = let over = running-over a how running is in so_far over.heard over.said over.stands over.keeps over.all
 
-pub tells-in : (o : Option Agent) → IsSomeAnd o IsRunning → TellsSoFar (state_in o)
-tells-in None running = absurd running
-tells-in (Some a) running = tells-so-far a running
+pub tells-in : (o : Option Agent) → IsSomeAnd o IsRunning → IsSomeAnd o (λ a. Agrees a.slots) → TellsSoFar (state_in o)
+tells-in None running agrees = absurd running
+tells-in (Some a) running agrees = tells-so-far a running agrees
 
 -- a session is open
 pub still-open : (opened : List SessionOver) → opened ≢ [] → map session_over opened ≢ []

@@ -1,6 +1,7 @@
 pub mod Given
 pub mod Lines
 pub mod Ends
+pub mod Asking
 pub mod Starting
 pub mod Standing
 pub mod Ending

@@ -27,6 +27,7 @@ use Rattle.agent_task.specs.declared.given.Given.{Given}
 use Rattle.agent_task.specs.declared.agent.Agent.{Agent}
 use Rattle.agent_task.specs.Given.{data_ends, plan_of}
 use Rattle.agent_task.specs.Ends.{AreKept}
+use Rattle.agent_task.specs.Asking.{CallsStand}
 
 -- ---- what it makes of what it heard
 
@@ -87,9 +88,10 @@ pub record Stands (a : Agent) (heard said : List Message) : Type 0 where
   -- before the broker's greeting it sends nothing but its own
   pub quiet : a.control.port.version ≡ None → said ≡ []
 
--- what becomes of each end of a session that it owes to report
+-- what becomes of each end of a session that it owes to report; and while its channel is up, of each of its calls
 abbrev pub KeepsEnds : Agent → List Message → List Message → Type 0
-KeepsEnds a heard said = AreKept a.over a.slots.called a.control.unsaid.items a.slots.opened heard said
+KeepsEnds a heard said =
+    AreKept a.over a.slots.called a.control.unsaid.items a.slots.opened heard said × (a.over ≡ None → CallsStand a.control.queue a.control.unsaid.items a.slots.opened said)
 
 -- its control channel is open, and nothing wrong was heard
 pub record IsSound (a : Agent) : Type 0 where

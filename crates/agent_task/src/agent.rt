@@ -1,6 +1,7 @@
 //! An agent between two turns.
 ghost use Rattle.std.specs.Prelude.{◌≡◌, ◌≢◌, ◌⊎◌, ◌<◌, ◌++◌, [], Some, None, IfSome, OnOk, length, map};
 ghost use Rattle.agent_task.specs.Standing.{IsUp, CanGiveUp, HasSameEnds, KeepsPort, OnlyTells, end_of};
+ghost use Rattle.data_slots.specs.Agreeing.{Agrees};
 ghost use Rattle.data_slots.specs.Slots.{late_count};
 ghost use Rattle.data_slots.specs.Sessions.{AllTakeTurns};
 ghost use Rattle.agent_task.specs.Moving.{SaysNoMore, TurnsControl, KeepsControl, asked_at_most};
@@ -53,6 +54,7 @@ impl<'p> Agent<'p> {
         ensures turns { OnOk result (TurnsEach self.old.slots.sessions self.new.slots.sessions) }
         ensures control { OnOk result (self.new.over ≡ None → TurnsControl (asked_at_most (late_count self.new.slots)) self.old.control self.new.control) }
         ensures channel { OnOk result (KeepsControl self.old.over self.new.over self.old.control self.new.control) }
+        ensures agree { OnOk result (Agrees self.new.slots) }
         ensures retire { CanGiveUp self.new }
         ensures long { length scratch.new ≡ length scratch.old }
     {
@@ -64,7 +66,8 @@ impl<'p> Agent<'p> {
         if self.over.is_none() {
             self.say()?;
         }
-        Ok(moved || self.control.port.moves() != before)
+        self.slots.agree();
+        Ok(moved | (self.control.port.moves() != before))
     }
 
     /// Returns how the control channel ended, once all sessions are over too.

@@ -1,5 +1,6 @@
 //! An agent on the heap, whose memory is there before its ends are put in.
 ghost use Rattle.std.specs.Prelude.{◌≡◌, ◌≢◌, ◌⊎◌, ◌<◌, [], false, Some, None, IsSomeAnd, IfSome, IsSome, OnOk, length};
+ghost use Rattle.data_slots.specs.Agreeing.{Agrees};
 ghost use Rattle.agent_task.specs.Standing.{CanGiveUp};
 ghost use Rattle.agent_task.specs.Ending.{IsOver, IsRunning};
 ghost use Rattle.agent_task.specs.Moving.{TurnsChannel, KeepsChannel};
@@ -25,6 +26,7 @@ pub(crate) fn go_round(
     ensures turns { OnOk result (TurnsEach (state_in agent.old).sessions (state_in agent.new).sessions) }
     ensures channel { OnOk result ((state_in agent.new).over ≡ None → TurnsChannel (state_in agent.new).pages (state_in agent.old).channel (state_in agent.new).channel) }
     ensures kept { OnOk result (KeepsChannel (state_in agent.old).over (state_in agent.new).over (state_in agent.old).channel (state_in agent.new).channel) }
+    ensures agree { OnOk result (IsSomeAnd agent.new (λ a. Agrees a.slots)) }
     ensures retire { IsSomeAnd agent.new CanGiveUp }
     ensures long { length scratch.new ≡ length scratch.old }
 {

@@ -10,7 +10,7 @@ pub returns-in-Some-clause-goes : goal.returns-in-Some-clause-goes
 returns-in-Some-clause-goes c = c.finish.ensures.done c.args.self
 
 pub returns-clause-tells : goal.returns-clause-tells
-returns-clause-tells c = tells-in c.go_round.new.agent c.in-Ok.ensures.running
+returns-clause-tells c = tells-in c.go_round.new.agent c.in-Ok.ensures.running c.in-Ok.ensures.agree
 
 pub returns-clause-goes : goal.returns-clause-goes
 returns-clause-goes c =
