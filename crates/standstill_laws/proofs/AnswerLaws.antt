@@ -1,6 +1,6 @@
 -- Each call that is asked for is answered.
 use Rattle.std.proofs.Common.{◌≡◌, ℕ, ◌+◌, ◌∙◌, Bool, true, false, List, [], ◌∷◌, ◌++◌, Option, Some, None, refl, sym, ap, subst, arith, inl, inr}
-use Rattle.std.specs.Prelude.{◌⊎◌, ◌==◌, ◌||◌, not, nat_le, length, cond, filter_map, IsSome, if◌then◌else◌}
+use Rattle.std.specs.Prelude.{◌⊎◌, ◌==◌, ◌||◌, bytes_eq, not, nat_le, length, cond, filter_map, IsSome, if◌then◌else◌}
 use Rattle.std.specs.List.{count_by, list_any}
 use Rattle.std.proofs.lemmas.List.Sums.{sum_by-append, sum_by-cons}
 use Rattle.std.proofs.lemmas.List.Sorted.{sum_by-IsPermutation}
@@ -41,11 +41,11 @@ unfolding one_if
 count-cons {A} p x xs = sum_by-cons (λ (y : A). cond (p y) 1 0) x xs
 
 -- one element more, which counts or doesn't
-count-more : {A : Type 0} (p : A → Bool) (x : A) (xs : List A) → p x ≡ true → count_by p (x ∷ xs) ≡ 1 + count_by p xs
+pub count-more : {A : Type 0} (p : A → Bool) (x : A) (xs : List A) → p x ≡ true → count_by p (x ∷ xs) ≡ 1 + count_by p xs
 unfolding one_if
 count-more p x xs is = count-cons p x xs ∙ ap (λ (b : Bool). cond b 1 0 + count_by p xs) is
 
-count-same : {A : Type 0} (p : A → Bool) (x : A) (xs : List A) → p x ≡ false → count_by p (x ∷ xs) ≡ count_by p xs
+pub count-same : {A : Type 0} (p : A → Bool) (x : A) (xs : List A) → p x ≡ false → count_by p (x ∷ xs) ≡ count_by p xs
 unfolding one_if
 count-same p x xs is = let none : 0 + count_by p xs ≡ count_by p xs = omega arith in count-cons p x xs ∙ ap (λ (b : Bool). cond b 1 0 + count_by p xs) is ∙ none
 
@@ -54,7 +54,7 @@ count-append {A} p xs ys = sum_by-append (λ (y : A). cond (p y) 1 0) xs ys
 
 -- ---- a trigger of a domain that wasn't dropped is accepted or refused
 
-IsAnswered : Decision → Type 0
+pub IsAnswered : Decision → Type 0
 IsAnswered decided = ((to : ℕ) × (port : ℕ) × (decided ≡ Accepted to port)) ⊎ ((cause : Cause) × (decided ≡ Refused cause))
 
 refused : (cause : Cause) → IsAnswered (Refused cause)
@@ -64,6 +64,11 @@ refused cause = inr (cause, refl)
 accepted : (to port : ℕ) → IsAnswered (Accepted to port)
 unfolding IsAnswered
 accepted to port = inl (to, port, refl)
+
+pub by-answer : (P : Decision → Type 0) → ((to port : ℕ) → P (Accepted to port)) → ((cause : Cause) → P (Refused cause)) → (x : Decision) → IsAnswered x → P x
+unfolding IsAnswered
+by-answer P accepts refuses x (inl (to, port, is)) = subst P (sym is) (accepts to port)
+by-answer P accepts refuses x (inr (cause, is)) = subst P (sym is) (refuses cause)
 
 either : (b : Bool) (x y : Decision) → IsAnswered x → IsAnswered y → IsAnswered (if b then x else y)
 either true x y first second = first
@@ -90,7 +95,7 @@ of-towards from (Some to) = by_test (to == from)
     by_test true = self
     by_test false = rw self refl
 
-trigger-answered : (hub : Domains) (before : List Event) (from : ℕ) (target service ident : List ℕ) → list_any (drops from) before ≡ false → IsAnswered (decision hub before (event.Trigger from target service ident))
+pub trigger-answered : (hub : Domains) (before : List Event) (from : ℕ) (target service ident : List ℕ) → list_any (drops from) before ≡ false → IsAnswered (decision hub before (event.Trigger from target service ident))
 trigger-answered hub before from target service ident up =
     let o = target_of hub target in
     let s = state_after hub before (towards from o) in
@@ -99,57 +104,65 @@ trigger-answered hub before from target service ident up =
 
 -- ---- what one entry puts, and what was read
 
-only-counts : (b : Bool) (m : Message) → is_answer m ≡ true → count_by is_answer (only_if b m) ≡ one_if b
-unfolding one_if
-only-counts true m is = count-more is_answer m [] is
-only-counts false m is = refl
+only-counts : (w : List ℕ) (b : Bool) (m : Message) → count_by (is_answer w) (only_if b m) ≡ (if b then one_if (is_answer w m) else 0)
+only-counts w true m = let none : one_if (is_answer w m) + 0 ≡ one_if (is_answer w m) = omega arith in count-cons (is_answer w) m [] ∙ none
+only-counts w false m = refl
 
-only-none : (b : Bool) (m : Message) → is_answer m ≡ false → count_by is_answer (only_if b m) ≡ 0
-only-none true m is = count-same is_answer m [] is
-only-none false m is = refl
+only-none : (w : List ℕ) (b : Bool) (m : Message) → is_answer w m ≡ false → count_by (is_answer w) (only_if b m) ≡ 0
+only-none w true m is = count-same (is_answer w) m [] is
+only-none w false m is = refl
 
-accepted-counts : (hub : Domains) (d from : ℕ) (target service ident : List ℕ) (to port : ℕ) → count_by is_answer (puts hub d (event.Trigger from target service ident) (Accepted to port)) ≡ one_if (d == from)
-accepted-counts hub d from target service ident to port =
+accepted-counts : (w : List ℕ) (hub : Domains) (d from : ℕ) (target service ident : List ℕ) (to port : ℕ)
+    → count_by (is_answer w) (puts hub d (event.Trigger from target service ident) (Accepted to port)) ≡ (if d == from then one_if (bytes_eq ident w) else 0)
+accepted-counts w hub d from target service ident to port =
     let connect : Message = message.Connect to port ident in
     let exec : Message = message.Exec from port (exec_line (cleaned_service service) (name_of hub from)) in
-    omega (arith, count-append is_answer (only_if (d == from) connect) (only_if (d == to) exec), only-counts (d == from) connect refl, only-none (d == to) exec refl)
+    let none : (if d == from then one_if (bytes_eq ident w) else 0) + 0 ≡ (if d == from then one_if (bytes_eq ident w) else 0) = omega arith in
+    count-append (is_answer w) (only_if (d == from) connect) (only_if (d == to) exec)
+    ∙ (ap (λ (n : ℕ). n + count_by (is_answer w) (only_if (d == to) exec)) (only-counts w (d == from) connect)
+    ∙ (ap (λ (n : ℕ). (if d == from then one_if (bytes_eq ident w) else 0) + n) (only-none w (d == to) exec refl) ∙ none))
 
-refused-counts : (hub : Domains) (d from : ℕ) (target service ident : List ℕ) (cause : Cause) → count_by is_answer (puts hub d (event.Trigger from target service ident) (Refused cause)) ≡ one_if (d == from)
-refused-counts hub d from target service ident cause = only-counts (d == from) (message.Refused ident) refl
+refused-counts : (w : List ℕ) (hub : Domains) (d from : ℕ) (target service ident : List ℕ) (cause : Cause)
+    → count_by (is_answer w) (puts hub d (event.Trigger from target service ident) (Refused cause)) ≡ (if d == from then one_if (bytes_eq ident w) else 0)
+refused-counts w hub d from target service ident cause = only-counts w (d == from) (message.Refused ident)
 
-answered-counts : (hub : Domains) (d from : ℕ) (target service ident : List ℕ) (decided : Decision) → IsAnswered decided → count_by is_answer (puts hub d (event.Trigger from target service ident) decided) ≡ one_if (d == from)
+answered-counts : (w : List ℕ) (hub : Domains) (d from : ℕ) (target service ident : List ℕ) (decided : Decision) → IsAnswered decided
+    → count_by (is_answer w) (puts hub d (event.Trigger from target service ident) decided) ≡ (if d == from then one_if (bytes_eq ident w) else 0)
 unfolding IsAnswered
-answered-counts hub d from target service ident decided (inl (to, port, is)) = subst (λ (x : Decision). count_by is_answer (puts hub d (event.Trigger from target service ident) x) ≡ one_if (d == from)) (sym is) (accepted-counts hub d from target service ident to port)
-answered-counts hub d from target service ident decided (inr (cause, is)) = subst (λ (x : Decision). count_by is_answer (puts hub d (event.Trigger from target service ident) x) ≡ one_if (d == from)) (sym is) (refused-counts hub d from target service ident cause)
+answered-counts w hub d from target service ident decided (inl (to, port, is)) =
+    subst (λ (x : Decision). count_by (is_answer w) (puts hub d (event.Trigger from target service ident) x) ≡ (if d == from then one_if (bytes_eq ident w) else 0)) (sym is) (accepted-counts w hub d from target service ident to port)
+answered-counts w hub d from target service ident decided (inr (cause, is)) =
+    subst (λ (x : Decision). count_by (is_answer w) (puts hub d (event.Trigger from target service ident) x) ≡ (if d == from then one_if (bytes_eq ident w) else 0)) (sym is) (refused-counts w hub d from target service ident cause)
 
 -- an entry of another domain puts no answer
-others-count : (hub : Domains) (d from : ℕ) (target service ident : List ℕ) (decided : Decision) → (d == from) ≡ false → count_by is_answer (puts hub d (event.Trigger from target service ident) decided) ≡ 0
-unfolding one_if
-others-count hub d from target service ident (Accepted to port) apart = accepted-counts hub d from target service ident to port ∙ ap (λ (b : Bool). cond b 1 0) apart
-others-count hub d from target service ident (Refused cause) apart = refused-counts hub d from target service ident cause ∙ ap (λ (b : Bool). cond b 1 0) apart
-others-count hub d from target service ident (Ended a b port) apart = refl
-others-count hub d from target service ident PassedOver apart = refl
+others-count : (w : List ℕ) (hub : Domains) (d from : ℕ) (target service ident : List ℕ) (decided : Decision) → (d == from) ≡ false → count_by (is_answer w) (puts hub d (event.Trigger from target service ident) decided) ≡ 0
+others-count w hub d from target service ident (Accepted to port) apart = accepted-counts w hub d from target service ident to port ∙ ap (λ (b : Bool). if b then one_if (bytes_eq ident w) else 0) apart
+others-count w hub d from target service ident (Refused cause) apart = refused-counts w hub d from target service ident cause ∙ ap (λ (b : Bool). if b then one_if (bytes_eq ident w) else 0) apart
+others-count w hub d from target service ident (Ended a b port) apart = refl
+others-count w hub d from target service ident PassedOver apart = refl
 
 -- what is counted of the events that were read
-read-counts : (d : ℕ) (x : Entry) (journal : List Entry) → count_by asks (read_from (x ∷ journal) d) ≡ (if is_from d x.event then one_if (asks x.event) else 0) + count_by asks (read_from journal d)
-read-counts d x journal = by_test (is_from d x.event)
+read-counts : (w : List ℕ) (d : ℕ) (x : Entry) (journal : List Entry)
+    → count_by (asks w) (read_from (x ∷ journal) d) ≡ (if is_from d x.event then one_if (asks w x.event) else 0) + count_by (asks w) (read_from journal d)
+read-counts w d x journal = by_test (is_from d x.event)
   where
-    by_test : (b : Bool) → count_by asks (if b then x.event ∷ read_from journal d else read_from journal d) ≡ (if b then one_if (asks x.event) else 0) + count_by asks (read_from journal d)
-    by_test true = count-cons asks x.event (read_from journal d)
+    by_test : (b : Bool) → count_by (asks w) (if b then x.event ∷ read_from journal d else read_from journal d) ≡ (if b then one_if (asks w x.event) else 0) + count_by (asks w) (read_from journal d)
+    by_test true = count-cons (asks w) x.event (read_from journal d)
     by_test false = omega arith
 
-entry-counts : (hub : Domains) (before : List Event) (d : ℕ) (e : Event) (decided : Decision) → decided ≡ decision hub before e → list_any (drops d) before ≡ false → count_by is_answer (puts hub d e decided) ≡ (if is_from d e then one_if (asks e) else 0)
+entry-counts : (w : List ℕ) (hub : Domains) (before : List Event) (d : ℕ) (e : Event) (decided : Decision) → decided ≡ decision hub before e → list_any (drops d) before ≡ false
+    → count_by (is_answer w) (puts hub d e decided) ≡ (if is_from d e then one_if (asks w e) else 0)
 unfolding one_if
-entry-counts hub before d (event.Trigger from target service ident) decided is up = by_test (from == d) refl
+entry-counts w hub before d (event.Trigger from target service ident) decided is up = by_test (from == d) refl
   where
-    by_test : (b : Bool) → (from == d) ≡ b → count_by is_answer (puts hub d (event.Trigger from target service ident) decided) ≡ (if b then cond true 1 0 else 0)
+    by_test : (b : Bool) → (from == d) ≡ b → count_by (is_answer w) (puts hub d (event.Trigger from target service ident) decided) ≡ (if b then one_if (bytes_eq ident w) else 0)
     by_test true same =
         let turned : (d == from) ≡ true = grind (arith, nat_tests, same) in
         let number : d ≡ from = grind (arith, nat_tests, same) in
         let shown : IsAnswered decided = subst IsAnswered (sym is) (trigger-answered hub before from target service ident (subst (λ (k : ℕ). list_any (drops k) before ≡ false) number up)) in
-        answered-counts hub d from target service ident decided shown ∙ ap (λ (b : Bool). cond b 1 0) turned
-    by_test false apart = let turned : (d == from) ≡ false = grind (arith, nat_tests, apart) in others-count hub d from target service ident decided turned
-entry-counts hub before d (event.Terminated from other port) decided is up = by_test (from == d)
+        answered-counts w hub d from target service ident decided shown ∙ ap (λ (b : Bool). if b then one_if (bytes_eq ident w) else 0) turned
+    by_test false apart = let turned : (d == from) ≡ false = grind (arith, nat_tests, apart) in others-count w hub d from target service ident decided turned
+entry-counts w hub before d (event.Terminated from other port) decided is up = by_test (from == d)
   where
     none : ℕ
     none = 0
@@ -157,62 +170,64 @@ entry-counts hub before d (event.Terminated from other port) decided is up = by_
     by_test : (b : Bool) → none ≡ (if b then cond false 1 0 else 0)
     by_test true = refl
     by_test false = refl
-entry-counts hub before d (event.Dropped domain) decided is up = refl
+entry-counts w hub before d (event.Dropped domain) decided is up = refl
 
 -- ---- the whole journal
 
-either-none : (a b : Bool) → (a || b) ≡ false → (a ≡ false) × (b ≡ false)
+pub either-none : (a b : Bool) → (a || b) ≡ false → (a ≡ false) × (b ≡ false)
 either-none true b is = cc
 either-none false b is = (refl, is)
 
-counted : (hub : Domains) (d : ℕ) (before : List Event) (journal : List Entry) → IsDecidedOn hub before journal → list_any (drops d) before ≡ false → is_dropped journal d ≡ false → count_by is_answer (outbox hub journal d) ≡ count_by asks (read_from journal d)
-counted hub d before [] decided none up = refl
-counted hub d before (x ∷ journal) decided none up =
+counted : (w : List ℕ) (hub : Domains) (d : ℕ) (before : List Event) (journal : List Entry) → IsDecidedOn hub before journal → list_any (drops d) before ≡ false → is_dropped journal d ≡ false → count_by (is_answer w) (outbox hub journal d) ≡ count_by (asks w) (read_from journal d)
+counted w hub d before [] decided none up = refl
+counted w hub d before (x ∷ journal) decided none up =
     let both = either-none (drops d x.event) (is_dropped journal d) up in
     let next : list_any (drops d) (before ++ x.event ∷ []) ≡ false = dropped-more d before x.event ∙ ap (λ (b : Bool). b || list_any (drops d) before) both.0 ∙ none in
-    let rest = counted hub d (before ++ x.event ∷ []) journal decided.1 next both.1 in
-    count-append is_answer (puts hub d x.event x.decision) (outbox hub journal d)
-    ∙ omega (arith, entry-counts hub before d x.event x.decision decided.0 none, rest, read-counts d x journal)
-    ∙ sym (read-counts d x journal)
+    let rest = counted w hub d (before ++ x.event ∷ []) journal decided.1 next both.1 in
+    count-append (is_answer w) (puts hub d x.event x.decision) (outbox hub journal d)
+    ∙ omega (arith, entry-counts w hub before d x.event x.decision decided.0 none, rest, read-counts w d x journal)
+    ∙ sym (read-counts w d x journal)
 
 pub each-trigger-is-answered : EachTriggerIsAnswered
-each-trigger-is-answered hub journal d decided up = counted hub d [] journal decided refl up
+each-trigger-is-answered hub journal d name decided up = counted name hub d [] journal decided refl up
 
 -- ---- and what was said and heard
 
-asks-counts : (d : ℕ) (messages : List Message) → count_by asks (filter_map (event_of d) messages) ≡ count_by is_trigger messages
-asks-counts d [] = refl
-asks-counts d (m ∷ messages) = by_message m (asks-counts d messages)
+asks-counts : (w : List ℕ) (d : ℕ) (messages : List Message) → count_by (asks w) (filter_map (event_of d) messages) ≡ count_by (is_trigger w) messages
+asks-counts w d [] = refl
+asks-counts w d (m ∷ messages) = by_message m (asks-counts w d messages)
   where
-    by_message : (m : Message) → count_by asks (filter_map (event_of d) messages) ≡ count_by is_trigger messages → count_by asks (filter_map (event_of d) (m ∷ messages)) ≡ count_by is_trigger (m ∷ messages)
-    by_message (message.Trigger3 t i s) rest = count-more asks (event.Trigger d t i s) (filter_map (event_of d) messages) refl ∙ ap (λ (n : ℕ). 1 + n) rest ∙ sym (count-more is_trigger (message.Trigger3 t i s) messages refl)
-    by_message (message.Trigger t i s) rest = count-more asks (event.Trigger d t i s) (filter_map (event_of d) messages) refl ∙ ap (λ (n : ℕ). 1 + n) rest ∙ sym (count-more is_trigger (message.Trigger t i s) messages refl)
-    by_message (message.Terminated o p) rest = count-same asks (event.Terminated d o p) (filter_map (event_of d) messages) refl ∙ rest ∙ sym (count-same is_trigger (message.Terminated o p) messages refl)
-    by_message (message.Hello v) rest = rest ∙ sym (count-same is_trigger (message.Hello v) messages refl)
-    by_message (message.Exec x p l) rest = rest ∙ sym (count-same is_trigger (message.Exec x p l) messages refl)
-    by_message (message.JustExec x p l) rest = rest ∙ sym (count-same is_trigger (message.JustExec x p l) messages refl)
-    by_message (message.Connect x p i) rest = rest ∙ sym (count-same is_trigger (message.Connect x p i) messages refl)
-    by_message (message.Refused i) rest = rest ∙ sym (count-same is_trigger (message.Refused i) messages refl)
-    by_message (message.Stdin b) rest = rest ∙ sym (count-same is_trigger (message.Stdin b) messages refl)
-    by_message (message.Stdout b) rest = rest ∙ sym (count-same is_trigger (message.Stdout b) messages refl)
-    by_message (message.Stderr b) rest = rest ∙ sym (count-same is_trigger (message.Stderr b) messages refl)
-    by_message (message.ExitCode c) rest = rest ∙ sym (count-same is_trigger (message.ExitCode c) messages refl)
+    by_message : (m : Message) → count_by (asks w) (filter_map (event_of d) messages) ≡ count_by (is_trigger w) messages → count_by (asks w) (filter_map (event_of d) (m ∷ messages)) ≡ count_by (is_trigger w) (m ∷ messages)
+    by_message (message.Trigger3 t i s) rest =
+        count-cons (asks w) (event.Trigger d t s i) (filter_map (event_of d) messages) ∙ ap (λ (n : ℕ). one_if (bytes_eq i w) + n) rest ∙ sym (count-cons (is_trigger w) (message.Trigger3 t i s) messages)
+    by_message (message.Trigger t i s) rest =
+        count-cons (asks w) (event.Trigger d t s i) (filter_map (event_of d) messages) ∙ ap (λ (n : ℕ). one_if (bytes_eq i w) + n) rest ∙ sym (count-cons (is_trigger w) (message.Trigger t i s) messages)
+    by_message (message.Terminated o p) rest = count-same (asks w) (event.Terminated d o p) (filter_map (event_of d) messages) refl ∙ rest ∙ sym (count-same (is_trigger w) (message.Terminated o p) messages refl)
+    by_message (message.Hello v) rest = rest ∙ sym (count-same (is_trigger w) (message.Hello v) messages refl)
+    by_message (message.Exec x p l) rest = rest ∙ sym (count-same (is_trigger w) (message.Exec x p l) messages refl)
+    by_message (message.JustExec x p l) rest = rest ∙ sym (count-same (is_trigger w) (message.JustExec x p l) messages refl)
+    by_message (message.Connect x p i) rest = rest ∙ sym (count-same (is_trigger w) (message.Connect x p i) messages refl)
+    by_message (message.Refused i) rest = rest ∙ sym (count-same (is_trigger w) (message.Refused i) messages refl)
+    by_message (message.Stdin b) rest = rest ∙ sym (count-same (is_trigger w) (message.Stdin b) messages refl)
+    by_message (message.Stdout b) rest = rest ∙ sym (count-same (is_trigger w) (message.Stdout b) messages refl)
+    by_message (message.Stderr b) rest = rest ∙ sym (count-same (is_trigger w) (message.Stderr b) messages refl)
+    by_message (message.ExitCode c) rest = rest ∙ sym (count-same (is_trigger w) (message.ExitCode c) messages refl)
 
 pub all-calls-are-answered : AllCallsAreAnswered
-all-calls-are-answered hub journal said lines decided holds kept rest place line at up there a b said_a heard_a heard_b port own attended talks_a talks_b =
+all-calls-are-answered hub journal said lines decided holds kept rest place line at up there a b said_a heard_a heard_b port own attended talks_a talks_b name =
     let r : IsAtRest line = rest place line at up in
     let d : ℕ = place + 1 in
     let hears_all = all-is-heard r.core a b said_a heard_a (said d) heard_b r.page.lawful r.page.server_found r.page.client_found talks_a talks_b in
     let answers_are = all-answers-are-heard hub journal said lines holds kept rest place line at up a b said_a heard_a heard_b port talks_a talks_b in
-    let replies : count_by is_answer heard_a ≡ count_by is_answer (outbox hub journal d) = sym (sum_by-IsPermutation (λ (m : Message). cond (is_answer m) 1 0) heard_a (outbox hub journal d) answers_are) in
+    let replies : count_by (is_answer name) heard_a ≡ count_by (is_answer name) (outbox hub journal d) = sym (sum_by-IsPermutation (λ (m : Message). cond (is_answer name m) 1 0) heard_a (outbox hub journal d) answers_are) in
     let whole : heard_b ≡ said_a = by_greeted a.greeted hears_all.0 r.greets in
     let heard : (hears broker_version to_broker (view b.end).got).messages ≡ heard_b =
     ap (λ (n : ℕ). (hears n to_broker (view b.end).got).messages) (sym own)
     ∙ ap (λ (t : Talker). (hears b.own (may_hear t) (view b.end).got).messages) (sym talks_b.talker_is)
     ∙ ap (λ (h : Heard). h.messages) talks_b.hears in
-    let asked : count_by asks (read_from journal d) ≡ count_by is_trigger said_a =
-    ap (count_by asks) attended.reads ∙ asks-counts d (hears broker_version to_broker (view b.end).got).messages ∙ ap (count_by is_trigger) (heard ∙ whole) in
-    replies ∙ each-trigger-is-answered hub journal d decided there ∙ asked
+    let asked : count_by (asks name) (read_from journal d) ≡ count_by (is_trigger name) said_a =
+    ap (count_by (asks name)) attended.reads ∙ asks-counts name d (hears broker_version to_broker (view b.end).got).messages ∙ ap (count_by (is_trigger name)) (heard ∙ whole) in
+    replies ∙ each-trigger-is-answered hub journal d name decided there ∙ asked
   where
     by_greeted : (g : Bool) → Hears g a b said_a heard_b → IsSome line.version → heard_b ≡ said_a
     by_greeted true hears some = hears.0

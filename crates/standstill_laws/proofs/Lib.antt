@@ -5,3 +5,7 @@ mod ControlLaws
 mod SayingLaws
 mod LetterLaws
 mod AnswerLaws
+mod AskingLaws
+mod SettleLaws
+mod OverLaws
+mod DoneLaws

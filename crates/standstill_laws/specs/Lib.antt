@@ -5,3 +5,6 @@ pub mod Control
 pub mod Saying
 pub mod Letters
 pub mod Answers
+pub mod Asking
+pub mod Settling
+pub mod Sessions

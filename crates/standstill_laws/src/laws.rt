@@ -7,6 +7,9 @@ ghost use Rattle.standstill_laws.specs.Control.{AllIsHeard};
 ghost use Rattle.standstill_laws.specs.Saying.{AgentsHaveSaidAll, BrokerHasSaidAll};
 ghost use Rattle.standstill_laws.specs.Letters.{AllAnswersAreSaid, AllAnswersAreHeard};
 ghost use Rattle.standstill_laws.specs.Answers.{EachTriggerIsAnswered, AllCallsAreAnswered};
+ghost use Rattle.standstill_laws.specs.Asking.{AgentsHaveAskedAll};
+ghost use Rattle.standstill_laws.specs.Sessions.{NoSessionIsOpen};
+ghost use Rattle.standstill_laws.specs.Settling.{NoCallIsLive, AllAreSettled};
 
 /// If both ends of a page between honest ends drained it and found nothing, and no index changed since, then
 /// each has got all that the other sent, and no room that a write, a send or a look lacked is still lacking. A
@@ -58,15 +61,44 @@ pub fn all_answers_are_heard()
     ensures { AllAnswersAreHeard }
 {}
 
-/// A journal puts as many answers into the outbox of a domain that wasn't dropped as triggers were read from it.
+/// By each ident, a journal puts as many answers into the outbox of a domain that wasn't dropped as triggers
+/// were read from it.
 pub fn each_trigger_is_answered()
     ensures { EachTriggerIsAnswered }
 {}
 
 /// Where the control page of each domain that wasn't dropped stands still, and each of them has greeted, its agent
-/// has heard as many answers as it asked for calls.
+/// has heard as many answers by each ident as it sent triggers.
 pub fn all_calls_are_answered()
     ensures { AllCallsAreAnswered }
+{}
+
+/// Where the page of a session stands still, both of its sides are over: an open one whose last turn was quiet has
+/// a side that isn't retired across from it, and not both are open.
+pub fn no_session_is_open()
+    ensures { NoSessionIsOpen }
+{}
+
+/// An agent none of whose sessions is open, and whose next call isn't due, has asked for all its calls, each of
+/// which was answered, and has reported the end of each session that it owed to report. It has reported those
+/// that were over; each answer that came is to one of its triggers, and names an end of its own that no other
+/// message names; and no end of a session was reported before its call was asked for.
+pub fn agents_have_asked_all()
+    ensures { AgentsHaveAskedAll }
+{}
+
+/// Where the broker has read the end of each session of a pair of domains, no call of the pair is live there, if
+/// no domain was dropped, and no call was let through at a port after the end of a session there was read.
+pub fn no_call_is_live()
+    ensures { NoCallIsLive }
+{}
+
+/// Where the agent of each domain has asked for all its calls, heard all that the broker's journal puts into the
+/// domain's outbox, and reported the end of each session that it owed to report, and the broker has read all of
+/// that, all domains are settled, at which the broker ends. No domain was dropped, and no call was let through
+/// at a port after the end of a session there was read.
+pub fn all_are_settled()
+    ensures { AllAreSettled }
 {}
 
 /// Pages that stand still exist, whatever their orders: one that was just opened, by what a drain of it loads.

@@ -1,0 +1,63 @@
+-- Where the page of a session stands still, both sides are over.
+use Rattle.std.proofs.Common.{◌≡◌, ℕ, true, false, Bool, refl, sym, ap, ◌∙◌, subst, Some}
+use Rattle.std.specs.Prelude.{if◌then◌else◌}
+use Rattle.ring_words.specs.declared.page.Role.{Role}
+use Rattle.ring_words.specs.declared.page.Role.TheVariants.{Server, Client}
+use Rattle.service_gate.specs.Owing.{builtin_owes}
+use Rattle.vchan_protocol.specs.declared.call.Answer.TheVariants.{NotYet}
+use Rattle.vchan_protocol.specs.Table.Ends.{Standing, peer_gone}
+use Rattle.vchan_protocol.specs.Answering.Loads.{Loads, loads_of}
+use Rattle.vchan_protocol.specs.Answering.Causes.{DrainCause, FoundHere, drain_got, drain_all_read, drain_not_yet, drain_peer_gone}
+use Rattle.vchan_protocol.specs.History.Core.{Core, side_of, standing_of}
+use Rattle.vchan_protocol.specs.Honest.Lawful.{Lawful}
+use Rattle.vchan_protocol.specs.Honest.RingLaw.{word_at}
+use Rattle.qrexec_data.specs.Laws.{IsVersion}
+use Rattle.vchan_rule.specs.Seated.{SeatedEnd}
+use Rattle.vchan_lifecycle.specs.Lifecycle.{FindsNotYet}
+use Rattle.data_slots.specs.Sessions.{Session, has_ended}
+use Rattle.standstill_laws.specs.Page.{peer_of}
+use Rattle.standstill_laws.specs.Sessions.{IsGoneStill, CallerRests, CallIsQuiet, CallIsOver, ServingRests, ServingIsQuiet, ServingIsOver, NoSessionIsOpen}
+use Rattle.standstill_laws.proofs.TurnLaws.{no-session-stands-still}
+
+-- a drain that finds nothing yet has found the peer here
+here-by : (e : Standing) (n : ℕ) (loads : Loads) (prod cons : ℕ) → DrainCause e n loads (NotYet prod cons) → FoundHere loads
+here-by e n loads prod cons (drain_got last older pairs none unread some is) = cc
+here-by e n loads prod cons (drain_all_read all is) = cc
+here-by e n loads prod cons (drain_not_yet last last_is none unread here is) = here
+here-by e n loads prod cons (drain_peer_gone last last_is none unread gone is) = cc
+
+gone-told : (core : Core) → Lawful core → (who : Role) → word_at core.orders core.words (peer_gone who) ≡ (if (side_of core (peer_of who)).retired then 1 else 0)
+gone-told core l Server = l.lives.client_words.gone.word
+gone-told core l Client = l.lives.server_words.gone.word
+
+-- so if what it found is still so, its peer isn't retired
+not-retired : (core : Core) (who : Role) (before now : SeatedEnd) → Lawful core → (f : FindsNotYet before now) → IsGoneStill core who (loads_of (standing_of before.side) now.side.trail) → (side_of core (peer_of who)).retired ≡ true → ⊥
+not-retired core who before now lawful f still retired =
+    let here : FoundHere (loads_of (standing_of before.side) now.side.trail) = here-by (standing_of before.side) f.most (loads_of (standing_of before.side) now.side.trail) f.prod f.cons f.cause in
+    let same : Some 0 ≡ Some (word_at core.orders core.words (peer_gone who)) = sym here ∙ still in
+    let word : 0 ≡ word_at core.orders core.words (peer_gone who) = cc in
+    let one : ◌≡◌ {A = ℕ} 0 1 = word ∙ (gone-told core lawful who ∙ ap (λ (b : Bool). if b then 1 else 0) retired) in
+    cc
+
+pub no-session-is-open : NoSessionIsOpen
+no-session-is-open core calling serving c s lawful calling_is serving_is (CallIsOver end retired) (ServingIsOver end' retired') = (refl, refl)
+no-session-is-open core calling serving c s lawful calling_is serving_is (CallIsQuiet before now stands undecided upright turn still gone) (ServingIsOver end retired) =
+    absurd (not-retired core Server turn.2.found turn.2.left lawful turn.2.not_yet gone retired)
+no-session-is-open core calling serving c s lawful calling_is serving_is (CallIsOver end retired) (ServingIsQuiet before now stands undecided upright turn still gone) =
+    absurd (not-retired core Client turn.2.found turn.2.left lawful turn.2.not_yet gone retired)
+no-session-is-open core calling serving c s lawful calling_is serving_is (CallIsQuiet before now stands undecided upright turn still gone) (ServingIsQuiet before' now' stands' undecided' upright' turn' still' gone') =
+    absurd (no-session-stands-still core (builtin_owes stands'.2.0) before now before' now' (record {
+      lawful = lawful;
+      server_opened = upright;
+      client_opened = upright';
+      calls = stands.0;
+      serves = stands'.2.1;
+      caller_version = subst IsVersion (sym stands.1) calling_is;
+      serving_version = subst IsVersion (sym stands'.1) serving_is;
+      caller_undecided = undecided;
+      serving_undecided = undecided';
+      caller_turn = turn;
+      serving_turn = turn';
+      caller_still = still;
+      serving_still = still';
+    }))

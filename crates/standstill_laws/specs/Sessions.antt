@@ -1,0 +1,39 @@
+-- The two sides of a session whose page stands still.
+-- Source: this project's own.
+use Rattle.std.specs.Prelude.{◌≡◌, ◌≢◌, ℕ, true, None, Some}
+use Rattle.ring_words.specs.declared.page.Role.{Role}
+use Rattle.ring_words.specs.declared.page.Role.TheVariants.{Server, Client}
+use Rattle.vchan_protocol.specs.declared.call.EndState.TheVariants.{Shut}
+use Rattle.vchan_protocol.specs.Table.Ends.{peer_gone}
+use Rattle.vchan_protocol.specs.Answering.Loads.{Loads, loads_of}
+use Rattle.vchan_protocol.specs.History.Core.{Core, standing_of}
+use Rattle.vchan_protocol.specs.Honest.Lawful.{Lawful}
+use Rattle.vchan_protocol.specs.Honest.RingLaw.{word_at}
+use Rattle.end_view.specs.EndView.{EndView}
+use Rattle.qrexec_data.specs.Laws.{IsVersion}
+use Rattle.channel_session.specs.declared.turned.Turned.TheVariants.{Quiet}
+use Rattle.channel_session.specs.Calling.{CallerAt, CallerTurns}
+use Rattle.channel_session.specs.Answering.{ServingAt, ServingTurns}
+use Rattle.data_slots.specs.Sessions.{Session, CallsWith, ServesWith, EndedWith, has_ended}
+use Rattle.data_slots.specs.Agreeing.{SessionStands}
+use Rattle.standstill_laws.specs.Turns.{IsQuietStill}
+
+-- the gone word of the peer that a call loaded is that of the page
+abbrev pub IsGoneStill : Core → Role → Loads → Type 0
+IsGoneStill core who loads = loads.gone ≡ Some (word_at core.orders core.words (peer_gone who))
+
+-- the caller, on the server's end: nothing has decided, its last turn was quiet, and what that found is still so; or it is over, and its end is retired
+pub data CallerRests (core : Core) (version : ℕ) : Session → Type 0 where
+  CallIsQuiet : (before now : CallerAt) → SessionStands version (CallsWith before) → before.caller.replies.outcome ≡ None → core.server.state ≢ Shut → (turn : CallerTurns Quiet before now) → IsQuietStill core Server _ _ _ _ _ turn.2
+      → IsGoneStill core Server (loads_of (standing_of turn.2.found.side) turn.2.left.side.trail) → CallerRests core version (CallsWith now)
+  CallIsOver : (end : EndView) → core.server.retired ≡ true → CallerRests core version (EndedWith end)
+
+-- the side that serves, on the client's end
+pub data ServingRests (core : Core) (version : ℕ) : Session → Type 0 where
+  ServingIsQuiet : (before now : ServingAt) → SessionStands version (ServesWith before) → before.serving.answering.outcome ≡ None → core.client.state ≢ Shut → (turn : ServingTurns Quiet before now) → IsQuietStill core Client _ _ _ _ _ turn.2
+      → IsGoneStill core Client (loads_of (standing_of turn.2.found.side) turn.2.left.side.trail) → ServingRests core version (ServesWith now)
+  ServingIsOver : (end : EndView) → core.client.retired ≡ true → ServingRests core version (EndedWith end)
+
+-- then both are over
+abbrev pub NoSessionIsOpen : Type 0
+NoSessionIsOpen = (core : Core) (calling serving : ℕ) (c s : Session) → Lawful core → IsVersion calling → IsVersion serving → CallerRests core calling c → ServingRests core serving s → (has_ended c ≡ true) × (has_ended s ≡ true)
