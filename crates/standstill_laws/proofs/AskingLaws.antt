@@ -1,5 +1,5 @@
 -- An agent none of whose sessions is open has asked for all its calls, and has reported all ends.
-use Rattle.std.proofs.Common.{◌≡◌, ℕ, ◌+◌, ◌<◌, ◌≤◌, zero, suc, List, [], ◌∷◌, ◌++◌, length, take, get_or, map, refl, ap, sym, ◌∙◌, subst, inl, inr, arith, Some, None, Option}
+use Rattle.std.proofs.Common.{◌≡◌, ℕ, ◌<◌, ◌≤◌, zero, suc, List, [], ◌∷◌, ◌++◌, length, take, get_or, map, refl, ap, sym, ◌∙◌, subst, inl, inr, arith, Some, None, Option}
 use Rattle.std.specs.Prelude.{◌⊎◌, Bool, true, false, ◌&&◌, bytes_eq, filter_map, slice_get, MatchOption, IsSomeAnd, IsPermutation, if◌then◌else◌}
 use Rattle.std.specs.List.{count_by, cons_option}
 use Rattle.std.proofs.lemmas.List.{append-nil, length-map}
@@ -8,7 +8,6 @@ use Rattle.std.proofs.lemmas.Slice.Eq.{bytes_eq-Decides}
 use Rattle.qrexec_frame.specs.declared.message.Message.{Message}
 use Rattle.qrexec_frame.specs.declared.message.Message.TheVariants as message
 use Rattle.qrexec_frame.specs.Streams.{Each}
-use Rattle.scenario_file.specs.declared.scenario.CallPlan.{CallPlan}
 use Rattle.task_duties.specs.Pairwise.{SomeOf}
 use Rattle.task_duties.specs.Words.{ident_of}
 use Rattle.task_duties.specs.Agent.Answers.{Answer, Waits, IsRefused, At, Asked, waits, waits_as, nothing_heard}
@@ -19,11 +18,10 @@ use Rattle.task_duties.proofs.ServedLaw.{and-parts}
 use Rattle.call_queue.proofs.Places.{map-get, map-got, within-get, each-at}
 use Rattle.agent_control.specs.declared.control.AgentControl.{AgentControl}
 use Rattle.agent_task.specs.Ends.{session_told, session_unsaid}
-use Rattle.agent_task.specs.Asking.{IsReportedEarly}
-use Rattle.agent_task.specs.State.{AgentState, TellsSoFar, IsChannelOf, IsOpenFor, answers_so_far}
+use Rattle.agent_task.specs.State.{AgentState, IsChannelOf, IsOpenFor, answers_so_far}
 use Rattle.agent_task.specs.Telling.{owed_on}
 use Rattle.standstill_laws.specs.Answers.{is_trigger, is_answer}
-use Rattle.standstill_laws.specs.Asking.{heard_so_far, HearsInOrder, HasAskedAll, AgentsHaveAskedAll}
+use Rattle.standstill_laws.specs.Asking.{heard_so_far, HearsInOrder, AgentsHaveAskedAll}
 use Rattle.standstill_laws.proofs.AnswerLaws.{count-more, count-same}
 
 same-bytes : (w : List ℕ) → bytes_eq w w ≡ true

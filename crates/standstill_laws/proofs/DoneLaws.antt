@@ -1,6 +1,6 @@
 -- Where each domain is done, all are settled.
-use Rattle.std.proofs.Common.{◌≡◌, ◌≢◌, ℕ, ◌+◌, ◌<◌, ◌≤◌, zero, suc, List, [], ◌∷◌, ◌++◌, length, map, refl, ap, sym, ◌∙◌, subst, inl, inr, arith, Some, None, Option}
-use Rattle.std.specs.Prelude.{◌⊎◌, Bool, true, false, ◌==◌, ◌&&◌, ◌||◌, nat_le, sum, filter, filter_map, IsPermutation, if◌then◌else◌}
+use Rattle.std.proofs.Common.{◌≡◌, ◌≢◌, ℕ, ◌+◌, ◌≤◌, zero, suc, List, [], ◌∷◌, ◌++◌, length, map, refl, ap, sym, ◌∙◌, subst, arith, Some, None, Option}
+use Rattle.std.specs.Prelude.{Bool, true, false, ◌==◌, ◌&&◌, ◌||◌, nat_le, sum, filter, filter_map, if◌then◌else◌}
 use Rattle.std.specs.List.{list_any, cons_option}
 use Rattle.std.proofs.lemmas.Bool.Decides.{nat_tests}
 use Rattle.std.proofs.lemmas.List.{length-map}
@@ -12,12 +12,11 @@ use Rattle.qrexec_frame.specs.Names.{cleaned_service}
 use Rattle.qrexec_frame.specs.Streams.{Each}
 use Rattle.call_broker.specs.declared.event.Event.{Event}
 use Rattle.call_broker.specs.declared.event.Event.TheVariants.{Trigger, Terminated, Dropped}
-use Rattle.call_broker.specs.declared.decision.Cause.{Cause}
 use Rattle.call_broker.specs.declared.decision.Decision.{Decision}
 use Rattle.call_broker.specs.declared.decision.Decision.TheVariants.{Accepted, Refused, Ended, PassedOver}
 use Rattle.call_broker.specs.declared.decision.Entry.{Entry}
 use Rattle.call_broker.specs.Domains.{Domains, is_domain, count_of, name_of, port_after}
-use Rattle.call_broker.specs.Pair.{Pair, Ordered, Alone, has, is_pair, by_port, pair_of, belongs, decision}
+use Rattle.call_broker.specs.Pair.{Ordered, has, by_port, belongs, decision}
 use Rattle.call_broker.specs.Journal.{IsDecidedOn, events, drops, is_dropped, port_in, accepted_ports, live}
 use Rattle.call_broker.specs.Laws.{AcceptsWell}
 use Rattle.call_broker.proofs.Decided.{accepts-well}
@@ -26,14 +25,11 @@ use Rattle.call_broker.proofs.OpenLaws.{both}
 use Rattle.call_broker.proofs.PortLaws.{port-names-pair}
 use Rattle.task_duties.specs.Words.{exec_line}
 use Rattle.task_duties.specs.Places.{numbers}
-use Rattle.task_duties.specs.Agent.Answers.{Asked}
-use Rattle.task_duties.specs.Agent.Saying.{Asking, asking, asking_of}
+use Rattle.task_duties.specs.Agent.Saying.{Asking, asking_of}
 use Rattle.task_duties.specs.Broker.Outbox.{only_if, puts, outbox, event_of, is_from, read_from, is_answer, answered, live_calls}
-use Rattle.task_duties.specs.Broker.Owes.{awaited_of}
 use Rattle.task_duties.proofs.LimitLaw.{asking_event}
 use Rattle.task_duties.proofs.JournalLaw.{asked_event, asked_in, asked-read, asked-said}
 use Rattle.agent_task.specs.Ends.{session_of_answer, session_asked, session_told, sessions_owed}
-use Rattle.broker_task.specs.Standing.{AreSettled}
 use Rattle.standstill_laws.specs.Settling.{ended_port, ended_ports, EndsInOrder, IsDone, AllAreSettled}
 use Rattle.standstill_laws.proofs.AnswerLaws.{IsAnswered, by-answer, trigger-answered, either-none, count-more, count-same}
 use Rattle.standstill_laws.proofs.SettleLaws.{no-call-is-live}

@@ -1,5 +1,5 @@
 -- Where the page of a session stands still, both sides are over.
-use Rattle.std.proofs.Common.{◌≡◌, ℕ, true, false, Bool, refl, sym, ap, ◌∙◌, subst, Some}
+use Rattle.std.proofs.Common.{◌≡◌, ℕ, true, Bool, refl, sym, ap, ◌∙◌, subst, Some}
 use Rattle.std.specs.Prelude.{if◌then◌else◌}
 use Rattle.ring_words.specs.declared.page.Role.{Role}
 use Rattle.ring_words.specs.declared.page.Role.TheVariants.{Server, Client}
@@ -14,9 +14,8 @@ use Rattle.vchan_protocol.specs.Honest.RingLaw.{word_at}
 use Rattle.qrexec_data.specs.Laws.{IsVersion}
 use Rattle.vchan_rule.specs.Seated.{SeatedEnd}
 use Rattle.vchan_lifecycle.specs.Lifecycle.{FindsNotYet}
-use Rattle.data_slots.specs.Sessions.{Session, has_ended}
 use Rattle.standstill_laws.specs.Page.{peer_of}
-use Rattle.standstill_laws.specs.Sessions.{IsGoneStill, CallerRests, CallIsQuiet, CallIsOver, ServingRests, ServingIsQuiet, ServingIsOver, NoSessionIsOpen}
+use Rattle.standstill_laws.specs.Sessions.{IsGoneStill, CallIsQuiet, CallIsOver, ServingIsQuiet, ServingIsOver, NoSessionIsOpen}
 use Rattle.standstill_laws.proofs.TurnLaws.{no-session-stands-still}
 
 -- a drain that finds nothing yet has found the peer here

@@ -10,7 +10,7 @@ use Rattle.call_broker.specs.declared.decision.Decision.{Decision}
 use Rattle.call_broker.specs.declared.decision.Decision.TheVariants.{Accepted, Refused, Ended, PassedOver}
 use Rattle.call_broker.specs.declared.decision.Entry.{Entry}
 use Rattle.call_broker.specs.Domains.{Domains}
-use Rattle.call_broker.specs.Pair.{Pair, PairState, Ordered, Alone, has, is_pair, pair_of, belongs, ends_call, decides, settles, step, state_after, decision}
+use Rattle.call_broker.specs.Pair.{Pair, PairState, Ordered, Alone, has, is_pair, pair_of, belongs, decides, settles, step, state_after, decision}
 use Rattle.call_broker.specs.Journal.{IsDecidedOn, events, drops, port_in, accepted_ports}
 use Rattle.call_broker.proofs.OpenLaws.{both, taken-view, taken-pair, terminated-takes-none}
 use Rattle.call_broker.proofs.PortLaws.{state-after}

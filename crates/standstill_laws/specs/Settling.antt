@@ -1,6 +1,6 @@
 -- When no call is live at the broker any more.
 -- Source: the messages are those of the qrexec protocol; the statement is this project's own.
-use Rattle.std.specs.Prelude.{◌≡◌, ℕ, Bool, true, false, List, [], ◌∷◌, length, map, filter_map, Option, Some, None, IsPermutation, if◌then◌else◌}
+use Rattle.std.specs.Prelude.{◌≡◌, ℕ, true, false, List, [], ◌∷◌, length, map, filter_map, Option, Some, None, IsPermutation, if◌then◌else◌}
 use Rattle.qrexec_frame.specs.declared.message.Message.{Message}
 use Rattle.call_broker.specs.declared.event.Event.{Event}
 use Rattle.call_broker.specs.declared.event.Event.TheVariants.{Terminated}
