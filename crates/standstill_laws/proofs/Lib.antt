@@ -9,3 +9,4 @@ mod AskingLaws
 mod SettleLaws
 mod OverLaws
 mod DoneLaws
+mod BeginLaws

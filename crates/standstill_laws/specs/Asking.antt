@@ -1,6 +1,6 @@
 -- An agent none of whose sessions is open, where its control page stands still.
 -- Source: the messages are those of the qrexec protocol; the statement is this project's own.
-use Rattle.std.specs.Prelude.{◌≡◌, ℕ, false, List, [], map, filter_map, slice_get, Some, None, IsPermutation}
+use Rattle.std.specs.Prelude.{◌≡◌, ℕ, false, List, [], length, map, filter_map, slice_get, Some, None, IsPermutation}
 use Rattle.std.specs.List.{count_by}
 use Rattle.qrexec_frame.specs.declared.message.Message.{Message}
 use Rattle.qrexec_frame.specs.Streams.{Each}
@@ -9,10 +9,11 @@ use Rattle.task_duties.specs.Agent.Answers.{At, Asked, waits}
 use Rattle.task_duties.specs.Agent.Saying.{asking, asking_of}
 use Rattle.task_duties.proofs.ServedLaw.{AreApart, IsUnusedBy}
 use Rattle.call_queue.specs.Queue.{IsHeld, AreDifferent}
+use Rattle.data_slots.specs.Sessions.{NotBegun, session_at}
 use Rattle.agent_control.specs.declared.control.AgentControl.{AgentControl}
 use Rattle.agent_task.specs.Ends.{session_told}
 use Rattle.agent_task.specs.Asking.{IsReportedEarly}
-use Rattle.agent_task.specs.State.{AgentState, TellsSoFar, answers_so_far}
+use Rattle.agent_task.specs.State.{AgentState, TellsSoFar, TurnsEach, answers_so_far}
 use Rattle.agent_task.specs.Telling.{heard_on, owed_on}
 use Rattle.standstill_laws.specs.Answers.{is_trigger, is_answer}
 
@@ -37,3 +38,10 @@ pub record HasAskedAll (task : AgentState) (said : List Message) : Type 0 where
 abbrev pub AgentsHaveAskedAll : Type 0
 AgentsHaveAskedAll = (task : AgentState) (t : TellsSoFar task) (c : AgentControl) → task.channel ≡ Some c → task.over ≡ None → task.opened ≡ [] → c.unsaid.items ≡ [] → IsHeld c.queue
     → AreDifferent (map (λ call. ident_of call.number) task.plan.calls) → HearsInOrder task t.once.said → HasAskedAll task t.once.said
+
+-- ---- a turn in which nothing came
+
+-- no session begins, if nothing came on the control channel and each session that had begun took its turn
+abbrev pub NoSessionBegins : Type 0
+NoSessionBegins = (old new : AgentState) → TellsSoFar old → TellsSoFar new → new.plan ≡ old.plan → new.control.got ≡ old.control.got → length old.sessions ≡ length old.plan.places → length new.sessions ≡ length old.plan.places
+    → TurnsEach old.sessions new.sessions → (i : ℕ) → session_at old.sessions i ≡ NotBegun → session_at new.sessions i ≡ NotBegun

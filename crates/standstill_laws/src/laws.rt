@@ -7,7 +7,7 @@ ghost use Rattle.standstill_laws.specs.Control.{AllIsHeard};
 ghost use Rattle.standstill_laws.specs.Saying.{AgentsHaveSaidAll, BrokerHasSaidAll};
 ghost use Rattle.standstill_laws.specs.Letters.{AllAnswersAreSaid, AllAnswersAreHeard};
 ghost use Rattle.standstill_laws.specs.Answers.{EachTriggerIsAnswered, AllCallsAreAnswered};
-ghost use Rattle.standstill_laws.specs.Asking.{AgentsHaveAskedAll};
+ghost use Rattle.standstill_laws.specs.Asking.{AgentsHaveAskedAll, NoSessionBegins};
 ghost use Rattle.standstill_laws.specs.Sessions.{NoSessionIsOpen};
 ghost use Rattle.standstill_laws.specs.Settling.{NoCallIsLive, AllAreSettled};
 
@@ -85,6 +85,11 @@ pub fn no_session_is_open()
 /// message names; and no end of a session was reported before its call was asked for.
 pub fn agents_have_asked_all()
     ensures { AgentsHaveAskedAll }
+{}
+
+/// In a turn of an agent in which nothing came on its control channel no session begins.
+pub fn no_session_begins()
+    ensures { NoSessionBegins }
 {}
 
 /// Where the broker has read the end of each session of a pair of domains, no call of the pair is live there, if
