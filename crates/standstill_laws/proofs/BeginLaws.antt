@@ -1,14 +1,13 @@
 -- Where nothing came on its control channel, no session of an agent begins.
-use Rattle.std.proofs.Common.{◌≡◌, ◌≢◌, ℕ, ◌+◌, ◌≤◌, zero, suc, List, [], ◌∷◌, ◌++◌, length, length-append, refl, ap, sym, ◌∙◌, arith}
+use Rattle.std.proofs.Common.{◌≡◌, ◌≢◌, ℕ, ◌+◌, ◌≤◌, zero, suc, List, [], ◌∷◌, length, length-append, refl, ap, sym, ◌∙◌, arith}
 use Rattle.std.specs.Prelude.{Bool, true, false, if◌then◌else◌}
-use Rattle.qrexec_frame.specs.declared.message.Message.{Message}
 use Rattle.task_duties.specs.declared.place.PagePlace.{PagePlace}
 use Rattle.task_duties.specs.Hearing.{hears, to_agent}
 use Rattle.task_duties.specs.Agent.Given.{AgentPlan}
 use Rattle.task_duties.specs.Agent.Answers.{answers}
 use Rattle.data_slots.specs.Sessions.{Session, NotBegun, CallsWith, AwaitsPage, ServesWith, EndedWith, session_at, TakesTurn, HadNotBegun, CallMade, ServingMade, PageCame, PageAwaited, IsOver, WasOver}
 use Rattle.data_slots.specs.Agreeing.{place_if_free, places_free}
-use Rattle.agent_task.specs.State.{AgentState, TurnsEach, answers_so_far}
+use Rattle.agent_task.specs.State.{answers_so_far}
 use Rattle.standstill_laws.specs.Asking.{NoSessionBegins}
 
 abbrev has_begun : Session → Bool

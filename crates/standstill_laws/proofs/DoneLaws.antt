@@ -34,7 +34,7 @@ use Rattle.standstill_laws.specs.Settling.{ended_port, ended_ports, EndsInOrder,
 use Rattle.standstill_laws.proofs.AnswerLaws.{IsAnswered, by-answer, trigger-answered, either-none, count-more, count-same}
 use Rattle.standstill_laws.proofs.SettleLaws.{no-call-is-live}
 
-or-right : (a b : Bool) → b ≡ true → (a || b) ≡ true
+pub or-right : (a b : Bool) → b ≡ true → (a || b) ≡ true
 or-right true b is = refl
 or-right false b is = is
 
@@ -168,7 +168,7 @@ told-event t (message.Stdout b) s is = cc
 told-event t (message.Stderr b) s is = cc
 told-event t (message.ExitCode c) s is = cc
 
-self-number : (t : ℕ) → (t == t) ≡ true
+pub self-number : (t : ℕ) → (t == t) ≡ true
 self-number t = grind (arith, nat_tests)
 
 told-read : (t d p : ℕ) (sent : List Message) → list_any (is_session d p) (filter_map session_told sent) ≡ true → list_any (is_end t d p) (filter_map (event_of t) sent) ≡ true
@@ -257,7 +257,7 @@ port-here hub f t p q (Trigger from target service ident) PassedOver well is sam
 port-here hub f t p q (Terminated from other port) decided well is same = cc
 port-here hub f t p q (Dropped domain) decided well is same = cc
 
-port-of : (hub : Domains) (f t p : ℕ) (journal : List Entry) → Each (λ x. AcceptsWell hub x.event x.decision) journal → has p (accepted_ports journal f t) ≡ true → IsPortOf f t p
+pub port-of : (hub : Domains) (f t p : ℕ) (journal : List Entry) → Each (λ x. AcceptsWell hub x.event x.decision) journal → has p (accepted_ports journal f t) ≡ true → IsPortOf f t p
 port-of hub f t p [] well some = cc
 port-of hub f t p (x ∷ journal) well some = by_found (port_in f t x.event x.decision) refl some (port-of hub f t p journal well.1)
   where

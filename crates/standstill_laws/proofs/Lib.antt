@@ -10,3 +10,4 @@ mod SettleLaws
 mod OverLaws
 mod DoneLaws
 mod BeginLaws
+mod OrderLaws

@@ -46,7 +46,7 @@ none-has (x ∷ xs) none = absurd (first (none x))
 
 -- ---- one event
 
-same-pair : (pair : Pair) (f t : ℕ) → is_pair pair (Ordered f t) ≡ true → pair ≡ Ordered f t
+pub same-pair : (pair : Pair) (f t : ℕ) → is_pair pair (Ordered f t) ≡ true → pair ≡ Ordered f t
 same-pair (Ordered a b) f t is =
     let parts = both (a == f) (b == t) is in
     let first : a ≡ f = grind (arith, nat_tests, parts.0) in

@@ -8,3 +8,4 @@ pub mod Answers
 pub mod Asking
 pub mod Settling
 pub mod Sessions
+pub mod Order

@@ -10,6 +10,7 @@ ghost use Rattle.standstill_laws.specs.Answers.{EachTriggerIsAnswered, AllCallsA
 ghost use Rattle.standstill_laws.specs.Asking.{AgentsHaveAskedAll, NoSessionBegins};
 ghost use Rattle.standstill_laws.specs.Sessions.{NoSessionIsOpen};
 ghost use Rattle.standstill_laws.specs.Settling.{NoCallIsLive, AllAreSettled};
+ghost use Rattle.standstill_laws.specs.Order.{EndsComeInOrder};
 
 /// If both ends of a page between honest ends drained it and found nothing, and no index changed since, then
 /// each has got all that the other sent, and no room that a write, a send or a look lacked is still lacking. A
@@ -96,6 +97,13 @@ pub fn no_session_begins()
 /// no domain was dropped, and no call was let through at a port after the end of a session there was read.
 pub fn no_call_is_live()
     ensures { NoCallIsLive }
+{}
+
+/// In a journal that grows turn by turn, no call is let through at a port after the end of a session there was
+/// read, if each report of an end that the broker reads in a turn was sent by an agent which owed it by what it
+/// had heard, and if all of that was in the outbox of its domain before the turn.
+pub fn ends_come_in_order()
+    ensures { EndsComeInOrder }
 {}
 
 /// Where the agent of each domain has asked for all its calls, heard all that the broker's journal puts into the
