@@ -23,13 +23,14 @@ INPUT = bytes(k * k % 251 for k in range(1 << 16)) * 64
 LONG_RUN = {"GLIBC_TUNABLES": "glibc.malloc.hugetlb=1:glibc.malloc.top_pad=67108864"
             ":glibc.malloc.mmap_threshold=33554432:glibc.malloc.trim_threshold=1073741824"
             ":glibc.malloc.tcache_count=1000"}
+ALWAYS_LONG = "load", "persist"
 LONG_WORDS = "run", "pipe"
 SHORT_FILE = 15 * 1024
 
 
 def as_launched(what, size):
     """The environment that ./vchan gives a run of these words on a file of this size."""
-    is_long = what[0] == "load" or what[0] in LONG_WORDS and size > SHORT_FILE
+    is_long = what[0] in ALWAYS_LONG or what[0] in LONG_WORDS and size > SHORT_FILE
     return LONG_RUN if is_long else {}
 
 
