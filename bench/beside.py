@@ -22,7 +22,8 @@ INPUT = bytes(k * k % 251 for k in range(1 << 16)) * 64
 # What ./vchan sets where a run may be long.
 LONG_RUN = {"GLIBC_TUNABLES": "glibc.malloc.hugetlb=1:glibc.malloc.top_pad=67108864"
             ":glibc.malloc.mmap_threshold=33554432:glibc.malloc.trim_threshold=1073741824"
-            ":glibc.malloc.tcache_count=1000"}
+            ":glibc.malloc.tcache_count=1000"
+            f":glibc.malloc.arena_max={len(os.sched_getaffinity(0))}"}
 ALWAYS_LONG = "load", "persist"
 LONG_WORDS = "run", "pipe"
 SHORT_FILE = 15 * 1024
