@@ -1,5 +1,5 @@
 -- Where the page of a session stands still, both sides are over.
-use Rattle.std.proofs.Common.{◌≡◌, ℕ, true, Bool, refl, sym, ap, ◌∙◌, subst, Some}
+use Rattle.std.proofs.Common.{◌≡◌, ℕ, true, false, Bool, refl, sym, ap, ◌∙◌, subst, Some}
 use Rattle.std.specs.Prelude.{if◌then◌else◌}
 use Rattle.ring_words.specs.declared.page.Role.{Role}
 use Rattle.ring_words.specs.declared.page.Role.TheVariants.{Server, Client}
@@ -15,7 +15,7 @@ use Rattle.qrexec_data.specs.Laws.{IsVersion}
 use Rattle.vchan_rule.specs.Seated.{SeatedEnd}
 use Rattle.vchan_lifecycle.specs.Lifecycle.{FindsNotYet}
 use Rattle.standstill_laws.specs.Page.{peer_of}
-use Rattle.standstill_laws.specs.Sessions.{IsGoneStill, CallIsQuiet, CallIsOver, ServingIsQuiet, ServingIsOver, NoSessionIsOpen}
+use Rattle.standstill_laws.specs.Sessions.{IsGoneStill, CallIsQuiet, CallIsOver, ServingIsQuiet, ServingIsOver, NoSessionIsOpen, PeerIsThere}
 use Rattle.standstill_laws.proofs.TurnLaws.{no-session-stands-still}
 
 -- a drain that finds nothing yet has found the peer here
@@ -60,3 +60,10 @@ no-session-is-open core calling serving c s lawful calling_is serving_is (CallIs
       caller_still = still;
       serving_still = still';
     }))
+
+pub peer-is-there : PeerIsThere
+peer-is-there core who before now lawful f still = by_flag (side_of core (peer_of who)).retired refl
+  where
+    by_flag : (b : Bool) → (side_of core (peer_of who)).retired ≡ b → b ≡ false
+    by_flag true is = absurd (not-retired core who before now lawful f still is)
+    by_flag false is = refl

@@ -1,21 +1,24 @@
 -- The two sides of a session whose page stands still.
 -- Source: this project's own.
-use Rattle.std.specs.Prelude.{◌≡◌, ◌≢◌, ℕ, true, None, Some}
+use Rattle.std.specs.Prelude.{◌≡◌, ◌≢◌, ℕ, true, false, None, Some}
 use Rattle.ring_words.specs.declared.page.Role.{Role}
 use Rattle.ring_words.specs.declared.page.Role.TheVariants.{Server, Client}
 use Rattle.vchan_protocol.specs.declared.call.EndState.TheVariants.{Shut}
 use Rattle.vchan_protocol.specs.Table.Ends.{peer_gone}
 use Rattle.vchan_protocol.specs.Answering.Loads.{Loads, loads_of}
-use Rattle.vchan_protocol.specs.History.Core.{Core, standing_of}
+use Rattle.vchan_protocol.specs.History.Core.{Core, side_of, standing_of}
 use Rattle.vchan_protocol.specs.Honest.Lawful.{Lawful}
 use Rattle.vchan_protocol.specs.Honest.RingLaw.{word_at}
 use Rattle.end_view.specs.EndView.{EndView}
+use Rattle.vchan_rule.specs.Seated.{SeatedEnd}
+use Rattle.vchan_lifecycle.specs.Lifecycle.{FindsNotYet}
 use Rattle.qrexec_data.specs.Laws.{IsVersion}
 use Rattle.channel_session.specs.declared.turned.Turned.TheVariants.{Quiet}
 use Rattle.channel_session.specs.Calling.{CallerAt, CallerTurns}
 use Rattle.channel_session.specs.Answering.{ServingAt, ServingTurns}
 use Rattle.data_slots.specs.Sessions.{Session, CallsWith, ServesWith, EndedWith, has_ended}
 use Rattle.data_slots.specs.Agreeing.{SessionStands}
+use Rattle.standstill_laws.specs.Page.{peer_of}
 use Rattle.standstill_laws.specs.Turns.{IsQuietStill}
 
 -- the gone word of the peer that a call loaded is that of the page
@@ -37,3 +40,9 @@ pub data ServingRests (core : Core) (version : ℕ) : Session → Type 0 where
 -- then both are over
 abbrev pub NoSessionIsOpen : Type 0
 NoSessionIsOpen = (core : Core) (calling serving : ℕ) (c s : Session) → Lawful core → IsVersion calling → IsVersion serving → CallerRests core calling c → ServingRests core serving s → (has_ended c ≡ true) × (has_ended s ≡ true)
+
+-- ---- the other side of any page
+
+-- where a drain found nothing yet, and that is still so, the peer isn't retired: so the channel of an agent is over once the broker is done
+abbrev pub PeerIsThere : Type 0
+PeerIsThere = (core : Core) (who : Role) (before now : SeatedEnd) → Lawful core → FindsNotYet before now → IsGoneStill core who (loads_of (standing_of before.side) now.side.trail) → (side_of core (peer_of who)).retired ≡ false

@@ -8,7 +8,7 @@ ghost use Rattle.standstill_laws.specs.Saying.{AgentsHaveSaidAll, BrokerHasSaidA
 ghost use Rattle.standstill_laws.specs.Letters.{AllAnswersAreSaid, AllAnswersAreHeard};
 ghost use Rattle.standstill_laws.specs.Answers.{EachTriggerIsAnswered, AllCallsAreAnswered};
 ghost use Rattle.standstill_laws.specs.Asking.{AgentsHaveAskedAll, NoSessionBegins};
-ghost use Rattle.standstill_laws.specs.Sessions.{NoSessionIsOpen};
+ghost use Rattle.standstill_laws.specs.Sessions.{NoSessionIsOpen, PeerIsThere};
 ghost use Rattle.standstill_laws.specs.Settling.{NoCallIsLive, AllAreSettled};
 ghost use Rattle.standstill_laws.specs.Order.{EndsComeInOrder};
 
@@ -78,6 +78,12 @@ pub fn all_calls_are_answered()
 /// a side that isn't retired across from it, and not both are open.
 pub fn no_session_is_open()
     ensures { NoSessionIsOpen }
+{}
+
+/// Where a drain found nothing yet, and the gone word that it loaded hasn't changed since, the peer isn't retired.
+/// So once the broker is done the channel of each agent is over, or its next drain finds that.
+pub fn peer_is_there()
+    ensures { PeerIsThere }
 {}
 
 /// An agent none of whose sessions is open, and whose next call isn't due, has asked for all its calls, each of
