@@ -11,3 +11,4 @@ mod OverLaws
 mod DoneLaws
 mod BeginLaws
 mod OrderLaws
+mod EarlyLaws

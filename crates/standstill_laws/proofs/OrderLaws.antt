@@ -3,6 +3,7 @@ use Rattle.std.proofs.Common.{◌≡◌, ◌≢◌, ℕ, ◌<◌, suc, List, [],
 use Rattle.std.specs.Prelude.{◌⊎◌, Bool, true, false, ◌==◌, ◌&&◌, ◌||◌, not, slice_index_or, filter_map, if◌then◌else◌}
 use Rattle.std.specs.List.{list_any, cons_option}
 use Rattle.std.proofs.lemmas.Bool.Decides.{nat_tests}
+use Rattle.std.proofs.lemmas.Slice.Eq.{bytes_eq-Decides}
 use Rattle.std.proofs.lemmas.List.Elements.{filter_map-append}
 use Rattle.qrexec_frame.specs.declared.message.Message.{Message}
 use Rattle.qrexec_frame.specs.declared.message.Message.TheVariants as message
@@ -21,13 +22,14 @@ use Rattle.call_broker.proofs.DroppedLaws.{any-append}
 use Rattle.call_broker.proofs.PortLaws.{ports-apart, port-names-pair}
 use Rattle.task_duties.specs.declared.place.PagePlace.TheVariants.{Payload}
 use Rattle.scenario_file.specs.declared.scenario.CallPlan.{CallPlan}
-use Rattle.task_duties.specs.Pairwise.{SomeOf}
 use Rattle.task_duties.specs.Places.{has_place, without}
-use Rattle.task_duties.specs.Words.{service_of_line}
+use Rattle.task_duties.specs.Words.{ident_of, service_of_line}
+use Rattle.task_duties.specs.Agent.Given.{AgentPlan}
 use Rattle.task_duties.specs.Agent.Answers.{Answer, Waits, IsRefused, At, Asked, Answers, waits_as, answered, serves, takes, takes_all, answers, nothing_heard}
 use Rattle.task_duties.specs.Broker.Outbox.{outbox}
 use Rattle.task_duties.proofs.Elements.{Has, Differ, each-at, has-append, has-filter_map}
 use Rattle.task_duties.proofs.OutboxLaw.{IsConnect, IsExec, put-by-entry}
+use Rattle.task_duties.proofs.ServedLaw.{and-parts}
 use Rattle.agent_task.specs.Ends.{session_of_answer, session_asked}
 use Rattle.standstill_laws.specs.Settling.{ended_port, EndsInOrder}
 use Rattle.standstill_laws.specs.Order.{IsReportOf, HasGrown, IsEmpty, HasMore, EndsComeInOrder}
@@ -36,19 +38,20 @@ use Rattle.standstill_laws.proofs.DoneLaws.{IsPortOf, or-right, self-number, por
 
 -- ---- a call that was let through was told so
 
-abbrev IsConnectTo : ℕ → ℕ → Message → Type 0
-IsConnectTo to port m = (ident : List ℕ) × (m ≡ message.Connect to port ident)
+-- each call that was let through was told so by its ident
+abbrev pub WasTold : List Message → Asked → Type 0
+WasTold heard a = (to port : ℕ) → a.answer ≡ At to port → Has heard (message.Connect to port (ident_of a.call.number))
 
-abbrev WasTold : List Message → Asked → Type 0
-WasTold heard a = (to port : ℕ) → a.answer ≡ At to port → SomeOf (IsConnectTo to port) heard
-
-told-answered : (heard : List Message) (ident : List ℕ) (answer : Answer) (asked : List Asked) → ((to port : ℕ) → answer ≡ At to port → SomeOf (IsConnectTo to port) heard) → Each (WasTold heard) asked → Each (WasTold heard) (answered ident answer asked)
+told-answered : (heard : List Message) (ident : List ℕ) (answer : Answer) (asked : List Asked) → ((to port : ℕ) → answer ≡ At to port → Has heard (message.Connect to port ident)) → Each (WasTold heard) asked
+    → Each (WasTold heard) (answered ident answer asked)
 told-answered heard ident answer [] told each = tt
-told-answered heard ident answer (a ∷ asked) told each = (by_wait (waits_as ident a), told-answered heard ident answer asked told each.1)
+told-answered heard ident answer (a ∷ asked) told each = (by_wait (waits_as ident a) refl, told-answered heard ident answer asked told each.1)
   where
-    by_wait : (b : Bool) → WasTold heard (if b then record { call = a.call; answer = answer } else a)
-    by_wait true = told
-    by_wait false = each.0
+    by_wait : (b : Bool) → waits_as ident a ≡ b → WasTold heard (if b then record { call = a.call; answer = answer } else a)
+    by_wait true waits =
+        let named : ident_of a.call.number ≡ ident = (bytes_eq-Decides (ident_of a.call.number) ident).0 (and-parts _ _ waits).0 in
+        λ to port is. subst (λ (w : List ℕ). Has heard (message.Connect to port w)) (sym named) (told to port is)
+    by_wait false waits = each.0
 
 told-takes : (heard : List Message) (d : ℕ) (a : Answers) (m : Message) → Has heard m → Each (WasTold heard) a.asked → Each (WasTold heard) (takes d a m).asked
 told-takes heard d a (message.Refused ident) there each = told-answered heard ident IsRefused a.asked (λ to port is. absurd (never to port is)) each
@@ -57,16 +60,11 @@ told-takes heard d a (message.Refused ident) there each = told-answered heard id
     never to port is = cc
 told-takes heard d a (message.Connect to port ident) there each = by_test (list_any (waits_as ident) a.asked && has_place (Payload d to port) a.unused)
   where
-    some : (xs : List Message) → Has xs (message.Connect to port ident) → SomeOf (IsConnectTo to port) xs
-    some [] h = absurd h
-    some (x ∷ xs) (inl h) = inl (ident, h)
-    some (x ∷ xs) (inr h) = inr (some xs h)
-
-    told : (to' port' : ℕ) → At to port ≡ At to' port' → SomeOf (IsConnectTo to' port') heard
+    told : (to' port' : ℕ) → At to port ≡ At to' port' → Has heard (message.Connect to' port' ident)
     told to' port' is =
         let one : to ≡ to' = cc in
         let two : port ≡ port' = cc in
-        subst (λ (x : ℕ). SomeOf (IsConnectTo x port') heard) one (subst (λ (x : ℕ). SomeOf (IsConnectTo to x) heard) two (some heard there))
+        subst (λ (x : ℕ). Has heard (message.Connect x port' ident)) one (subst (λ (x : ℕ). Has heard (message.Connect to x ident)) two there)
 
     by_test : (b : Bool) → Each (WasTold heard) (if b then record a { asked = answered ident (At to port) a.asked; unused = without (Payload d to port) a.unused } else a).asked
     by_test true = told-answered heard ident (At to port) a.asked told each
@@ -102,10 +100,13 @@ none-told heard (c ∷ calls) = (λ to port is. absurd (never to port is), none-
     never : (to port : ℕ) → Waits ≡ At to port → ⊥
     never to port is = cc
 
+pub was-told : (plan : AgentPlan) (heard : List Message) → Each (WasTold heard) (answers plan heard).asked
+was-told plan heard = told-all heard plan.domain (nothing_heard plan) heard (λ m h. h) (none-told heard plan.calls)
+
 -- ---- what is owed was let through
 
 -- some entry of a journal lets a call of the pair through at this port
-accepted-has : (f t p : ℕ) (journal : List Entry) (y : Entry) → Has journal y → port_in f t y.event y.decision ≡ Some p → has p (accepted_ports journal f t) ≡ true
+pub accepted-has : (f t p : ℕ) (journal : List Entry) (y : Entry) → Has journal y → port_in f t y.event y.decision ≡ Some p → has p (accepted_ports journal f t) ≡ true
 accepted-has f t p [] y there is = absurd there
 accepted-has f t p (x ∷ journal) y (inl here) is =
     subst (λ (o : Option ℕ). has p (cons_option o (accepted_ports journal f t)) ≡ true) (sym (ap (λ (z : Entry). port_in f t z.event z.decision) here ∙ is)) (ap (λ (b : Bool). b || has p (accepted_ports journal f t)) (self-number p))
@@ -132,7 +133,7 @@ exec-accepted hub journal d other port line there =
     accepted-has other d port journal put.one put.there
     (ap (λ (e : Event). port_in other d e put.one.decision) by.event ∙ (ap (λ (x : Decision). port_in other d (Trigger other by.target by.service by.ident) x) by.accepted ∙ own-port-in other d port by.target by.service by.ident))
 
-abbrev IsLetThrough : List Entry → ℕ → ℕ → ℕ → Type 0
+abbrev pub IsLetThrough : List Entry → ℕ → ℕ → ℕ → Type 0
 IsLetThrough journal d other port = (has port (accepted_ports journal d other) ≡ true) ⊎ (has port (accepted_ports journal other d) ≡ true)
 
 by-answer-at : (a : Asked) (other port : ℕ) → session_of_answer a.answer ≡ Some (other, port) → a.answer ≡ At other port
@@ -144,11 +145,6 @@ by-answer-at a other port is = by_answer a.answer refl is
     by_answer (At to p) same is =
         let pair : (to, p) ≡ (other, port) = cc in
         ap (λ (x : ℕ × ℕ). At x.0 x.1) pair
-
-connect-heard : (hub : Domains) (journal : List Entry) (d other port : ℕ) (heard : List Message) → Each (λ m. Has (outbox hub journal d) m) heard → SomeOf (IsConnectTo other port) heard → has port (accepted_ports journal d other) ≡ true
-connect-heard hub journal d other port [] put some = absurd some
-connect-heard hub journal d other port (m ∷ heard) put (inl here) = connect-accepted hub journal d other port here.0 (subst (λ (x : Message). Has (outbox hub journal d) x) here.1 put.0)
-connect-heard hub journal d other port (m ∷ heard) put (inr there) = connect-heard hub journal d other port heard put.1 there
 
 asked-accepted : (hub : Domains) (journal : List Entry) (d other port : ℕ) (m : Message) → Has (outbox hub journal d) m → session_asked m ≡ Some (other, port) → has port (accepted_ports journal other d) ≡ true
 asked-accepted hub journal d other port (message.Exec from p line) there is =
@@ -166,26 +162,27 @@ asked-accepted hub journal d other port (message.Stdout b) there is = cc
 asked-accepted hub journal d other port (message.Stderr b) there is = cc
 asked-accepted hub journal d other port (message.ExitCode c) there is = cc
 
-let-through : (hub : Domains) (journal : List Entry) (d other port : ℕ) → IsReportOf hub journal d other port → IsLetThrough journal d other port
+pub let-through : (hub : Domains) (journal : List Entry) (d other port : ℕ) → IsReportOf hub journal d other port → IsLetThrough journal d other port
 let-through hub journal d other port r = by_part (has-append (filter_map (λ a. session_of_answer a.answer) asked) (filter_map session_asked r.heard) (other, port) r.owed)
   where
     asked : List Asked
     asked = (answers r.plan r.heard).asked
 
     told : Each (WasTold r.heard) asked
-    told = told-all r.heard r.plan.domain (nothing_heard r.plan) r.heard (λ m h. h) (none-told r.heard r.plan.calls)
+    told = was-told r.plan r.heard
 
     by_part : Has (filter_map (λ a. session_of_answer a.answer) asked) (other, port) ⊎ Has (filter_map session_asked r.heard) (other, port) → IsLetThrough journal d other port
     by_part (inl own) =
         let one = has-filter_map (λ (a : Asked). session_of_answer a.answer) asked (other, port) own in
-        inl (connect-heard hub journal d other port r.heard r.put (each-at (WasTold r.heard) asked one.one told one.there other port (by-answer-at one.one other port one.is)))
+        let connect = each-at (WasTold r.heard) asked one.one told one.there other port (by-answer-at one.one other port one.is) in
+        inl (connect-accepted hub journal d other port (ident_of one.one.call.number) (each-at (λ m. Has (outbox hub journal d) m) r.heard (message.Connect other port (ident_of one.one.call.number)) r.put connect))
     by_part (inr served) =
         let one = has-filter_map session_asked r.heard (other, port) served in
         inr (asked-accepted hub journal d other port one.one (each-at (λ m. Has (outbox hub journal d) m) r.heard one.one r.put one.there) one.is)
 
 -- ---- its pair is the one that its end names
 
-same-ordered : (a b f t : ℕ) → Ordered a b ≡ Ordered f t → (a ≡ f) × (b ≡ t)
+pub same-ordered : (a b f t : ℕ) → Ordered a b ≡ Ordered f t → (a ≡ f) × (b ≡ t)
 same-ordered a b f t is = (cc, cc)
 
 named-pair : (hub : Domains) (f t d other port : ℕ) → belongs hub (Ordered f t) (Terminated d other port) ≡ true → by_port d other port ≡ Ordered f t
@@ -214,7 +211,7 @@ each-index : (P : ℕ → Type 0) (xs : List ℕ) → ((k : ℕ) → k < length 
 each-index P [] go = tt
 each-index P (x ∷ xs) go = (go 0 (omega arith), each-index P xs (λ k less. go (suc k) (omega (arith, less))))
 
-differ-from : (xs : List ℕ) → ((i j : ℕ) → i < j → j < length xs → slice_index_or xs i 0 ≢ slice_index_or xs j 0) → Differ xs
+pub differ-from : (xs : List ℕ) → ((i j : ℕ) → i < j → j < length xs → slice_index_or xs i 0 ≢ slice_index_or xs j 0) → Differ xs
 differ-from [] apart = tt
 differ-from (x ∷ xs) apart = (each-index (λ y. x ≢ y) xs (λ k less. apart 0 (suc k) (omega arith) (omega (arith, less))), differ-from xs (λ i j before less. apart (suc i) (suc j) (omega (arith, before)) (omega (arith, less))))
 

@@ -10,7 +10,7 @@ ghost use Rattle.standstill_laws.specs.Answers.{EachTriggerIsAnswered, AllCallsA
 ghost use Rattle.standstill_laws.specs.Asking.{AgentsHaveAskedAll, NoSessionBegins};
 ghost use Rattle.standstill_laws.specs.Sessions.{NoSessionIsOpen, PeerIsThere};
 ghost use Rattle.standstill_laws.specs.Settling.{NoCallIsLive, AllAreSettled};
-ghost use Rattle.standstill_laws.specs.Order.{EndsComeInOrder};
+ghost use Rattle.standstill_laws.specs.Order.{EndsComeInOrder, NoneIsEarly, AgentsHearInOrder};
 
 /// If both ends of a page between honest ends drained it and found nothing, and no index changed since, then
 /// each has got all that the other sent, and no room that a write, a send or a look lacked is still lacking. A
@@ -110,6 +110,19 @@ pub fn no_call_is_live()
 /// had heard, and if all of that was in the outbox of its domain before the turn.
 pub fn ends_come_in_order()
     ensures { EndsComeInOrder }
+{}
+
+/// No agent reports the end of a session before it asked for the call, if the broker had let the call through by
+/// then, in a journal each of whose triggers of the domain was sent before.
+pub fn none_is_early()
+    ensures { NoneIsEarly }
+{}
+
+/// An agent that heard just what the broker's journal puts into its outbox, each message at an end of its own, with
+/// as many answers by each ident as it sent triggers, hears in order: no two messages name one end, and no end
+/// was reported before its call was asked for, if each was sent after the broker had let the call through.
+pub fn agents_hear_in_order()
+    ensures { AgentsHearInOrder }
 {}
 
 /// Where the agent of each domain has asked for all its calls, heard all that the broker's journal puts into the
