@@ -27,8 +27,14 @@ use Rattle.task_duties.specs.Broker.Owes.{broker_version}
 use Rattle.vchan_rule.specs.Seated.{view}
 use Rattle.control_port.specs.Talking.{may_hear}
 use Rattle.control_port.specs.declared.talk.Talker.{Talker}
-use Rattle.standstill_laws.specs.Control.{Hears}
-use Rattle.standstill_laws.specs.Letters.{IsAtRest}
+use Rattle.ring_words.specs.declared.page.Role.TheVariants.{Server, Client}
+use Rattle.control_port.specs.Port.{PortState}
+use Rattle.control_port.specs.declared.talk.Talker.TheVariants.{Agent, Broker}
+use Rattle.broker_task.specs.Letters.{IsAt}
+use Rattle.broker_task.specs.Lines.{is_shut}
+use Rattle.broker_task.specs.Moving.{BrokerLine}
+use Rattle.standstill_laws.specs.Control.{Hears, Talks}
+use Rattle.standstill_laws.specs.Letters.{IsAtRest, AreAtRest, IsPortOf}
 use Rattle.standstill_laws.specs.Answers.{asks, is_trigger, is_answer, EachTriggerIsAnswered, AllCallsAreAnswered}
 use Rattle.standstill_laws.proofs.ControlLaws.{all-is-heard}
 use Rattle.standstill_laws.proofs.LetterLaws.{all-answers-are-heard}
@@ -213,23 +219,28 @@ asks-counts w d (m ∷ messages) = by_message m (asks-counts w d messages)
     by_message (message.Stderr b) rest = rest ∙ sym (count-same (is_trigger w) (message.Stderr b) messages refl)
     by_message (message.ExitCode c) rest = rest ∙ sym (count-same (is_trigger w) (message.ExitCode c) messages refl)
 
-pub all-calls-are-answered : AllCallsAreAnswered
-all-calls-are-answered hub journal said lines decided holds kept rest place line at up there a b said_a heard_a heard_b port own attended talks_a talks_b name =
+-- the broker has read all that the agent of a domain sent
+pub broker-reads : (hub : Domains) (journal : List Entry) (said : ℕ → List Message) (lines : List BrokerLine) (rest : AreAtRest lines) (place : ℕ) (line : BrokerLine) (at : IsAt lines place line) (up : is_shut (view line.end).state ≡ false)
+    → (a b : PortState) (said_a heard_a heard_b : List Message) → IsPortOf line b → b.own ≡ broker_version → Talks (rest place line at up).core Server Agent a said_a heard_a → Talks (rest place line at up).core Client Broker b (said (place + 1)) heard_b
+    → (hears broker_version to_broker (view b.end).got).messages ≡ said_a
+broker-reads hub journal said lines rest place line at up a b said_a heard_a heard_b port own talks_a talks_b =
     let r : IsAtRest line = rest place line at up in
-    let d : ℕ = place + 1 in
-    let hears_all = all-is-heard r.core a b said_a heard_a (said d) heard_b r.page.lawful r.page.server_found r.page.client_found talks_a talks_b in
-    let answers_are = all-answers-are-heard hub journal said lines holds kept rest place line at up a b said_a heard_a heard_b port talks_a talks_b in
-    let replies : count_by (is_answer name) heard_a ≡ count_by (is_answer name) (outbox hub journal d) = sym (sum_by-IsPermutation (λ (m : Message). cond (is_answer name m) 1 0) heard_a (outbox hub journal d) answers_are) in
-    let whole : heard_b ≡ said_a = by_greeted a.greeted hears_all.0 r.greets in
-    let heard : (hears broker_version to_broker (view b.end).got).messages ≡ heard_b =
+    let hears_all = all-is-heard r.core a b said_a heard_a (said (place + 1)) heard_b r.page.lawful r.page.server_found r.page.client_found talks_a talks_b in
     ap (λ (n : ℕ). (hears n to_broker (view b.end).got).messages) (sym own)
     ∙ ap (λ (t : Talker). (hears b.own (may_hear t) (view b.end).got).messages) (sym talks_b.talker_is)
-    ∙ ap (λ (h : Heard). h.messages) talks_b.hears in
-    let asked : count_by (asks name) (read_from journal d) ≡ count_by (is_trigger name) said_a =
-    ap (count_by (asks name)) attended.reads ∙ asks-counts name d (hears broker_version to_broker (view b.end).got).messages ∙ ap (count_by (is_trigger name)) (heard ∙ whole) in
-    replies ∙ each-trigger-is-answered hub journal d name decided there ∙ asked
+    ∙ (ap (λ (h : Heard). h.messages) talks_b.hears ∙ by_greeted a.greeted hears_all.0 r.greets)
   where
     by_greeted : (g : Bool) → Hears g a b said_a heard_b → IsSome line.version → heard_b ≡ said_a
     by_greeted true hears some = hears.0
     by_greeted false hears some =
         let none : IsSome {T = ℕ} None = subst (λ (o : Option ℕ). IsSome o) (sym port.version ∙ hears.1) some in cc none
+
+pub all-calls-are-answered : AllCallsAreAnswered
+all-calls-are-answered hub journal said lines decided holds kept rest place line at up there a b said_a heard_a heard_b port own attended talks_a talks_b name =
+    let d : ℕ = place + 1 in
+    let answers_are = all-answers-are-heard hub journal said lines holds kept rest place line at up a b said_a heard_a heard_b port talks_a talks_b in
+    let replies : count_by (is_answer name) heard_a ≡ count_by (is_answer name) (outbox hub journal d) = sym (sum_by-IsPermutation (λ (m : Message). cond (is_answer name m) 1 0) heard_a (outbox hub journal d) answers_are) in
+    let asked : count_by (asks name) (read_from journal d) ≡ count_by (is_trigger name) said_a =
+    ap (count_by (asks name)) attended.reads ∙ asks-counts name d (hears broker_version to_broker (view b.end).got).messages
+    ∙ ap (count_by (is_trigger name)) (broker-reads hub journal said lines rest place line at up a b said_a heard_a heard_b port own talks_a talks_b) in
+    replies ∙ each-trigger-is-answered hub journal d name decided there ∙ asked

@@ -12,3 +12,4 @@ mod DoneLaws
 mod BeginLaws
 mod OrderLaws
 mod EarlyLaws
+mod StandstillLaws

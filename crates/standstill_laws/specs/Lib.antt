@@ -9,3 +9,4 @@ pub mod Asking
 pub mod Settling
 pub mod Sessions
 pub mod Order
+pub mod Standstill

@@ -10,6 +10,7 @@ ghost use Rattle.standstill_laws.specs.Answers.{EachTriggerIsAnswered, AllCallsA
 ghost use Rattle.standstill_laws.specs.Asking.{AgentsHaveAskedAll, NoSessionBegins};
 ghost use Rattle.standstill_laws.specs.Sessions.{NoSessionIsOpen, PeerIsThere};
 ghost use Rattle.standstill_laws.specs.Settling.{NoCallIsLive, AllAreSettled};
+ghost use Rattle.standstill_laws.specs.Standstill.{RunsDoNotStandStill, NoAgentIsLeft};
 ghost use Rattle.standstill_laws.specs.Order.{EndsComeInOrder, NoneIsEarly, AgentsHearInOrder};
 
 /// If both ends of a page between honest ends drained it and found nothing, and no index changed since, then
@@ -131,6 +132,20 @@ pub fn agents_hear_in_order()
 /// at a port after the end of a session there was read.
 pub fn all_are_settled()
     ensures { AllAreSettled }
+{}
+
+/// A run of honest domains doesn't stand still before its broker is done. Where the broker said nothing to any
+/// domain, no agent said anything though it might have asked for a call, no session moved anything, and what all
+/// of them found is still so, all domains are settled; a broker's task goes on only while they aren't. None was
+/// dropped, and messages were sent and read in the order in which tasks do so.
+pub fn runs_do_not_stand_still()
+    ensures { RunsDoNotStandStill }
+{}
+
+/// Once the broker is done no agent is left: one whose sessions rest is done, or its next drain finds that its
+/// channel is over.
+pub fn no_agent_is_left()
+    ensures { NoAgentIsLeft }
 {}
 
 /// Pages that stand still exist, whatever their orders: one that was just opened, by what a drain of it loads.

@@ -1,0 +1,130 @@
+-- A run of honest domains doesn't stand still before the broker is done.
+use Rattle.std.proofs.Common.{◌≡◌, ℕ, ◌+◌, ◌-◌, ◌<◌, ◌≤◌, true, false, List, [], ◌∷◌, refl, ap, sym, ◌∙◌, subst, inl, inr, arith, Option}
+use Rattle.std.specs.Prelude.{◌⊎◌, nat_le, filter_map, IsSomeAnd, IsPermutation}
+use Rattle.std.proofs.lemmas.Bool.Decides.{nat_tests}
+use Rattle.ring_words.specs.declared.page.Role.TheVariants.{Server}
+use Rattle.vchan_protocol.specs.History.Core.{Core}
+use Rattle.qrexec_frame.specs.declared.message.Message.{Message}
+use Rattle.qrexec_frame.specs.Streams.{Each}
+use Rattle.qrexec_data.specs.Laws.{IsVersion}
+use Rattle.call_broker.specs.declared.decision.Entry.{Entry}
+use Rattle.call_broker.specs.Domains.{Domains, is_domain, count_of}
+use Rattle.call_broker.specs.Journal.{IsJournal, is_dropped}
+use Rattle.call_broker.proofs.OpenLaws.{both}
+use Rattle.task_duties.specs.Broker.Outbox.{outbox, event_of}
+use Rattle.control_port.specs.declared.talk.Talker.TheVariants.{Agent}
+use Rattle.call_queue.specs.Queue.{IsHeld}
+use Rattle.data_slots.specs.Sessions.{Session, NotBegun, CallsWith, AwaitsPage, ServesWith, EndedWith, is_open, has_ended, session_at}
+use Rattle.agent_control.specs.declared.control.AgentControl.{AgentControl}
+use Rattle.agent_task.specs.State.{AgentState, IsChannelOf, IsOpenSession, answers_so_far}
+use Rattle.broker_task.specs.Moving.{BrokerLine}
+use Rattle.broker_task.specs.Holding.{HoldsForExecs, NoneIsLost}
+use Rattle.standstill_laws.specs.Control.{Talks}
+use Rattle.standstill_laws.specs.Letters.{AreAtRest}
+use Rattle.standstill_laws.specs.Asking.{heard_so_far, HearsInOrder, HasAskedAll}
+use Rattle.standstill_laws.specs.Settling.{IsDone}
+use Rattle.standstill_laws.specs.Standstill.{SessionRests, IsShut, AsCaller, AsServing, AgentRests, DomainRests, RunsDoNotStandStill, NoAgentIsLeft}
+use Rattle.standstill_laws.proofs.SayingLaws.{agents-have-said-all}
+use Rattle.standstill_laws.proofs.LetterLaws.{all-answers-are-said, all-answers-are-heard}
+use Rattle.standstill_laws.proofs.AnswerLaws.{all-calls-are-answered, broker-reads}
+use Rattle.standstill_laws.proofs.OverLaws.{no-session-is-open, peer-is-there}
+use Rattle.standstill_laws.proofs.AskingLaws.{agents-have-asked-all}
+use Rattle.standstill_laws.proofs.OrderLaws.{ends-come-in-order}
+use Rattle.standstill_laws.proofs.EarlyLaws.{agents-hear-in-order}
+use Rattle.standstill_laws.proofs.DoneLaws.{all-are-settled}
+
+-- ---- sessions
+
+ended-shut : (s : Session) → has_ended s ≡ true → is_open s ≡ false
+ended-shut NotBegun is = refl
+ended-shut (CallsWith at) is = cc
+ended-shut AwaitsPage is = cc
+ended-shut (ServesWith at) is = cc
+ended-shut (EndedWith end) is = refl
+
+rests-shut : (version : ℕ) (s : Session) → IsVersion version → SessionRests version s → is_open s ≡ false
+rests-shut version s own (IsShut is) = is
+rests-shut version s own (AsCaller core other peer lawful theirs mine yours) = ended-shut s (no-session-is-open core version other s peer lawful own theirs mine yours).0
+rests-shut version s own (AsServing core other peer lawful theirs yours mine) = ended-shut s (no-session-is-open core other version peer s lawful theirs own yours mine).1
+
+none-opened : (task : AgentState) (opened : List (ℕ × ℕ)) → Each (IsOpenSession task) opened → ((i : ℕ) → is_open (session_at task.sessions i) ≡ false) → opened ≡ []
+none-opened task [] each shut = refl
+none-opened task (s ∷ opened) each shut = let bad : true ≡ false = sym each.0.is_open ∙ shut each.0.at in cc
+
+-- ---- one domain
+
+done : (hub : Domains) (awaited : List ℕ) (journal : List Entry) (said : ℕ → List Message) (lines : List BrokerLine) → IsJournal hub journal → ((d : ℕ) → is_dropped journal d ≡ false) → HoldsForExecs lines → NoneIsLost hub journal said lines
+    → (rest : AreAtRest lines) (place : ℕ) → DomainRests hub awaited journal said lines rest place → IsDone hub awaited journal said (place + 1)
+done hub awaited journal said lines decided up holds kept rest place r = record {
+  calls = r.task.plan.calls;
+  count = r.count;
+  sent = sent;
+  heard = heard;
+  asked = (answers_so_far r.task).asked;
+  triggers = all.asked;
+  told = all.told;
+  hears = hears;
+  reads = r.attended.reads ∙ ap (filter_map (event_of (place + 1))) (broker-reads hub journal said lines rest place r.line r.there r.up a.channel.port r.port sent heard r.heard r.port_is r.own talks r.talks);
+  all_said = (all-answers-are-said hub journal said lines holds kept rest place r.line r.there r.up).1;
+}
+  where
+    core : Core
+    core = (rest place r.line r.there r.up).core
+
+    a : AgentRests hub journal core r.task
+    a = r.agent
+
+    sent : List Message
+    sent = a.tells.once.said
+
+    heard : List Message
+    heard = heard_so_far r.task
+
+    channel : IsChannelOf r.task sent a.channel
+    channel = subst (λ (o : Option AgentControl). IsSomeAnd o (IsChannelOf r.task sent)) a.channel_is a.tells.acts.channel
+
+    talks : Talks core Server Agent a.channel.port sent heard
+    talks = record { end = a.end; talker_is = channel.talker; own = subst IsVersion (sym channel.own) a.tells.acts.version; says = channel.says; hears = channel.hears }
+
+    hears : IsPermutation heard (outbox hub journal (place + 1))
+    hears = all-answers-are-heard hub journal said lines holds kept rest place r.line r.there r.up a.channel.port r.port sent heard r.heard r.port_is talks r.talks
+
+    in_order : HearsInOrder r.task sent
+    in_order =
+        agents-hear-in-order hub journal r.task a.tells a.channel a.channel_is decided a.differ (subst (λ (d : ℕ). IsPermutation heard (outbox hub journal d)) (sym r.domain) hears) a.given
+        (all-calls-are-answered hub journal said lines decided holds kept rest place r.line r.there r.up (up (place + 1)) a.channel.port r.port sent heard r.heard r.port_is r.own r.attended talks r.talks) a.order
+
+    said_all : (a.channel.unsaid.items ≡ []) × (IsHeld a.channel.queue ⊎ (a.channel.queue.next ≡ a.before.queue.next + a.calls))
+    said_all = agents-have-said-all core a.calls a.before a.channel (rest place r.line r.there r.up).page a.stops a.still
+
+    held : IsHeld a.channel.queue ⊎ (a.channel.queue.next ≡ a.before.queue.next + a.calls) → IsHeld a.channel.queue
+    held (inl is) = is
+    held (inr more) = absurd (omega (arith, more, a.none_asked, a.some))
+
+    shut : r.task.opened ≡ []
+    shut = none-opened r.task r.task.opened a.tells.acts.opened (λ i. rests-shut r.task.plan.version (session_at r.task.sessions i) a.tells.acts.version (a.sessions i))
+
+    all : HasAskedAll r.task sent
+    all = agents-have-asked-all r.task a.tells a.channel a.channel_is a.up shut said_all.0 (held said_all.1) a.differ in_order
+
+-- ---- the law
+
+pub runs-do-not-stand-still : RunsDoNotStandStill
+runs-do-not-stand-still hub awaited journal said lines decided grown up holds kept rest domains =
+    all-are-settled hub awaited journal said decided up (λ f t. ends-come-in-order hub journal f t decided grown) each
+  where
+    each : (d : ℕ) → is_domain hub d ≡ true → IsDone hub awaited journal said d
+    each d there =
+        let parts = both (nat_le 1 d) (nat_le d (count_of hub)) there in
+        let least : 1 ≤ d = grind (arith, nat_tests, parts.0) in
+        let most : d ≤ count_of hub = grind (arith, nat_tests, parts.1) in
+        let number : (d - 1) + 1 ≡ d = omega (arith, least) in
+        let less : d - 1 < count_of hub = omega (arith, least, most) in
+        subst (λ (n : ℕ). IsDone hub awaited journal said n) number (done hub awaited journal said lines decided up holds kept rest (d - 1) (domains (d - 1) less))
+
+pub no-agent-is-left : NoAgentIsLeft
+no-agent-is-left core task left (inl up) =
+    let here : core.client.retired ≡ false = peer-is-there core Server left.before left.now left.lawful (left.waits up) left.still in
+    let bad : true ≡ false = sym left.retired ∙ here in
+    cc
+no-agent-is-left core task left (inr some) = some (none-opened task task.opened left.tells.acts.opened (λ i. rests-shut task.plan.version (session_at task.sessions i) left.tells.acts.version (left.sessions i)))
