@@ -13,3 +13,4 @@ mod BeginLaws
 mod OrderLaws
 mod EarlyLaws
 mod StandstillLaws
+mod CountingLaws

@@ -10,3 +10,4 @@ pub mod Settling
 pub mod Sessions
 pub mod Order
 pub mod Standstill
+pub mod Counting

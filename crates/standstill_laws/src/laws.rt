@@ -11,6 +11,7 @@ ghost use Rattle.standstill_laws.specs.Asking.{AgentsHaveAskedAll, NoSessionBegi
 ghost use Rattle.standstill_laws.specs.Sessions.{NoSessionIsOpen, PeerIsThere};
 ghost use Rattle.standstill_laws.specs.Settling.{NoCallIsLive, AllAreSettled};
 ghost use Rattle.standstill_laws.specs.Standstill.{RunsDoNotStandStill, NoAgentIsLeft};
+ghost use Rattle.standstill_laws.specs.Counting.{TurnsAreBounded};
 ghost use Rattle.standstill_laws.specs.Order.{EndsComeInOrder, NoneIsEarly, AgentsHearInOrder};
 
 /// If both ends of a page between honest ends drained it and found nothing, and no index changed since, then
@@ -146,6 +147,12 @@ pub fn runs_do_not_stand_still()
 /// channel is over.
 pub fn no_agent_is_left()
     ensures { NoAgentIsLeft }
+{}
+
+/// If there aren't so many turns in a row that all did nothing, all turns are fewer than that number times one more
+/// than what the tasks have done in the end.
+pub fn turns_are_bounded()
+    ensures { TurnsAreBounded }
 {}
 
 /// Pages that stand still exist, whatever their orders: one that was just opened, by what a drain of it loads.
