@@ -14,3 +14,4 @@ mod OrderLaws
 mod EarlyLaws
 mod StandstillLaws
 mod CountingLaws
+mod KeepingLaws

@@ -11,3 +11,4 @@ pub mod Sessions
 pub mod Order
 pub mod Standstill
 pub mod Counting
+pub mod Keeping

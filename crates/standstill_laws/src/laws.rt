@@ -11,6 +11,7 @@ ghost use Rattle.standstill_laws.specs.Asking.{AgentsHaveAskedAll, NoSessionBegi
 ghost use Rattle.standstill_laws.specs.Sessions.{NoSessionIsOpen, PeerIsThere};
 ghost use Rattle.standstill_laws.specs.Settling.{NoCallIsLive, AllAreSettled};
 ghost use Rattle.standstill_laws.specs.Standstill.{RunsDoNotStandStill, NoAgentIsLeft};
+ghost use Rattle.standstill_laws.specs.Keeping.{FindingsStay};
 ghost use Rattle.standstill_laws.specs.Counting.{TurnsAreBounded};
 ghost use Rattle.standstill_laws.specs.Order.{EndsComeInOrder, NoneIsEarly, AgentsHearInOrder};
 
@@ -147,6 +148,12 @@ pub fn runs_do_not_stand_still()
 /// channel is over.
 pub fn no_agent_is_left()
     ensures { NoAgentIsLeft }
+{}
+
+/// What a call found is still so as long as nothing came or went on the page and no end was opened, shut or retired,
+/// whatever else its ends did.
+pub fn findings_stay()
+    ensures { FindingsStay }
 {}
 
 /// If there aren't so many turns in a row that all did nothing, all turns are fewer than that number times one more
