@@ -4,36 +4,25 @@ use Rattle.std.specs.Prelude.{◌⊎◌, Bool, true, false, map, is_some, not, n
 use Rattle.std.specs.Slice.{IsItemAt}
 use Rattle.std.specs.Option.{option_copied}
 use Rattle.std.proofs.lemmas.List.{append-nil, length-map, map-append}
+use Rattle.std.specs.List.{AllByRecursion as Each}
+use Rattle.list_laws.specs.Lists.{SomeOf}
+use Rattle.list_laws.proofs.Places.{get-map-back, get-within}
+use Rattle.list_laws.proofs.Each.{each-append, each-push, some-get}
 use Rattle.qrexec_frame.specs.declared.message.Message.{Message}
 use Rattle.qrexec_frame.specs.declared.message.Message.TheVariants as m
-use Rattle.qrexec_frame.specs.Streams.{Each}
 use Rattle.vchan_rule.specs.Ends.{IsSameEnd}
 use Rattle.scenario_file.specs.declared.scenario.CallPlan.{CallPlan}
-use Rattle.task_duties.specs.Pairwise.{SomeOf}
+use Rattle.task_duties.specs.declared.done.SessionEnd.{SessionEnd}
 use Rattle.task_duties.specs.Words.{ident_of}
 use Rattle.task_duties.specs.Agent.Answers.{Answer, Asked}
 use Rattle.task_duties.specs.Agent.Saying.{asking, AsksToServe, is_at, is_refusal, IsOfVersion, IsTold}
 use Rattle.call_queue.specs.Queue.{Queued, QueueState, asked_as, asked_by, IsDue, HasToSay, trigger_of, after_trigger, IsConnectedAt}
 use Rattle.call_queue.specs.Asking.{Asks}
-use Rattle.call_queue.proofs.Places.{map-got, map-set-same, get-within}
+use Rattle.call_queue.proofs.Places.{map-set-same}
 use Rattle.call_queue.proofs.AskingLaws.{asks-stranger}
 use Rattle.control_port.specs.Port.{PortState}
 use Rattle.agent_control.specs.declared.control.AgentControl.{AgentControl}
-use Rattle.agent_control.specs.declared.control.SessionEnd.{SessionEnd}
 use Rattle.agent_control.specs.Speaking.{MayTell, IsTellable, HasCall, Speaks, CanSpeak, StaysOpen, IsAskedNow, OpenAfter, SaysMore, Tells, Says, IsSpoken, terminated}
-
-each-more : {A : Type 0} (P : A → Type 0) (xs : List A) (x : A) → Each P xs → P x → Each P (xs ++ x ∷ [])
-each-more P [] x each last = (last, tt)
-each-more P (y ∷ xs) x each last = (each.0, each-more P xs x each.1 last)
-
-each-both : {A : Type 0} (P : A → Type 0) (xs ys : List A) → Each P xs → Each P ys → Each P (xs ++ ys)
-each-both P [] ys a b = b
-each-both P (x ∷ xs) ys a b = (a.0, each-both P xs ys a.1 b)
-
-some-at : {A : Type 0} (P : A → Type 0) (xs : List A) (i : ℕ) (x : A) → slice_get xs i ≡ Some x → P x → SomeOf P xs
-some-at P [] i x is h = cc
-some-at {A} P (y ∷ xs) zero x is h = let same : y ≡ x = cc in inl (subst P (sym same) h)
-some-at P (y ∷ xs) (suc i) x is h = inr (some-at P xs i x is h)
 
 -- ---- which calls are open
 
@@ -67,7 +56,7 @@ open-then told told' a b c more further p q place x at is = by_last (q place x a
       was = r.was;
       answer_is = r.answer_is ∙ s.answer_is;
       was_open = r.was_open;
-      untold = each-both (λ (e : SessionEnd). e.call ≢ Some place) told told' r.untold s.untold;
+      untold = each-append (λ (e : SessionEnd). e.call ≢ Some place) told told' r.untold s.untold;
     })
     by_first s (inr late) = inr (record { from = late.from; below = omega (arith, late.below, further); unrefused = subst (λ (y : Answer). is_refusal y ≡ false) s.answer_is late.unrefused })
 
@@ -196,7 +185,7 @@ spoken-then n k told mid told' rest more more' split (inr none) p q =
       is = ap (λ l. l ++ more') p.is
           ∙ (ap (λ l. (map terminated told ++ p.triggers) ++ l) (q.is ∙ ap (λ l. map terminated l ++ q.triggers) empty.0)
           ∙ (append_assoc (map terminated told) p.triggers q.triggers ∙ ap (λ l. map terminated l ++ (p.triggers ++ q.triggers)) (sym (ap (λ l. told ++ l) empty.0 ∙ append-nil told))));
-      each = each-both (λ m. is_some (asking m) ≡ true) p.triggers q.triggers p.each q.each;
+      each = each-append (λ m. is_some (asking m) ≡ true) p.triggers q.triggers p.each q.each;
       few = omega (arith, p.few, q.few, length-append p.triggers q.triggers);
       last = inr empty.1;
     }
@@ -260,8 +249,8 @@ goes old mid queue w heard said s asked asks version told h =
     record {
       said_is = s.said_is said h.said_is;
       asks = asks;
-      of_version = each-more (IsOfVersion mid.port.version) said w (subst (λ v. Each (IsOfVersion v) said) (sym s.version) h.of_version) version;
-      told = each-more (IsTold (asked_by queue) heard) said w (subst (λ l. Each (IsTold l heard) said) (sym same) h.told) told;
+      of_version = each-push (IsOfVersion mid.port.version) said w (subst (λ v. Each (IsOfVersion v) said) (sym s.version) h.of_version) version;
+      told = each-push (IsTold (asked_by queue) heard) said w (subst (λ l. Each (IsTold l heard) said) (sym same) h.told) told;
       unsaid = subst (λ u. Each (IsTellable (asked_by queue) heard) u.items) (sym s.unsaid) (subst (λ l. Each (IsTellable l heard) old.unsaid.items) (sym same) h.unsaid);
     }
 
@@ -304,11 +293,11 @@ tells-own old mid queue e place own within end s is asks =
         → Speaks (record mid { queue = queue }) heard (said ++ m.Terminated e.domain e.port ∷ [])
     told heard said h same may =
         let here : slice_get (asked_by mid.queue) place ≡ Some may.0 = ap (λ q. slice_get (asked_by q) place) s.queue ∙ may.1 in
-        let got = map-got asked_as mid.queue.calls place may.0 here in
+        let got = get-map-back asked_as mid.queue.calls place may.0 here in
         let connected : IsConnectedAt mid.queue place e.domain e.port = (got.0, got.1, ap (λ (a : Asked). is_at e.domain e.port a.answer) got.2 ∙ may.2) in
         let there : slice_get (asked_by queue) place ≡ Some may.0 = ap (λ l. slice_get l place) same ∙ here in
         goes old mid queue (m.Terminated e.domain e.port) heard said s same (asks said e.domain e.port connected (subst (λ q. Asks q said) (sym s.queue) h.asks)) tt
-        (inl (some-at (λ (a : Asked). is_at e.domain e.port a.answer ≡ true) (asked_by queue) place may.0 there may.2)) h
+        (inl (some-get (λ (a : Asked). is_at e.domain e.port a.answer ≡ true) (asked_by queue) place may.0 there may.2)) h
 
 -- ---- a trigger
 

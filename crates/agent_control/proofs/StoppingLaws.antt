@@ -1,25 +1,18 @@
 -- What an agent's last call found, after the calls before it.
-use Rattle.std.proofs.Common.{◌≡◌, ℕ, ◌+◌, List, [], ◌∷◌, length, ◌<◌, refl, sym, ap, ◌∙◌, inl, inr, arith, Option, Some, None, Bor, subst}
+use Rattle.std.proofs.Common.{◌≡◌, ℕ, ◌+◌, List, [], ◌∷◌, length, ◌<◌, refl, sym, ap, ◌∙◌, inl, inr, Some, subst}
 use Rattle.std.specs.Prelude.{◌⊎◌, ◌==◌, Bool, true, false, slice_get, slice_set}
-use Rattle.std.specs.Slice.{IsItemAt}
-use Rattle.std.specs.Option.{option_copied}
+use Rattle.list_laws.proofs.Places.{get-within}
 use Rattle.vchan_rule.specs.Seated.{SeatedEnd}
 use Rattle.vchan_rule.specs.Ends.{IsSameEnd}
+use Rattle.vchan_rule.proofs.EndLaws.{same-end-then}
 use Rattle.vchan_packet.specs.Packet.{FailsToSend}
 use Rattle.qrexec_frame.specs.declared.message.Message.{Message}
 use Rattle.qrexec_frame.specs.Messages.{written}
+use Rattle.task_duties.specs.declared.done.SessionEnd.{SessionEnd}
 use Rattle.call_queue.specs.Queue.{Queued, QueueState, HasToSay, HasToSayOfLen}
-use Rattle.call_queue.proofs.Places.{get-within}
 use Rattle.agent_control.specs.declared.control.AgentControl.{AgentControl}
-use Rattle.agent_control.specs.declared.control.SessionEnd.{SessionEnd}
 use Rattle.agent_control.specs.Speaking.{Says, terminated}
 use Rattle.agent_control.specs.Stopping.{FindsLess, EndWaits, TriggerWaits, HoldsBack, NothingIsDue, HasLessRoom, DidNotGo, Stops, AtAnEnd, AtTheLimit, AtATrigger, Unless}
-
--- no end is borrowed of none
-pub none-of : (items : List SessionEnd) (o : Option (Bor SessionEnd)) → IsItemAt items 0 o → option_copied o ≡ None → items ≡ []
-none-of [] o item none = refl
-none-of (y ∷ items) None item none = absurd (omega (arith, item.3))
-none-of (y ∷ items) (Some x) item none = cc
 
 -- a queue with a length has ends in it
 pub some-wait : (len : ℕ) (items : List SessionEnd) (empty : Bool) → len ≡ length items → empty ≡ (len == 0) → empty ≡ false → items ≡ [] → ⊥
@@ -65,16 +58,13 @@ did-not-go old mid w version v says due fails =
 
 -- ---- after other calls
 
-same-after : (a b c : SeatedEnd) → IsSameEnd a b → IsSameEnd b c → IsSameEnd a c
-same-after a b c one two = (two.0 ∙ one.0, two.1 ∙ one.1, two.2 ∙ one.2, two.3 ∙ one.3)
-
 pub waits-after : (a b c : AgentControl) → IsSameEnd a.port.end b.port.end → EndWaits b c → EndWaits a c
 waits-after a b c same w = record {
   end = w.end;
   waiting = w.waiting;
   first = w.first;
   before = w.before;
-  same = same-after a.port.end b.port.end w.before same w.same;
+  same = same-end-then a.port.end b.port.end w.before same w.same;
   fails = w.fails;
 }
 
@@ -90,7 +80,7 @@ trigger-after a b c Finds same w = record {
   trigger = w.trigger;
   due = w.due;
   before = w.before;
-  same = same-after a.port.end b.port.end w.before same w.same;
+  same = same-end-then a.port.end b.port.end w.before same w.same;
   finds = w.finds;
 }
 

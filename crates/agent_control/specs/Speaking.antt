@@ -1,12 +1,13 @@
 -- What an agent sends on its control channel: its port and the queue of its calls, tied to the messages that were sent and heard.
 -- Source: the messages are those of the qrexec protocol; the order and the limit are this project's own.
 use Rattle.std.specs.Prelude.{◌≡◌, ◌≢◌, ◌⊎◌, ℕ, ◌<◌, ◌≤◌, Bool, true, false, List, [], ◌∷◌, ◌++◌, length, map, slice_get, Option, Some, None, is_some, if◌then◌else◌}
+use Rattle.std.specs.List.{AllByRecursion as Each}
+use Rattle.list_laws.specs.Lists.{SomeOf}
 use Rattle.qrexec_frame.specs.declared.message.Message.{Message}
 use Rattle.qrexec_frame.specs.declared.message.Message.TheVariants.{Terminated}
-use Rattle.qrexec_frame.specs.Streams.{Each}
 use Rattle.vchan_rule.specs.Seated.{view, IsOpen}
 use Rattle.vchan_rule.specs.Ends.{IsSameEnd}
-use Rattle.task_duties.specs.Pairwise.{SomeOf}
+use Rattle.task_duties.specs.declared.done.SessionEnd.{SessionEnd}
 use Rattle.task_duties.specs.Agent.Answers.{Answer, Asked}
 use Rattle.task_duties.specs.Agent.Saying.{asking, is_at, is_refusal, IsOfVersion, IsTold, AsksToServe}
 use Rattle.control_port.specs.Port.{PortState, HasSaid, HasHeard, OnlySends}
@@ -14,7 +15,6 @@ use Rattle.control_port.specs.declared.talk.Talker.TheVariants.{Agent}
 use Rattle.call_queue.specs.Queue.{Queued, QueueState, asked_by}
 use Rattle.call_queue.specs.Asking.{Asks}
 use Rattle.agent_control.specs.declared.control.AgentControl.{AgentControl}
-use Rattle.agent_control.specs.declared.control.SessionEnd.{SessionEnd}
 
 -- an end of a session that may be reported: of a call of the agent's own with that domain and port, or of what it was asked to serve
 abbrev pub MayTell : List Asked → List Message → Option ℕ → ℕ → ℕ → Type 0
@@ -68,13 +68,13 @@ pub record StaysOpen (told : List SessionEnd) (old : QueueState) (place : ℕ) (
   pub was_open : call.is_open ≡ true
   pub untold : Each (λ e. e.call ≢ Some place) told
 
--- the call at a place was asked for now, and hadn't been refused
+-- the call at a place is one of those asked for, and hadn't been refused
 pub record IsAskedNow (old new : QueueState) (place : ℕ) (answer : Answer) : Type 0 where
   pub from : old.next ≤ place
   pub below : place < new.next
   pub unrefused : is_refusal answer ≡ false
 
--- which calls are open once these ends were reported and then triggers were sent: those that were open and whose end wasn't reported, and those that were asked for now and weren't refused before
+-- which calls are open once these ends were reported and then triggers were sent: those that were open and whose end wasn't reported, and those that it has asked for since and weren't refused before
 abbrev pub OpenAfter : List SessionEnd → QueueState → QueueState → Type 0
 OpenAfter told old new =
     (place : ℕ) (c : Queued) → slice_get new.calls place ≡ Some c → c.is_open ≡ true → StaysOpen told old place c.answer ⊎ IsAskedNow old new place c.answer

@@ -2,17 +2,7 @@
 use call_queue::CallQueue;
 use control_port::ControlPort;
 use std::collections::VecDeque;
-
-/// The end of a session, as MSG_CONNECTION_TERMINATED reports it to the broker.
-#[derive(Clone, Copy, Debug, PartialEq, Eq)]
-pub struct SessionEnd {
-    /// The domain at the other end.
-    pub domain: u32,
-    /// The port of the session.
-    pub port: u32,
-    /// Which of the agent's own calls it is, counted from 0, or `None` if the agent served it.
-    pub call: Option<usize>,
-}
+use task_duties::SessionEnd;
 
 /// An agent's port, the queue of its calls, and the ends of sessions that it has to report.
 #[derive(Drop)]

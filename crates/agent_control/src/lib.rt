@@ -9,4 +9,4 @@
 mod control;
 mod speech;
 
-pub use control::{AgentControl, SessionEnd};
+pub use control::AgentControl;

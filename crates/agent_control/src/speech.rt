@@ -10,9 +10,10 @@ ghost use Rattle.call_queue.specs.Queue.{asked_by};
 ghost use Rattle.agent_control.specs.Speaking.{CanSpeak, HasCall, SaysMore, Tells, Says, terminated};
 ghost use Rattle.agent_control.specs.Stopping.{FindsLess, EndWaits, HoldsBack, Stops, Unless};
 
-use crate::control::{AgentControl, SessionEnd};
+use crate::control::AgentControl;
 use qrexec_frame::Message;
 use std::alloc::Global;
+use task_duties::SessionEnd;
 use vchan_io::Memory;
 use vchan_packet::SendAnswer;
 

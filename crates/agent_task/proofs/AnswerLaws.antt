@@ -1,19 +1,21 @@
 -- What an answer makes of the calls and of their sessions.
 use Rattle.std.proofs.Common.{◌≡◌, ℕ, zero, suc, List, [], ◌∷◌, ◌++◌, refl, ap, sym, ◌∙◌, Some, None, subst}
 use Rattle.std.specs.Prelude.{Bool, true, false, map, slice_get, slice_set, if◌then◌else◌, ◌||◌, bytes_eq}
-use Rattle.std.specs.List.{list_any}
+use Rattle.std.specs.List.{list_any, AllByRecursion as Each}
 use Rattle.std.proofs.lemmas.Slice.Eq.{bytes_eq-Decides}
+use Rattle.std.proofs.lemmas.Bool.{and_parts}
+use Rattle.list_laws.specs.Lists.{AreDifferent}
+use Rattle.list_laws.proofs.Places.{get-map}
+use Rattle.list_laws.proofs.Each.{each-get}
+use Rattle.list_laws.proofs.Tests.{other-bytes}
 use Rattle.qrexec_frame.specs.declared.message.Message.{Message}
-use Rattle.qrexec_frame.specs.Streams.{Each}
 use Rattle.scenario_file.specs.declared.scenario.CallPlan.{CallPlan}
 use Rattle.task_duties.specs.Words.{ident_of}
 use Rattle.task_duties.specs.Agent.Answers.{Answer, Waits, IsRefused, At, Asked, Answers, waits, waits_as, answered, takes, takes_all}
 use Rattle.task_duties.specs.Agent.Saying.{is_refusal}
-use Rattle.call_queue.specs.Queue.{Queued, QueueState, asked_as, asked_by, answered_call, AreDifferent}
-use Rattle.call_queue.proofs.Places.{map-get, each-at}
+use Rattle.call_queue.specs.Queue.{Queued, QueueState, asked_as, asked_by, answered_call}
 use Rattle.agent_task.specs.declared.given.Given.{Given}
 use Rattle.agent_task.specs.Standing.{called_by, called_of, AreCallsOf}
-use Rattle.agent_task.proofs.ListLaws.{and-parts}
 
 -- one message after the others
 pub takes-last : (d : ℕ) (ms : List Message) (m : Message) (a : Answers) → takes_all d a (ms ++ m ∷ []) ≡ takes d (takes_all d a ms) m
@@ -64,15 +66,8 @@ called-refused ident [] = refl
 called-refused ident (a ∷ asked) = λ i. by_wait (waits_as ident a) refl i ∷ called-refused ident asked i
   where
     by_wait : (b : Bool) → waits_as ident a ≡ b → called_of (if b then record { call = a.call; answer = IsRefused } else a) ≡ called_of a
-    by_wait true is = sym (waits-none a.call a.answer (and-parts _ _ is).1)
+    by_wait true is = sym (waits-none a.call a.answer (and_parts _ _ is).1)
     by_wait false is = refl
-
-other-bytes : (xs ys : List ℕ) → (xs ≡ ys → ⊥) → bytes_eq xs ys ≡ false
-other-bytes xs ys apart = by_test (bytes_eq xs ys) refl
-  where
-    by_test : (b : Bool) → bytes_eq xs ys ≡ b → bytes_eq xs ys ≡ false
-    by_test true is = absurd (apart ((bytes_eq-Decides xs ys).0 is))
-    by_test false is = is
 
 abbrev pub asked_ident : Asked → List ℕ
 asked_ident a = ident_of a.call.number
@@ -84,7 +79,7 @@ not-answered ident answer (a ∷ asked) apart =
     rw other (ap (λ r. a ∷ r) (not-answered ident answer asked apart.1))
 
 pub named : (ident : List ℕ) (a : Asked) → waits_as ident a ≡ true → asked_ident a ≡ ident
-named ident a w = (bytes_eq-Decides (asked_ident a) ident).0 (and-parts (bytes_eq (asked_ident a) ident) (waits a.answer) w).0
+named ident a w = (bytes_eq-Decides (asked_ident a) ident).0 (and_parts (bytes_eq (asked_ident a) ident) (waits a.answer) w).0
 
 -- an answer with a port gives the one call of the ident a session
 pub called-answered : (ident : List ℕ) (to port : ℕ) (asked : List Asked) (place : ℕ) (a : Asked) → AreDifferent (map asked_ident asked) → slice_get asked place ≡ Some a → waits_as ident a ≡ true
@@ -97,7 +92,7 @@ called-answered ident to port (x ∷ asked) zero a apart is w =
     ap (λ l. map called_of l) (sym (not-answered ident (At to port) asked (subst (λ n. Each (λ j. n ≡ j → ⊥) (map asked_ident asked)) (named ident x w') apart.0))) in
     rw w' (ap (λ (y : Asked). Some (record { to = to; port = port; input = y.call.stdin }) ∷ map called_of asked) (sym same) ∙ ap (λ r. called_by x.call (At to port) ∷ r) rest)
 called-answered ident to port (x ∷ asked) (suc i) a apart is w =
-    let apart-x : asked_ident x ≡ ident → ⊥ = λ e. each-at (λ j. asked_ident x ≡ j → ⊥) (map asked_ident asked) i (asked_ident a) apart.0 (map-get asked_ident asked i a is) (e ∙ sym (named ident a w)) in
+    let apart-x : asked_ident x ≡ ident → ⊥ = λ e. each-get (λ j. asked_ident x ≡ j → ⊥) (map asked_ident asked) i (asked_ident a) apart.0 (get-map asked_ident asked i a is) (e ∙ sym (named ident a w)) in
     rw (other-bytes (asked_ident x) ident apart-x) (ap (λ r. called_of x ∷ r) (called-answered ident to port asked i a apart.1 is w))
 
 -- if a call waits as an ident, then some call does

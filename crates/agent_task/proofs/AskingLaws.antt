@@ -1,27 +1,26 @@
 -- Which calls of an agent are open, through each step.
 use Rattle.std.proofs.Common.{◌≡◌, ℕ, ◌<◌, ◌≤◌, zero, suc, List, [], ◌∷◌, ◌++◌, length, refl, ap, sym, ◌∙◌, subst, inl, inr, arith, append_assoc, Some, None, Option}
 use Rattle.std.specs.Prelude.{◌⊎◌, Bool, true, false, ◌==◌, ◌||◌, map, filter_map, slice_get, IsPermutation, if◌then◌else◌}
-use Rattle.std.specs.List.{list_any}
+use Rattle.std.specs.List.{list_any, AllByRecursion as Each}
 use Rattle.std.proofs.lemmas.Bool.Decides.{nat_tests}
 use Rattle.std.proofs.lemmas.List.{append-nil, length-take}
 use Rattle.std.proofs.lemmas.List.Elements.{filter_map-append}
 use Rattle.std.proofs.lemmas.List.Sorted.{list_any-IsPermutation}
+use Rattle.std.proofs.lemmas.Bool.{and_parts}
+use Rattle.list_laws.specs.Lists.{SomeOf, AreDifferent}
+use Rattle.list_laws.proofs.Places.{get-map, get-map-back}
+use Rattle.list_laws.proofs.Each.{each-get, some-append, some-push, each-front}
+use Rattle.list_laws.proofs.Tests.{same-number}
 use Rattle.qrexec_frame.specs.declared.message.Message.{Message}
 use Rattle.qrexec_frame.specs.declared.message.Message.TheVariants.{Terminated}
-use Rattle.qrexec_frame.specs.Streams.{Each}
 use Rattle.scenario_file.specs.declared.scenario.CallPlan.{CallPlan}
-use Rattle.task_duties.specs.Pairwise.{SomeOf}
+use Rattle.task_duties.specs.declared.done.SessionEnd.{SessionEnd}
 use Rattle.task_duties.specs.Agent.Answers.{Answer, Waits, IsRefused, At, Asked, waits, waits_as}
 use Rattle.task_duties.specs.Agent.Saying.{asking, asking_of, is_at, is_refusal}
-use Rattle.call_queue.specs.Queue.{Queued, QueueState, asked_as, asked_by, fresh, answered_call, after_answer, IsWaitingAt, AreDifferent}
+use Rattle.call_queue.specs.Queue.{Queued, QueueState, asked_as, asked_by, fresh, answered_call, after_answer, IsWaitingAt}
 use Rattle.call_queue.specs.Asking.{Asks}
-use Rattle.call_queue.proofs.Places.{map-get, map-got, each-at}
-use Rattle.data_slots.specs.declared.done.SessionOver.{SessionOver}
-use Rattle.agent_control.specs.declared.control.SessionEnd.{SessionEnd}
 use Rattle.agent_control.specs.Speaking.{IsTellable, IsSpoken, MayTell, StaysOpen, IsAskedNow, OpenAfter, terminated}
 use Rattle.agent_task.specs.Asking.{IsUnderWay, IsReported, IsReportedEarly, CallStands, CallsStand}
-use Rattle.agent_task.specs.Standing.{end_of}
-use Rattle.agent_task.proofs.ListLaws.{and-parts, some-more, some-last}
 use Rattle.agent_task.proofs.AnswerLaws.{asked_ident, named}
 
 -- ---- some elements
@@ -55,18 +54,11 @@ none-has P [] each h = h
 none-has P (x ∷ xs) each (inl h) = each.0 h
 none-has P (x ∷ xs) each (inr h) = none-has P xs each.1 h
 
-each-first : {A : Type 0} (P : A → Type 0) (xs ys : List A) → Each P (xs ++ ys) → Each P xs
-each-first P [] ys each = tt
-each-first P (x ∷ xs) ys each = (each.0, each-first P xs ys each.1)
-
 -- ---- sessions of a call
 
 abbrev is_number : ℕ → Option ℕ → Bool
 is_number place (Some n) = n == place
 is_number place None = false
-
-same-number : (i j : ℕ) → (i == j) ≡ true → i ≡ j
-same-number i j h = grind (arith, nat_tests, h)
 
 number-is : (place : ℕ) (o : Option ℕ) → is_number place o ≡ true → o ≡ Some place
 number-is place (Some n) is = ap (λ (m : ℕ). Some m) (same-number n place is)
@@ -75,36 +67,36 @@ number-is place None is = cc
 number-self : (place : ℕ) (o : Option ℕ) → o ≡ Some place → is_number place o ≡ true
 number-self place o is = ap (is_number place) is ∙ grind (arith, nat_tests)
 
-some-numbered : (place : ℕ) (opened : List SessionOver) → SomeOf (λ o. o.number ≡ Some place) opened → list_any (λ o. is_number place o.number) opened ≡ true
+some-numbered : (place : ℕ) (opened : List SessionEnd) → SomeOf (λ o. o.call ≡ Some place) opened → list_any (λ o. is_number place o.call) opened ≡ true
 some-numbered place [] h = absurd h
-some-numbered place (o ∷ opened) (inl h) = rw (number-self place o.number h) refl
-some-numbered place (o ∷ opened) (inr h) = by_test (is_number place o.number) (some-numbered place opened h)
+some-numbered place (o ∷ opened) (inl h) = rw (number-self place o.call h) refl
+some-numbered place (o ∷ opened) (inr h) = by_test (is_number place o.call) (some-numbered place opened h)
   where
-    by_test : (b : Bool) → list_any (λ o. is_number place o.number) opened ≡ true → (b || list_any (λ o. is_number place o.number) opened) ≡ true
+    by_test : (b : Bool) → list_any (λ o. is_number place o.call) opened ≡ true → (b || list_any (λ o. is_number place o.call) opened) ≡ true
     by_test true more = refl
     by_test false more = more
 
-numbered-some : (place : ℕ) (opened : List SessionOver) → list_any (λ o. is_number place o.number) opened ≡ true → SomeOf (λ o. o.number ≡ Some place) opened
+numbered-some : (place : ℕ) (opened : List SessionEnd) → list_any (λ o. is_number place o.call) opened ≡ true → SomeOf (λ o. o.call ≡ Some place) opened
 numbered-some place [] h = cc
-numbered-some place (o ∷ opened) h = by_test (is_number place o.number) refl h (numbered-some place opened)
+numbered-some place (o ∷ opened) h = by_test (is_number place o.call) refl h (numbered-some place opened)
   where
-    by_test : (b : Bool) → is_number place o.number ≡ b → (b || list_any (λ o. is_number place o.number) opened) ≡ true
-        → (list_any (λ o. is_number place o.number) opened ≡ true → SomeOf (λ o. o.number ≡ Some place) opened) → SomeOf (λ o. o.number ≡ Some place) (o ∷ opened)
-    by_test true is h more = inl (number-is place o.number is)
+    by_test : (b : Bool) → is_number place o.call ≡ b → (b || list_any (λ o. is_number place o.call) opened) ≡ true
+        → (list_any (λ o. is_number place o.call) opened ≡ true → SomeOf (λ o. o.call ≡ Some place) opened) → SomeOf (λ o. o.call ≡ Some place) (o ∷ opened)
+    by_test true is h more = inl (number-is place o.call is)
     by_test false is h more = inr (more h)
 
 -- in another order
-still-numbered : (place : ℕ) (xs ys : List SessionOver) → IsPermutation ys xs → SomeOf (λ o. o.number ≡ Some place) xs → SomeOf (λ o. o.number ≡ Some place) ys
-still-numbered place xs ys p h = numbered-some place ys (list_any-IsPermutation (λ o. is_number place o.number) ys xs p ∙ some-numbered place xs h)
+still-numbered : (place : ℕ) (xs ys : List SessionEnd) → IsPermutation ys xs → SomeOf (λ o. o.call ≡ Some place) xs → SomeOf (λ o. o.call ≡ Some place) ys
+still-numbered place xs ys p h = numbered-some place ys (list_any-IsPermutation (λ o. is_number place o.call) ys xs p ∙ some-numbered place xs h)
 
 -- ---- more sessions
 
-pub calls-opened : (q : QueueState) (unsaid : List SessionEnd) (opened more : List SessionOver) (said : List Message) → CallsStand q unsaid opened said → CallsStand q unsaid (opened ++ more) said
+pub calls-opened : (q : QueueState) (unsaid opened more : List SessionEnd) (said : List Message) → CallsStand q unsaid opened said → CallsStand q unsaid (opened ++ more) said
 calls-opened q unsaid opened more said stand place c there = ((stand place c there).0, by_answer c.answer (stand place c there).1)
   where
     under : IsUnderWay unsaid opened place → IsUnderWay unsaid (opened ++ more) place
     under (inl e) = inl e
-    under (inr o) = inr (some-more (λ o. o.number ≡ Some place) opened more o)
+    under (inr o) = inr (some-append (λ o. o.call ≡ Some place) opened more o)
 
     by_answer : (x : Answer) → CallStands unsaid opened said place c.is_open x → CallStands unsaid (opened ++ more) said place c.is_open x
     by_answer Waits h = tt
@@ -113,36 +105,33 @@ calls-opened q unsaid opened more said stand place c there = ((stand place c the
     by_answer (At to port) (inr h) = inr h
 
 -- sessions are over, and are to be reported
-pub calls-over : (q : QueueState) (unsaid : List SessionEnd) (opened opened' over : List SessionOver) (said : List Message) → IsPermutation (over ++ opened') opened → CallsStand q unsaid opened said
-    → CallsStand q (unsaid ++ map end_of over) opened' said
+pub calls-over : (q : QueueState) (unsaid opened opened' over : List SessionEnd) (said : List Message) → IsPermutation (over ++ opened') opened → CallsStand q unsaid opened said
+    → CallsStand q (unsaid ++ over) opened' said
 calls-over q unsaid opened opened' over said p stand place c there = ((stand place c there).0, by_answer c.answer (stand place c there).1)
   where
-    P : SessionOver → Type 0
-    P o = o.number ≡ Some place
+    P : SessionEnd → Type 0
+    P o = o.call ≡ Some place
 
-    Q : SessionEnd → Type 0
-    Q e = e.call ≡ Some place
-
-    of_opened : SomeOf P over ⊎ SomeOf P opened' → IsUnderWay (unsaid ++ map end_of over) opened' place
-    of_opened (inl o) = inl (some-after Q unsaid (map end_of over) (some-mapped P Q end_of over (λ o is. is) o))
+    of_opened : SomeOf P over ⊎ SomeOf P opened' → IsUnderWay (unsaid ++ over) opened' place
+    of_opened (inl o) = inl (some-after P unsaid over o)
     of_opened (inr o) = inr o
 
-    under : IsUnderWay unsaid opened place → IsUnderWay (unsaid ++ map end_of over) opened' place
-    under (inl e) = inl (some-more Q unsaid (map end_of over) e)
+    under : IsUnderWay unsaid opened place → IsUnderWay (unsaid ++ over) opened' place
+    under (inl e) = inl (some-append P unsaid over e)
     under (inr o) = of_opened (some-split P over opened' (still-numbered place opened (over ++ opened') p o))
 
-    by_answer : (x : Answer) → CallStands unsaid opened said place c.is_open x → CallStands (unsaid ++ map end_of over) opened' said place c.is_open x
+    by_answer : (x : Answer) → CallStands unsaid opened said place c.is_open x → CallStands (unsaid ++ over) opened' said place c.is_open x
     by_answer Waits h = tt
     by_answer IsRefused h = h
     by_answer (At to port) (inl h) = inl (under h)
     by_answer (At to port) (inr h) = inr h
 
 -- an end is to be reported of what isn't served
-pub calls-unserved : (q : QueueState) (unsaid more : List SessionEnd) (opened : List SessionOver) (said : List Message) → CallsStand q unsaid opened said → CallsStand q (unsaid ++ more) opened said
+pub calls-unserved : (q : QueueState) (unsaid more opened : List SessionEnd) (said : List Message) → CallsStand q unsaid opened said → CallsStand q (unsaid ++ more) opened said
 calls-unserved q unsaid more opened said stand place c there = ((stand place c there).0, by_answer c.answer (stand place c there).1)
   where
     under : IsUnderWay unsaid opened place → IsUnderWay (unsaid ++ more) opened place
-    under (inl e) = inl (some-more (λ e. e.call ≡ Some place) unsaid more e)
+    under (inl e) = inl (some-append (λ e. e.call ≡ Some place) unsaid more e)
     under (inr o) = inr o
 
     by_answer : (x : Answer) → CallStands unsaid opened said place c.is_open x → CallStands (unsaid ++ more) opened said place c.is_open x
@@ -159,22 +148,22 @@ one-waits ident [] i j a b apart ai bj wa wb = cc
 one-waits ident (x ∷ asked) zero zero a b apart ai bj wa wb = refl
 one-waits ident (x ∷ asked) zero (suc j) a b apart ai bj wa wb =
     let same : x ≡ a = cc in
-    absurd (each-at (λ k. asked_ident x ≡ k → ⊥) (map asked_ident asked) j (asked_ident b) apart.0 (map-get asked_ident asked j b bj) (ap asked_ident same ∙ (named ident a wa ∙ sym (named ident b wb))))
+    absurd (each-get (λ k. asked_ident x ≡ k → ⊥) (map asked_ident asked) j (asked_ident b) apart.0 (get-map asked_ident asked j b bj) (ap asked_ident same ∙ (named ident a wa ∙ sym (named ident b wb))))
 one-waits ident (x ∷ asked) (suc i) zero a b apart ai bj wa wb =
     let same : x ≡ b = cc in
-    absurd (each-at (λ k. asked_ident x ≡ k → ⊥) (map asked_ident asked) i (asked_ident a) apart.0 (map-get asked_ident asked i a ai) (ap asked_ident same ∙ (named ident b wb ∙ sym (named ident a wa))))
+    absurd (each-get (λ k. asked_ident x ≡ k → ⊥) (map asked_ident asked) i (asked_ident a) apart.0 (get-map asked_ident asked i a ai) (ap asked_ident same ∙ (named ident b wb ∙ sym (named ident a wa))))
 one-waits ident (x ∷ asked) (suc i) (suc j) a b apart ai bj wa wb = ap suc (one-waits ident asked i j a b apart.1 ai bj wa wb)
 
 -- a call is let through
-pub calls-called : (q : QueueState) (ident : List ℕ) (to port place : ℕ) (unsaid : List SessionEnd) (opened : List SessionOver) (said : List Message) → AreDifferent (map asked_ident (asked_by q)) → IsWaitingAt q place ident
-    → CallsStand q unsaid opened said → CallsStand (after_answer q ident (At to port)) unsaid (opened ++ record { domain = to; port = port; number = Some place } ∷ []) said
+pub calls-called : (q : QueueState) (ident : List ℕ) (to port place : ℕ) (unsaid opened : List SessionEnd) (said : List Message) → AreDifferent (map asked_ident (asked_by q)) → IsWaitingAt q place ident
+    → CallsStand q unsaid opened said → CallsStand (after_answer q ident (At to port)) unsaid (opened ++ record { domain = to; port = port; call = Some place } ∷ []) said
 calls-called q ident to port place unsaid opened said apart waiting stand at x there = by_wait (waits_as ident (asked_as c)) refl got.2
   where
-    more : List SessionOver
-    more = opened ++ record { domain = to; port = port; number = Some place } ∷ []
+    more : List SessionEnd
+    more = opened ++ record { domain = to; port = port; call = Some place } ∷ []
 
     got : (c : Queued) × (slice_get q.calls at ≡ Some c) × (answered_call ident (At to port) c ≡ x)
-    got = map-got (answered_call ident (At to port)) q.calls at x there
+    got = get-map-back (answered_call ident (At to port)) q.calls at x there
 
     c : Queued
     c = got.0
@@ -185,17 +174,17 @@ calls-called q ident to port place unsaid opened said apart waiting stand at x t
     by_wait : (b : Bool) → waits_as ident (asked_as c) ≡ b → (if b then record { call = c.call; answer = At to port; is_open = (if is_refusal (At to port) then false else c.is_open) } else c) ≡ x → Goal x
     by_wait true waits is =
         let here : place ≡ at =
-        one-waits ident (asked_by q) place at (asked_as waiting.0) (asked_as c) apart (map-get asked_as q.calls place waiting.0 waiting.1) (map-get asked_as q.calls at c got.1) waiting.2 waits in
+        one-waits ident (asked_by q) place at (asked_as waiting.0) (asked_as c) apart (get-map asked_as q.calls place waiting.0 waiting.1) (get-map asked_as q.calls at c got.1) waiting.2 waits in
         subst Goal is
-        ((stand at c got.1).0, inl (inr (some-last (λ (o : SessionOver). o.number ≡ Some at) opened (record { domain = to; port = port; number = Some place }) (ap (λ (n : ℕ). Some n) here))))
-    by_wait false waits is = subst Goal is (calls-opened q unsaid opened (record { domain = to; port = port; number = Some place } ∷ []) said stand at c got.1)
+        ((stand at c got.1).0, inl (inr (some-push (λ (o : SessionEnd). o.call ≡ Some at) opened (record { domain = to; port = port; call = Some place }) (ap (λ (n : ℕ). Some n) here))))
+    by_wait false waits is = subst Goal is (calls-opened q unsaid opened (record { domain = to; port = port; call = Some place } ∷ []) said stand at c got.1)
 
 -- a call is refused
-pub calls-refused : (q : QueueState) (ident : List ℕ) (unsaid : List SessionEnd) (opened : List SessionOver) (said : List Message) → CallsStand q unsaid opened said → CallsStand (after_answer q ident IsRefused) unsaid opened said
+pub calls-refused : (q : QueueState) (ident : List ℕ) (unsaid opened : List SessionEnd) (said : List Message) → CallsStand q unsaid opened said → CallsStand (after_answer q ident IsRefused) unsaid opened said
 calls-refused q ident unsaid opened said stand at x there = by_wait (waits_as ident (asked_as c)) got.2
   where
     got : (c : Queued) × (slice_get q.calls at ≡ Some c) × (answered_call ident IsRefused c ≡ x)
-    got = map-got (answered_call ident IsRefused) q.calls at x there
+    got = get-map-back (answered_call ident IsRefused) q.calls at x there
 
     c : Queued
     c = got.0
@@ -211,9 +200,9 @@ calls-refused q ident unsaid opened said stand at x there = by_wait (waits_as id
     by_wait false is = subst Goal is (stand at c got.1)
 
 -- before anything is heard
-pub calls-fresh : (calls : List CallPlan) (unsaid : List SessionEnd) (opened : List SessionOver) (said : List Message) → CallsStand (record { calls = map fresh calls; next = 0 }) unsaid opened said
+pub calls-fresh : (calls : List CallPlan) (unsaid opened : List SessionEnd) (said : List Message) → CallsStand (record { calls = map fresh calls; next = 0 }) unsaid opened said
 calls-fresh calls unsaid opened said place x there =
-    let got = map-got fresh calls place x there in
+    let got = get-map-back fresh calls place x there in
     subst (λ (y : Queued). (y.is_open ≡ true → place < 0) × CallStands unsaid opened said place y.is_open y.answer) got.2 (λ bad. absurd (shut bad), tt)
   where
     shut : false ≡ true → ⊥
@@ -235,7 +224,7 @@ early-on said more place to port h = record {
 }
 
 at-parts : (d p to port : ℕ) → is_at d p (At to port) ≡ true → (d ≡ to) × (p ≡ port)
-at-parts d p to port h = let parts = and-parts (d == to) (p == port) h in (same-number d to parts.0, same-number p port parts.1)
+at-parts d p to port h = let parts = and_parts (d == to) (p == port) h in (same-number d to parts.0, same-number p port parts.1)
 
 -- the end of a session of a call is told by the answer to the call
 pub own-end : (asked : List Asked) (heard : List Message) (place : ℕ) (a : Asked) (e : SessionEnd) (to port : ℕ) → slice_get asked place ≡ Some a → a.answer ≡ At to port → e.call ≡ Some place → IsTellable asked heard e → (e.domain ≡ to) × (e.port ≡ port)
@@ -245,13 +234,13 @@ own-end asked heard place a e to port there is own tellable =
     let same : may.0 ≡ a = cc in
     at-parts e.domain e.port to port (ap (λ (x : Answer). is_at e.domain e.port x) (sym is) ∙ (ap (λ (b : Asked). is_at e.domain e.port b.answer) (sym same) ∙ may.2))
 
-pub calls-said : (old new : QueueState) (unsaid unsaid' told : List SessionEnd) (opened : List SessionOver) (heard said more : List Message) (calls : ℕ) → unsaid ≡ told ++ unsaid' → IsSpoken calls told unsaid' more → OpenAfter told old new
+pub calls-said : (old new : QueueState) (unsaid unsaid' told opened : List SessionEnd) (heard said more : List Message) (calls : ℕ) → unsaid ≡ told ++ unsaid' → IsSpoken calls told unsaid' more → OpenAfter told old new
     → asked_by new ≡ asked_by old → Each (IsTellable (asked_by old) heard) unsaid → Asks old said → old.next ≤ new.next → CallsStand old unsaid opened said → CallsStand new unsaid' opened (said ++ more)
 calls-said old new unsaid unsaid' told opened heard said more calls split spoken opens asked tellable asks later stand place x there = (λ open_is. asked-for (opens place x there open_is), by_answer x.answer refl)
   where
     -- the call as it was
     was : (c : Queued) × (slice_get old.calls place ≡ Some c) × (asked_as c ≡ asked_as x)
-    was = map-got asked_as old.calls place (asked_as x) (ap (λ l. slice_get l place) (sym asked) ∙ map-get asked_as new.calls place x there)
+    was = get-map-back asked_as old.calls place (asked_as x) (ap (λ l. slice_get l place) (sym asked) ∙ get-map asked_as new.calls place x there)
 
     same : was.0.answer ≡ x.answer
     same = ap (λ (a : Asked). a.answer) was.2
@@ -263,7 +252,7 @@ calls-said old new unsaid unsaid' told opened heard said more calls split spoken
     stood : (y : Answer) → x.answer ≡ y → CallStands unsaid opened said place was.0.is_open y
     stood y is = subst (λ (z : Answer). CallStands unsaid opened said place was.0.is_open z) (same ∙ is) (stand place was.0 was.1).1
 
-    -- no more triggers had been sent than there are calls before one that is asked for now
+    -- no more triggers had been sent than there are calls before one that was just asked for
     few : old.next ≤ place → length (filter_map asking said) ≤ place
     few late = omega (arith, late, ap length asks.asked, length-take old.next (map (λ c. asking_of c.call) old.calls))
 
@@ -287,13 +276,13 @@ calls-said old new unsaid unsaid' told opened heard said more calls split spoken
 
     own-message : (to port : ℕ) → x.answer ≡ At to port → (e : SessionEnd) → Own e × IsTellable (asked_by old) heard e → terminated e ≡ Terminated to port
     own-message to port is e h =
-        let parts = own-end (asked_by old) heard place (asked_as was.0) e to port (map-get asked_as old.calls place was.0 was.1) (same ∙ is) h.0 h.1 in
+        let parts = own-end (asked_by old) heard place (asked_as was.0) e to port (get-map asked_as old.calls place was.0 was.1) (same ∙ is) h.0 h.1 in
         ap (λ (d : ℕ). Terminated d e.port) parts.0 ∙ ap (λ (p : ℕ). Terminated to p) parts.1
 
     ended : (to port : ℕ) → x.answer ≡ At to port → SomeOf Own told → IsReported (map terminated told) to port
     ended to port is h =
         some-mapped (λ e. Own e × IsTellable (asked_by old) heard e) (λ m. m ≡ Terminated to port) terminated told (own-message to port is)
-        (some-each Own (IsTellable (asked_by old) heard) told (each-first (IsTellable (asked_by old) heard) told unsaid' (subst (λ l. Each (IsTellable (asked_by old) heard) l) split tellable)) h)
+        (some-each Own (IsTellable (asked_by old) heard) told (each-front (IsTellable (asked_by old) heard) told unsaid' (subst (λ l. Each (IsTellable (asked_by old) heard) l) split tellable)) h)
 
     now-early : (to port : ℕ) → IsReported (map terminated told) to port → StaysOpen told old place x.answer ⊎ IsAskedNow old new place x.answer → SomeOf Own told → IsReportedEarly (said ++ more) place to port
     now-early to port h (inl s) own = absurd (none-has Own told s.untold own)
@@ -317,7 +306,7 @@ calls-said old new unsaid unsaid' told opened heard said more calls split spoken
     in_unsaid to port is (inl e) =
         let there_now = ended to port is e in
         inr (
-          some-after (λ m. m ≡ Terminated to port) said more (subst (λ l. IsReported l to port) (sym spoken.is) (some-more (λ m. m ≡ Terminated to port) (map terminated told) spoken.triggers there_now)),
+          some-after (λ m. m ≡ Terminated to port) said more (subst (λ l. IsReported l to port) (sym spoken.is) (some-append (λ m. m ≡ Terminated to port) (map terminated told) spoken.triggers there_now)),
           λ open_is. now-early to port there_now (opens place x there open_is) e,
         )
     in_unsaid to port is (inr e) = inl (inl e)
@@ -325,7 +314,7 @@ calls-said old new unsaid unsaid' told opened heard said more calls split spoken
     let_through : (to port : ℕ) → x.answer ≡ At to port → CallStands unsaid opened said place was.0.is_open (At to port) → CallStands unsaid' opened (said ++ more) place x.is_open (At to port)
     let_through to port is (inl (inl e)) = in_unsaid to port is (some-split Own told unsaid' (subst (λ l. SomeOf Own l) split e))
     let_through to port is (inl (inr o)) = inl (inr o)
-    let_through to port is (inr h) = inr (some-more (λ m. m ≡ Terminated to port) said more h.0, λ open_is. still-early to port is h.0 h.1 (opens place x there open_is))
+    let_through to port is (inr h) = inr (some-append (λ m. m ≡ Terminated to port) said more h.0, λ open_is. still-early to port is h.0 h.1 (opens place x there open_is))
 
     by_answer : (y : Answer) → x.answer ≡ y → CallStands unsaid' opened (said ++ more) place x.is_open y
     by_answer Waits is = tt

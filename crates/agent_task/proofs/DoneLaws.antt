@@ -1,8 +1,10 @@
 -- What an agent that is done owes.
 use Rattle.std.proofs.Common.{◌≡◌, ℕ, zero, suc, List, [], ◌∷◌, ◌++◌, length, drop, length-append, append_assoc, refl, ap, sym, ◌∙◌, arith, Some, None, Option, subst}
-use Rattle.std.specs.Prelude.{Bool, true, false, map, filter_map, slice_get, if◌then◌else◌, ◌==◌}
+use Rattle.std.specs.Prelude.{Bool, true, false, map, filter_map, slice_get, if◌then◌else◌}
 use Rattle.std.proofs.lemmas.List.{length-map}
-use Rattle.qrexec_frame.specs.Streams.{Each, IsPrefixOf}
+use Rattle.std.specs.List.{AllByRecursion as Each, AllZip as EachPair}
+use Rattle.std.proofs.lemmas.Slice.Zip.{AllZip-long}
+use Rattle.list_laws.specs.Lists.{IsPrefixOf}
 use Rattle.vchan_rule.specs.Seated.{SeatedSide, view, last_view}
 use Rattle.vchan_rule.specs.Ends.{IsSameEnd as IsSameSeat}
 use Rattle.end_view.specs.EndView.{EndView}
@@ -14,12 +16,10 @@ use Rattle.task_duties.specs.declared.done.ServedDone.{ServedDone}
 use Rattle.task_duties.specs.declared.done.ControlEnd.{ControlEnd}
 use Rattle.task_duties.specs.declared.done.ControlEnd.TheVariants.{Fault}
 use Rattle.qrexec_data.specs.declared.fault.SessionFault.{SessionFault}
-use Rattle.task_duties.specs.declared.ends.DataEnd.{DataEnd}
-use Rattle.task_duties.specs.Pairwise.{EachPair}
 use Rattle.task_duties.specs.Places.{is_place}
 use Rattle.task_duties.specs.Hearing.{to_agent, to_broker, IsSaid, Heard, hears}
 use Rattle.task_duties.specs.TaskOwes.{EndAt, AreEnds, EndsOwed, AreGivenBack, places_in}
-use Rattle.task_duties.specs.GivenEnds.{all_retired, all_given}
+use Rattle.task_duties.specs.GivenEnds.{all_retired}
 use Rattle.task_duties.specs.Agent.Given.{AgentPlan}
 use Rattle.task_duties.specs.Agent.Answers.{Answer, Waits, IsRefused, At, Asked, Served, Answers, answers, answer_in}
 use Rattle.task_duties.specs.Agent.Saying.{asking, asking_of, IsOfVersion, KeepsTo, IsTold}
@@ -27,6 +27,7 @@ use Rattle.task_duties.specs.Agent.Sessions.{CallerOwes, IsService, ServingOwes}
 use Rattle.task_duties.specs.declared.done.CallDone.{CallDone}
 use Rattle.task_duties.specs.Agent.Owes.{AgentOwes, ReportsAnswer, ReportsCall, ReportsServed, ControlOver, heard_by, answers_of}
 use Rattle.task_duties.proofs.ServedLaw.{same-place}
+use Rattle.task_duties.proofs.Places.{same-self, no-control}
 use Rattle.control_port.specs.Port.{PortState}
 use Rattle.control_port.specs.Talking.{may_hear}
 use Rattle.control_port.specs.declared.talk.Talker.{Talker}
@@ -52,13 +53,6 @@ use Rattle.agent_task.specs.Owing.{IsOwed}
 unfoldable end_at : EndView → List EndAt → PagePlace → EndView
 end_at none [] place = none
 end_at none (e ∷ ends) place = if is_place e.place place then e.view else end_at none ends place
-
-same-numbers : (x : ℕ) → (x == x) ≡ true
-same-numbers x = grind arith
-
-same-self : (place : PagePlace) → is_place place place ≡ true
-same-self (Control d) = same-numbers d
-same-self (Payload f t p) = rw (same-numbers f, same-numbers t, same-numbers p) refl
 
 -- no place comes twice
 abbrev Differ : List PagePlace → Type 0
@@ -89,10 +83,6 @@ differ-places : (places : List PagePlace) → AreApart places → Differ places
 differ-places [] apart = tt
 differ-places (p ∷ places) apart =
     (not-there p places (λ j is. let e : 0 ≡ suc j = apart 0 (suc j) p refl is in absurd (omega arith)), differ-places places (λ i j q a b. let e : suc i ≡ suc j = apart (suc i) (suc j) q a b in omega arith))
-
-no-control : (d : ℕ) (ends : List DataEnd) → Each (λ q. is_place (Control d) q ≡ false) (places_in (all_given ends))
-no-control d [] = tt
-no-control d (e ∷ ends) = (refl, no-control d ends)
 
 places-held : (ends : List EndAt) → places_in ends ≡ map (λ h. h.place) (map held_at ends)
 places-held [] = refl
@@ -331,14 +321,8 @@ dones-step asked made rest over a d all at d_is h =
     ap (λ (n : ℕ). (made ++ d ∷ []) ++ call_dones (drop n asked) rest) long ∙ append_assoc made (d ∷ []) (call_dones (drop (suc (length made)) asked) rest)
     ∙ ap (λ (x : CallDone). made ++ x ∷ call_dones (drop (suc (length made)) asked) rest) d_is ∙ sym (ap (λ (l : List Asked). made ++ call_dones l (over ∷ rest)) (drop-at asked (length made) a at)) ∙ h
 
-pair-length : {A B : Type 0} (R : A → B → Type 0) (xs : List A) (ys : List B) → EachPair R xs ys → length ys ≡ length xs
-pair-length R [] [] each = refl
-pair-length R [] (y ∷ ys) each = absurd each
-pair-length R (x ∷ xs) [] each = absurd each
-pair-length R (x ∷ xs) (y ∷ ys) each = ap suc (pair-length R xs ys each.1)
-
 -- each call reports what came of its session
 pub calls-long : (how : ControlEnd) (a : Agent) (ends : List EndAt) (calls : List (Option CallOver)) → IsOver how a → EachPair (ReportsCalled a.slots.domain a.slots.version ends) a.slots.called calls → length calls ≡ length (asked_by a.control.queue)
 calls-long how a ends calls over each =
-    pair-length (ReportsCalled a.slots.domain a.slots.version ends) a.slots.called calls each ∙ ap (λ (l : List (Option Called)). length l) over.stands.answers.called
+    AllZip-long (ReportsCalled a.slots.domain a.slots.version ends) a.slots.called calls each ∙ ap (λ (l : List (Option Called)). length l) over.stands.answers.called
     ∙ length-map (answers (plan_of a.given) over.heard).asked called_of ∙ ap (λ (l : List Asked). length l) (sym over.stands.answers.asked)

@@ -1,24 +1,22 @@
 -- What becomes of the ends of sessions that an agent owes to report, through each step.
 use Rattle.std.proofs.Common.{◌≡◌, ℕ, zero, suc, List, [], ◌∷◌, ◌++◌, refl, ap, sym, ◌∙◌, append_assoc, Some, None, Option, subst}
 use Rattle.std.specs.Prelude.{true, map, filter_map, option_map, is_some, slice_get, slice_set, IsPermutation}
-use Rattle.std.specs.List.{cons_option}
+use Rattle.std.specs.List.{cons_option, AllByRecursion as Each}
 use Rattle.std.proofs.lemmas.List.{append-nil, map-append}
 use Rattle.std.proofs.lemmas.List.Elements.{filter_map-append}
 use Rattle.std.proofs.lemmas.List.Sorted.{IsPermutation-refl, IsPermutation-sym, IsPermutation-trans, IsPermutation-map, IsPermutation-cons, IsPermutation-middle, IsPermutation-to_front, IsPermutation-append_comm, IsPermutation-append_left, IsPermutation-append_right}
+use Rattle.list_laws.specs.Lists.{IsPartOf}
 use Rattle.qrexec_frame.specs.declared.message.Message.{Message}
 use Rattle.qrexec_frame.specs.declared.message.Message.TheVariants as m
-use Rattle.qrexec_frame.specs.Streams.{Each}
 use Rattle.scenario_file.specs.declared.scenario.CallPlan.{CallPlan}
 use Rattle.task_duties.specs.declared.done.ControlEnd.{ControlEnd}
-use Rattle.task_duties.specs.Pairwise.{IsPartOf}
+use Rattle.task_duties.specs.declared.done.SessionEnd.{SessionEnd}
 use Rattle.task_duties.specs.Agent.Answers.{Answer, Waits, IsRefused, At, Asked}
 use Rattle.task_duties.specs.Agent.Saying.{asking}
 use Rattle.data_slots.specs.Slots.{Called}
-use Rattle.data_slots.specs.declared.done.SessionOver.{SessionOver}
-use Rattle.agent_control.specs.declared.control.SessionEnd.{SessionEnd}
 use Rattle.agent_control.specs.Speaking.{IsSpoken, terminated}
-use Rattle.agent_task.specs.Ends.{session_of_answer, session_asked, session_told, sessions_owed, session_called, session_unsaid, session_over, sessions_known, sessions_held, AreKept}
-use Rattle.agent_task.specs.Standing.{called_by, called_of, end_of}
+use Rattle.agent_task.specs.Ends.{session_of_answer, session_asked, session_told, sessions_owed, session_called, session_of_end, sessions_known, sessions_held, AreKept}
+use Rattle.agent_task.specs.Standing.{called_by, called_of}
 
 -- ---- one that is owed more
 
@@ -73,27 +71,27 @@ at-unsaid f u o l e = simp append_assoc
 without-one : {A : Type 0} (f u o l : List A) → (f ++ u) ++ (o ++ l) ≡ f ++ ((u ++ o) ++ l)
 without-one f u o l = simp append_assoc
 
-held-opened : (said : List Message) (unsaid : List SessionEnd) (opened : List SessionOver) (lost : List (ℕ × ℕ)) (o : SessionOver)
-    → IsPermutation (session_over o ∷ sessions_held said unsaid opened lost) (sessions_held said unsaid (opened ++ o ∷ []) lost)
+held-opened : (said : List Message) (unsaid opened : List SessionEnd) (lost : List (ℕ × ℕ)) (o : SessionEnd)
+    → IsPermutation (session_of_end o ∷ sessions_held said unsaid opened lost) (sessions_held said unsaid (opened ++ o ∷ []) lost)
 held-opened said unsaid opened lost o =
     let f = filter_map session_told said in
-    let u = map session_unsaid unsaid in
-    let os = map session_over opened in
-    let now : sessions_held said unsaid (opened ++ o ∷ []) lost ≡ (f ++ (u ++ os)) ++ session_over o ∷ lost =
-    ap (λ l. f ++ ((u ++ l) ++ lost)) (map-append session_over opened (o ∷ [])) ∙ at-opened f u os lost (session_over o) in
-    subst (λ l. IsPermutation (session_over o ∷ sessions_held said unsaid opened lost) l) (sym now)
-    (subst (λ l. IsPermutation (session_over o ∷ l) ((f ++ (u ++ os)) ++ session_over o ∷ lost)) (append_assoc f (u ++ os) lost) (front (f ++ (u ++ os)) (session_over o) lost))
+    let u = map session_of_end unsaid in
+    let os = map session_of_end opened in
+    let now : sessions_held said unsaid (opened ++ o ∷ []) lost ≡ (f ++ (u ++ os)) ++ session_of_end o ∷ lost =
+    ap (λ l. f ++ ((u ++ l) ++ lost)) (map-append session_of_end opened (o ∷ [])) ∙ at-opened f u os lost (session_of_end o) in
+    subst (λ l. IsPermutation (session_of_end o ∷ sessions_held said unsaid opened lost) l) (sym now)
+    (subst (λ l. IsPermutation (session_of_end o ∷ l) ((f ++ (u ++ os)) ++ session_of_end o ∷ lost)) (append_assoc f (u ++ os) lost) (front (f ++ (u ++ os)) (session_of_end o) lost))
 
-held-unsaid : (said : List Message) (unsaid : List SessionEnd) (opened : List SessionOver) (lost : List (ℕ × ℕ)) (e : SessionEnd)
-    → IsPermutation (session_unsaid e ∷ sessions_held said unsaid opened lost) (sessions_held said (unsaid ++ e ∷ []) opened lost)
+held-unsaid : (said : List Message) (unsaid opened : List SessionEnd) (lost : List (ℕ × ℕ)) (e : SessionEnd)
+    → IsPermutation (session_of_end e ∷ sessions_held said unsaid opened lost) (sessions_held said (unsaid ++ e ∷ []) opened lost)
 held-unsaid said unsaid opened lost e =
     let f = filter_map session_told said in
-    let u = map session_unsaid unsaid in
-    let os = map session_over opened in
-    let now : sessions_held said (unsaid ++ e ∷ []) opened lost ≡ (f ++ u) ++ session_unsaid e ∷ (os ++ lost) =
-    ap (λ l. f ++ ((l ++ os) ++ lost)) (map-append session_unsaid unsaid (e ∷ [])) ∙ at-unsaid f u os lost (session_unsaid e) in
-    subst (λ l. IsPermutation (session_unsaid e ∷ sessions_held said unsaid opened lost) l) (sym now)
-    (subst (λ l. IsPermutation (session_unsaid e ∷ l) ((f ++ u) ++ session_unsaid e ∷ (os ++ lost))) (without-one f u os lost) (front (f ++ u) (session_unsaid e) (os ++ lost)))
+    let u = map session_of_end unsaid in
+    let os = map session_of_end opened in
+    let now : sessions_held said (unsaid ++ e ∷ []) opened lost ≡ (f ++ u) ++ session_of_end e ∷ (os ++ lost) =
+    ap (λ l. f ++ ((l ++ os) ++ lost)) (map-append session_of_end unsaid (e ∷ [])) ∙ at-unsaid f u os lost (session_of_end e) in
+    subst (λ l. IsPermutation (session_of_end e ∷ sessions_held said unsaid opened lost) l) (sym now)
+    (subst (λ l. IsPermutation (session_of_end e ∷ l) ((f ++ u) ++ session_of_end e ∷ (os ++ lost))) (without-one f u os lost) (front (f ++ u) (session_of_end e) (os ++ lost)))
 
 -- one more on both sides
 both-more : {A : Type 0} (e : A) (held held' known known' : List A) → IsPermutation (e ∷ held) held' → IsPermutation (e ∷ known) known' → IsPermutation held known → IsPermutation held' known'
@@ -102,7 +100,7 @@ both-more e held held' known known' p q h =
 
 -- ---- a message is heard
 
-pub kept-passed : (over : Option ControlEnd) (called : List (Option Called)) (unsaid : List SessionEnd) (opened : List SessionOver) (heard said : List Message) (w : Message) → session_asked w ≡ None
+pub kept-passed : (over : Option ControlEnd) (called : List (Option Called)) (unsaid opened : List SessionEnd) (heard said : List Message) (w : Message) → session_asked w ≡ None
     → AreKept over called unsaid opened heard said → AreKept over called unsaid opened (heard ++ w ∷ []) said
 kept-passed over called unsaid opened heard said w none k = record {
   lost = k.lost;
@@ -110,11 +108,11 @@ kept-passed over called unsaid opened heard said w none k = record {
   are = subst (λ l. IsPermutation (sessions_held said unsaid opened k.lost) l) (sym (known-passed called heard w none)) k.are;
 }
 
-pub kept-called : (over : Option ControlEnd) (called : List (Option Called)) (unsaid : List SessionEnd) (opened : List SessionOver) (heard said : List Message) (w : Message) (place : ℕ) (c : Called) → slice_get called place ≡ Some None
+pub kept-called : (over : Option ControlEnd) (called : List (Option Called)) (unsaid opened : List SessionEnd) (heard said : List Message) (w : Message) (place : ℕ) (c : Called) → slice_get called place ≡ Some None
     → session_asked w ≡ None → AreKept over called unsaid opened heard said
-    → AreKept over (slice_set called place (Some c)) unsaid (opened ++ record { domain = c.to; port = c.port; number = Some place } ∷ []) (heard ++ w ∷ []) said
+    → AreKept over (slice_set called place (Some c)) unsaid (opened ++ record { domain = c.to; port = c.port; call = Some place } ∷ []) (heard ++ w ∷ []) said
 kept-called over called unsaid opened heard said w place c free none k =
-    let o : SessionOver = record { domain = c.to; port = c.port; number = Some place } in
+    let o : SessionEnd = record { domain = c.to; port = c.port; call = Some place } in
     record {
       lost = k.lost;
       none_lost = k.none_lost;
@@ -122,29 +120,29 @@ kept-called over called unsaid opened heard said w place c free none k =
           (held-opened said unsaid opened k.lost o) (known-called called place c heard w free none) k.are;
     }
 
-pub kept-served : (over : Option ControlEnd) (called : List (Option Called)) (unsaid : List SessionEnd) (opened : List SessionOver) (heard said : List Message) (w : Message) (o : SessionOver) → session_asked w ≡ Some (session_over o)
+pub kept-served : (over : Option ControlEnd) (called : List (Option Called)) (unsaid opened : List SessionEnd) (heard said : List Message) (w : Message) (o : SessionEnd) → session_asked w ≡ Some (session_of_end o)
     → AreKept over called unsaid opened heard said → AreKept over called unsaid (opened ++ o ∷ []) (heard ++ w ∷ []) said
 kept-served over called unsaid opened heard said w o asks k = record {
   lost = k.lost;
   none_lost = k.none_lost;
-  are = both-more (session_over o) (sessions_held said unsaid opened k.lost) (sessions_held said unsaid (opened ++ o ∷ []) k.lost) (sessions_known called heard) (sessions_known called (heard ++ w ∷ []))
-      (held-opened said unsaid opened k.lost o) (known-asked called heard w (session_over o) asks) k.are;
+  are = both-more (session_of_end o) (sessions_held said unsaid opened k.lost) (sessions_held said unsaid (opened ++ o ∷ []) k.lost) (sessions_known called heard) (sessions_known called (heard ++ w ∷ []))
+      (held-opened said unsaid opened k.lost o) (known-asked called heard w (session_of_end o) asks) k.are;
 }
 
-pub kept-unserved : (over : Option ControlEnd) (called : List (Option Called)) (unsaid : List SessionEnd) (opened : List SessionOver) (heard said : List Message) (w : Message) (e : SessionEnd) → session_asked w ≡ Some (session_unsaid e)
+pub kept-unserved : (over : Option ControlEnd) (called : List (Option Called)) (unsaid opened : List SessionEnd) (heard said : List Message) (w : Message) (e : SessionEnd) → session_asked w ≡ Some (session_of_end e)
     → AreKept over called unsaid opened heard said → AreKept over called (unsaid ++ e ∷ []) opened (heard ++ w ∷ []) said
 kept-unserved over called unsaid opened heard said w e asks k = record {
   lost = k.lost;
   none_lost = k.none_lost;
-  are = both-more (session_unsaid e) (sessions_held said unsaid opened k.lost) (sessions_held said (unsaid ++ e ∷ []) opened k.lost) (sessions_known called heard) (sessions_known called (heard ++ w ∷ []))
-      (held-unsaid said unsaid opened k.lost e) (known-asked called heard w (session_unsaid e) asks) k.are;
+  are = both-more (session_of_end e) (sessions_held said unsaid opened k.lost) (sessions_held said (unsaid ++ e ∷ []) opened k.lost) (sessions_known called heard) (sessions_known called (heard ++ w ∷ []))
+      (held-unsaid said unsaid opened k.lost e) (known-asked called heard w (session_of_end e) asks) k.are;
 }
 
 -- ---- more is sent
 
-ends-told : (told : List SessionEnd) → filter_map session_told (map terminated told) ≡ map session_unsaid told
+ends-told : (told : List SessionEnd) → filter_map session_told (map terminated told) ≡ map session_of_end told
 ends-told [] = refl
-ends-told (e ∷ told) = ap (λ l. session_unsaid e ∷ l) (ends-told told)
+ends-told (e ∷ told) = ap (λ l. session_of_end e ∷ l) (ends-told told)
 
 none-told : (m : Message) → is_some (asking m) ≡ true → session_told m ≡ None
 none-told (m.Terminated d p) h = cc
@@ -164,7 +162,7 @@ triggers-told : (ms : List Message) → Each (λ m. is_some (asking m) ≡ true)
 triggers-told [] each = refl
 triggers-told (x ∷ ms) each = ap (λ (o : Option (ℕ × ℕ)). cons_option o (filter_map session_told ms)) (none-told x each.0) ∙ triggers-told ms each.1
 
-spoken-told : (calls : ℕ) (told waiting : List SessionEnd) (more : List Message) → IsSpoken calls told waiting more → filter_map session_told more ≡ map session_unsaid told
+spoken-told : (calls : ℕ) (told waiting : List SessionEnd) (more : List Message) → IsSpoken calls told waiting more → filter_map session_told more ≡ map session_of_end told
 spoken-told calls told waiting more h =
     ap (λ l. filter_map session_told l) h.is
     ∙ (filter_map-append session_told (map terminated told) h.triggers
@@ -173,7 +171,7 @@ spoken-told calls told waiting more h =
 move-told : {A : Type 0} (f t n o l : List A) → (f ++ t) ++ ((n ++ o) ++ l) ≡ f ++ (((t ++ n) ++ o) ++ l)
 move-told f t n o l = simp append_assoc
 
-pub kept-said : (over : Option ControlEnd) (called : List (Option Called)) (old new told : List SessionEnd) (opened : List SessionOver) (heard said more : List Message) (calls : ℕ) → old ≡ told ++ new → IsSpoken calls told new more
+pub kept-said : (over : Option ControlEnd) (called : List (Option Called)) (old new told opened : List SessionEnd) (heard said more : List Message) (calls : ℕ) → old ≡ told ++ new → IsSpoken calls told new more
     → AreKept over called old opened heard said → AreKept over called new opened heard (said ++ more)
 kept-said over called old new told opened heard said more calls split spoken k = record {
   lost = k.lost;
@@ -186,18 +184,14 @@ kept-said over called old new told opened heard said more calls split spoken k =
 
     same : sessions_held (said ++ more) new opened k.lost ≡ sessions_held said old opened k.lost
     same =
-        ap (λ l. l ++ ((map session_unsaid new ++ map session_over opened) ++ k.lost)) (filter_map-append session_told said more ∙ ap (λ l. f ++ l) (spoken-told calls told new more spoken))
-        ∙ (move-told f (map session_unsaid told) (map session_unsaid new) (map session_over opened) k.lost
-        ∙ ap (λ l. f ++ ((l ++ map session_over opened) ++ k.lost)) (sym (ap (λ l. map session_unsaid l) split ∙ map-append session_unsaid told new)))
+        ap (λ l. l ++ ((map session_of_end new ++ map session_of_end opened) ++ k.lost)) (filter_map-append session_told said more ∙ ap (λ l. f ++ l) (spoken-told calls told new more spoken))
+        ∙ (move-told f (map session_of_end told) (map session_of_end new) (map session_of_end opened) k.lost
+        ∙ ap (λ l. f ++ ((l ++ map session_of_end opened) ++ k.lost)) (sym (ap (λ l. map session_of_end l) split ∙ map-append session_of_end told new)))
 
 -- ---- sessions are over
 
-same-sessions : (told : List SessionOver) → map session_unsaid (map end_of told) ≡ map session_over told
-same-sessions [] = refl
-same-sessions (o ∷ told) = ap (λ l. session_over o ∷ l) (same-sessions told)
-
-overs : (told opened opened' : List SessionOver) → IsPermutation (told ++ opened') opened → IsPermutation (map session_over told ++ map session_over opened') (map session_over opened)
-overs told opened opened' p = subst (λ l. IsPermutation l (map session_over opened)) (map-append session_over told opened') (IsPermutation-map session_over (told ++ opened') opened p)
+overs : (told opened opened' : List SessionEnd) → IsPermutation (told ++ opened') opened → IsPermutation (map session_of_end told ++ map session_of_end opened') (map session_of_end opened)
+overs told opened opened' p = subst (λ l. IsPermutation l (map session_of_end opened)) (map-append session_of_end told opened') (IsPermutation-map session_of_end (told ++ opened') opened p)
 
 move-over : {A : Type 0} (f u t o l : List A) → f ++ (((u ++ t) ++ o) ++ l) ≡ f ++ ((u ++ (t ++ o)) ++ l)
 move-over f u t o l = simp append_assoc
@@ -209,41 +203,41 @@ inside : {A : Type 0} (f u l xs ys : List A) → IsPermutation xs ys → IsPermu
 inside f u l xs ys p = IsPermutation-append_right f ((u ++ xs) ++ l) ((u ++ ys) ++ l) (IsPermutation-append_left l (u ++ xs) (u ++ ys) (IsPermutation-append_right u xs ys p))
 
 -- and are to be reported
-pub kept-over : (over : Option ControlEnd) (called : List (Option Called)) (unsaid unsaid' : List SessionEnd) (opened opened' told : List SessionOver) (heard said : List Message) → unsaid' ≡ unsaid ++ map end_of told
+pub kept-over : (over : Option ControlEnd) (called : List (Option Called)) (unsaid unsaid' opened opened' told : List SessionEnd) (heard said : List Message) → unsaid' ≡ unsaid ++ told
     → IsPermutation (told ++ opened') opened → AreKept over called unsaid opened heard said → AreKept over called unsaid' opened' heard said
 kept-over over called unsaid unsaid' opened opened' told heard said more p k = record {
   lost = k.lost;
   none_lost = k.none_lost;
   are = subst (λ l. IsPermutation l (sessions_known called heard)) (sym same)
-      (IsPermutation-trans (f ++ ((u ++ (t ++ o')) ++ k.lost)) (sessions_held said unsaid opened k.lost) (sessions_known called heard) (inside f u k.lost (t ++ o') (map session_over opened) (overs told opened opened' p)) k.are);
+      (IsPermutation-trans (f ++ ((u ++ (t ++ o')) ++ k.lost)) (sessions_held said unsaid opened k.lost) (sessions_known called heard) (inside f u k.lost (t ++ o') (map session_of_end opened) (overs told opened opened' p)) k.are);
 }
   where
     f : List (ℕ × ℕ)
     f = filter_map session_told said
 
     u : List (ℕ × ℕ)
-    u = map session_unsaid unsaid
+    u = map session_of_end unsaid
 
     t : List (ℕ × ℕ)
-    t = map session_over told
+    t = map session_of_end told
 
     o' : List (ℕ × ℕ)
-    o' = map session_over opened'
+    o' = map session_of_end opened'
 
     same : sessions_held said unsaid' opened' k.lost ≡ f ++ ((u ++ (t ++ o')) ++ k.lost)
     same =
-        ap (λ l. f ++ ((l ++ o') ++ k.lost)) (ap (λ l. map session_unsaid l) more ∙ (map-append session_unsaid unsaid (map end_of told) ∙ ap (λ l. u ++ l) (same-sessions told)))
+        ap (λ l. f ++ ((l ++ o') ++ k.lost)) (ap (λ l. map session_of_end l) more ∙ map-append session_of_end unsaid told)
         ∙ move-over f u t o' k.lost
 
 -- or are lost, if the control channel is over
-pub kept-lost : (how : ControlEnd) (called : List (Option Called)) (unsaid : List SessionEnd) (opened opened' told : List SessionOver) (heard said : List Message) → IsPermutation (told ++ opened') opened
+pub kept-lost : (how : ControlEnd) (called : List (Option Called)) (unsaid opened opened' told : List SessionEnd) (heard said : List Message) → IsPermutation (told ++ opened') opened
     → AreKept (Some how) called unsaid opened heard said → AreKept (Some how) called unsaid opened' heard said
 kept-lost how called unsaid opened opened' told heard said p k = record {
   lost = t ++ k.lost;
   none_lost = λ none. absurd (never none);
   are = subst (λ l. IsPermutation l (sessions_known called heard)) (sym (move-lost f u o' t k.lost))
       (IsPermutation-trans (f ++ ((u ++ (o' ++ t)) ++ k.lost)) (sessions_held said unsaid opened k.lost) (sessions_known called heard)
-      (inside f u k.lost (o' ++ t) (map session_over opened) (IsPermutation-trans (o' ++ t) (t ++ o') (map session_over opened) (IsPermutation-append_comm o' t) (overs told opened opened' p))) k.are);
+      (inside f u k.lost (o' ++ t) (map session_of_end opened) (IsPermutation-trans (o' ++ t) (t ++ o') (map session_of_end opened) (IsPermutation-append_comm o' t) (overs told opened opened' p))) k.are);
 }
   where
     never : Some how ≡ None → ⊥
@@ -253,16 +247,16 @@ kept-lost how called unsaid opened opened' told heard said p k = record {
     f = filter_map session_told said
 
     u : List (ℕ × ℕ)
-    u = map session_unsaid unsaid
+    u = map session_of_end unsaid
 
     t : List (ℕ × ℕ)
-    t = map session_over told
+    t = map session_of_end told
 
     o' : List (ℕ × ℕ)
-    o' = map session_over opened'
+    o' = map session_of_end opened'
 
 -- the control channel is over
-pub kept-still : (over : Option ControlEnd) (how : ControlEnd) (called : List (Option Called)) (unsaid : List SessionEnd) (opened : List SessionOver) (heard said : List Message) → AreKept over called unsaid opened heard said
+pub kept-still : (over : Option ControlEnd) (how : ControlEnd) (called : List (Option Called)) (unsaid opened : List SessionEnd) (heard said : List Message) → AreKept over called unsaid opened heard said
     → AreKept (Some how) called unsaid opened heard said
 kept-still over how called unsaid opened heard said k = record { lost = k.lost; none_lost = λ none. absurd (never none); are = k.are }
   where
@@ -284,24 +278,24 @@ known-owed : (called : List (Option Called)) (asked : List Asked) (heard : List 
 known-owed called asked heard is = ap (λ (l : List (Option Called)). sessions_known l heard) is ∙ ap (λ l. l ++ filter_map session_asked heard) (owed-known asked)
 
 -- at most once for each that is owed
-pub kept-told : (over : Option ControlEnd) (called : List (Option Called)) (asked : List Asked) (unsaid : List SessionEnd) (opened : List SessionOver) (heard said : List Message) → called ≡ map called_of asked
+pub kept-told : (over : Option ControlEnd) (called : List (Option Called)) (asked : List Asked) (unsaid opened : List SessionEnd) (heard said : List Message) → called ≡ map called_of asked
     → AreKept over called unsaid opened heard said → IsPartOf (filter_map session_told said) (sessions_owed asked heard)
 kept-told over called asked unsaid opened heard said is k =
-    ((map session_unsaid unsaid ++ map session_over opened) ++ k.lost, subst (λ l. IsPermutation (sessions_held said unsaid opened k.lost) l) (known-owed called asked heard is) k.are)
+    ((map session_of_end unsaid ++ map session_of_end opened) ++ k.lost, subst (λ l. IsPermutation (sessions_held said unsaid opened k.lost) l) (known-owed called asked heard is) k.are)
 
 -- while the control channel is up, each that wasn't reported waits or is open
-pub kept-waits : (called : List (Option Called)) (asked : List Asked) (unsaid : List SessionEnd) (opened : List SessionOver) (heard said : List Message) → called ≡ map called_of asked → AreKept None called unsaid opened heard said
-    → IsPermutation (filter_map session_told said ++ (map session_unsaid unsaid ++ map session_over opened)) (sessions_owed asked heard)
+pub kept-waits : (called : List (Option Called)) (asked : List Asked) (unsaid opened : List SessionEnd) (heard said : List Message) → called ≡ map called_of asked → AreKept None called unsaid opened heard said
+    → IsPermutation (filter_map session_told said ++ (map session_of_end unsaid ++ map session_of_end opened)) (sessions_owed asked heard)
 kept-waits called asked unsaid opened heard said is k = subst (λ l. IsPermutation l (sessions_owed asked heard)) none (subst (λ l. IsPermutation (sessions_held said unsaid opened k.lost) l) (known-owed called asked heard is) k.are)
   where
     waiting : List (ℕ × ℕ)
-    waiting = map session_unsaid unsaid ++ map session_over opened
+    waiting = map session_of_end unsaid ++ map session_of_end opened
 
     none : sessions_held said unsaid opened k.lost ≡ filter_map session_told said ++ waiting
     none = ap (λ l. filter_map session_told said ++ (waiting ++ l)) (k.none_lost refl) ∙ ap (λ l. filter_map session_told said ++ l) (append-nil waiting)
 
 -- before anything is heard
-pub kept-first : (calls : List CallPlan) (called : List (Option Called)) (unsaid : List SessionEnd) (opened : List SessionOver) → called ≡ map called_of (map (λ call. record { call = call; answer = Waits }) calls) → unsaid ≡ [] → opened ≡ []
+pub kept-first : (calls : List CallPlan) (called : List (Option Called)) (unsaid opened : List SessionEnd) → called ≡ map called_of (map (λ call. record { call = call; answer = Waits }) calls) → unsaid ≡ [] → opened ≡ []
     → AreKept None called unsaid opened [] []
 kept-first calls called unsaid opened called_is none shut = record {
   lost = [];
@@ -310,7 +304,7 @@ kept-first calls called unsaid opened called_is none shut = record {
 }
   where
     held : sessions_held [] unsaid opened [] ≡ []
-    held = ap (λ (l : List SessionEnd). (map session_unsaid l ++ map session_over opened) ++ []) none ∙ ap (λ (l : List SessionOver). map session_over l ++ []) shut
+    held = ap (λ (l : List SessionEnd). (map session_of_end l ++ map session_of_end opened) ++ []) none ∙ ap (λ (l : List SessionEnd). map session_of_end l ++ []) shut
 
     none-yet : (calls : List CallPlan) → filter_map (option_map session_called) (map called_of (map (λ call. record { call = call; answer = Waits }) calls)) ≡ []
     none-yet [] = refl

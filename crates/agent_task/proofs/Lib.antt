@@ -1,4 +1,3 @@
-mod ListLaws
 mod HeardLaws
 mod PortLaws
 mod SpeakLaws

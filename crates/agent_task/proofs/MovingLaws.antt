@@ -1,5 +1,5 @@
 -- What an agent's calls on its control channel found.
-use Rattle.std.proofs.Common.{◌≡◌, ◌↔◌, ℕ, ◌<◌, ◌≤◌, Bool, true, false, List, [], ◌∷◌, ◌++◌, length, take, refl, ap, sym, ◌∙◌, subst, arith, Option, Some, None, inl, inr}
+use Rattle.std.proofs.Common.{◌≡◌, ◌↔◌, ℕ, ◌<◌, ◌≤◌, Bool, true, false, List, [], ◌∷◌, ◌++◌, length, refl, ap, sym, ◌∙◌, subst, arith, Option, Some, None, inl, inr}
 use Rattle.std.specs.Prelude.{◌⊎◌, is_some}
 use Rattle.std.specs.List.{flat_map}
 use Rattle.std.proofs.lemmas.List.{length-append}
@@ -11,9 +11,11 @@ use Rattle.vchan_protocol.specs.History.Core.{standing_of}
 use Rattle.end_view.specs.EndView.{EndView}
 use Rattle.vchan_rule.specs.Seated.{SeatedEnd, view}
 use Rattle.vchan_rule.specs.Ends.{IsSameEnd}
-use Rattle.vchan_lifecycle.specs.Lifecycle.{drained_to, drain_told, most_asked}
+use Rattle.vchan_rule.specs.Called.{most_asked}
+use Rattle.vchan_lifecycle.specs.Lifecycle.{drained_to, drain_told}
 use Rattle.vchan_lifecycle.specs.declared.DrainAnswer.{DrainAnswer}
 use Rattle.vchan_lifecycle.specs.declared.DrainAnswer.TheVariants.{More, NotYet, AllRead, PeerGone}
+use Rattle.vchan_lifecycle.proofs.DrainLaws.{drained-sent, drained-got}
 use Rattle.vchan_packet.specs.Packet as packet
 use Rattle.vchan_packet.specs.Packet.{send_told, sent_to}
 use Rattle.vchan_packet.specs.declared.SendAnswer.{SendAnswer}
@@ -35,26 +37,14 @@ use Rattle.agent_control.specs.Speaking.{SaysMore, Speaks}
 use Rattle.agent_task.specs.Moving.{Greets, WasSent, IsSent, IsUnsent, HearsNothing, Takes, Drains, Listens, SaysNoMore, HasNotGreeted, WasNotGreeted, HasStopped, TurnsControl, KeepsControl}
 
 pub greets-by : (old new : PortState) (answer : SendAnswer) → old.greeted ≡ false → (answer ≡ Sent → new.greeted ≡ true) × ((answer ≡ Sent → ⊥) → new.greeted ≡ false) → view new.end ≡ sent_to (view old.end) answer (written (Hello old.own))
-    → Trace (standing_of old.end.side) (Send (packet.most_asked (written (Hello old.own)))) new.end.side.trail (send_told (packet.most_asked (written (Hello old.own))) answer)
-    → ((other : SendAnswer) → (answer ≡ other) ↔ SendCause (standing_of old.end.side) (packet.most_asked (written (Hello old.own))) (loads_of (standing_of old.end.side) new.end.side.trail) (send_told (packet.most_asked (written (Hello old.own))) other))
+    → Trace (standing_of old.end.side) (Send (most_asked (written (Hello old.own)))) new.end.side.trail (send_told (most_asked (written (Hello old.own))) answer)
+    → ((other : SendAnswer) → (answer ≡ other) ↔ SendCause (standing_of old.end.side) (most_asked (written (Hello old.own))) (loads_of (standing_of old.end.side) new.end.side.trail) (send_told (most_asked (written (Hello old.own))) other))
     → Greets old new
 greets-by old new Sent first greeted is trail cause = IsSent first is
 greets-by old new (NoRoom prod cons) first greeted is trail cause =
     let none = no-room-sends-none (NoRoom prod cons) prod cons refl in IsUnsent (greeted.1 none) (fails-to-send old.end new.end (written (Hello old.own)) (NoRoom prod cons) none is trail cause)
 greets-by old new PeerClosed first greeted is trail cause =
     let none = shut-sends-none PeerClosed refl in IsUnsent (greeted.1 none) (fails-to-send old.end new.end (written (Hello old.own)) PeerClosed none is trail cause)
-
-drained-sent : (e : EndView) (drained : DrainAnswer) (after : List ℕ) (saw : Bool) → (drained_to e drained after saw).sent ≡ e.sent
-drained-sent e (More count) after saw = refl
-drained-sent e (NotYet prod cons) after saw = refl
-drained-sent e AllRead after saw = refl
-drained-sent e (PeerGone prod cons) after saw = refl
-
-drained-got : (e : EndView) (drained : DrainAnswer) (after : List ℕ) (saw : Bool) → length e.got ≤ length (drained_to e drained after saw).got
-drained-got e (More count) after saw = omega (arith, length-append e.got (take count after))
-drained-got e (NotYet prod cons) after saw = omega arith
-drained-got e AllRead after saw = omega arith
-drained-got e (PeerGone prod cons) after saw = omega arith
 
 takes-by : (old new : SeatedEnd) (drained : DrainAnswer) (before after : List ℕ) (saw : Bool) → 0 < length before → length after ≡ length before → view new ≡ drained_to (view old) drained after saw
     → Trace (standing_of old.side) (Drain (most_asked before)) new.side.trail (drain_told drained)

@@ -1,36 +1,30 @@
 -- An agent whose port alone has moved.
 use Rattle.std.proofs.Common.{◌≡◌, ℕ, List, [], refl, ap, sym, ◌∙◌, Some, None, Option, subst}
-use Rattle.std.specs.Prelude.{Bool, true}
+use Rattle.std.specs.List.{AllByRecursion as Each}
 use Rattle.qrexec_frame.specs.declared.message.Message.{Message}
-use Rattle.qrexec_frame.specs.Messages.{IsSpellable}
-use Rattle.qrexec_frame.specs.Streams.{Each}
 use Rattle.vchan_rule.specs.Seated.{SeatedEnd, view, IsOpen}
 use Rattle.vchan_rule.specs.Ends.{IsSameEnd}
+use Rattle.vchan_rule.proofs.EndLaws.{same-end-then}
 use Rattle.vchan_packet.specs.Packet.{sent_to}
 use Rattle.vchan_packet.specs.declared.SendAnswer.{SendAnswer}
 use Rattle.vchan_packet.specs.declared.SendAnswer.TheVariants.{Sent, NoRoom, PeerClosed}
-use Rattle.vchan_lifecycle.specs.Lifecycle.{drained_to}
-use Rattle.vchan_lifecycle.specs.declared.DrainAnswer.{DrainAnswer}
+use Rattle.vchan_packet.proofs.PacketLaws.{sent-got}
 use Rattle.vchan_lifecycle.specs.declared.DrainAnswer.TheVariants as drain
-use Rattle.vchan_protocol.specs.History.Core.{first_ended}
 use Rattle.vchan_protocol.specs.declared.side.EndedBy.TheVariants as by
 use Rattle.end_view.specs.EndView.{EndView}
 use Rattle.task_duties.specs.Agent.Saying.{IsOfVersion}
-use Rattle.control_port.specs.Port.{PortState, HasSaid, HasHeard, HasHeardAll, SentWhole, OnlyHears, Hands}
-use Rattle.control_port.specs.Talking.{may_say, may_hear}
+use Rattle.control_port.specs.Port.{PortState, HasSaid, HasHeard, HasHeardAll, OnlyHears, Hands}
+use Rattle.control_port.specs.Talking.{may_hear}
 use Rattle.control_port.specs.declared.talk.Talker.{Talker}
+use Rattle.control_port.proofs.PortLaws.{said-still}
 use Rattle.qrexec_data.specs.declared.fault.SessionFault.{SessionFault}
 use Rattle.task_duties.specs.Hearing.{hears}
 use Rattle.agent_task.specs.declared.agent.Agent.{Agent}
 use Rattle.agent_task.specs.Standing.{Stands, IsHearing, Awaits, HasHeardOut, IsUp}
-use Rattle.agent_task.specs.Ending.{HasEnded, end_by}
 use Rattle.agent_task.proofs.HeardLaws.{KeepsVersion, kept-at-next, kept-at-end}
 
 abbrev pub with_port : Agent → PortState → Agent
 with_port a port = record a { control = record a.control { port = port } }
-
-pub same-end-then : (a b c : SeatedEnd) → IsSameEnd a b → IsSameEnd b c → IsSameEnd a c
-same-end-then a b c p q = (q.0 ∙ p.0, q.1 ∙ p.1, q.2 ∙ p.2, q.3 ∙ p.3)
 
 pub same-end-is : (a b : SeatedEnd) → b ≡ a → IsSameEnd a b
 same-end-is a b is = (ap (λ e. e.page) is, ap (λ e. e.side.role) is, ap (λ e. e.side.orders) is, ap (λ e. e.start) is)
@@ -78,11 +72,6 @@ ended-sent e Sent payload = refl
 ended-sent e (NoRoom prod cons) payload = refl
 ended-sent e PeerClosed payload = refl
 
-pub got-sent : (e : EndView) (sent : SendAnswer) (payload : List ℕ) → (sent_to e sent payload).got ≡ e.got
-got-sent e Sent payload = refl
-got-sent e (NoRoom prod cons) payload = refl
-got-sent e PeerClosed payload = refl
-
 -- no bytes came, so all that came were handed out as before
 pub still-all : (old new : PortState) (heard : List Message) → (view new.end).got ≡ (view old.end).got
     → (new.talker ≡ old.talker) × (new.own ≡ old.own) × (new.version ≡ old.version) × (new.fault ≡ old.fault) → HasHeardAll old heard → HasHeardAll new heard
@@ -105,45 +94,13 @@ greets-up a port sent payload up end opened view_is said heard same =
         hears = heard h.heard h.hears;
         sound = record { fine = same.3 ∙ h.sound.fine; is_open = opened; up = h.sound.up };
       };
-      all = still-all a.control.port port h.heard (ap (λ e. e.got) view_is ∙ got-sent (view a.control.port.end) sent payload) same up.all;
+      all = still-all a.control.port port h.heard (ap (λ e. e.got) view_is ∙ sent-got (view a.control.port.end) sent payload) same up.all;
       going = ap (λ e. e.ended) view_is ∙ ended-sent (view a.control.port.end) sent payload ∙ up.going;
     }
 
 -- ---- the drain
 
-first-drain : (e : EndView) (drained : DrainAnswer) (buf : List ℕ) (saw : Bool) → e.ended ≡ None → HasEnded (end_by drained) (drained_to e drained buf saw)
-first-drain e (drain.More count) buf saw none = none
-first-drain e (drain.NotYet prod cons) buf saw none = none
-first-drain e drain.AllRead buf saw none = (refl, ap (λ o. first_ended o (Some by.AllRead)) none)
-first-drain e (drain.PeerGone prod cons) buf saw none = (refl, ap (λ o. first_ended o (Some by.PeerGone)) none)
-
-pub drains-hearing : (a : Agent) (port : PortState) → IsUp a → IsSameEnd a.control.port.end port.end → IsOpen port.end
-    → ((said : List Message) → HasSaid a.control.port said → HasSaid port said) → ((heard : List Message) → HasHeard a.control.port heard → HasHeard port heard)
-    → (port.talker ≡ a.control.port.talker) × (port.own ≡ a.control.port.own) × (port.greeted ≡ a.control.port.greeted) × (port.version ≡ a.control.port.version) × (port.fault ≡ a.control.port.fault)
-    → IsHearing (with_port a port)
-drains-hearing a port up end opened said heard same =
-    let h = up.hearing in
-    record {
-      heard = h.heard;
-      said = h.said;
-      stands = port-stands a port h.heard h.said (record { end = end; own = same.1; talker = same.0; version = kept-same a.control.port port same.3; said_is = said h.said h.stands.speaks.said_is }) h.stands;
-      keeps = h.keeps;
-      hears = heard h.heard h.hears;
-      sound = record { fine = same.4 ∙ h.sound.fine; is_open = opened; up = h.sound.up };
-    }
-
-pub drains-ended : (a : Agent) (port : PortState) (drained : DrainAnswer) (buf : List ℕ) (saw : Bool) → IsUp a → view port.end ≡ drained_to (view a.control.port.end) drained buf saw → HasEnded (end_by drained) (view port.end)
-drains-ended a port drained buf saw up view_is =
-    subst (λ (e : EndView). HasEnded (end_by drained) e) (sym view_is) (first-drain (view a.control.port.end) drained buf saw up.going)
-
 -- ---- the next message
-
-said-still : (old new : PortState) (said : List Message) → OnlyHears old new → HasSaid old said → HasSaid new said
-said-still old new said only h = record {
-  each = subst (λ k. Each (λ m. (may_say k m ≡ true) × IsSpellable m) said) (sym only.1) h.each;
-  whole = subst (λ (g : Bool). SentWhole g new.own said (view new.end).sent) (sym only.3)
-      (subst (λ (o : ℕ). SentWhole old.greeted o said (view new.end).sent) (sym only.2) (subst (λ e. SentWhole old.greeted old.own said (view e).sent) (sym only.0) h.whole));
-}
 
 hears-keeps : (old new : PortState) (said : List Message) → OnlyHears old new → KeepsVersion old new → HasSaid old said → PortKeeps old new said
 hears-keeps old new said only kept h = record { end = same-end-is old.end new.end only.0; own = only.2; talker = only.1; version = kept; said_is = said-still old new said only h }

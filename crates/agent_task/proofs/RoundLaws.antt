@@ -1,10 +1,12 @@
 -- A round of an agent: what it sends, and how its control channel ends.
 use Rattle.std.proofs.Common.{◌≡◌, ℕ, List, ◌++◌, refl, ap, sym, ◌∙◌, Some, None, Option, subst}
 use Rattle.std.specs.Prelude.{false, map}
+use Rattle.list_laws.specs.Lists.{AreDifferent}
 use Rattle.qrexec_frame.specs.declared.message.Message.{Message}
 use Rattle.qrexec_data.specs.declared.fault.SessionFault.{SessionFault}
 use Rattle.vchan_rule.specs.Seated.{view, IsOpen}
 use Rattle.vchan_rule.specs.Ends.{IsSameEnd}
+use Rattle.vchan_rule.proofs.EndLaws.{same-end-then}
 use Rattle.vchan_lifecycle.specs.Lifecycle.{retired_view}
 use Rattle.vchan_lifecycle.specs.declared.DrainAnswer.{DrainAnswer}
 use Rattle.end_view.specs.EndView.{EndView}
@@ -13,7 +15,6 @@ use Rattle.task_duties.specs.declared.done.ControlEnd.TheVariants.{Drained, Gone
 use Rattle.task_duties.specs.Hearing.{Heard, hears}
 use Rattle.task_duties.specs.Agent.Owes.{ControlOver}
 use Rattle.task_duties.specs.Words.{ident_of}
-use Rattle.call_queue.specs.Queue.{AreDifferent}
 use Rattle.control_port.specs.Port.{PortState, HasSaid, HasHeardAll, OnlySends}
 use Rattle.control_port.specs.Talking.{may_hear}
 use Rattle.agent_control.specs.declared.control.AgentControl.{AgentControl}
@@ -22,9 +23,9 @@ use Rattle.data_slots.specs.Slots.{held_at}
 use Rattle.agent_task.specs.declared.agent.Agent.{Agent}
 use Rattle.agent_task.specs.declared.given.Given.{Given}
 use Rattle.agent_task.specs.Given.{data_ends}
-use Rattle.agent_task.specs.Standing.{IsHearing, HasHeardOut, IsUp, HasSameEnds, KeepsPort, CanRest, CanGiveUp}
+use Rattle.agent_task.specs.Standing.{IsHearing, HasHeardOut, IsUp, HasSameEnds, CanRest, CanGiveUp}
 use Rattle.agent_task.specs.Ending.{HasEnded, end_by, over_by, IsDrained, heard_at, IsOver, IsRunning, RunsAs}
-use Rattle.agent_task.proofs.PortLaws.{with_port, PortKeeps, port-stands, same-end-then, still-all}
+use Rattle.agent_task.proofs.PortLaws.{with_port, PortKeeps, port-stands, still-all}
 use Rattle.agent_task.proofs.KeptLaws.{kept-said, kept-still}
 use Rattle.agent_task.proofs.AskingLaws.{calls-said}
 
@@ -82,15 +83,6 @@ still-rests old new h same end opened = record {
   held = same.2 ∙ h.stands.slots.held ∙ ap (λ (g : Given). map held_at (data_ends g)) (sym same.0);
   idle = opened.0;
   rests = subst (λ (o : Option ControlEnd). CanRest o (view new.control.port.end)) (sym (same.1 ∙ h.sound.up)) tt;
-}
-
--- its port is as it was
-pub kept-rests : (old new : Agent) → CanGiveUp old → KeepsPort old new → CanGiveUp new
-kept-rests old new can keeps = record {
-  control = subst (λ (g : Given). IsSameEnd g.control.value new.control.port.end) (sym keeps.1.0) (subst (λ (p : PortState). IsSameEnd old.given.control.value p.end) (sym keeps.0) can.control);
-  held = keeps.1.2 ∙ can.held ∙ ap (λ (g : Given). map held_at (data_ends g)) (sym keeps.1.0);
-  idle = ap (λ (p : PortState). (view p.end).idle) keeps.0 ∙ can.idle;
-  rests = subst (λ (o : Option ControlEnd). CanRest o (view new.control.port.end)) (sym keeps.1.1) (subst (λ (p : PortState). CanRest old.over (view p.end)) (sym keeps.0) can.rests);
 }
 
 -- ---- what is sent

@@ -3,26 +3,25 @@ use Rattle.std.proofs.Common.{◌≡◌, ℕ, List, [], ◌∷◌, ◌++◌, ref
 use Rattle.std.specs.Prelude.{true, false, map, slice_get, ◌==◌, ◌&&◌, is_some, IsPermutation}
 use Rattle.std.proofs.Common.{arith}
 use Rattle.std.proofs.lemmas.Bool.Decides.{nat_tests}
+use Rattle.std.specs.List.{AllByRecursion as Each}
+use Rattle.list_laws.specs.Lists.{SomeOf}
+use Rattle.list_laws.proofs.Places.{get-map-back}
+use Rattle.list_laws.proofs.Each.{each-weaker}
 use Rattle.qrexec_frame.specs.declared.message.Message.{Message}
-use Rattle.qrexec_frame.specs.Streams.{Each}
 use Rattle.scenario_file.specs.declared.scenario.CallPlan.{CallPlan}
 use Rattle.task_duties.specs.declared.done.ControlEnd.{ControlEnd}
-use Rattle.task_duties.specs.Pairwise.{SomeOf}
-use Rattle.task_duties.specs.Agent.Answers.{Answer, Waits, IsRefused, At, Asked}
+use Rattle.task_duties.specs.declared.done.SessionEnd.{SessionEnd}
+use Rattle.task_duties.specs.Agent.Answers.{Answer, Waits, IsRefused, At}
 use Rattle.task_duties.specs.Agent.Saying.{is_at, AsksToServe}
 use Rattle.call_queue.specs.Queue.{asked_by}
-use Rattle.call_queue.proofs.Places.{map-got, within-get}
 use Rattle.data_slots.specs.Sessions.{Session, AllTakeTurns, TakesTurn, session_at}
 use Rattle.data_slots.specs.Slots.{Called, Serves, SlotsState}
 use Rattle.data_slots.specs.Done.{IsBegun, IsToldOver, TellsMore}
-use Rattle.data_slots.specs.declared.done.SessionOver.{SessionOver}
-use Rattle.agent_control.specs.declared.control.SessionEnd.{SessionEnd}
-use Rattle.agent_control.specs.Speaking.{MayTell, IsTellable, HasCall, CanSpeak}
+use Rattle.agent_control.specs.Speaking.{MayTell, IsTellable}
 use Rattle.agent_task.specs.declared.agent.Agent.{Agent}
-use Rattle.agent_task.specs.Standing.{Stands, AreAskedFor, IsUp, KeepsOpen, OnlyTells, called_by, called_of, end_of}
+use Rattle.agent_task.specs.Standing.{Stands, AreAskedFor, IsUp, KeepsOpen, OnlyTells, called_by, called_of}
 use Rattle.agent_task.specs.State.{TurnsEach}
 use Rattle.agent_task.specs.Ending.{IsOver, IsRunning}
-use Rattle.agent_task.proofs.ListLaws.{each-mapped}
 use Rattle.agent_task.specs.Ends.{AreKept}
 use Rattle.agent_task.specs.Asking.{CallsStand}
 use Rattle.agent_task.proofs.AskingLaws.{calls-over}
@@ -31,9 +30,6 @@ use Rattle.agent_task.proofs.RoundLaws.{running-up, up-running, running-over, ov
 use Rattle.agent_task.proofs.StepLaws.{tells-stand}
 
 -- ---- the sessions that were open
-
-pub keeps-then : (a b c : Agent) → KeepsOpen a b → KeepsOpen b c → KeepsOpen a c
-keeps-then a b c first second i is_open = second i (λ shut. is_open (sym (first i is_open) ∙ shut)) ∙ first i is_open
 
 pub keeps-same : (a b : Agent) → b.slots ≡ a.slots → KeepsOpen a b
 keeps-same a b same i is_open = ap (λ (s : SlotsState). session_at s.sessions i) same
@@ -61,7 +57,7 @@ slots-stand a s heard said is stands = subst (λ (x : SlotsState). Stands (with_
 })
 
 -- the control channel is over, and what is over now is lost
-slots-over : (how : ControlEnd) (a : Agent) (s : SlotsState) (told : List SessionOver) → s ≡ record a.slots { opened = s.opened; sessions = s.sessions } → IsPermutation (told ++ s.opened) a.slots.opened → a.over ≡ Some how → IsOver how a → IsOver how (with_slots a s)
+slots-over : (how : ControlEnd) (a : Agent) (s : SlotsState) (told : List SessionEnd) → s ≡ record a.slots { opened = s.opened; sessions = s.sessions } → IsPermutation (told ++ s.opened) a.slots.opened → a.over ≡ Some how → IsOver how a → IsOver how (with_slots a s)
 slots-over how a s told is p over_is over = record {
   heard = over.heard;
   said = over.said;
@@ -84,7 +80,7 @@ slots-over how a s told is p over_is over = record {
     never : Some how ≡ None → ⊥
     never e = cc
 
-pub slots-running : (a : Agent) (s : SlotsState) (told : List SessionOver) → IsRunning a → is_some a.over ≡ true → s ≡ record a.slots { opened = s.opened; sessions = s.sessions } → IsPermutation (told ++ s.opened) a.slots.opened → IsRunning (with_slots a s)
+pub slots-running : (a : Agent) (s : SlotsState) (told : List SessionEnd) → IsRunning a → is_some a.over ≡ true → s ≡ record a.slots { opened = s.opened; sessions = s.sessions } → IsPermutation (told ++ s.opened) a.slots.opened → IsRunning (with_slots a s)
 slots-running a s told running some is p = by_over a.over refl some
   where
     by_over : (o : Option ControlEnd) → a.over ≡ o → is_some o ≡ true → IsRunning (with_slots a s)
@@ -108,29 +104,29 @@ asked-to-serve heard (x ∷ served) d p each (inl h) = subst (λ (n : ℕ). Some
 asked-to-serve heard (x ∷ served) d p each (inr h) = asked-to-serve heard served d p each.1 h
 
 -- the end of such a session may be reported
-pub over-tellable : (a : Agent) (heard said : List Message) (over : SessionOver) → Stands a heard said → IsToldOver a.slots over → IsTellable (asked_by a.control.queue) heard (end_of over)
-over-tellable a heard said over stands begun = by_call over.number begun
+pub over-tellable : (a : Agent) (heard said : List Message) (over : SessionEnd) → Stands a heard said → IsToldOver a.slots over → IsTellable (asked_by a.control.queue) heard over
+over-tellable a heard said over stands begun = by_call over.call begun
   where
     by_call : (call : Option ℕ) → IsBegun a.slots call over.domain over.port → MayTell (asked_by a.control.queue) heard call over.domain over.port
     by_call (Some number) own =
         let called : a.slots.called ≡ map called_of (asked_by a.control.queue) = stands.answers.called ∙ ap (λ l. map called_of l) (sym stands.answers.asked) in
-        let got = map-got called_of (asked_by a.control.queue) number (Some own.0) (ap (λ l. slice_get l number) (sym called) ∙ own.1) in
+        let got = get-map-back called_of (asked_by a.control.queue) number (Some own.0) (ap (λ l. slice_get l number) (sym called) ∙ own.1) in
         (got.0, got.1, subst (λ (n : ℕ). is_at n over.port got.0.answer ≡ true) own.2 (subst (λ (n : ℕ). is_at own.0.to n got.0.answer ≡ true) own.3 (called-at got.0.call got.0.answer own.0 got.2)))
     by_call None served = asked-to-serve heard a.slots.served over.domain over.port stands.asked_for served
 
 -- the ends of sessions that are over are to be reported
-pub notes-up : (a : Agent) (s : SlotsState) (new : Agent) (over : List SessionOver) → IsUp a → s ≡ record a.slots { opened = s.opened; sessions = s.sessions } → OnlyTells (with_slots a s) new → new.control.unsaid.items ≡ a.control.unsaid.items ++ map end_of over
+pub notes-up : (a : Agent) (s : SlotsState) (new : Agent) (over : List SessionEnd) → IsUp a → s ≡ record a.slots { opened = s.opened; sessions = s.sessions } → OnlyTells (with_slots a s) new → new.control.unsaid.items ≡ a.control.unsaid.items ++ over
     → IsPermutation (over ++ s.opened) a.slots.opened → Each (IsToldOver a.slots) over → IsUp new
 notes-up a s new over up is only told p each =
     let h = up.hearing in
-    let tellable = each-mapped (IsToldOver a.slots) (IsTellable (asked_by a.control.queue) h.heard) end_of over (λ x begun. over-tellable a h.heard h.said x h.stands begun) each in
+    let tellable = each-weaker (IsToldOver a.slots) (IsTellable (asked_by a.control.queue) h.heard) (λ x begun. over-tellable a h.heard h.said x h.stands begun) over each in
     let P : Agent → Type 0 = λ x. Stands x h.heard h.said in
     let Q : Agent → Type 0 = λ x. IsUp x in
     subst Q (sym only) (record {
       hearing = record {
         heard = h.heard;
         said = h.said;
-        stands = subst P only (tells-stand (with_slots a s) new (map end_of over) h.heard h.said only told tellable (slots-stand a s h.heard h.said is h.stands));
+        stands = subst P only (tells-stand (with_slots a s) new over h.heard h.said only told tellable (slots-stand a s h.heard h.said is h.stands));
         keeps = (
           subst (λ (c : List (Option Called)). AreKept a.over c new.control.unsaid.items s.opened h.heard h.said) (sym (ap (λ (x : SlotsState). x.called) is))
               (kept-over a.over a.slots.called a.control.unsaid.items new.control.unsaid.items a.slots.opened s.opened over h.heard h.said told p h.keeps.0),
@@ -147,32 +143,12 @@ pub none-of : (o : Option ControlEnd) → is_some o ≡ false → o ≡ None
 none-of None is = refl
 none-of (Some how) is = cc
 
-pub noted-running : (a : Agent) (s : SlotsState) (new : Agent) (over : List SessionOver) → IsRunning a → is_some a.over ≡ false → s ≡ record a.slots { opened = s.opened; sessions = s.sessions } → OnlyTells (with_slots a s) new
-    → new.control.unsaid.items ≡ a.control.unsaid.items ++ map end_of over → IsPermutation (over ++ s.opened) a.slots.opened → Each (IsToldOver a.slots) over → IsRunning new
+pub noted-running : (a : Agent) (s : SlotsState) (new : Agent) (over : List SessionEnd) → IsRunning a → is_some a.over ≡ false → s ≡ record a.slots { opened = s.opened; sessions = s.sessions } → OnlyTells (with_slots a s) new
+    → new.control.unsaid.items ≡ a.control.unsaid.items ++ over → IsPermutation (over ++ s.opened) a.slots.opened → Each (IsToldOver a.slots) over → IsRunning new
 noted-running a s new over running none is only told p each = up-running new (notes-up a s new over (running-up a running (none-of a.over none)) is only told p each)
 
 -- all that was reported, if nothing was before
-pub told-first : (old new : SlotsState) (now : List SessionOver) → TellsMore old new [] now → IsPermutation (now ++ new.opened) old.opened × Each (IsToldOver old) now
+pub told-first : (old new : SlotsState) (now : List SessionEnd) → TellsMore old new [] now → IsPermutation (now ++ new.opened) old.opened × Each (IsToldOver old) now
 told-first old new now tells = (subst (λ l. IsPermutation (l ++ new.opened) old.opened) (sym tells.1) tells.2, subst (λ l. Each (IsToldOver old) l) (sym tells.1) tells.3)
 
 -- ---- what is sent
-
-has-call : (asked : List Asked) (heard : List Message) (call : Option ℕ) (d p : ℕ) → MayTell asked heard call d p → HasCall asked call
-has-call asked heard (Some place) d p h = within-get asked place h.0 h.1
-has-call asked heard None d p h = tt
-
-calls-there : (asked : List Asked) (heard : List Message) (ends : List SessionEnd) → Each (IsTellable asked heard) ends → Each (λ e. HasCall asked e.call) ends
-calls-there asked heard [] each = tt
-calls-there asked heard (e ∷ ends) each = (has-call asked heard e.call e.domain e.port each.0, calls-there asked heard ends each.1)
-
-pub can-speak : (a : Agent) (version : ℕ) → IsUp a → a.control.port.greeted ≡ true → a.control.port.version ≡ Some version → CanSpeak a.control
-can-speak a version up greeted is =
-    let h = up.hearing in
-    record {
-      is_open = h.sound.is_open;
-      talker = h.stands.port.talker;
-      greeted = greeted;
-      version = version;
-      version_is = is;
-      calls = calls-there (asked_by a.control.queue) h.heard a.control.unsaid.items h.stands.speaks.unsaid;
-    }

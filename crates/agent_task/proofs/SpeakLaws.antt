@@ -1,25 +1,26 @@
 -- What an agent has sent, when more is heard, a call is answered, or more is to be reported.
 use Rattle.std.proofs.Common.{◌≡◌, ℕ, List, [], ◌∷◌, ◌++◌, refl, sym, Some, None, Option, subst, inl, inr}
 use Rattle.std.specs.Prelude.{Bool, true, false, if◌then◌else◌}
+use Rattle.std.specs.List.{AllByRecursion as Each}
+use Rattle.std.proofs.lemmas.Bool.{and_parts}
+use Rattle.list_laws.specs.Lists.{SomeOf}
+use Rattle.list_laws.proofs.Places.{get-map}
+use Rattle.list_laws.proofs.Each.{each-weaker, each-append, some-append}
 use Rattle.qrexec_frame.specs.declared.message.Message.{Message}
 use Rattle.qrexec_frame.specs.declared.message.Message.TheVariants as m
-use Rattle.qrexec_frame.specs.Streams.{Each}
-use Rattle.task_duties.specs.Pairwise.{SomeOf}
+use Rattle.task_duties.specs.declared.done.SessionEnd.{SessionEnd}
 use Rattle.task_duties.specs.Agent.Answers.{Answer, Waits, IsRefused, At, Asked, waits, waits_as, answered}
 use Rattle.task_duties.specs.Agent.Saying.{is_at, AsksToServe, IsTold}
 use Rattle.call_queue.specs.Queue.{QueueState, asked_by}
 use Rattle.call_queue.specs.Asking.{Asks}
-use Rattle.call_queue.proofs.Places.{map-get}
 use Rattle.agent_control.specs.declared.control.AgentControl.{AgentControl}
-use Rattle.agent_control.specs.declared.control.SessionEnd.{SessionEnd}
 use Rattle.agent_control.specs.Speaking.{MayTell, IsTellable, Speaks}
-use Rattle.agent_task.proofs.ListLaws.{each-to, each-append, some-more, and-parts}
 
 -- ---- more is heard
 
 told-more : (asked : List Asked) (heard more : List Message) (w : Message) → IsTold asked heard w → IsTold asked (heard ++ more) w
 told-more asked heard more (m.Terminated d p) (inl own) = inl own
-told-more asked heard more (m.Terminated d p) (inr there) = inr (some-more (AsksToServe d p) heard more there)
+told-more asked heard more (m.Terminated d p) (inr there) = inr (some-append (AsksToServe d p) heard more there)
 told-more asked heard more (m.Hello v) h = h
 told-more asked heard more (m.Stdin b) h = h
 told-more asked heard more (m.Stdout b) h = h
@@ -34,15 +35,15 @@ told-more asked heard more (m.Trigger t i s) h = h
 
 may-more : (asked : List Asked) (heard more : List Message) (call : Option ℕ) (d p : ℕ) → MayTell asked heard call d p → MayTell asked (heard ++ more) call d p
 may-more asked heard more (Some place) d p h = h
-may-more asked heard more None d p h = some-more (AsksToServe d p) heard more h
+may-more asked heard more None d p h = some-append (AsksToServe d p) heard more h
 
 pub hears-more : (c : AgentControl) (heard more said : List Message) → Speaks c heard said → Speaks c (heard ++ more) said
 hears-more c heard more said s = record {
   said_is = s.said_is;
   asks = s.asks;
   of_version = s.of_version;
-  told = each-to (IsTold (asked_by c.queue) heard) (IsTold (asked_by c.queue) (heard ++ more)) said (λ w h. told-more (asked_by c.queue) heard more w h) s.told;
-  unsaid = each-to (IsTellable (asked_by c.queue) heard) (IsTellable (asked_by c.queue) (heard ++ more)) c.unsaid.items (λ e h. may-more (asked_by c.queue) heard more e.call e.domain e.port h) s.unsaid;
+  told = each-weaker (IsTold (asked_by c.queue) heard) (IsTold (asked_by c.queue) (heard ++ more)) (λ w h. told-more (asked_by c.queue) heard more w h) said s.told;
+  unsaid = each-weaker (IsTellable (asked_by c.queue) heard) (IsTellable (asked_by c.queue) (heard ++ more)) (λ e h. may-more (asked_by c.queue) heard more e.call e.domain e.port h) c.unsaid.items s.unsaid;
 }
 
 -- ---- a call is answered
@@ -60,7 +61,7 @@ at-still : (ident : List ℕ) (answer : Answer) (d p : ℕ) (a : Asked) → is_a
 at-still ident answer d p a at = by_wait (waits_as ident a) refl
   where
     by_wait : (b : Bool) → waits_as ident a ≡ b → is_at d p (if b then record { call = a.call; answer = answer } else a).answer ≡ true
-    by_wait true is = waits-not-at d p a.answer (and-parts _ _ is).1 at
+    by_wait true is = waits-not-at d p a.answer (and_parts _ _ is).1 at
     by_wait false is = at
 
 some-still : (ident : List ℕ) (answer : Answer) (d p : ℕ) (asked : List Asked) → SomeOf (λ a. is_at d p a.answer ≡ true) asked → SomeOf (λ a. is_at d p a.answer ≡ true) (answered ident answer asked)
@@ -84,7 +85,7 @@ told-still ident answer asked heard (m.Trigger3 t i s) h = h
 told-still ident answer asked heard (m.Trigger t i s) h = h
 
 may-still : (ident : List ℕ) (answer : Answer) (asked : List Asked) (heard : List Message) (call : Option ℕ) (d p : ℕ) → MayTell asked heard call d p → MayTell (answered ident answer asked) heard call d p
-may-still ident answer asked heard (Some place) d p h = (given_answer ident answer h.0, map-get (given_answer ident answer) asked place h.0 h.1, at-still ident answer d p h.0 h.2)
+may-still ident answer asked heard (Some place) d p h = (given_answer ident answer h.0, get-map (given_answer ident answer) asked place h.0 h.1, at-still ident answer d p h.0 h.2)
 may-still ident answer asked heard None d p h = h
 
 pub answers-more : (c : AgentControl) (queue : QueueState) (ident : List ℕ) (answer : Answer) (heard said : List Message) → asked_by queue ≡ answered ident answer (asked_by c.queue)
@@ -94,9 +95,9 @@ answers-more c queue ident answer heard said is asks s = record {
   asks = asks said s.asks;
   of_version = s.of_version;
   told = subst (λ l. Each (IsTold l heard) said) (sym is)
-      (each-to (IsTold (asked_by c.queue) heard) (IsTold (answered ident answer (asked_by c.queue)) heard) said (λ w h. told-still ident answer (asked_by c.queue) heard w h) s.told);
+      (each-weaker (IsTold (asked_by c.queue) heard) (IsTold (answered ident answer (asked_by c.queue)) heard) (λ w h. told-still ident answer (asked_by c.queue) heard w h) said s.told);
   unsaid = subst (λ l. Each (IsTellable l heard) c.unsaid.items) (sym is)
-      (each-to (IsTellable (asked_by c.queue) heard) (IsTellable (answered ident answer (asked_by c.queue)) heard) c.unsaid.items (λ e h. may-still ident answer (asked_by c.queue) heard e.call e.domain e.port h) s.unsaid);
+      (each-weaker (IsTellable (asked_by c.queue) heard) (IsTellable (answered ident answer (asked_by c.queue)) heard) (λ e h. may-still ident answer (asked_by c.queue) heard e.call e.domain e.port h) c.unsaid.items s.unsaid);
 }
 
 -- ---- more is to be reported

@@ -1,7 +1,7 @@
 -- An agent that was just made.
 use Rattle.std.proofs.Common.{◌≡◌, ℕ, List, [], ◌∷◌, length, refl, ap, sym, ◌∙◌, None, Option, subst}
 use Rattle.std.specs.Prelude.{false, map, replicate}
-use Rattle.qrexec_frame.specs.Streams.{Each}
+use Rattle.std.specs.List.{AllByRecursion as Each, AllZip as EachPair}
 use Rattle.vchan_rule.specs.Seated.{SeatedEnd, view, IsOpen}
 use Rattle.ring_words.specs.declared.page.Role.TheVariants.{Server}
 use Rattle.end_view.specs.EndView.{IsUnused, state_at_first}
@@ -22,7 +22,6 @@ use Rattle.agent_control.specs.Speaking.{IsTellable}
 use Rattle.agent_task.specs.declared.agent.Agent.{Agent}
 use Rattle.agent_task.specs.declared.given.Given.{Given}
 use Rattle.agent_task.specs.Starting.{IsNewQueue, IsNew}
-use Rattle.task_duties.specs.Pairwise.{EachPair}
 use Rattle.agent_task.specs.Standing.{called_of, IsServedBy, AreAskedFor}
 use Rattle.agent_task.specs.Ending.{IsRunning}
 use Rattle.agent_task.proofs.PortLaws.{same-end-is}

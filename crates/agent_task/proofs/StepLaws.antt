@@ -1,22 +1,23 @@
 -- What an agent makes of one message more.
 use Rattle.std.proofs.Common.{◌≡◌, ℕ, List, [], ◌∷◌, ◌++◌, refl, ap, sym, ◌∙◌, Some, None, Option, subst}
 use Rattle.std.specs.Prelude.{Bool, true, false, map, slice_get, slice_set, ◌&&◌}
-use Rattle.std.specs.List.{list_any}
+use Rattle.std.specs.List.{list_any, AllByRecursion as Each, AllZip as EachPair}
+use Rattle.std.proofs.lemmas.Bool.{and_right, and_parts}
+use Rattle.list_laws.specs.Lists.{SomeOf}
+use Rattle.list_laws.proofs.Places.{get-map}
+use Rattle.list_laws.proofs.Each.{each-weaker, some-append, some-push}
 use Rattle.service_gate.specs.declared.builtin.Builtin.{Builtin}
 use Rattle.qrexec_frame.specs.declared.message.Message.{Message}
 use Rattle.qrexec_frame.specs.declared.message.Message.TheVariants as m
-use Rattle.qrexec_frame.specs.Streams.{Each}
 use Rattle.task_duties.specs.declared.place.PagePlace.TheVariants.{Payload}
-use Rattle.task_duties.specs.Pairwise.{EachPair, SomeOf}
+use Rattle.task_duties.specs.declared.done.SessionEnd.{SessionEnd}
 use Rattle.task_duties.specs.Places.{has_place, without}
 use Rattle.task_duties.specs.Words.{service_of_line}
 use Rattle.task_duties.specs.Agent.Answers.{IsRefused, At, Served, Answers, waits_as, answered, serves, takes, answers, nothing_heard}
 use Rattle.task_duties.specs.Agent.Saying.{AsksToServe}
 use Rattle.call_queue.specs.Queue.{Queued, QueueState, asked_as, asked_by, after_answer, IsWaitingAt}
 use Rattle.call_queue.specs.Asking.{Asks}
-use Rattle.call_queue.proofs.Places.{map-get}
 use Rattle.data_slots.specs.Slots.{Called, Serves, SlotsState}
-use Rattle.agent_control.specs.declared.control.SessionEnd.{SessionEnd}
 use Rattle.agent_control.specs.Speaking.{IsTellable, Speaks}
 use Rattle.agent_task.specs.declared.agent.Agent.{Agent}
 use Rattle.agent_task.specs.Given.{plan_of}
@@ -24,10 +25,8 @@ use Rattle.agent_task.specs.Lines.{IsNamed}
 use Rattle.agent_task.specs.Ends.{session_asked, AreKept}
 use Rattle.agent_task.specs.Asking.{CallsStand}
 use Rattle.agent_task.specs.Standing.{Stands, KeepsEnds, AreAnswers, AreCallsOf, AreSlotsOf, AreAskedFor, IsServedBy, IsHearing, Awaits, OnlyTells, called_of}
-use Rattle.agent_task.proofs.ListLaws.{each-to, some-more, some-last, and-right-false}
 use Rattle.agent_task.proofs.SpeakLaws.{hears-more, answers-more, tells-more}
 use Rattle.agent_task.proofs.AnswerLaws.{takes-last, asked-answered, still-calls, called-refused, called-answered, some-waits, waits-none}
-use Rattle.agent_task.proofs.ListLaws.{and-parts}
 use Rattle.agent_task.proofs.AskingLaws.{calls-opened, calls-unserved, calls-called, calls-refused}
 use Rattle.agent_task.proofs.KeptLaws.{kept-passed, kept-called, kept-served, kept-unserved}
 
@@ -84,7 +83,7 @@ acts a q s w awaits stands keeps = record {
 }
 
 asked-for-more : (heard more : List Message) (served : List Serves) → AreAskedFor heard served → AreAskedFor (heard ++ more) served
-asked-for-more heard more served each = each-to (λ x. SomeOf (AsksToServe x.from x.port) heard) (λ x. SomeOf (AsksToServe x.from x.port) (heard ++ more)) served (λ x h. some-more (AsksToServe x.from x.port) heard more h) each
+asked-for-more heard more served each = each-weaker (λ x. SomeOf (AsksToServe x.from x.port) heard) (λ x. SomeOf (AsksToServe x.from x.port) (heard ++ more)) (λ x h. some-append (AsksToServe x.from x.port) heard more h) served each
 
 -- ---- a message that changes no answer
 
@@ -151,20 +150,20 @@ pub connect-no_end : (a : Agent) (to port : ℕ) (ident : List ℕ) → Awaits a
 connect-no_end a to port ident awaits none =
     let made = made_of a awaits.heard in
     passes a (m.Connect to port ident) awaits (takes-connect-not a.given.domain to port ident made
-    (and-right-false (list_any (waits_as ident) made.asked) (has_place (Payload a.given.domain to port) made.unused) (place-there a awaits.heard awaits.said to port false awaits.stands none))) refl
+    (and_right (list_any (waits_as ident) made.asked) (has_place (Payload a.given.domain to port) made.unused) (place-there a awaits.heard awaits.said to port false awaits.stands none))) refl
 
 -- a call that waits has no session
 pub call-number : (a : Agent) (w : Message) (place : ℕ) (ident : List ℕ) → Awaits a w → IsWaitingAt a.control.queue place ident → slice_get a.slots.called place ≡ Some None
 call-number a w place ident awaits waiting =
     let answers = awaits.stands.answers in
-    let at : slice_get (made_of a awaits.heard).asked place ≡ Some (asked_as waiting.0) = ap (λ l. slice_get l place) (sym answers.asked) ∙ map-get asked_as a.control.queue.calls place waiting.0 waiting.1 in
-    ap (λ l. slice_get l place) answers.called ∙ map-get called_of (made_of a awaits.heard).asked place (asked_as waiting.0) at
-    ∙ ap (λ (o : Option Called). Some o) (waits-none waiting.0.call waiting.0.answer (and-parts _ _ waiting.2).1)
+    let at : slice_get (made_of a awaits.heard).asked place ≡ Some (asked_as waiting.0) = ap (λ l. slice_get l place) (sym answers.asked) ∙ get-map asked_as a.control.queue.calls place waiting.0 waiting.1 in
+    ap (λ l. slice_get l place) answers.called ∙ get-map called_of (made_of a awaits.heard).asked place (asked_as waiting.0) at
+    ∙ ap (λ (o : Option Called). Some o) (waits-none waiting.0.call waiting.0.answer (and_parts _ _ waiting.2).1)
 
 pub connect-taken : (a : Agent) (to port : ℕ) (ident : List ℕ) (place : ℕ) (input : List ℕ) (q : QueueState) (s : SlotsState) → Awaits a (m.Connect to port ident) → IsWaitingAt a.control.queue place ident
     → true ≡ has_place (Payload a.slots.domain to port) a.slots.unused → q ≡ after_answer a.control.queue ident (At to port) → ((said : List Message) → Asks a.control.queue said → Asks q said)
     → ((c : Queued) → slice_get a.control.queue.calls place ≡ Some c → input ≡ c.call.stdin)
-    → s ≡ record a.slots { unused = without (Payload a.slots.domain to port) a.slots.unused; called = slice_set a.slots.called place (Some (record { to = to; port = port; input = input })); opened = a.slots.opened ++ record { domain = to; port = port; number = Some place } ∷ []; sessions = s.sessions }
+    → s ≡ record a.slots { unused = without (Payload a.slots.domain to port) a.slots.unused; called = slice_set a.slots.called place (Some (record { to = to; port = port; input = input })); opened = a.slots.opened ++ record { domain = to; port = port; call = Some place } ∷ []; sessions = s.sessions }
     → IsHearing (with_answers a q s)
 connect-taken a to port ident place input q s awaits waiting there q_is asks stdin s_is =
     acts a q s w awaits (stands-on a q s heard said w stands (still-calls a.given a.control.queue q ident (At to port) asked stands.calls) slots are
@@ -190,7 +189,7 @@ connect-taken a to port ident place input q s awaits waiting there q_is asks std
     asked = ap asked_by q_is ∙ asked-answered ident (At to port) a.control.queue.calls
 
     at : slice_get (asked_by a.control.queue) place ≡ Some (asked_as waiting.0)
-    at = map-get asked_as a.control.queue.calls place waiting.0 waiting.1
+    at = get-map asked_as a.control.queue.calls place waiting.0 waiting.1
 
     any : list_any (waits_as ident) made.asked ≡ true
     any = ap (λ l. list_any (waits_as ident) l) (sym stands.answers.asked) ∙ some-waits ident (asked_by a.control.queue) place (asked_as waiting.0) at waiting.2
@@ -221,7 +220,7 @@ connect-taken a to port ident place input q s awaits waiting there q_is asks std
     calls : a.over ≡ None → CallsStand q a.control.unsaid.items s.opened said
     calls up =
         subst (λ (x : SlotsState). CallsStand q a.control.unsaid.items x.opened said) (sym s_is)
-        (subst (λ (x : QueueState). CallsStand x a.control.unsaid.items (a.slots.opened ++ record { domain = to; port = port; number = Some place } ∷ []) said) (sym q_is)
+        (subst (λ (x : QueueState). CallsStand x a.control.unsaid.items (a.slots.opened ++ record { domain = to; port = port; call = Some place } ∷ []) said) (sym q_is)
         (calls-called a.control.queue ident to port place a.control.unsaid.items a.slots.opened said stands.calls.apart waiting (awaits.keeps.1 up)))
 
     are : AreAnswers (takes a.given.domain made w) q s
@@ -268,7 +267,7 @@ asked-last heard (y ∷ served) x each last = (each.0, asked-last heard served x
 
 pub serve-taken : (a : Agent) (from port : ℕ) (line : List ℕ) (service : Builtin) (s : SlotsState) → Awaits a (m.Exec from port line) → IsNamed (service_of_line line) (Some service)
     → true ≡ has_place (Payload from a.slots.domain port) a.slots.unused
-    → s ≡ record a.slots { unused = without (Payload from a.slots.domain port) a.slots.unused; served = a.slots.served ++ record { from = from; port = port; service = service } ∷ []; opened = a.slots.opened ++ record { domain = from; port = port; number = None } ∷ []; sessions = s.sessions }
+    → s ≡ record a.slots { unused = without (Payload from a.slots.domain port) a.slots.unused; served = a.slots.served ++ record { from = from; port = port; service = service } ∷ []; opened = a.slots.opened ++ record { domain = from; port = port; call = None } ∷ []; sessions = s.sessions }
     → IsHearing (with_answers a a.control.queue s)
 serve-taken a from port line service s awaits named there s_is = by_name (service_of_line line) refl named
   where
@@ -293,12 +292,12 @@ serve-taken a from port line service s awaits named there s_is = by_name (servic
     keeps : AreKept a.over s.called a.control.unsaid.items s.opened (heard ++ w ∷ []) said
     keeps =
         subst (λ (x : SlotsState). AreKept a.over x.called a.control.unsaid.items x.opened (heard ++ w ∷ []) said) (sym s_is)
-        (kept-served a.over a.slots.called a.control.unsaid.items a.slots.opened heard said w (record { domain = from; port = port; number = None }) refl awaits.keeps.0)
+        (kept-served a.over a.slots.called a.control.unsaid.items a.slots.opened heard said w (record { domain = from; port = port; call = None }) refl awaits.keeps.0)
 
     calls : a.over ≡ None → CallsStand a.control.queue a.control.unsaid.items s.opened said
     calls up =
         subst (λ (x : SlotsState). CallsStand a.control.queue a.control.unsaid.items x.opened said) (sym s_is)
-        (calls-opened a.control.queue a.control.unsaid.items a.slots.opened (record { domain = from; port = port; number = None } ∷ []) said (awaits.keeps.1 up))
+        (calls-opened a.control.queue a.control.unsaid.items a.slots.opened (record { domain = from; port = port; call = None } ∷ []) said (awaits.keeps.1 up))
 
     by_name : (o : Option (List ℕ)) → service_of_line line ≡ o → IsNamed o (Some service) → IsHearing (with_answers a a.control.queue s)
     by_name None is named = absurd named
@@ -315,7 +314,7 @@ serve-taken a from port line service s awaits named there s_is = by_name (servic
         }) in
         acts a a.control.queue s w awaits (stands-on a a.control.queue s heard said w stands stands.calls slots are
         (subst (λ l. AreAskedFor (heard ++ w ∷ []) l) (sym served_is)
-        (asked-last (heard ++ w ∷ []) a.slots.served (record { from = from; port = port; service = service }) (asked-for-more heard (w ∷ []) a.slots.served stands.asked_for) (some-last (AsksToServe from port) heard w (refl, refl))))
+        (asked-last (heard ++ w ∷ []) a.slots.served (record { from = from; port = port; service = service }) (asked-for-more heard (w ∷ []) a.slots.served stands.asked_for) (some-push (AsksToServe from port) heard w (refl, refl))))
         (hears-more a.control heard (w ∷ []) said stands.speaks)) (keeps, calls)
 
 -- ---- which ends are to be reported
@@ -337,7 +336,7 @@ unserved : (old new : Agent) (d p : ℕ) (w : Message) (awaits : Awaits old w) �
     → new.control.unsaid.items ≡ old.control.unsaid.items ++ record { domain = d; port = p; call = None } ∷ [] → IsHearing new
 unserved old new d p w awaits asks names same only told =
     let stands = passed-stands old awaits.heard awaits.said w awaits.stands same in
-    let after = tells-stand old new (record { domain = d; port = p; call = None } ∷ []) (awaits.heard ++ w ∷ []) awaits.said only told (some-last (AsksToServe d p) awaits.heard w asks, tt) stands in
+    let after = tells-stand old new (record { domain = d; port = p; call = None } ∷ []) (awaits.heard ++ w ∷ []) awaits.said only told (some-push (AsksToServe d p) awaits.heard w asks, tt) stands in
     let P : Agent → Type 0 = λ x. Stands x (awaits.heard ++ w ∷ []) awaits.said in
     let Q : Agent → Type 0 = λ x. IsHearing x in
     let keeps = kept-unserved old.over old.slots.called old.control.unsaid.items old.slots.opened awaits.heard awaits.said w (record { domain = d; port = p; call = None }) names awaits.keeps.0 in

@@ -1,43 +1,41 @@
 -- What an agent has reported of the ends of its sessions.
-use Rattle.std.proofs.Common.{◌≡◌, ◌≢◌, ℕ, ◌<◌, List, [], ◌∷◌, ◌++◌, refl, ap, sym, ◌∙◌, Some, None, Option, subst, inl, inr, arith}
+use Rattle.std.proofs.Common.{◌≡◌, ℕ, ◌<◌, List, [], ◌∷◌, ◌++◌, refl, ap, sym, ◌∙◌, Some, None, Option, subst, inl, inr, arith}
 use Rattle.std.specs.Prelude.{◌⊎◌, Bool, true, false, map, filter_map, take, slice_get, IsSomeAnd, IsPermutation}
-use Rattle.std.specs.List.{flat_map}
+use Rattle.std.specs.List.{flat_map, AllByRecursion as Each}
+use Rattle.list_laws.specs.Lists.{IsPartOf, SomeOf}
+use Rattle.list_laws.proofs.Places.{get-map}
+use Rattle.list_laws.proofs.Each.{each-mapped, some-append}
 use Rattle.qrexec_frame.specs.declared.message.Message.{Message}
 use Rattle.qrexec_frame.specs.declared.message.Message.TheVariants.{Hello}
 use Rattle.qrexec_frame.specs.Messages.{written, IsSpellable}
-use Rattle.qrexec_frame.specs.Streams.{Each}
 use Rattle.vchan_rule.specs.Seated.{view}
 use Rattle.task_duties.specs.declared.done.ControlEnd.{ControlEnd}
-use Rattle.task_duties.specs.Pairwise.{IsPartOf, SomeOf}
+use Rattle.task_duties.specs.declared.done.SessionEnd.{SessionEnd}
 use Rattle.task_duties.specs.Hearing.{to_agent, to_broker, IsSaid, Heard, hears}
 use Rattle.task_duties.specs.TaskOwes.{EndAt, places_in}
 use Rattle.task_duties.specs.Agent.Answers.{Answer, Waits, IsRefused, At, answers}
 use Rattle.task_duties.specs.Agent.Saying.{asking_of}
 use Rattle.call_queue.specs.Queue.{Queued, asked_as, asked_by}
-use Rattle.call_queue.proofs.Places.{map-get}
-use Rattle.qrexec_data.specs.Laws.{IsVersion}
 use Rattle.control_port.specs.Port.{PortState, HasSaid, HasHeardAll, SentWhole}
 use Rattle.control_port.specs.Talking.{may_say, may_hear}
 use Rattle.control_port.specs.declared.talk.Talker.{Talker}
 use Rattle.control_port.specs.declared.talk.Talker.TheVariants.{Agent as OfAgent}
-use Rattle.data_slots.specs.declared.done.SessionOver.{SessionOver}
 use Rattle.data_slots.specs.Slots.{held_at, place_at}
 use Rattle.data_slots.specs.Agreeing.{places_free, places_of, SessionStands, IsOpenAt, Agrees}
-use Rattle.agent_control.specs.declared.control.SessionEnd.{SessionEnd}
 use Rattle.agent_control.specs.Speaking.{IsTellable}
 use Rattle.agent_task.specs.declared.agent.Agent.{Agent}
 use Rattle.agent_task.specs.Given.{plan_of, data_ends}
 use Rattle.agent_task.specs.Asking.{IsUnderWay, CallStands, CallsStand}
-use Rattle.agent_task.specs.Standing.{Stands, KeepsEnds, end_of}
+use Rattle.agent_task.specs.Standing.{Stands, KeepsEnds}
 use Rattle.agent_task.specs.Ending.{IsRunning, heard_at}
-use Rattle.agent_task.specs.Ends.{AreKept, session_told, session_unsaid, session_over, sessions_owed}
+use Rattle.agent_task.specs.Ends.{AreKept, session_told, session_of_end, sessions_owed}
 use Rattle.agent_task.specs.Telling.{heard_on, TellsOnce}
 use Rattle.agent_task.specs.State.{state_of, state_in, IsOpenSession, IsOpenFor, ActsSoFar, TellsSoFar}
 use Rattle.agent_task.proofs.KeptLaws.{kept-told, kept-waits}
-use Rattle.agent_task.proofs.ListLaws.{each-mapped, some-more}
 use Rattle.agent_task.proofs.AskingLaws.{some-after, some-mapped, some-each, own-end}
 use Rattle.agent_task.proofs.SessionLaws.{over-tellable}
 use Rattle.agent_task.proofs.RoundLaws.{running-up, running-over}
+use Rattle.qrexec_data.specs.Laws.{IsVersion}
 
 said-whole : (greeted : Bool) (own : ℕ) (said : List Message) (sent : List ℕ) → SentWhole greeted own said sent → ((sent ≡ []) × (said ≡ [])) ⊎ (sent ≡ flat_map written (Hello own ∷ said))
 said-whole false own said sent h = inl h
@@ -79,14 +77,14 @@ held-places (e ∷ ends) = ap (λ l. e.place ∷ l) (held-places ends)
 
 -- a call that is open is so for a reason
 open-for : (a : Agent) (heard said : List Message) → Stands a heard said → Agrees a.slots → CallsStand a.control.queue a.control.unsaid.items a.slots.opened said → (place : ℕ) (c : Queued) → slice_get a.control.queue.calls place ≡ Some c
-    → c.is_open ≡ true → (place < a.control.queue.next) × IsOpenFor (map session_unsaid a.control.unsaid.items ++ map session_over a.slots.opened) said place c.answer
+    → c.is_open ≡ true → (place < a.control.queue.next) × IsOpenFor (map session_of_end a.control.unsaid.items ++ map session_of_end a.slots.opened) said place c.answer
 open-for a heard said stands agrees stand place c there is_open = ((stand place c there).0 is_open, by_answer c.answer refl (stand place c there).1)
   where
     waiting : List (ℕ × ℕ)
-    waiting = map session_unsaid a.control.unsaid.items
+    waiting = map session_of_end a.control.unsaid.items
 
     opened : List (ℕ × ℕ)
-    opened = map session_over a.slots.opened
+    opened = map session_of_end a.slots.opened
 
     Own : SessionEnd → Type 0
     Own e = e.call ≡ Some place
@@ -94,19 +92,19 @@ open-for a heard said stands agrees stand place c there is_open = ((stand place 
     Tellable : SessionEnd → Type 0
     Tellable e = IsTellable (asked_by a.control.queue) heard e
 
-    own : (to port : ℕ) → c.answer ≡ At to port → (e : SessionEnd) → Own e × Tellable e → session_unsaid e ≡ (to, port)
+    own : (to port : ℕ) → c.answer ≡ At to port → (e : SessionEnd) → Own e × Tellable e → session_of_end e ≡ (to, port)
     own to port is e h =
-        let parts = own-end (asked_by a.control.queue) heard place (asked_as c) e to port (map-get asked_as a.control.queue.calls place c there) is h.0 h.1 in
+        let parts = own-end (asked_by a.control.queue) heard place (asked_as c) e to port (get-map asked_as a.control.queue.calls place c there) is h.0 h.1 in
         ap (λ (d : ℕ). (d, e.port)) parts.0 ∙ ap (λ (p : ℕ). (to, p)) parts.1
 
     under-way : (to port : ℕ) → c.answer ≡ At to port → IsUnderWay a.control.unsaid.items a.slots.opened place → SomeOf (λ s. s ≡ (to, port)) (waiting ++ opened)
     under-way to port is (inl e) =
-        some-more (λ s. s ≡ (to, port)) waiting opened
-        (some-mapped (λ e. Own e × Tellable e) (λ s. s ≡ (to, port)) session_unsaid a.control.unsaid.items (own to port is) (some-each Own Tellable a.control.unsaid.items stands.speaks.unsaid e))
+        some-append (λ s. s ≡ (to, port)) waiting opened
+        (some-mapped (λ e. Own e × Tellable e) (λ s. s ≡ (to, port)) session_of_end a.control.unsaid.items (own to port is) (some-each Own Tellable a.control.unsaid.items stands.speaks.unsaid e))
     under-way to port is (inr o) =
         some-after (λ s. s ≡ (to, port)) waiting opened
-        (some-mapped (λ o. Own (end_of o) × IsOpenAt a.slots o) (λ s. s ≡ (to, port)) session_over a.slots.opened (λ o h. own to port is (end_of o) (h.0, over-tellable a heard said o stands h.1.begun))
-        (some-each (λ o. Own (end_of o)) (IsOpenAt a.slots) a.slots.opened agrees.opened o))
+        (some-mapped (λ o. Own o × IsOpenAt a.slots o) (λ s. s ≡ (to, port)) session_of_end a.slots.opened (λ o h. own to port is o (h.0, over-tellable a heard said o stands h.1.begun))
+        (some-each (λ o. Own o) (IsOpenAt a.slots) a.slots.opened agrees.opened o))
 
     by_answer : (x : Answer) → c.answer ≡ x → CallStands a.control.unsaid.items a.slots.opened said place c.is_open x → IsOpenFor (waiting ++ opened) said place x
     by_answer Waits is h = tt
@@ -131,7 +129,7 @@ acts-so-far a heard said stands keeps all agrees = record {
   begun = ap (λ l. (answers (plan_of a.given) l).unused) (sym heard_is) ∙ (sym stands.answers.unused ∙ (agrees.unused ∙ ap (λ l. places_free l a.slots.sessions) places_are));
   version = subst (λ (v : ℕ). IsVersion v) stands.slots.version (record { least = agrees.version.0; small = omega (arith, agrees.version.1) });
   sessions = subst (λ (v : ℕ). Each (SessionStands v) a.slots.sessions) stands.slots.version agrees.sessions;
-  opened = each-mapped (IsOpenAt a.slots) (IsOpenSession (state_of a)) session_over a.slots.opened is-open agrees.opened;
+  opened = each-mapped (IsOpenAt a.slots) (IsOpenSession (state_of a)) session_of_end a.slots.opened is-open agrees.opened;
 }
   where
     heard_is : heard ≡ (heard_on (plan_of a.given) (view a.control.port.end)).messages
@@ -140,11 +138,11 @@ acts-so-far a heard said stands keeps all agrees = record {
     places_are : places_of a.slots ≡ places_in (data_ends a.given)
     places_are = ap (λ l. map (λ h. h.place) l) stands.slots.held ∙ held-places (data_ends a.given)
 
-    is-open : (o : SessionOver) → IsOpenAt a.slots o → IsOpenSession (state_of a) (session_over o)
+    is-open : (o : SessionEnd) → IsOpenAt a.slots o → IsOpenSession (state_of a) (session_of_end o)
     is-open o h = record {
       at = h.at;
-      number = o.number;
-      place_is = ap (λ l. slice_get l h.at) (sym places_are) ∙ (h.place_is ∙ ap (λ (d : ℕ). Some (place_at d o.number o.domain o.port)) stands.slots.domain);
+      number = o.call;
+      place_is = ap (λ l. slice_get l h.at) (sym places_are) ∙ (h.place_is ∙ ap (λ (d : ℕ). Some (place_at d o.call o.domain o.port)) stands.slots.domain);
       is_open = h.is_open;
     }
 
@@ -156,7 +154,7 @@ tells-so-far a running agrees = by_over a.over refl
       once = tells-once a heard said stands keeps all;
       acts = acts-so-far a heard said stands keeps all agrees;
       waits = λ up.
-          subst (λ (l : List Message). IsPermutation (filter_map session_told said ++ (map session_unsaid a.control.unsaid.items ++ map session_over a.slots.opened)) (sessions_owed (answers (plan_of a.given) l).asked l))
+          subst (λ (l : List Message). IsPermutation (filter_map session_told said ++ (map session_of_end a.control.unsaid.items ++ map session_of_end a.slots.opened)) (sessions_owed (answers (plan_of a.given) l).asked l))
           (heard-all a heard said stands all)
           (kept-waits a.slots.called (answers (plan_of a.given) heard).asked a.control.unsaid.items a.slots.opened heard said stands.answers.called
           (subst (λ (o : Option ControlEnd). AreKept o a.slots.called a.control.unsaid.items a.slots.opened heard said) up keeps.0));
@@ -169,8 +167,3 @@ tells-so-far a running agrees = by_over a.over refl
 pub tells-in : (o : Option Agent) → IsSomeAnd o IsRunning → IsSomeAnd o (λ a. Agrees a.slots) → TellsSoFar (state_in o)
 tells-in None running agrees = absurd running
 tells-in (Some a) running agrees = tells-so-far a running agrees
-
--- a session is open
-pub still-open : (opened : List SessionOver) → opened ≢ [] → map session_over opened ≢ []
-still-open [] some = absurd (some refl)
-still-open (o ∷ opened) some = λ none. cc

@@ -1,18 +1,17 @@
 -- The calls of an agent: which of them are open, by their sessions and by what was sent.
 -- Source: this project's own.
 use Rattle.std.specs.Prelude.{◌≡◌, ◌⊎◌, ℕ, ◌<◌, ◌≤◌, Bool, true, false, List, ◌++◌, length, filter_map, slice_get, Some}
+use Rattle.list_laws.specs.Lists.{SomeOf}
 use Rattle.qrexec_frame.specs.declared.message.Message.{Message}
 use Rattle.qrexec_frame.specs.declared.message.Message.TheVariants.{Terminated}
-use Rattle.task_duties.specs.Pairwise.{SomeOf}
+use Rattle.task_duties.specs.declared.done.SessionEnd.{SessionEnd}
 use Rattle.task_duties.specs.Agent.Answers.{Answer, Waits, IsRefused, At}
 use Rattle.task_duties.specs.Agent.Saying.{asking}
 use Rattle.call_queue.specs.Queue.{Queued, QueueState}
-use Rattle.data_slots.specs.declared.done.SessionOver.{SessionOver}
-use Rattle.agent_control.specs.declared.control.SessionEnd.{SessionEnd}
 
 -- the session of the call at a place is open, or its end waits to be reported
-abbrev pub IsUnderWay : List SessionEnd → List SessionOver → ℕ → Type 0
-IsUnderWay unsaid opened place = SomeOf (λ e. e.call ≡ Some place) unsaid ⊎ SomeOf (λ o. o.number ≡ Some place) opened
+abbrev pub IsUnderWay : List SessionEnd → List SessionEnd → ℕ → Type 0
+IsUnderWay unsaid opened place = SomeOf (λ e. e.call ≡ Some place) unsaid ⊎ SomeOf (λ o. o.call ≡ Some place) opened
 
 -- the end of a session was reported
 abbrev pub IsReported : List Message → ℕ → ℕ → Type 0
@@ -27,11 +26,11 @@ pub record IsReportedEarly (said : List Message) (place to port : ℕ) : Type 0 
   pub early : length (filter_map asking before) ≤ place
 
 -- by its answer: a call that was refused isn't open; the session of one that was let through is under way, or its end was reported, and then the call isn't open, unless that was before its trigger
-abbrev pub CallStands : List SessionEnd → List SessionOver → List Message → ℕ → Bool → Answer → Type 0
+abbrev pub CallStands : List SessionEnd → List SessionEnd → List Message → ℕ → Bool → Answer → Type 0
 CallStands unsaid opened said place is_open Waits = Unit {0}
 CallStands unsaid opened said place is_open IsRefused = is_open ≡ false
 CallStands unsaid opened said place is_open (At to port) = IsUnderWay unsaid opened place ⊎ (IsReported said to port × (is_open ≡ true → IsReportedEarly said place to port))
 
 -- and a call that is open was asked for
-abbrev pub CallsStand : QueueState → List SessionEnd → List SessionOver → List Message → Type 0
+abbrev pub CallsStand : QueueState → List SessionEnd → List SessionEnd → List Message → Type 0
 CallsStand q unsaid opened said = (place : ℕ) (c : Queued) → slice_get q.calls place ≡ Some c → (c.is_open ≡ true → place < q.next) × CallStands unsaid opened said place c.is_open c.answer

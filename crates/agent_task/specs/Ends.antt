@@ -4,10 +4,9 @@ use Rattle.std.specs.Prelude.{◌≡◌, ℕ, List, [], ◌++◌, map, filter_ma
 use Rattle.qrexec_frame.specs.declared.message.Message.{Message}
 use Rattle.qrexec_frame.specs.declared.message.Message.TheVariants.{Exec, JustExec, Terminated}
 use Rattle.task_duties.specs.declared.done.ControlEnd.{ControlEnd}
+use Rattle.task_duties.specs.declared.done.SessionEnd.{SessionEnd}
 use Rattle.task_duties.specs.Agent.Answers.{Answer, At, Asked}
 use Rattle.data_slots.specs.Slots.{Called}
-use Rattle.data_slots.specs.declared.done.SessionOver.{SessionOver}
-use Rattle.agent_control.specs.declared.control.SessionEnd.{SessionEnd}
 
 -- a session is named by the domain at its other end and its port
 
@@ -36,22 +35,19 @@ sessions_owed asked heard = filter_map (λ a. session_of_answer a.answer) asked 
 abbrev pub session_called : Called → ℕ × ℕ
 session_called c = (c.to, c.port)
 
-abbrev pub session_unsaid : SessionEnd → ℕ × ℕ
-session_unsaid e = (e.domain, e.port)
-
-abbrev pub session_over : SessionOver → ℕ × ℕ
-session_over o = (o.domain, o.port)
+abbrev pub session_of_end : SessionEnd → ℕ × ℕ
+session_of_end e = (e.domain, e.port)
 
 -- those that are owed by the sessions of its calls
 abbrev pub sessions_known : List (Option Called) → List Message → List (ℕ × ℕ)
 sessions_known called heard = filter_map (option_map session_called) called ++ filter_map session_asked heard
 
 -- those that were reported, that wait to be reported, that are still open, and that are lost
-abbrev pub sessions_held : List Message → List SessionEnd → List SessionOver → List (ℕ × ℕ) → List (ℕ × ℕ)
-sessions_held said unsaid opened lost = filter_map session_told said ++ ((map session_unsaid unsaid ++ map session_over opened) ++ lost)
+abbrev pub sessions_held : List Message → List SessionEnd → List SessionEnd → List (ℕ × ℕ) → List (ℕ × ℕ)
+sessions_held said unsaid opened lost = filter_map session_told said ++ ((map session_of_end unsaid ++ map session_of_end opened) ++ lost)
 
 -- each that is owed was reported once, waits, or is still open; only those that ended after the control channel was over are lost
-pub record AreKept (over : Option ControlEnd) (called : List (Option Called)) (unsaid : List SessionEnd) (opened : List SessionOver) (heard said : List Message) : Type 0 where
+pub record AreKept (over : Option ControlEnd) (called : List (Option Called)) (unsaid opened : List SessionEnd) (heard said : List Message) : Type 0 where
   pub lost : List (ℕ × ℕ)
   pub none_lost : over ≡ None → lost ≡ []
   pub are : IsPermutation (sessions_held said unsaid opened lost) (sessions_known called heard)

@@ -1,15 +1,15 @@
 -- What holds of an agent while its control channel is open: its calls and its sessions are what it makes of the messages that it heard.
 -- Source: this project's own.
 use Rattle.std.specs.Prelude.{◌≡◌, Bool, true, false, List, [], ◌∷◌, ◌++◌, map, Option, Some, None}
+use Rattle.std.specs.List.{AllByRecursion as Each, AllZip as EachPair}
+use Rattle.list_laws.specs.Lists.{SomeOf, AreDifferent}
 use Rattle.qrexec_frame.specs.declared.message.Message.{Message}
-use Rattle.qrexec_frame.specs.Streams.{Each}
 use Rattle.vchan_rule.specs.Seated.{view, IsOpen}
 use Rattle.vchan_rule.specs.Ends.{IsSameEnd}
 use Rattle.end_view.specs.EndView.{EndView}
 use Rattle.service_gate.specs.Owing.{builtin_owes}
 use Rattle.scenario_file.specs.declared.scenario.CallPlan.{CallPlan}
 use Rattle.task_duties.specs.declared.done.ControlEnd.{ControlEnd}
-use Rattle.task_duties.specs.Pairwise.{EachPair, SomeOf}
 use Rattle.task_duties.specs.Words.{ident_of}
 use Rattle.task_duties.specs.TaskOwes.{places_in}
 use Rattle.task_duties.specs.Agent.Answers.{Answer, At, Asked, Served, Answers, answers}
@@ -17,11 +17,9 @@ use Rattle.task_duties.specs.Agent.Sessions.{IsService}
 use Rattle.task_duties.specs.Agent.Saying.{AsksToServe}
 use Rattle.control_port.specs.Port.{PortState, HasHeard, HasHeardAll}
 use Rattle.control_port.specs.declared.talk.Talker.TheVariants.{Agent as OfAgent}
-use Rattle.call_queue.specs.Queue.{QueueState, asked_by, AreDifferent}
+use Rattle.call_queue.specs.Queue.{QueueState, asked_by}
 use Rattle.data_slots.specs.Sessions.{KeepsSessions}
 use Rattle.data_slots.specs.Slots.{Called, Serves, SlotsState, held_at, AreApart}
-use Rattle.data_slots.specs.declared.done.SessionOver.{SessionOver}
-use Rattle.agent_control.specs.declared.control.SessionEnd.{SessionEnd}
 use Rattle.agent_control.specs.Speaking.{Speaks}
 use Rattle.agent_task.specs.declared.given.Given.{Given}
 use Rattle.agent_task.specs.declared.agent.Agent.{Agent}
@@ -155,10 +153,6 @@ KeepsOpen old new = KeepsSessions old.slots.sessions new.slots.sessions
 -- only the ends to be reported differ
 abbrev pub OnlyTells : Agent → Agent → Type 0
 OnlyTells old new = new ≡ record old { control = record old.control { unsaid = new.control.unsaid } }
-
--- the report of a session that is over
-abbrev pub end_of : SessionOver → SessionEnd
-end_of over = record { domain = over.domain; port = over.port; call = over.number }
 
 -- its control end can be retired, or was retired when the channel was over
 abbrev pub CanRest : Option ControlEnd → EndView → Type 0

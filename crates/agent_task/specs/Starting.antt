@@ -1,6 +1,7 @@
 -- The parts of an agent that is just made.
 -- Source: this project's own.
 use Rattle.std.specs.Prelude.{◌≡◌, false, List, [], map, replicate, length, None}
+use Rattle.list_laws.specs.Lists.{AreDifferent}
 use Rattle.vchan_rule.specs.Seated.{view}
 use Rattle.ring_words.specs.declared.page.Role.TheVariants.{Server}
 use Rattle.end_view.specs.EndView.{IsUnused}
@@ -9,7 +10,7 @@ use Rattle.task_duties.specs.TaskOwes.{places_in}
 use Rattle.task_duties.specs.Words.{ident_of}
 use Rattle.control_port.specs.Port.{PortState, HasSaid, HasHeard}
 use Rattle.control_port.specs.declared.talk.Talker.TheVariants.{Agent as OfAgent}
-use Rattle.call_queue.specs.Queue.{QueueState, fresh, asked_by, AreDifferent}
+use Rattle.call_queue.specs.Queue.{QueueState, fresh, asked_by}
 use Rattle.call_queue.specs.Asking.{Asks}
 use Rattle.data_slots.specs.Sessions.{NotBegun}
 use Rattle.data_slots.specs.Sides.{late_places}

@@ -1,17 +1,16 @@
 -- An agent between two turns, as contracts see it.
 -- Source: this project's own.
 use Rattle.std.specs.Prelude.{◌≡◌, ◌≢◌, ◌⊎◌, ℕ, ◌<◌, true, List, [], ◌++◌, map, filter_map, take, slice_get, Option, Some, None, IsSomeAnd, IsPermutation}
+use Rattle.std.specs.List.{AllByRecursion as Each}
+use Rattle.list_laws.specs.Lists.{SomeOf}
 use Rattle.qrexec_frame.specs.declared.message.Message.{Message}
-use Rattle.qrexec_frame.specs.Streams.{Each}
 use Rattle.vchan_rule.specs.Seated.{view}
 use Rattle.end_view.specs.EndView.{EndView, no_end}
 use Rattle.task_duties.specs.declared.done.ControlEnd.{ControlEnd}
 use Rattle.task_duties.specs.TaskOwes.{TaskGiven, EndAt, Agent as AgentWith}
-use Rattle.task_duties.specs.Pairwise.{SomeOf}
 use Rattle.task_duties.specs.Agent.Given.{AgentPlan}
 use Rattle.task_duties.specs.Agent.Answers.{Answer, Waits, IsRefused, At, Answers, answers}
 use Rattle.task_duties.specs.Agent.Saying.{asking, asking_of}
-use Rattle.qrexec_data.specs.Laws.{IsVersion}
 use Rattle.control_port.specs.Port.{HasSaid, HasHeardAll}
 use Rattle.control_port.specs.declared.talk.Talker.TheVariants.{Agent as OfAgent}
 use Rattle.call_queue.specs.Queue.{Queued, asked_by}
@@ -21,9 +20,10 @@ use Rattle.data_slots.specs.Sessions.{Session, NotBegun, is_open, session_at, Ta
 use Rattle.data_slots.specs.Agreeing.{places_free, SessionStands}
 use Rattle.agent_task.specs.declared.agent.Agent.{Agent}
 use Rattle.agent_task.specs.Given.{plan_of, ends_of}
-use Rattle.agent_task.specs.Ends.{session_told, session_unsaid, session_over}
+use Rattle.agent_task.specs.Ends.{session_told, session_of_end}
 use Rattle.agent_task.specs.Asking.{IsReportedEarly}
 use Rattle.agent_task.specs.Telling.{TellsOnce, heard_on, owed_on}
+use Rattle.qrexec_data.specs.Laws.{IsVersion}
 
 pub record AgentState : Type 0 where
   -- its plan and all its ends, as they were given
@@ -47,8 +47,8 @@ state_of a = record {
   ends = ends_of a.given;
   control = view a.control.port.end;
   over = a.over;
-  waiting = map session_unsaid a.control.unsaid.items;
-  opened = map session_over a.slots.opened;
+  waiting = map session_of_end a.control.unsaid.items;
+  opened = map session_of_end a.slots.opened;
   sessions = a.slots.sessions;
   pages = late_count a.slots;
   channel = Some a.control;
@@ -87,7 +87,7 @@ pub record IsChannelOf (task : AgentState) (said : List Message) (c : AgentContr
   pub own : c.port.own ≡ task.plan.version
   pub says : HasSaid c.port said
   pub hears : HasHeardAll c.port (heard_on task.plan task.control).messages
-  pub waiting : task.waiting ≡ map session_unsaid c.unsaid.items
+  pub waiting : task.waiting ≡ map session_of_end c.unsaid.items
   pub calls : map (λ a. a.call) (asked_by c.queue) ≡ task.plan.calls
   pub answered : asked_by c.queue ≡ (answers_so_far task).asked
   pub asks : filter_map asking said ≡ take c.queue.next (map asking_of task.plan.calls)

@@ -1,13 +1,13 @@
 -- What an agent that is done has reported, beside what it owes.
 -- Source: this project's own.
 use Rattle.std.specs.Prelude.{◌≡◌, ◌↔◌, ℕ, List, filter_map, slice_get, Some}
+use Rattle.list_laws.specs.Lists.{IsPartOf}
 use Rattle.qrexec_frame.specs.declared.message.Message.{Message}
 use Rattle.end_view.specs.EndView.{EndView}
 use Rattle.qrexec_data.specs.declared.fault.SessionFault.{SessionFault}
 use Rattle.task_duties.specs.declared.place.PagePlace.TheVariants.{Control}
 use Rattle.task_duties.specs.declared.done.ControlEnd.{ControlEnd}
 use Rattle.task_duties.specs.declared.done.ControlEnd.TheVariants.{Fault}
-use Rattle.task_duties.specs.Pairwise.{IsPartOf}
 use Rattle.task_duties.specs.Hearing.{to_agent, to_broker, IsSaid, Heard, hears}
 use Rattle.task_duties.specs.TaskOwes.{EndAt}
 use Rattle.task_duties.specs.GivenEnds.{all_retired}

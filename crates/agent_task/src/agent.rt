@@ -1,6 +1,6 @@
 //! An agent between two turns.
-ghost use Rattle.std.specs.Prelude.{◌≡◌, ◌≢◌, ◌⊎◌, ◌<◌, ◌++◌, [], Some, None, IfSome, OnOk, length, map};
-ghost use Rattle.agent_task.specs.Standing.{IsUp, CanGiveUp, HasSameEnds, KeepsPort, OnlyTells, end_of};
+ghost use Rattle.std.specs.Prelude.{◌≡◌, ◌≢◌, ◌⊎◌, ◌<◌, ◌++◌, [], Some, None, IfSome, OnOk, length};
+ghost use Rattle.agent_task.specs.Standing.{IsUp, CanGiveUp, HasSameEnds, KeepsPort, OnlyTells};
 ghost use Rattle.data_slots.specs.Agreeing.{Agrees};
 ghost use Rattle.data_slots.specs.Slots.{late_count};
 ghost use Rattle.data_slots.specs.Sessions.{AllTakeTurns};
@@ -9,10 +9,10 @@ ghost use Rattle.agent_task.specs.State.{TurnsEach};
 ghost use Rattle.agent_task.specs.Ending.{IsRunning};
 
 use crate::given::Given;
-use agent_control::{AgentControl, SessionEnd};
-use data_slots::{DataSlots, SessionOver};
+use agent_control::AgentControl;
+use data_slots::DataSlots;
 use std::alloc::Global;
-use task_duties::ControlEnd;
+use task_duties::{ControlEnd, SessionEnd};
 use vchan_io::Memory;
 
 /// The number of sessions open on pages laid for them at which an agent requests no more calls, since each
@@ -43,7 +43,7 @@ impl<'p> Agent<'p> {
     pub(crate) fn go_round(
         &mut self,
         scratch: &mut [u8],
-        over: &mut Vec<SessionOver>,
+        over: &mut Vec<SessionEnd>,
     ) -> Result<bool, Memory>
         requires running { IsRunning self.old }
         requires some { 0 < length scratch.old }
@@ -87,7 +87,7 @@ impl<'p> Agent<'p> {
     fn turn_sessions(
         &mut self,
         scratch: &mut [u8],
-        over: &mut Vec<SessionOver>,
+        over: &mut Vec<SessionEnd>,
     ) -> Result<bool, Memory>
         requires running { IsRunning self.old }
         requires some { 0 < length scratch.old }
@@ -108,16 +108,12 @@ impl<'p> Agent<'p> {
     }
 
     // Appends sessions that are over to those that are to be reported.
-    fn note_over(&mut self, over: &[SessionOver]) -> Result<(), Memory>
+    fn note_over(&mut self, over: &[SessionEnd]) -> Result<(), Memory>
         ensures same { OnlyTells self.old self.new }
-        ensures told { OnOk result (self.new.control.unsaid.items ≡ self.old.control.unsaid.items ++ map end_of over.now) }
+        ensures told { OnOk result (self.new.control.unsaid.items ≡ self.old.control.unsaid.items ++ over.now) }
     {
         for session in over {
-            self.control.unsaid.push_back(SessionEnd {
-                domain: session.domain,
-                port: session.port,
-                call: session.number,
-            })?;
+            self.control.unsaid.push_back(*session)?;
         }
         Ok(())
     }

@@ -5,8 +5,8 @@ ghost use Rattle.agent_task.specs.Standing.{IsHearing, Awaits, KeepsPort, KeepsO
 
 use crate::agent::Agent;
 use crate::line::service_of;
-use agent_control::SessionEnd;
 use qrexec_frame::{Message, Text};
+use task_duties::SessionEnd;
 use vchan_io::Memory;
 
 impl<'p> Agent<'p> {

@@ -7,15 +7,14 @@ ghost use Rattle.agent_task.specs.Moving.{TurnsChannel, KeepsChannel};
 ghost use Rattle.agent_task.specs.State.{state_in, task_given, TurnsEach};
 
 use crate::agent::Agent;
-use data_slots::SessionOver;
-use task_duties::ControlEnd;
+use task_duties::{ControlEnd, SessionEnd};
 use vchan_io::Memory;
 
 /// Makes one round of an agent over all channels, as [`Agent::go_round`].
 pub(crate) fn go_round(
     agent: &mut Option<Agent>,
     scratch: &mut [u8],
-    over: &mut Vec<SessionOver>,
+    over: &mut Vec<SessionEnd>,
 ) -> Result<bool, Memory>
     requires running { IsSomeAnd agent.old IsRunning }
     requires some { 0 < length scratch.old }

@@ -1,7 +1,8 @@
 //! The task of an agent.
 ghost use Rattle.std.specs.Prelude.{◌<◌, IfOk, length, map};
-ghost use Rattle.qrexec_frame.specs.Streams.{Each};
-ghost use Rattle.call_queue.specs.Queue.{AreDifferent, FitsTrigger};
+ghost use Rattle.std.specs.List.{AllByRecursion as Each};
+ghost use Rattle.list_laws.specs.Lists.{AreDifferent};
+ghost use Rattle.call_queue.specs.Queue.{FitsTrigger};
 ghost use Rattle.agent_task.specs.Starting.{IsNewQueue};
 
 use crate::agent::Agent;
@@ -10,13 +11,13 @@ use crate::given::Given;
 use agent_control::AgentControl;
 use call_queue::CallQueue;
 use control_port::{ControlPort, Talker};
-use data_slots::{DataSlots, SessionOver};
+use data_slots::DataSlots;
 use scenario_file::CallPlan;
 use std::alloc::Global;
 use std::collections::VecDeque;
 use std::marker::Model;
 use std::snapshot::Snapshot;
-use task_duties::{CallDone, ControlEnd, DataEnd, RetiredEnd, ServedDone, UnmadeEnds};
+use task_duties::{CallDone, ControlEnd, DataEnd, RetiredEnd, ServedDone, SessionEnd, UnmadeEnds};
 use vchan_io::Memory;
 use vchan_rule::End;
 
@@ -33,7 +34,7 @@ pub struct AgentTask<'p> {
     // The buffer through which all bytes are read.
     scratch: Vec<u8>,
     // The sessions that were over in a turn. The list is kept for its room.
-    ended: Vec<SessionOver>,
+    ended: Vec<SessionEnd>,
     // Whether the last turn moved anything.
     moved: bool,
 }
@@ -93,10 +94,11 @@ impl<'p> AgentTask<'p> {
     ghost use Rattle.ring_words.specs.declared.page.Role.TheVariants.{Server};
     ghost use Rattle.end_view.specs.EndView.{IsUnused};
     ghost use Rattle.vchan_rule.specs.Seated.{view};
-    ghost use Rattle.qrexec_frame.specs.Streams.{Each};
+    ghost use Rattle.std.specs.List.{AllByRecursion as Each};
     ghost use Rattle.task_duties.specs.TaskOwes.{Agent as AgentWith, AreGivenBack, agent_given, places_in};
     ghost use Rattle.task_duties.specs.GivenEnds.{all_given, all_retired};
-    ghost use Rattle.call_queue.specs.Queue.{AreDifferent, FitsTrigger};
+    ghost use Rattle.list_laws.specs.Lists.{AreDifferent};
+    ghost use Rattle.call_queue.specs.Queue.{FitsTrigger};
     ghost use Rattle.data_slots.specs.Slots.{IsGiven, AreApart};
     ghost use Rattle.agent_task.specs.Given.{given_of, plan_of};
     ghost use Rattle.agent_task.specs.State.{AgentState, task_given};

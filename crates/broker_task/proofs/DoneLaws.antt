@@ -2,11 +2,11 @@
 use Rattle.std.proofs.Common.{◌≡◌, ℕ, ◌+◌, ◌-◌, suc, zero, true, false, List, [], ◌∷◌, ◌++◌, length, map, refl, sym, ap, ◌∙◌, subst, arith, inl, inr}
 use Rattle.std.specs.Prelude.{◌⊎◌, IsPermutation, IsSome, filter_map}
 use Rattle.std.proofs.lemmas.List.{append-nil}
+use Rattle.std.specs.List.{AllByRecursion as Each, AllZip as EachPair}
 use Rattle.end_view.specs.EndView.{EndView, no_end}
 use Rattle.vchan_lifecycle.specs.Lifecycle.{retired_view}
 use Rattle.qrexec_frame.specs.declared.message.Message.{Message}
 use Rattle.qrexec_frame.specs.declared.message.Message.TheVariants.{Connect}
-use Rattle.qrexec_frame.specs.Streams.{Each}
 use Rattle.call_broker.specs.declared.decision.Entry.{Entry}
 use Rattle.call_broker.specs.Brokered.{Brokered}
 use Rattle.call_broker.specs.Domains.{Domains, is_domain, count_of}
@@ -16,7 +16,6 @@ use Rattle.task_duties.specs.declared.place.PagePlace.{PagePlace}
 use Rattle.task_duties.specs.declared.place.PagePlace.TheVariants.{Control, Payload}
 use Rattle.task_duties.specs.declared.ends.RetiredEnd.{RetiredEnd}
 use Rattle.task_duties.specs.Places.{numbers}
-use Rattle.task_duties.specs.Pairwise.{EachPair}
 use Rattle.task_duties.specs.Hearing.{to_agent, to_broker, IsSaid, hears}
 use Rattle.task_duties.specs.Broker.Outbox.{outbox, event_of, read_from, answered, live_calls}
 use Rattle.task_duties.specs.Broker.Owes.{broker_version, awaited_of, BrokerOwes}

@@ -3,17 +3,20 @@ use Rattle.std.proofs.Common.{◌≡◌, ◌≢◌, ℕ, Bool, true, false, List
 use Rattle.std.specs.Prelude.{◌==◌, ◌||◌, IsPermutation, filter_map}
 use Rattle.std.proofs.lemmas.List.{append-nil}
 use Rattle.std.proofs.lemmas.Bool.Decides.{nat_tests}
+use Rattle.std.specs.List.{AllByRecursion as Each}
+use Rattle.std.proofs.lemmas.Bool.{and_parts}
+use Rattle.std.proofs.Math.Bool.{or-false, or-true}
+use Rattle.list_laws.proofs.Each.{each-push, each-weaker}
+use Rattle.list_laws.proofs.Tests.{same-number}
 use Rattle.qrexec_frame.specs.declared.message.Message.{Message}
 use Rattle.qrexec_frame.specs.declared.message.Message.TheVariants.{Hello, Exec, JustExec, Connect, Refused, Terminated, Trigger3, Trigger, Stdin, Stdout, Stderr, ExitCode}
-use Rattle.qrexec_frame.specs.Streams.{Each}
 use Rattle.call_broker.specs.declared.event.Event.TheVariants.{Dropped}
 use Rattle.call_broker.specs.declared.decision.Entry.{Entry}
 use Rattle.call_broker.specs.declared.decision.Decision.{Decision}
 use Rattle.call_broker.specs.Domains.{Domains, is_domain}
 use Rattle.call_broker.specs.Pair.{decision}
 use Rattle.call_broker.specs.Journal.{events, is_dropped, IsNumbered}
-use Rattle.call_broker.proofs.BrokerLaws.{decided-push, each-push}
-use Rattle.call_broker.proofs.OpenLaws.{both}
+use Rattle.call_broker.proofs.BrokerLaws.{decided-push}
 use Rattle.control_port.specs.Port.{HasSaid}
 use Rattle.task_duties.specs.Hearing.{to_broker, hears}
 use Rattle.task_duties.specs.Broker.Outbox.{outbox, answered, event_of, read_from}
@@ -23,8 +26,8 @@ use Rattle.broker_task.specs.declared.daemon.Daemon.{Daemon}
 use Rattle.broker_task.specs.Letters.{messages_in, connects}
 use Rattle.broker_task.specs.Lines.{end_of, heard_by, is_gone, IsLine, HasRead, HasReadAll, IsSameDaemon}
 use Rattle.broker_task.specs.Posting.{EachAt, EachMoves, LetsGo, MayGo, IsLetter, HasPosted, IsPosting, HasHeardOut, HaveRead}
-use Rattle.broker_task.proofs.PostLaws.{same-number, each-moved, moves-then}
-use Rattle.broker_task.proofs.PostingLaws.{each-as, may-go-on, outbox-more, answered-more, dropped-more, still-dropped, line-same}
+use Rattle.broker_task.proofs.PostLaws.{each-moved, moves-then}
+use Rattle.broker_task.proofs.PostingLaws.{may-go-on, outbox-more, answered-more, dropped-more, still-dropped, line-same}
 use Rattle.broker_task.proofs.HearingSteps.{read-more, read-port}
 use Rattle.broker_task.proofs.SendingSteps.{Alone, each-alone}
 use Rattle.broker_task.proofs.ReleaseSteps.{posted-let-go, same-daemon, same-then, same-let-go}
@@ -39,17 +42,6 @@ pub record HangsUp (x y : Daemon) : Type 0 where
   pub letters : y.outbox.letters.items ≡ []
   pub same : IsSameDaemon x y
   pub counted : y.answered ≡ x.answered
-
-drop_of : ℕ → Decision → Entry
-drop_of t decided = record { event = Dropped t; decision = decided }
-
-or-false : (b : Bool) → (b || false) ≡ b
-or-false true = refl
-or-false false = refl
-
-or-true : (b : Bool) → (b || true) ≡ true
-or-true true = refl
-or-true false = refl
 
 pub dropped-own : (journal : List Entry) (t : ℕ) (decided : Decision) → is_dropped (journal ++ record { event = Dropped t; decision = decided } ∷ []) t ≡ true
 dropped-own journal t decided =
@@ -84,7 +76,7 @@ posted-drop hub journal said t decided d x y same up h =
           (subst (λ o. IsPermutation (said d ++ (messages_in x.outbox.letters.items ++ h.lost)) o) (sym (drop-outbox hub journal t d decided)) h.kept);
       none_lost = λ still. cc (up.gone, still);
       letters = subst (λ (l : List Letter). Each (IsLetter hub (journal ++ e ∷ []) said d) l) (sym up.letters) tt;
-      went = each-as (MayGo journal said d) (MayGo (journal ++ e ∷ []) said d) (said d) on h.went;
+      went = each-weaker (MayGo journal said d) (MayGo (journal ++ e ∷ []) said d) on (said d) h.went;
       counted = up.counted ∙ h.counted ∙ sym (drop-answered journal t d decided);
       dropped = subst (λ k. is_dropped (journal ++ e ∷ []) k ≡ true) (sym same) (dropped-own journal t decided) ∙ sym up.gone;
     }
@@ -99,8 +91,8 @@ posted-apart hub journal said t decided d x apart h =
       lost = h.lost;
       kept = subst (λ o. IsPermutation (said d ++ (messages_in x.outbox.letters.items ++ h.lost)) o) (sym (drop-outbox hub journal t d decided)) h.kept;
       none_lost = h.none_lost;
-      letters = each-as (IsLetter hub journal said d) (IsLetter hub (journal ++ e ∷ []) said d) x.outbox.letters.items (λ l is. record { fits = is.fits; may = λ free. on l.message (is.may free) }) h.letters;
-      went = each-as (MayGo journal said d) (MayGo (journal ++ e ∷ []) said d) (said d) on h.went;
+      letters = each-weaker (IsLetter hub journal said d) (IsLetter hub (journal ++ e ∷ []) said d) (λ l is. record { fits = is.fits; may = λ free. on l.message (is.may free) }) x.outbox.letters.items h.letters;
+      went = each-weaker (MayGo journal said d) (MayGo (journal ++ e ∷ []) said d) on (said d) h.went;
       counted = h.counted ∙ sym (drop-answered journal t d decided);
       dropped = dropped-other journal t d decided apart ∙ h.dropped;
     }
@@ -138,7 +130,7 @@ read-drop journal t decided old new moves h =
 
 -- a Connect to a domain that was dropped may be sent
 pub goes-without : (journal : List Entry) (said : ℕ → List Message) (t f : ℕ) → is_dropped journal t ≡ true → (m : Message) → connects t None m ≡ true → MayGo journal said f m
-goes-without journal said t f dropped (Connect to q ident) h = let same : t ≡ to = sym (same-number to t (both (to == t) true h).0) in inl (subst (λ k. is_dropped journal k ≡ true) same dropped)
+goes-without journal said t f dropped (Connect to q ident) h = let same : t ≡ to = sym (same-number to t (and_parts (to == t) true h).0) in inl (subst (λ k. is_dropped journal k ≡ true) same dropped)
 goes-without journal said t f dropped (Hello v) h = tt
 goes-without journal said t f dropped (Exec x p l) h = tt
 goes-without journal said t f dropped (JustExec x p l) h = tt

@@ -1,16 +1,17 @@
 -- A domain that is heard, event by event.
-use Rattle.std.proofs.Common.{◌≡◌, ◌≢◌, ℕ, ◌+◌, ◌-◌, ◌≤◌, Some, None, Bool, true, false, List, [], ◌∷◌, ◌++◌, length, refl, sym, ap, ◌∙◌, subst, arith, suc, zero, ◌<◌}
+use Rattle.std.proofs.Common.{◌≡◌, ◌≢◌, ℕ, ◌+◌, ◌-◌, ◌≤◌, Some, Bool, true, false, List, [], ◌∷◌, ◌++◌, length, refl, sym, ap, ◌∙◌, subst, arith, suc, zero, ◌<◌}
 use Rattle.std.proofs.Math.ListN.{set}
 use Rattle.std.specs.Prelude.{nat_le, filter_map, IsPermutation, if◌then◌else◌}
 use Rattle.qrexec_frame.specs.declared.message.Message.{Message}
 use Rattle.std.proofs.lemmas.List.{append-nil, get_or-set_same, length-set}
 use Rattle.std.proofs.lemmas.Bool.Decides.{nat_tests}
-use Rattle.qrexec_frame.specs.Streams.{Each}
+use Rattle.std.specs.List.{AllByRecursion as Each}
+use Rattle.std.proofs.lemmas.Bool.{and_parts}
+use Rattle.list_laws.proofs.Tests.{same-number}
 use Rattle.call_broker.specs.declared.event.Event.{Event}
 use Rattle.call_broker.specs.declared.event.Event.TheVariants.{Trigger, Terminated, Dropped}
 use Rattle.call_broker.specs.declared.decision.Entry.{Entry}
 use Rattle.call_broker.specs.Domains.{Domains, is_domain, count_of}
-use Rattle.call_broker.proofs.OpenLaws.{both}
 use Rattle.call_broker.specs.Journal.{events}
 use Rattle.vchan_rule.specs.Seated.{SeatedEnd, view}
 use Rattle.control_port.specs.Port.{PortState, HasSaid, HasHeard, HasFewerLeft}
@@ -18,10 +19,10 @@ use Rattle.task_duties.specs.Broker.Outbox.{outbox, read_from, is_from, event_of
 use Rattle.broker_task.specs.declared.daemon.Daemon.{Daemon}
 use Rattle.broker_task.specs.declared.letter.Letter.{Letter}
 use Rattle.broker_task.specs.Letters.{IsAt, messages_in}
-use Rattle.broker_task.specs.Lines.{is_shut, IsLine, IsGoing, ReadsOn, HasRead, HasReadAll, HandsOut, HasRoom, OnlyPort}
+use Rattle.broker_task.specs.Lines.{is_shut, IsLine, IsGoing, ReadsOn, HasRead, HandsOut, HasRoom, OnlyPort}
 use Rattle.broker_task.proofs.LineLaws.{read-still}
-use Rattle.broker_task.specs.Posting.{EachAt, EachMoves, SamePort, SameEnd, MovesPort, HasPosted, IsLetter, IsPosting, IsHearing, HasHeardOut}
-use Rattle.broker_task.proofs.PostLaws.{each-moved, moves-one, moves-as, moves-then, same-number}
+use Rattle.broker_task.specs.Posting.{EachAt, EachMoves, SamePort, SameEnd, MovesPort, HasPosted, IsLetter, IsPosting, IsHearing}
+use Rattle.broker_task.proofs.PostLaws.{each-moved, moves-one, moves-as, moves-then}
 
 -- ---- what was sent and waits, while ports move
 
@@ -144,7 +145,7 @@ left-same old new i less moves =
 
 pub place-of-domain : (hub : Domains) (ds : List Daemon) (d : ℕ) → is_domain hub d ≡ true → length ds ≡ count_of hub → (d - 1 < length ds) × (d - 1 + 1 ≡ d)
 place-of-domain hub ds d there count =
-    let bounds = both (nat_le 1 d) (nat_le d (count_of hub)) there in
+    let bounds = and_parts (nat_le 1 d) (nat_le d (count_of hub)) there in
     let low : 1 ≤ d = grind (arith, nat_tests, bounds.0) in
     let high : d ≤ count_of hub = grind (arith, nat_tests, bounds.1) in
     (omega (arith, low, high, count), omega (arith, low))
@@ -185,20 +186,6 @@ left-falls ds new i x y there fewer ports =
     let less : i < length (set ds i y) = omega (arith, there.within, length-set ds i y) in
     let here : IsAt (set ds i y) i y = record { within = less; is = sym (get_or-set_same ds i y y there.within) } in
     omega (arith, fewer, left-same (set ds i y) new i less ports, left-at (set ds i y) i y here, left-at ds i x there)
-
--- all that the domain has sent was heard
-pub heard-out : (domain : ℕ) (journal : List Entry) (ds : List Daemon) (i : ℕ) (x y : Daemon) → IsAt ds i x → i + 1 ≡ domain
-    → ((events : List Event) → ReadsOn x events → HandsOut y events None) → IsHearing domain journal ds → HasHeardOut domain journal (set ds i y)
-heard-out domain journal ds i x y there number hands h =
-    let R : ℕ → Daemon → Daemon → Type 0 = λ d a b. (d ≢ domain → b ≡ a) × (d ≡ domain → (events : List Event) → ReadsOn a events → HasReadAll b events) in
-    let moves : EachMoves R ds (set ds i y) =
-    moves-one R ds i x y there ((λ apart. absurd (apart number)), (λ same events reads. hands events reads)) (λ d z apart. ((λ away. refl), (λ same. absurd (apart (same ∙ sym number))))) in
-    record {
-      others = each-moved (λ d a. d ≢ domain → HasRead a (read_from journal d)) (λ d a. d ≢ domain → HasRead a (read_from journal d)) R ds (set ds i y) moves
-          (λ d a b m q apart. subst (λ (z : Daemon). HasRead z (read_from journal d)) (sym (m.0 apart)) (q apart)) h.others;
-      own = each-moved (λ d a. d ≡ domain → ReadsOn a (read_from journal d)) (λ d a. d ≡ domain → HasReadAll a (read_from journal d)) R ds (set ds i y) moves
-          (λ d a b m q same. m.1 same (read_from journal d) (q same)) h.own;
-    }
 
 -- ---- the ends, while one domain is heard
 

@@ -1,14 +1,15 @@
 -- The letters that are held, step by step: the Exec of each one's call waits for its target.
 use Rattle.std.proofs.Common.{◌≡◌, ◌≢◌, ℕ, ◌+◌, ◌-◌, suc, zero, Bool, true, false, List, [], ◌∷◌, map, Option, Some, None, refl, sym, ap, ◌∙◌, subst, arith, inl, inr}
 use Rattle.std.specs.Prelude.{◌⊎◌, ◌==◌, Contains, if◌then◌else◌}
-use Rattle.std.specs.List.{remove}
+use Rattle.std.specs.List.{remove, AllByRecursion as Each}
 use Rattle.std.proofs.Math.ListN.{set}
 use Rattle.std.proofs.lemmas.Bool.{false≢true}
 use Rattle.std.proofs.lemmas.Bool.Decides.{nat_tests}
+use Rattle.list_laws.proofs.Tests.{same-number}
+use Rattle.list_laws.proofs.Each.{each-append, each-weaker}
 use Rattle.vchan_rule.specs.Seated.{view}
 use Rattle.qrexec_frame.specs.declared.message.Message.{Message}
 use Rattle.qrexec_frame.specs.declared.message.Message.TheVariants.{Hello, Exec, JustExec, Connect, Refused, Terminated, Trigger3, Trigger, Stdin, Stdout, Stderr, ExitCode}
-use Rattle.qrexec_frame.specs.Streams.{Each}
 use Rattle.qrexec_frame.specs.Names.{cleaned_service, cleaned_target}
 use Rattle.call_broker.specs.declared.event.Event.{Event}
 use Rattle.call_broker.specs.declared.event.Event.TheVariants as event
@@ -34,8 +35,8 @@ use Rattle.broker_task.specs.Moving.{BrokerLine, line_of}
 use Rattle.broker_task.specs.Posting.{EachAt, EachMoves, LetsGo, Posts, IsCallOf, IsPosting, MovesPort}
 use Rattle.broker_task.specs.Holding.{lines_of, ExecWaits, MayHold, HoldsForExecs, IsLetGo, HoldsBut}
 use Rattle.broker_task.proofs.Lists.{at-mapped, mapped-at, at-one}
-use Rattle.broker_task.proofs.PostLaws.{moves-one, same-number}
-use Rattle.broker_task.proofs.PostingLaws.{each-append, each-as, messages-append}
+use Rattle.broker_task.proofs.PostLaws.{moves-one}
+use Rattle.broker_task.proofs.PostingLaws.{messages-append}
 use Rattle.broker_task.proofs.HearingSteps.{port-stays, item-at, place-of-domain}
 use Rattle.broker_task.proofs.SendingSteps.{Sends, Alone, each-out, is-up}
 use Rattle.broker_task.proofs.ReleaseSteps.{released-messages}
@@ -156,8 +157,8 @@ holds-ports old new moves holds =
     holds-of new (λ i y at.
     let m = moves.each i y at in
     subst (λ (ls : List Letter). Each (λ (l : Letter). l.held ≡ true → MayHold (lines_of new) (i + 1) l.message) ls) (sym m.2.outbox)
-    (each-as (λ (l : Letter). l.held ≡ true → MayHold (lines_of old) (i + 1) l.message) (λ (l : Letter). l.held ≡ true → MayHold (lines_of new) (i + 1) l.message) m.0.outbox.letters.items
-    (λ l may held. may-moved MovesPort old new moves keeps (i + 1) l.message (may held)) (holds-at old holds i m.0 m.1)))
+    (each-weaker (λ (l : Letter). l.held ≡ true → MayHold (lines_of old) (i + 1) l.message) (λ (l : Letter). l.held ≡ true → MayHold (lines_of new) (i + 1) l.message) (λ l may held. may-moved MovesPort old new moves keeps (i + 1) l.message (may held))
+    m.0.outbox.letters.items (holds-at old holds i m.0 m.1)))
 
 pub holds-next : (ds : List Daemon) (i : ℕ) (x y : Daemon) → IsAt ds i x → MovesPort (i + 1) x y → HoldsForExecs (lines_of ds) → HoldsForExecs (lines_of (set ds i y))
 holds-next ds i x y there moves holds = holds-ports ds (set ds i y) (moves-one MovesPort ds i x y there moves (λ d z apart. port-stays d z)) holds
@@ -228,9 +229,9 @@ holds-posts hub journal old new e decided moves posting is holds =
     let P : Letter → Type 0 = λ l. l.held ≡ true → MayHold (lines_of new) (i + 1) l.message in
     subst (λ (ls : List Letter). Each P ls) (sym m.2.letters)
     (each-append P m.0.outbox.letters.items m.2.more
-    (each-as (λ (l : Letter). l.held ≡ true → MayHold (lines_of old) (i + 1) l.message) P m.0.outbox.letters.items
-    (λ l may held. may-moved (Posts hub q) old new moves (posts-keeps hub q) (i + 1) l.message (may held)) (holds-at old holds i m.0 m.1))
-    (each-as (λ (l : Letter). l.held ≡ true → IsCallOf e decided (i + 1) l.message) P m.2.more (λ l call held. call-waits hub journal old new e decided moves posting is (i + 1) l.message (call held)) m.2.held)))
+    (each-weaker (λ (l : Letter). l.held ≡ true → MayHold (lines_of old) (i + 1) l.message) P (λ l may held. may-moved (Posts hub q) old new moves (posts-keeps hub q) (i + 1) l.message (may held))
+    m.0.outbox.letters.items (holds-at old holds i m.0 m.1))
+    (each-weaker (λ (l : Letter). l.held ≡ true → IsCallOf e decided (i + 1) l.message) P (λ l call held. call-waits hub journal old new e decided moves posting is (i + 1) l.message (call held)) m.2.more m.2.held)))
 
 -- ---- a letter that is sent
 
@@ -292,13 +293,13 @@ holds-sent hub journal domain m old new moves posting holds =
         let one = s.sends (posting.said (i + 1)) (posting.posted i x at).says in
         subst (λ (ls : List Letter). Each (λ (l : Letter). l.held ≡ true → MayHold (lines_of new) (i + 1) l.message ⊎ IsLetGo domain m (i + 1) l.message) ls) (sym one.5)
         (each-out (λ (l : Letter). l.held ≡ true → MayHold (lines_of new) (i + 1) l.message ⊎ IsLetGo domain m (i + 1) l.message) x.outbox.letters.items one.0
-        (each-as (λ (l : Letter). l.held ≡ true → MayHold (lines_of old) (i + 1) l.message) (λ (l : Letter). l.held ≡ true → MayHold (lines_of new) (i + 1) l.message ⊎ IsLetGo domain m (i + 1) l.message) x.outbox.letters.items
-        (λ l may held. after (i + 1) l.message (may held)) (holds-at old holds i x at)))
+        (each-weaker (λ (l : Letter). l.held ≡ true → MayHold (lines_of old) (i + 1) l.message) (λ (l : Letter). l.held ≡ true → MayHold (lines_of new) (i + 1) l.message ⊎ IsLetGo domain m (i + 1) l.message) (λ l may held. after (i + 1) l.message (may held))
+        x.outbox.letters.items (holds-at old holds i x at)))
     by_test i x y at move false is =
         let apart : i + 1 ≢ domain = λ same. grind (arith, nat_tests, is, same) in
         subst (λ (z : Daemon). Each (λ (l : Letter). l.held ≡ true → MayHold (lines_of new) (i + 1) l.message ⊎ IsLetGo domain m (i + 1) l.message) z.outbox.letters.items) (sym (move.1 apart))
-        (each-as (λ (l : Letter). l.held ≡ true → MayHold (lines_of old) (i + 1) l.message) (λ (l : Letter). l.held ≡ true → MayHold (lines_of new) (i + 1) l.message ⊎ IsLetGo domain m (i + 1) l.message) x.outbox.letters.items
-        (λ l may held. after (i + 1) l.message (may held)) (holds-at old holds i x at))
+        (each-weaker (λ (l : Letter). l.held ≡ true → MayHold (lines_of old) (i + 1) l.message) (λ (l : Letter). l.held ≡ true → MayHold (lines_of new) (i + 1) l.message ⊎ IsLetGo domain m (i + 1) l.message) (λ l may held. after (i + 1) l.message (may held))
+        x.outbox.letters.items (holds-at old holds i x at))
 
 -- ---- letters that are let go
 
@@ -349,8 +350,8 @@ holds-let-go t f port text old new moves holds =
         let lets = move.0 (same-number (i + 1) f is) in
         let P : Message → Type 0 = λ w. MayHold (lines_of old) (i + 1) w ⊎ IsLetGo t (Exec f port text) (i + 1) w in
         subst (λ (ls : List Letter). Each (λ (l : Letter). l.held ≡ true → MayHold (lines_of new) (i + 1) l.message) ls) (sym lets.letters)
-        (each-as (λ (l : Letter). l.held ≡ true → P l.message × (connects t (Some port) l.message ≡ false)) (λ (l : Letter). l.held ≡ true → MayHold (lines_of new) (i + 1) l.message) (map (released t (Some port)) x.outbox.letters.items)
-        (λ l p held. let q = p held in by_cause l q.0 q.1) (released-held t (Some port) x.outbox.letters.items P (but-at (IsLetGo t (Exec f port text)) old holds i x at)))
+        (each-weaker (λ (l : Letter). l.held ≡ true → P l.message × (connects t (Some port) l.message ≡ false)) (λ (l : Letter). l.held ≡ true → MayHold (lines_of new) (i + 1) l.message) (λ l p held. let q = p held in by_cause l q.0 q.1)
+        (map (released t (Some port)) x.outbox.letters.items) (released-held t (Some port) x.outbox.letters.items P (but-at (IsLetGo t (Exec f port text)) old holds i x at)))
       where
         by_cause : (l : Letter) → MayHold (lines_of old) (i + 1) l.message ⊎ IsLetGo t (Exec f port text) (i + 1) l.message → connects t (Some port) l.message ≡ false → MayHold (lines_of new) (i + 1) l.message
         by_cause l (inl may) none = on (i + 1) l.message may
@@ -358,8 +359,8 @@ holds-let-go t f port text old new moves holds =
     by_test i x y at move false is =
         let apart : i + 1 ≢ f = λ same. grind (arith, nat_tests, is, same) in
         subst (HeldAre (MayHold (lines_of new) (i + 1))) (sym (move.1 apart))
-        (each-as (λ (l : Letter). l.held ≡ true → MayHold (lines_of old) (i + 1) l.message ⊎ IsLetGo t (Exec f port text) (i + 1) l.message) (λ (l : Letter). l.held ≡ true → MayHold (lines_of new) (i + 1) l.message) x.outbox.letters.items
-        (λ l p held. by_cause l (p held)) (but-at (IsLetGo t (Exec f port text)) old holds i x at))
+        (each-weaker (λ (l : Letter). l.held ≡ true → MayHold (lines_of old) (i + 1) l.message ⊎ IsLetGo t (Exec f port text) (i + 1) l.message) (λ (l : Letter). l.held ≡ true → MayHold (lines_of new) (i + 1) l.message) (λ l p held. by_cause l (p held))
+        x.outbox.letters.items (but-at (IsLetGo t (Exec f port text)) old holds i x at))
       where
         by_cause : (l : Letter) → MayHold (lines_of old) (i + 1) l.message ⊎ IsLetGo t (Exec f port text) (i + 1) l.message → MayHold (lines_of new) (i + 1) l.message
         by_cause l (inl may) = on (i + 1) l.message may
@@ -368,8 +369,8 @@ holds-let-go t f port text old new moves holds =
 -- a message that is no Exec lets nothing go
 pub holds-as-is : (t : ℕ) (sent : Message) (ds : List Daemon) → ((f port : ℕ) (text : List ℕ) → sent ≡ Exec f port text → ⊥) → HoldsBut (IsLetGo t sent) (lines_of ds) → HoldsForExecs (lines_of ds)
 holds-as-is t sent ds none holds = λ place line at.
-    each-as (λ (l : Letter). l.held ≡ true → MayHold (lines_of ds) (place + 1) l.message ⊎ IsLetGo t sent (place + 1) l.message) (λ (l : Letter). l.held ≡ true → MayHold (lines_of ds) (place + 1) l.message) line.letters
-    (λ l p held. by_cause place l (p held)) (holds place line at)
+    each-weaker (λ (l : Letter). l.held ≡ true → MayHold (lines_of ds) (place + 1) l.message ⊎ IsLetGo t sent (place + 1) l.message) (λ (l : Letter). l.held ≡ true → MayHold (lines_of ds) (place + 1) l.message) (λ l p held. by_cause place l (p held))
+    line.letters (holds place line at)
   where
     by_cause : (place : ℕ) (l : Letter) → MayHold (lines_of ds) (place + 1) l.message ⊎ IsLetGo t sent (place + 1) l.message → MayHold (lines_of ds) (place + 1) l.message
     by_cause place l (inl may) = may
@@ -413,8 +414,8 @@ holds-hung-up t old mid moves holds =
     by_test i x y at move false is =
         let apart : i + 1 ≢ t = λ same. grind (arith, nat_tests, is, same) in
         subst (HeldAre (λ m. MayHold (lines_of mid) (i + 1) m ⊎ (connects t None m ≡ true))) (sym (move.1 apart))
-        (each-as (λ (l : Letter). l.held ≡ true → MayHold (lines_of old) (i + 1) l.message) (λ (l : Letter). l.held ≡ true → MayHold (lines_of mid) (i + 1) l.message ⊎ (connects t None l.message ≡ true)) x.outbox.letters.items
-        (λ l may held. after (i + 1) l.message (may held)) (holds-at old holds i x at))
+        (each-weaker (λ (l : Letter). l.held ≡ true → MayHold (lines_of old) (i + 1) l.message) (λ (l : Letter). l.held ≡ true → MayHold (lines_of mid) (i + 1) l.message ⊎ (connects t None l.message ≡ true)) (λ l may held. after (i + 1) l.message (may held))
+        x.outbox.letters.items (holds-at old holds i x at))
 
 holds-without : (t : ℕ) (mid new : List Daemon) → EachMoves (λ d. LetsGo t None) mid new → HoldsBut (λ d m. connects t None m ≡ true) (lines_of mid) → HoldsForExecs (lines_of new)
 holds-without t mid new moves holds =
@@ -422,8 +423,8 @@ holds-without t mid new moves holds =
     let m = moves.each i y at in
     let P : Message → Type 0 = λ w. MayHold (lines_of mid) (i + 1) w ⊎ (connects t None w ≡ true) in
     subst (λ (ls : List Letter). Each (λ (l : Letter). l.held ≡ true → MayHold (lines_of new) (i + 1) l.message) ls) (sym m.2.letters)
-    (each-as (λ (l : Letter). l.held ≡ true → P l.message × (connects t None l.message ≡ false)) (λ (l : Letter). l.held ≡ true → MayHold (lines_of new) (i + 1) l.message) (map (released t None) m.0.outbox.letters.items)
-    (λ l p held. let q = p held in by_cause (i + 1) l q.0 q.1) (released-held t None m.0.outbox.letters.items P (but-at (λ d w. connects t None w ≡ true) mid holds i m.0 m.1))))
+    (each-weaker (λ (l : Letter). l.held ≡ true → P l.message × (connects t None l.message ≡ false)) (λ (l : Letter). l.held ≡ true → MayHold (lines_of new) (i + 1) l.message) (λ l p held. let q = p held in by_cause (i + 1) l q.0 q.1)
+    (map (released t None) m.0.outbox.letters.items) (released-held t None m.0.outbox.letters.items P (but-at (λ d w. connects t None w ≡ true) mid holds i m.0 m.1))))
   where
     by_cause : (d : ℕ) (l : Letter) → MayHold (lines_of mid) d l.message ⊎ (connects t None l.message ≡ true) → connects t None l.message ≡ false → MayHold (lines_of new) d l.message
     by_cause d l (inl may) none = may-moved (λ k. LetsGo t None) mid new moves (λ k x y lets. lets-keeps t None x y lets) d l.message may

@@ -1,12 +1,11 @@
 -- The ends stay those of their pages, whatever a step did, and can be given back.
 use Rattle.std.proofs.Common.{◌≡◌, ℕ, ◌+◌, suc, false, List, [], ◌∷◌, map, refl, ap, ◌∙◌, subst, arith}
 use Rattle.std.proofs.Math.ListN.{set}
+use Rattle.std.specs.List.{AllByRecursion as Each, AllZip as EachPair}
 use Rattle.end_view.specs.EndView.{EndView}
 use Rattle.vchan_rule.specs.Seated.{SeatedEnd}
-use Rattle.qrexec_frame.specs.Streams.{Each}
 use Rattle.task_duties.specs.declared.place.PagePlace.TheVariants.{Control}
 use Rattle.task_duties.specs.declared.ends.RetiredEnd.{RetiredEnd}
-use Rattle.task_duties.specs.Pairwise.{EachPair}
 use Rattle.task_duties.specs.TaskOwes.{AreGivenBack, IsSameEnd, broker_ends}
 use Rattle.task_duties.specs.GivenEnds.{retired_at}
 use Rattle.broker_task.specs.declared.daemon.Daemon.{Daemon}

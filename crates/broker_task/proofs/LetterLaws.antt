@@ -1,9 +1,9 @@
 -- The letters of an outbox: which of them is the first that isn't held, and what a release leaves of them, one letter after another.
-use Rattle.std.proofs.Common.{◌≡◌, ℕ, ◌+◌, ◌<◌, ◌≤◌, suc, zero, true, false, List, [], ◌∷◌, length, take, get_or, sym, ap, ◌∙◌, subst, arith, add-one}
+use Rattle.std.proofs.Common.{◌≡◌, ℕ, ◌+◌, ◌<◌, true, false, List, length, get_or, sym, ap, ◌∙◌, add-one}
 use Rattle.std.specs.Prelude.{Option, if◌then◌else◌}
 use Rattle.std.proofs.Math.ListN.{set}
 use Rattle.broker_task.specs.declared.letter.Letter.{Letter}
-use Rattle.broker_task.specs.Letters.{IsAt, AreHeld, connects, released}
+use Rattle.broker_task.specs.Letters.{connects, released}
 use Rattle.broker_task.proofs.Lists.{mapped, mapped-next}
 
 released-true : (target : ℕ) (meant : Option ℕ) (l : Letter) → true ≡ connects target meant l.message → released target meant l ≡ record { message = l.message; held = false }
@@ -29,21 +29,3 @@ keep-next target meant all now new at d less so_far is connects new_is =
     ∙ mapped-next (released target meant) all at (get_or now at d) less here ∙ ap (λ n. mapped (released target meant) all n) (sym (add-one at))
 
 -- ---- the first letter that isn't held
-
--- one letter more is held
-pub held-next : (letters : List Letter) (at : ℕ) (l : Letter) → IsAt letters at l → l.held ≡ true → AreHeld (take at letters) → AreHeld (take (at + 1) letters)
-held-next [] at l there held all = absurd (omega (arith, there.within))
-held-next (x ∷ letters) zero l there held all = (ap (λ (k : Letter). k.held) (sym there.is) ∙ held, tt)
-held-next (x ∷ letters) (suc at) l there held all =
-    let next : suc (at + 1) ≡ suc at + 1 = omega arith in
-    subst (λ (n : ℕ). AreHeld (take n (x ∷ letters))) next (all.0, held-next letters at l (record { within = omega (arith, there.within); is = there.is }) held all.1)
-
-pub held-all : (letters : List Letter) (n : ℕ) → length letters ≤ n → AreHeld (take n letters) → AreHeld letters
-held-all [] n whole all = tt
-held-all (x ∷ letters) zero whole all = absurd (omega (arith, whole))
-held-all (x ∷ letters) (suc n) whole all = (all.0, held-all letters n (omega (arith, whole)) all.1)
-
-pub held-one : (letters : List Letter) (at : ℕ) (l : Letter) → IsAt letters at l → AreHeld letters → l.held ≡ true
-held-one [] at l there all = absurd (omega (arith, there.within))
-held-one (x ∷ letters) zero l there all = ap (λ (k : Letter). k.held) there.is ∙ all.0
-held-one (x ∷ letters) (suc at) l there all = held-one letters at l (record { within = omega (arith, there.within); is = there.is }) all.1

@@ -3,12 +3,12 @@ use Rattle.std.proofs.Common.{◌≡◌, ◌↔◌, ℕ, ◌≤◌, List, [], �
 use Rattle.std.specs.Prelude.{filter_map, ◌==◌, ◌||◌, IsTrue, IsSome}
 use Rattle.std.proofs.lemmas.Bool.Decides.{nat_tests}
 use Rattle.std.proofs.lemmas.List.Elements.{filter_map-append}
+use Rattle.std.proofs.Math.Bool.{or-true}
 use Rattle.qrexec_frame.specs.declared.message.Message.{Message}
 use Rattle.qrexec_frame.specs.declared.message.Message.TheVariants.{Hello, Exec, JustExec, Connect, Refused, Terminated, Trigger3, Trigger, Stdin, Stdout, Stderr, ExitCode}
 use Rattle.qrexec_frame.specs.Messages.{IsSpellable}
 use Rattle.qrexec_frame.specs.Texts.{FitsText}
-use Rattle.qrexec_frame.specs.Streams.{Each}
-use Rattle.vchan_rule.specs.Seated.{SeatedEnd, view}
+use Rattle.vchan_rule.specs.Seated.{view}
 use Rattle.end_view.specs.EndView.{EndView}
 use Rattle.vchan_protocol.specs.declared.side.EndedBy.{EndedBy}
 use Rattle.vchan_protocol.specs.declared.side.EndedBy.TheVariants.{AllRead as ByAllRead, PeerGone as ByPeerGone}
@@ -21,11 +21,12 @@ use Rattle.vchan_notify.specs.Notify.{HasFoundGone, asked_gone}
 use Rattle.vchan_packet.specs.Packet.{sent_to}
 use Rattle.vchan_packet.specs.declared.SendAnswer.{SendAnswer}
 use Rattle.vchan_packet.specs.declared.SendAnswer.TheVariants.{Sent, NoRoom, PeerClosed}
+use Rattle.vchan_packet.proofs.PacketLaws.{sent-got}
 use Rattle.call_broker.specs.declared.event.Event.{Event}
 use Rattle.control_port.specs.declared.talk.Talker.{Talker}
 use Rattle.control_port.specs.declared.talk.Talker.TheVariants.{Broker}
-use Rattle.control_port.specs.Talking.{may_say, may_hear}
-use Rattle.control_port.specs.Port.{PortState, SentWhole, HasSaid, HasHeard, Hands, OnlyHears, OnlySends}
+use Rattle.control_port.specs.Talking.{may_hear}
+use Rattle.control_port.specs.Port.{PortState, HasHeard, Hands, OnlySends}
 use Rattle.task_duties.specs.Hearing.{to_broker, hears}
 use Rattle.task_duties.specs.Broker.Outbox.{event_of, is_from}
 use Rattle.task_duties.specs.Broker.Owes.{broker_version}
@@ -33,15 +34,6 @@ use Rattle.broker_task.specs.declared.daemon.Daemon.{Daemon}
 use Rattle.broker_task.specs.Lines.{end_of, is_shut, is_gone, HasSeenEnd, MayDrop, IsGoing, more_may_come, ReadsOn, HasRead, HandsOut, HasRoom}
 
 -- ---- what a port has sent stays so while it hears
-
-pub said-hearing : (old new : PortState) (said : List Message) → OnlyHears old new → HasSaid old said → HasSaid new said
-said-hearing old new said only h = record {
-  each = subst (λ (t : Talker). Each (λ m. (may_say t m ≡ true) × IsSpellable m) said) (sym only.1) h.each;
-  whole =
-      let by_end = subst (λ (e : SeatedEnd). SentWhole old.greeted old.own said (view e).sent) (sym only.0) h.whole in
-      let by_own = subst (λ o. SentWhole old.greeted o said (view new.end).sent) (sym only.2) by_end in
-      subst (λ g. SentWhole g new.own said (view new.end).sent) (sym only.3) by_own;
-}
 
 -- ---- the event that a message is
 
@@ -152,11 +144,6 @@ sent-going e Sent payload h = h
 sent-going e (NoRoom prod cons) payload h = h
 sent-going e PeerClosed payload h = h
 
-pub sent-got : (e : EndView) (answer : SendAnswer) (payload : List ℕ) → (sent_to e answer payload).got ≡ e.got
-sent-got e Sent payload = refl
-sent-got e (NoRoom prod cons) payload = refl
-sent-got e PeerClosed payload = refl
-
 pub sent-state : (e : EndView) (answer : SendAnswer) (payload : List ℕ) → (sent_to e answer payload).state ≡ e.state
 sent-state e Sent payload = refl
 sent-state e (NoRoom prod cons) payload = refl
@@ -189,10 +176,6 @@ drained-going old new (More count) buf saw is going h = subst IsGoing (sym is) h
 drained-going old new (NotYet prod cons) buf saw is going h = subst IsGoing (sym is) h
 drained-going old new AllRead buf saw is going h = cc
 drained-going old new (PeerGone prod cons) buf saw is going h = cc
-
-or-true : (b : Bool) → (b || true) ≡ true
-or-true true = refl
-or-true false = refl
 
 pub found-gone : (old new : EndView) (s : Side) (is : Bool) → new ≡ asked_gone old is → is ≡ true → IsTrue is ↔ HasFoundGone s → MayDrop (record { view = new; gone = s.notes.gone })
 found-gone old new s is new_is found noted = inl (record { saw = ap (λ (e : EndView). e.saw) new_is ∙ ap (λ (b : Bool). old.saw || b) found ∙ or-true old.saw; how = inr (noted.0 found) })

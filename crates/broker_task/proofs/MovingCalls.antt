@@ -10,14 +10,16 @@ use Rattle.vchan_protocol.specs.Answering.Causes.{DrainCause}
 use Rattle.vchan_protocol.specs.Answering.Loads.{loads_of}
 use Rattle.vchan_protocol.specs.History.Core.{standing_of}
 use Rattle.end_view.specs.EndView.{EndView}
-use Rattle.vchan_lifecycle.specs.Lifecycle.{drained_to, drain_told, most_asked, FindsNotYet}
+use Rattle.vchan_lifecycle.specs.Lifecycle.{drained_to, drain_told, FindsNotYet}
 use Rattle.vchan_lifecycle.specs.declared.DrainAnswer.{DrainAnswer}
 use Rattle.vchan_lifecycle.specs.declared.DrainAnswer.TheVariants.{More, NotYet, AllRead, PeerGone}
+use Rattle.vchan_lifecycle.proofs.DrainLaws.{drained-sent, drained-got}
 use Rattle.vchan_packet.specs.Packet.{sent_to, FailsToSend}
 use Rattle.vchan_packet.proofs.FailingLaws.{got-no-more, sent-no-more}
 use Rattle.vchan_packet.specs.declared.SendAnswer.TheVariants.{Sent}
 use Rattle.vchan_rule.specs.Seated.{SeatedEnd, view}
 use Rattle.vchan_rule.specs.Ends.{IsSameEnd}
+use Rattle.vchan_rule.specs.Called.{most_asked}
 use Rattle.qrexec_frame.specs.declared.message.Message.{Message}
 use Rattle.qrexec_frame.specs.Messages.{written}
 use Rattle.vchan_notify.specs.Notify.{HasFoundGone, asked_gone}
@@ -79,18 +81,6 @@ unread-listens x m q gone up grows here begins sent only version full same is tr
         );
       });
     }
-
-drained-sent : (e : EndView) (drained : DrainAnswer) (after : List ℕ) (saw : Bool) → (drained_to e drained after saw).sent ≡ e.sent
-drained-sent e (More count) after saw = refl
-drained-sent e (NotYet prod cons) after saw = refl
-drained-sent e AllRead after saw = refl
-drained-sent e (PeerGone prod cons) after saw = refl
-
-drained-got : (e : EndView) (drained : DrainAnswer) (after : List ℕ) (saw : Bool) → length e.got ≤ length (drained_to e drained after saw).got
-drained-got e (More count) after saw = omega (arith, length-append e.got (take count after))
-drained-got e (NotYet prod cons) after saw = omega arith
-drained-got e AllRead after saw = omega arith
-drained-got e (PeerGone prod cons) after saw = omega arith
 
 -- a drain loses nothing
 pub drained-grows : (x m : Daemon) (q : PortState) (drained : DrainAnswer) (after : List ℕ) (saw : Bool) → is_gone x ≡ false → (end_of m).got ≡ (end_of x).got → (end_of m).sent ≡ (end_of x).sent → view q.end ≡ drained_to (view m.port.end) drained after saw → Grows x.port.end q.end

@@ -7,13 +7,14 @@ use Rattle.vchan_lifecycle.specs.Lifecycle.{FindsNotYet}
 use Rattle.vchan_packet.proofs.FailingLaws.{sent-no-more}
 use Rattle.vchan_rule.specs.Seated.{SeatedEnd, view}
 use Rattle.control_port.specs.Port.{PortState}
-use Rattle.task_duties.specs.Pairwise.{EachPair}
 use Rattle.broker_task.specs.declared.letter.Letter.{Letter}
 use Rattle.broker_task.specs.declared.daemon.Daemon.{Daemon}
 use Rattle.broker_task.specs.Letters.{IsAt, connects, released}
 use Rattle.call_broker.specs.declared.decision.Entry.{Entry}
 use Rattle.call_broker.specs.Domains.{Domains}
 use Rattle.std.proofs.lemmas.Bool.{false≢true}
+use Rattle.std.specs.List.{AllZip as EachPair}
+use Rattle.list_laws.proofs.Tests.{same-number}
 use Rattle.broker_task.specs.declared.switchboard.Switchboard.{Switchboard}
 use Rattle.broker_task.specs.declared.task.BrokerTurn.{BrokerTurn}
 use Rattle.broker_task.specs.declared.task.BrokerTurn.TheVariants as turn
@@ -21,7 +22,7 @@ use Rattle.broker_task.specs.Turns.{TurnsEach, KeepsLines}
 use Rattle.broker_task.specs.Lines.{end_of, is_shut, is_gone, OnlyPort}
 use Rattle.broker_task.specs.Posting.{EachMoves, LetsGo, Posts}
 use Rattle.broker_task.specs.Moving.{BrokerLine, line_of, IsLater, HearsNothing, SaysNothing, has_not_greeted, all_held, greeting_waits, letter_waits, Grows, HasMoved, IsQuiet, HasTurned, StandsBy, FindsHere, Listens, ListensAsTold, Decides, SendsMore, SendsOrNot, SendsSoFar, IsDropped, Turns, Steps}
-use Rattle.broker_task.proofs.PostLaws.{moves-one, moves-as, moves-then, same-number}
+use Rattle.broker_task.proofs.PostLaws.{moves-one, moves-as, moves-then}
 use Rattle.broker_task.proofs.Lists.{at-one}
 use Rattle.broker_task.proofs.SendingSteps.{Alone}
 

@@ -5,9 +5,10 @@ use Rattle.std.proofs.Math.ListN.{set}
 use Rattle.std.proofs.lemmas.List.{append-nil, get_or-set_same, get_or-set_other, length-set}
 use Rattle.std.proofs.lemmas.Bool.{false≢true}
 use Rattle.std.proofs.lemmas.Bool.Decides.{nat_tests}
+use Rattle.std.specs.List.{AllByRecursion as Each}
+use Rattle.list_laws.proofs.Tests.{same-number}
 use Rattle.qrexec_frame.specs.declared.message.Message.{Message}
 use Rattle.qrexec_frame.specs.declared.message.Message.TheVariants as message
-use Rattle.qrexec_frame.specs.Streams.{Each}
 use Rattle.call_broker.specs.declared.event.Event.{Event}
 use Rattle.call_broker.specs.declared.event.Event.TheVariants.{Trigger, Terminated, Dropped}
 use Rattle.call_broker.specs.declared.decision.Decision.{Decision}
@@ -22,9 +23,6 @@ use Rattle.broker_task.specs.Replies.{IsReplyTo, IsFit}
 use Rattle.broker_task.specs.Posting.{EachAt, EachMoves, SamePort, Posts, IsFree, IsCallOf, one_if}
 
 -- ---- lists of domains
-
-pub same-number : (a b : ℕ) → (a == b) ≡ true → a ≡ b
-same-number a b is = grind (arith, nat_tests, is)
 
 -- one domain is changed, and the others are as they were
 pub moves-one : (R : ℕ → Daemon → Daemon → Type 0) (old : List Daemon) (i : ℕ) (x y : Daemon) → IsAt old i x → R (i + 1) x y → ((d : ℕ) (z : Daemon) → d ≢ i + 1 → R d z z) → EachMoves R old (set old i y)

@@ -5,9 +5,10 @@ use Rattle.std.proofs.lemmas.List.Folds.{list_any-append}
 use Rattle.std.proofs.lemmas.List.Sums.{sum_by-append, sum_by-cons}
 use Rattle.std.proofs.lemmas.List.{append-nil}
 use Rattle.std.proofs.lemmas.List.Sorted.{IsPermutation-refl, IsPermutation-trans, IsPermutation-append, IsPermutation-append_right, IsPermutation-append_comm}
+use Rattle.std.specs.List.{AllByRecursion as Each}
+use Rattle.list_laws.proofs.Each.{each-push, each-append, each-weaker, each-with}
 use Rattle.qrexec_frame.specs.declared.message.Message.{Message}
 use Rattle.qrexec_frame.specs.declared.message.Message.TheVariants.{Hello, Exec, JustExec, Connect, Refused, Terminated, Trigger3, Trigger, Stdin, Stdout, Stderr, ExitCode}
-use Rattle.qrexec_frame.specs.Streams.{Each}
 use Rattle.call_broker.specs.declared.event.Event.{Event}
 use Rattle.call_broker.specs.declared.event.Event.TheVariants as event
 use Rattle.call_broker.specs.declared.decision.Entry.{Entry}
@@ -15,7 +16,7 @@ use Rattle.call_broker.specs.declared.decision.Decision.{Decision}
 use Rattle.call_broker.specs.Domains.{Domains}
 use Rattle.call_broker.specs.Pair.{decision}
 use Rattle.call_broker.specs.Journal.{events, drops, is_dropped, IsNumbered}
-use Rattle.call_broker.proofs.BrokerLaws.{decided-push, each-push}
+use Rattle.call_broker.proofs.BrokerLaws.{decided-push}
 use Rattle.vchan_rule.specs.Seated.{view}
 use Rattle.control_port.specs.Port.{PortState, HasSaid}
 use Rattle.task_duties.specs.Broker.Outbox.{outbox, puts, answered, is_answer}
@@ -28,18 +29,6 @@ use Rattle.broker_task.specs.Posting.{EachMoves, MayGo, IsLetter, HasPosted, IsP
 use Rattle.broker_task.proofs.PostLaws.{each-moved}
 
 -- ---- lists
-
-pub each-append : {A : Type 0} (P : A → Type 0) (xs ys : List A) → Each P xs → Each P ys → Each P (xs ++ ys)
-each-append P [] ys each more = more
-each-append P (x ∷ xs) ys each more = (each.0, each-append P xs ys each.1 more)
-
-pub each-with : {A : Type 0} (P Q R : A → Type 0) (xs : List A) → ((x : A) → P x → Q x → R x) → Each P xs → Each Q xs → Each R xs
-each-with P Q R [] join ps qs = tt
-each-with P Q R (x ∷ xs) join ps qs = (join x ps.0 qs.0, each-with P Q R xs join ps.1 qs.1)
-
-pub each-as : {A : Type 0} (P Q : A → Type 0) (xs : List A) → ((x : A) → P x → Q x) → Each P xs → Each Q xs
-each-as P Q [] go each = tt
-each-as P Q (x ∷ xs) go each = (go x each.0, each-as P Q xs go each.1)
 
 pub messages-append : (xs ys : List Letter) → messages_in (xs ++ ys) ≡ messages_in xs ++ messages_in ys
 messages-append [] ys = refl
@@ -146,10 +135,10 @@ posted-more hub journal said e room d x y p h =
       letters =
           subst (λ l. Each (IsLetter hub (journal ++ e ∷ []) said d) l) (sym p.letters)
           (each-append (IsLetter hub (journal ++ e ∷ []) said d) x.outbox.letters.items p.more
-          (each-as (IsLetter hub journal said d) (IsLetter hub (journal ++ e ∷ []) said d) x.outbox.letters.items (λ l is. record { fits = is.fits; may = λ free. on l.message (is.may free) }) h.letters)
+          (each-weaker (IsLetter hub journal said d) (IsLetter hub (journal ++ e ∷ []) said d) (λ l is. record { fits = is.fits; may = λ free. on l.message (is.may free) }) x.outbox.letters.items h.letters)
           (each-with (λ (l : Letter). IsFit hub l.message) (λ (l : Letter). l.held ≡ false → IsFree l.message) (IsLetter hub (journal ++ e ∷ []) said d) p.more
           (λ l fits free. record { fits = fits; may = λ up. free-goes (journal ++ e ∷ []) said d l.message (free up) }) p.replies p.free));
-      went = each-as (MayGo journal said d) (MayGo (journal ++ e ∷ []) said d) (said d) on h.went;
+      went = each-weaker (MayGo journal said d) (MayGo (journal ++ e ∷ []) said d) on (said d) h.went;
       counted = p.counted ∙ ap (λ n. n + one_if (is_answer d e.event e.decision)) h.counted ∙ sym (answered-more d journal e);
       dropped = none-dropped d journal e room ∙ h.dropped ∙ sym gone;
     }

@@ -2,25 +2,25 @@
 use Rattle.std.proofs.Common.{◌≡◌, ◌≢◌, ℕ, ◌+◌, ◌<◌, Bool, true, false, List, [], ◌∷◌, ◌++◌, length, map, refl, sym, ap, ◌∙◌, subst, arith, suc, zero, Option, Some, None, inr}
 use Rattle.std.specs.Prelude.{◌==◌, Contains, IsPermutation, if◌then◌else◌}
 use Rattle.std.proofs.Math.ListN.{set}
-use Rattle.std.specs.List.{remove}
+use Rattle.std.specs.List.{remove, AllByRecursion as Each}
 use Rattle.std.proofs.lemmas.List.{length-set, get_or-set_same, length-map}
 use Rattle.std.proofs.lemmas.Bool.Decides.{nat_tests}
+use Rattle.std.proofs.lemmas.Bool.{and_parts}
+use Rattle.list_laws.proofs.Tests.{same-number}
 use Rattle.qrexec_frame.specs.declared.message.Message.{Message}
 use Rattle.qrexec_frame.specs.declared.message.Message.TheVariants.{Hello, Exec, JustExec, Connect, Refused, Terminated, Trigger3, Trigger, Stdin, Stdout, Stderr, ExitCode}
-use Rattle.qrexec_frame.specs.Streams.{Each}
 use Rattle.call_broker.specs.declared.decision.Entry.{Entry}
 use Rattle.call_broker.specs.declared.event.Event.{Event}
 use Rattle.vchan_rule.specs.Seated.{view, IsOpen}
 use Rattle.control_port.specs.Port.{PortState, HasSaid}
 use Rattle.call_broker.specs.Domains.{Domains}
-use Rattle.call_broker.proofs.OpenLaws.{both}
 use Rattle.task_duties.specs.Broker.Outbox.{outbox, read_from}
 use Rattle.broker_task.specs.declared.letter.Letter.{Letter}
 use Rattle.broker_task.specs.declared.daemon.Daemon.{Daemon}
 use Rattle.broker_task.specs.Letters.{IsAt, messages_in, connects, released}
-use Rattle.broker_task.specs.Lines.{end_of, is_shut, is_gone, first_view, IsLine, HasRead, SendsOne, IsSameDaemon}
+use Rattle.broker_task.specs.Lines.{is_shut, is_gone, first_view, IsLine, HasRead, SendsOne, IsSameDaemon}
 use Rattle.broker_task.specs.Posting.{EachMoves, LetsGo, MayGo, IsLetter, HasPosted, IsPosting, IsSending, MovesPort, AreIdle, waiting_in}
-use Rattle.broker_task.proofs.PostLaws.{moves-one, moves-then, each-moved, same-number}
+use Rattle.broker_task.proofs.PostLaws.{moves-one, moves-then}
 use Rattle.broker_task.proofs.PostingLaws.{line-same}
 use Rattle.broker_task.proofs.HearingSteps.{posting-next, read-port, item-at}
 use Rattle.broker_task.proofs.SendingSteps.{Sends, Alone, each-alone, moves-alone, is-up}
@@ -57,7 +57,7 @@ letters-released hub journal said d t meant (l ∷ letters) go each = (letter-re
 -- the Connect of a call may be sent once its Exec was sent
 pub goes-after-exec : (journal : List Entry) (said : ℕ → List Message) (f t port : ℕ) (line : List ℕ) → Contains (said t) (Exec f port line) → (m : Message) → connects t (Some port) m ≡ true → MayGo journal said f m
 goes-after-exec journal said f t port line there (Connect to q ident) h =
-    let tests = both (to == t) (q == port) h in
+    let tests = and_parts (to == t) (q == port) h in
     let same_port : port ≡ q = sym (same-number q port tests.1) in
     let same_to : t ≡ to = sym (same-number to t tests.0) in
     inr (line, subst (λ (k : ℕ). Contains (said k) (Exec f q line)) same_to (subst (λ (k : ℕ). Contains (said t) (Exec f k line)) same_port there))
@@ -194,11 +194,6 @@ sending-moves hub journal domain ds i x y there number sends same counted line o
 
 pub idle-posting : (hub : Domains) (journal : List Entry) (ds : List Daemon) → IsPosting hub journal ds → AreIdle ds
 idle-posting hub journal ds p = λ i x at. (p.lines i x at).idle
-
-pub idle-one : (ds : List Daemon) (i : ℕ) (x y : Daemon) → IsAt ds i x → (end_of y).idle ≡ true → AreIdle ds → AreIdle (set ds i y)
-idle-one ds i x y there idle all =
-    each-moved (λ d a. (end_of a).idle ≡ true) (λ d a. (end_of a).idle ≡ true) (λ d a b. (end_of a).idle ≡ true → (end_of b).idle ≡ true) ds (set ds i y)
-    (moves-one (λ d a b. (end_of a).idle ≡ true → (end_of b).idle ≡ true) ds i x y there (λ h. idle) (λ d z apart h. h)) (λ d a b m h. m h) all
 
 pub same-daemon : (x : Daemon) → IsSameDaemon x x
 same-daemon x = record { domain = refl; awaited = refl; given = refl }

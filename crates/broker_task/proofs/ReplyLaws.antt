@@ -4,6 +4,8 @@ use Rattle.std.specs.Prelude.{nat_le}
 use Rattle.std.proofs.lemmas.Grind.{common_steps}
 use Rattle.std.proofs.lemmas.Bool.Decides.{nat_tests}
 use Rattle.std.proofs.lemmas.List.{length-map}
+use Rattle.std.proofs.lemmas.Bool.{and_parts}
+use Rattle.list_laws.proofs.Tests.{same-number}
 use Rattle.qrexec_frame.specs.Texts.{FitsText, HasNoNul}
 use Rattle.qrexec_frame.specs.Names.{cleaned_service, cleaned_target}
 use Rattle.call_broker.specs.declared.event.Event.{Event}
@@ -13,11 +15,10 @@ use Rattle.call_broker.specs.Pair.{decision}
 use Rattle.call_broker.specs.declared.decision.Decision.{Decision}
 use Rattle.call_broker.specs.declared.decision.Decision.TheVariants as outcome
 use Rattle.call_broker.specs.declared.decision.Entry.{Entry}
-use Rattle.call_broker.proofs.OpenLaws.{taken-view, domain-found, both}
+use Rattle.call_broker.proofs.OpenLaws.{taken-view, domain-found}
 use Rattle.call_broker.specs.Journal.{IsNumbered}
 use Rattle.task_duties.specs.Words.{exec_line, user}
 use Rattle.task_duties.specs.Broker.Outbox.{is_from}
-use Rattle.broker_task.proofs.PostLaws.{same-number}
 use Rattle.broker_task.specs.Lines.{HasRoom}
 use Rattle.broker_task.specs.Replies.{HasShortNames, IsReplyTo, IsWithin}
 use Rattle.broker_task.specs.declared.reply.Reply.{Reply}
@@ -43,7 +44,7 @@ within-reply hub before event decided (Refused m) is says = tt
 within-reply hub before (Trigger from target service ident) (outcome.Accepted to port) (Accepted d exec connect) is says =
     let taken = taken-view hub before from target service ident to port (sym is) in
     let there : is_domain hub to ≡ true = domain-found hub (cleaned_target target) to taken.named in
-    let bounds = both (nat_le 1 to) (nat_le to (count_of hub)) there in
+    let bounds = and_parts (nat_le 1 to) (nat_le to (count_of hub)) there in
     let low : 1 ≤ to = grind (arith, nat_tests, bounds.0) in
     let high : to ≤ count_of hub = grind (arith, nat_tests, bounds.1) in
     subst (λ n. (1 ≤ n) × (n ≤ count_of hub)) (sym says.0) (low, high)

@@ -1,9 +1,10 @@
 -- One domain that is attended to, step by step.
-use Rattle.std.proofs.Common.{◌≡◌, ◌≢◌, ℕ, ◌+◌, ◌≤◌, ◌<◌, Option, Some, None, Bool, true, false, List, length, refl, sym, ap, ◌∙◌, subst, arith, inr}
-use Rattle.std.specs.Prelude.{◌==◌, ◌&&◌, nat_le, is_none, IsSome, Result, Ok, Err, OnOk, IfOk}
+use Rattle.std.proofs.Common.{◌≡◌, ◌≢◌, ℕ, ◌+◌, ◌≤◌, ◌<◌, Option, Some, None, Bool, true, false, List, length, refl, sym, ap, ◌∙◌, subst, arith}
+use Rattle.std.specs.Prelude.{◌==◌, ◌&&◌, nat_le, is_none, Result, Ok, Err, OnOk, IfOk}
 use Rattle.std.proofs.Math.ListN.{set}
 use Rattle.std.proofs.lemmas.List.{get_or-set_same, length-set}
 use Rattle.std.proofs.lemmas.Bool.Decides.{nat_tests}
+use Rattle.list_laws.proofs.Tests.{same-number}
 use Rattle.qrexec_frame.specs.declared.message.Message.{Message}
 use Rattle.qrexec_data.specs.declared.fault.SessionFault.{SessionFault}
 use Rattle.vchan_rule.specs.Seated.{SeatedEnd, view, IsOpen}
@@ -21,7 +22,7 @@ use Rattle.broker_task.specs.Replies.{HasShortNames}
 use Rattle.broker_task.specs.Posting.{EachAt, EachMoves, SameEnd, LetsGo, MovesPort, IsPosting, HasHeardOut, HaveRead}
 use Rattle.broker_task.specs.Holding.{lines_of, HoldsForExecs}
 use Rattle.broker_task.specs.Rounds.{IsReady, GoesOn, IsThere, HasListened}
-use Rattle.broker_task.proofs.PostLaws.{moves-one, moves-none, moves-as, moves-then, each-moved, same-number}
+use Rattle.broker_task.proofs.PostLaws.{moves-one, moves-none, moves-as, moves-then, each-moved}
 use Rattle.broker_task.proofs.Lists.{at-one}
 use Rattle.broker_task.proofs.HearingSteps.{posting-next}
 use Rattle.broker_task.proofs.HoldingLaws.{holds-next}
@@ -105,13 +106,6 @@ heard-fine domain journal ds h fine = λ i x at. by_test i x at (i + 1 == domain
 pub no-fault : (o : Option SessionFault) → is_none o ≡ true → o ≡ None
 no-fault None is = refl
 no-fault (Some f) is = cc
-
-some-fault : (o : Option SessionFault) → is_none o ≡ false → IsSome o
-some-fault None is = cc
-some-fault (Some f) is = refl
-
-pub heard-faulty : (domain : ℕ) (journal : List Entry) (ds : List Daemon) (i : ℕ) (x : Daemon) → IsAt ds i x → i + 1 ≡ domain → HasHeardOut domain journal ds → is_none x.port.fault ≡ false → MayDrop (broker_end x)
-heard-faulty domain journal ds i x there number h is = inr (inr (subst (λ (o : Option SessionFault). IsSome o) (sym (h.own i x there number).faulty) (some-fault x.port.fault is)))
 
 -- ---- all of it
 

@@ -1,11 +1,10 @@
 -- A message that was sent, and the Connects that may be sent after it.
 use Rattle.std.proofs.Common.{◌≡◌, ◌≢◌, ℕ, ◌+◌, Bool, true, false, List, [], ◌∷◌, ◌++◌, refl, sym, ap, ◌∙◌, subst, arith, suc, zero, append_assoc, Some}
 use Rattle.std.specs.Prelude.{◌==◌, Contains, IsPermutation, if◌then◌else◌}
-use Rattle.std.specs.List.{remove}
+use Rattle.std.specs.List.{remove, AllByRecursion as Each}
 use Rattle.std.proofs.Math.ListN.{set}
 use Rattle.std.proofs.lemmas.List.Sorted.{IsPermutation-refl, IsPermutation-sym, IsPermutation-trans, IsPermutation-cons, IsPermutation-append_left, IsPermutation-append_right, IsPermutation-middle}
 use Rattle.qrexec_frame.specs.declared.message.Message.{Message}
-use Rattle.qrexec_frame.specs.Streams.{Each}
 use Rattle.call_broker.specs.declared.decision.Entry.{Entry}
 use Rattle.call_broker.specs.Domains.{Domains}
 use Rattle.task_duties.specs.Broker.Outbox.{outbox}
@@ -13,6 +12,8 @@ use Rattle.broker_task.specs.declared.letter.Letter.{Letter}
 use Rattle.broker_task.specs.declared.daemon.Daemon.{Daemon}
 use Rattle.std.proofs.lemmas.List.Elements.{Contains-append_left, Contains-append_right}
 use Rattle.std.proofs.lemmas.Bool.Decides.{nat_tests}
+use Rattle.list_laws.proofs.Tests.{same-number}
+use Rattle.list_laws.proofs.Each.{each-weaker, each-append}
 use Rattle.vchan_rule.specs.Seated.{IsOpen}
 use Rattle.control_port.specs.Port.{HasSaid}
 use Rattle.call_broker.specs.declared.event.Event.{Event}
@@ -21,8 +22,8 @@ use Rattle.broker_task.specs.Letters.{IsAt, messages_in}
 use Rattle.broker_task.specs.Lines.{is_shut, is_gone, IsLine, HasRead, SendsOne, IsSameDaemon}
 use Rattle.broker_task.specs.Replies.{IsFit, NamesDomain}
 use Rattle.broker_task.specs.Posting.{EachAt, EachMoves, MayGo, IsLetter, HasPosted, IsSending, HasGone}
-use Rattle.broker_task.proofs.PostLaws.{moves-one, each-moved, same-number}
-use Rattle.broker_task.proofs.PostingLaws.{each-as, each-append, may-go-on}
+use Rattle.broker_task.proofs.PostLaws.{moves-one, each-moved}
+use Rattle.broker_task.proofs.PostingLaws.{may-go-on}
 
 -- the messages without one of them are the others
 pub taken-out : (letters : List Letter) (at : ℕ) (l : Letter) → IsAt letters at l → IsPermutation (messages_in letters) (l.message ∷ messages_in (remove letters at))
@@ -105,11 +106,11 @@ posted-sent hub journal said domain m d x y same s h =
       none_lost = λ up. h.none_lost (is-up x s.up);
       letters =
           subst (λ (r : List Letter). Each (IsLetter hub journal (said_with said domain m) d) r) (sym rest)
-          (each-as (IsLetter hub journal said d) (IsLetter hub journal (said_with said domain m) d) (remove x.outbox.letters.items at) (λ k is. record { fits = is.fits; may = λ free. on k.message (is.may free) })
+          (each-weaker (IsLetter hub journal said d) (IsLetter hub journal (said_with said domain m) d) (λ k is. record { fits = is.fits; may = λ free. on k.message (is.may free) }) (remove x.outbox.letters.items at)
           (each-out (IsLetter hub journal said d) x.outbox.letters.items at h.letters));
       went =
           subst (λ w. Each (MayGo journal (said_with said domain m) d) w) (sym said_is)
-          (each-append (MayGo journal (said_with said domain m) d) (said d) (m ∷ []) (each-as (MayGo journal said d) (MayGo journal (said_with said domain m) d) (said d) on h.went)
+          (each-append (MayGo journal (said_with said domain m) d) (said d) (m ∷ []) (each-weaker (MayGo journal said d) (MayGo journal (said_with said domain m) d) on (said d) h.went)
           (on m (subst (MayGo journal said d) (sym m_is) (mine.may one.3)), tt));
       counted = s.counted ∙ h.counted;
       dropped = h.dropped ∙ is-up x s.up ∙ sym (is-up y s.opened);
@@ -125,8 +126,8 @@ posted-beside hub journal said domain m d x apart h =
       lost = h.lost;
       kept = subst (λ w. IsPermutation (w ++ (messages_in x.outbox.letters.items ++ h.lost)) (outbox hub journal d)) (sym said_is) h.kept;
       none_lost = h.none_lost;
-      letters = each-as (IsLetter hub journal said d) (IsLetter hub journal (said_with said domain m) d) x.outbox.letters.items (λ k is. record { fits = is.fits; may = λ free. on k.message (is.may free) }) h.letters;
-      went = subst (λ w. Each (MayGo journal (said_with said domain m) d) w) (sym said_is) (each-as (MayGo journal said d) (MayGo journal (said_with said domain m) d) (said d) on h.went);
+      letters = each-weaker (IsLetter hub journal said d) (IsLetter hub journal (said_with said domain m) d) (λ k is. record { fits = is.fits; may = λ free. on k.message (is.may free) }) x.outbox.letters.items h.letters;
+      went = subst (λ w. Each (MayGo journal (said_with said domain m) d) w) (sym said_is) (each-weaker (MayGo journal said d) (MayGo journal (said_with said domain m) d) on (said d) h.went);
       counted = h.counted;
       dropped = h.dropped;
     }

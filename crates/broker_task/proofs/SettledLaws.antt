@@ -8,12 +8,7 @@ use Rattle.call_broker.specs.Domains.{Domains}
 use Rattle.call_broker.specs.Journal.{live}
 use Rattle.task_duties.specs.Places.{numbers}
 use Rattle.task_duties.specs.Broker.Outbox.{live_calls}
-
-numbers-more : (from n : ℕ) → numbers from 1 (suc n) ≡ numbers from 1 n ++ (from + n) ∷ []
-numbers-more from zero = let e : from ≡ from + 0 = omega arith in ap (λ (k : ℕ). k ∷ []) e
-numbers-more from (suc n) =
-    let e : from + 1 + n ≡ from + suc n = omega arith in
-    ap (λ (r : List ℕ). from ∷ r) (numbers-more (from + 1) n ∙ ap (λ (k : ℕ). numbers (from + 1) 1 n ++ k ∷ []) e)
+use Rattle.task_duties.proofs.Places.{numbers-more}
 
 sum-more : (xs : List ℕ) (y : ℕ) → sum (xs ++ y ∷ []) ≡ sum xs + y
 sum-more xs y = let one : sum (y ∷ []) ≡ y + 0 = sum_by-cons (λ (n : ℕ). n) y [] in omega (arith, sum_by-append (λ (n : ℕ). n) xs (y ∷ []), one)

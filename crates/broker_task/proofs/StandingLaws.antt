@@ -3,6 +3,8 @@ use Rattle.std.proofs.Common.{◌≡◌, ◌≢◌, ℕ, ◌+◌, ◌-◌, suc, 
 use Rattle.std.specs.Prelude.{IsPermutation, IsSome, filter_map, slice_index_or}
 use Rattle.std.proofs.lemmas.List.{append-nil, length-append, length-map}
 use Rattle.std.proofs.lemmas.List.Sorted.{length_permutation}
+use Rattle.std.specs.List.{AllByRecursion as Each, AllZip as EachPair}
+use Rattle.std.proofs.lemmas.Slice.Zip.{AllZip-long}
 use Rattle.vchan_lifecycle.specs.Lifecycle.{retired_view}
 use Rattle.vchan_protocol.specs.declared.side.EndedBy.{EndedBy}
 use Rattle.vchan_rule.specs.Seated.{view}
@@ -10,7 +12,6 @@ use Rattle.end_view.specs.EndView.{EndView}
 use Rattle.qrexec_frame.specs.declared.message.Message.{Message}
 use Rattle.qrexec_frame.specs.declared.message.Message.TheVariants.{Connect}
 use Rattle.qrexec_frame.specs.Messages.{IsSpellable}
-use Rattle.qrexec_frame.specs.Streams.{Each}
 use Rattle.qrexec_data.specs.declared.fault.SessionFault.{SessionFault}
 use Rattle.call_broker.specs.declared.decision.Entry.{Entry}
 use Rattle.call_broker.specs.Domains.{Domains, is_domain, count_of}
@@ -19,7 +20,6 @@ use Rattle.control_port.specs.declared.talk.Talker.TheVariants.{Broker as ByBrok
 use Rattle.control_port.specs.Talking.{may_say}
 use Rattle.control_port.specs.Port.{PortState, SentWhole, HasSaid}
 use Rattle.task_duties.specs.declared.ends.RetiredEnd.{RetiredEnd}
-use Rattle.task_duties.specs.Pairwise.{EachPair}
 use Rattle.task_duties.specs.Places.{numbers}
 use Rattle.task_duties.specs.Hearing.{to_agent, to_broker, IsSaid, hears}
 use Rattle.task_duties.specs.Broker.Outbox.{outbox, event_of, read_from, answered, live_calls}
@@ -124,12 +124,6 @@ at-paired R (a ∷ xs) (b ∷ ys) (suc i) y all at =
     let rest = at-paired R xs ys i y all.1 (record { within = omega (arith, at.within); is = at.is }) in
     (rest.0, record { within = omega (arith, rest.1.within); is = rest.1.is }, rest.2)
 
-paired-length : {A B : Type 0} (R : A → B → Type 0) (xs : List A) (ys : List B) → EachPair R xs ys → length ys ≡ length xs
-paired-length R [] [] all = refl
-paired-length R [] (b ∷ ys) all = absurd all
-paired-length R (a ∷ xs) [] all = absurd all
-paired-length R (a ∷ xs) (b ∷ ys) all = ap (λ (n : ℕ). suc n) (paired-length R xs ys all.1)
-
 stands : (s : Switchboard) → IsReady s → Stands s.broker.hub s.broker.journal (map broker_end s.daemons.items)
 stands s ready = record {
   decided = ready.posting.decided;
@@ -203,7 +197,7 @@ pub stands-done : (s : Switchboard) (ends : List RetiredEnd) → IsReady s → E
 stands-done s ends ready pairs = record {
   decided = ready.posting.decided;
   numbered = ready.posting.numbered;
-  count = length-map ends retired_end ∙ paired-length IsRetiredOf s.daemons.items ends pairs ∙ ready.posting.count;
+  count = length-map ends retired_end ∙ AllZip-long IsRetiredOf s.daemons.items ends pairs ∙ ready.posting.count;
   said = ready.posting.said;
   each = λ i e at.
       let of = at-mapped retired_end ends i e at in

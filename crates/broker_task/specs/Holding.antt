@@ -1,10 +1,10 @@
 -- The letters that wait: why one is held, and that none is lost.
 -- Source: this project's own.
 use Rattle.std.specs.Prelude.{◌≡◌, ◌⊎◌, ℕ, ◌+◌, true, false, List, ◌++◌, map, Contains, IsPermutation, Some}
+use Rattle.std.specs.List.{AllByRecursion as Each}
 use Rattle.vchan_rule.specs.Seated.{view}
 use Rattle.qrexec_frame.specs.declared.message.Message.{Message}
 use Rattle.qrexec_frame.specs.declared.message.Message.TheVariants.{Exec, Connect}
-use Rattle.qrexec_frame.specs.Streams.{Each}
 use Rattle.call_broker.specs.declared.decision.Entry.{Entry}
 use Rattle.call_broker.specs.Domains.{Domains}
 use Rattle.task_duties.specs.Broker.Outbox.{outbox}

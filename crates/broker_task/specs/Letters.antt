@@ -1,7 +1,7 @@
 -- The letters of an outbox: messages that wait for room, some of them held until another message was sent.
 -- Source: this project's own.
 use Rattle.std.specs.Prelude.{◌≡◌, ℕ, ◌<◌, ◌==◌, ◌&&◌, Bool, true, false, List, length, map, take, slice_index_or, Option, Some, None, if◌then◌else◌}
-use Rattle.qrexec_frame.specs.Streams.{Each}
+use Rattle.std.specs.List.{AllByRecursion as Each}
 use Rattle.qrexec_frame.specs.declared.message.Message.{Message}
 use Rattle.qrexec_frame.specs.declared.message.Message.TheVariants.{Connect}
 use Rattle.broker_task.specs.declared.letter.Letter.{Letter}

@@ -1,9 +1,9 @@
 -- The outboxes of all domains beside the broker's journal: what was sent, what waits, and what was given up.
 -- Source: this project's own.
 use Rattle.std.specs.Prelude.{◌≡◌, ◌≢◌, ◌⊎◌, ℕ, zero, suc, ◌+◌, Bool, true, false, List, [], ◌∷◌, ◌++◌, length, Contains, IsPermutation, Option, map}
+use Rattle.std.specs.List.{AllByRecursion as Each}
 use Rattle.qrexec_frame.specs.declared.message.Message.{Message}
 use Rattle.qrexec_frame.specs.declared.message.Message.TheVariants.{Exec, Connect}
-use Rattle.qrexec_frame.specs.Streams.{Each}
 use Rattle.control_port.specs.Port.{HasSaid}
 use Rattle.call_broker.specs.declared.event.Event.{Event}
 use Rattle.call_broker.specs.declared.event.Event.TheVariants.{Trigger}

@@ -1,13 +1,13 @@
 -- What stands of the task of the broker after each turn, by its journal and by its ends.
 -- Source: this project's own.
 use Rattle.std.specs.Prelude.{◌≡◌, ◌≢◌, ◌⊎◌, ℕ, ◌+◌, ◌<◌, ◌≤◌, true, false, List, [], length, filter_map, Contains, IsPermutation, IsSome}
+use Rattle.list_laws.specs.Lists.{IsPartOf}
 use Rattle.qrexec_frame.specs.declared.message.Message.{Message}
 use Rattle.qrexec_frame.specs.declared.message.Message.TheVariants.{Exec, Connect}
 use Rattle.call_broker.specs.declared.decision.Entry.{Entry}
 use Rattle.call_broker.specs.Domains.{Domains, is_domain, count_of}
 use Rattle.call_broker.specs.Journal.{IsJournal, AreNumbered, is_dropped}
 use Rattle.task_duties.specs.Hearing.{to_agent, IsSaid}
-use Rattle.task_duties.specs.Pairwise.{IsPartOf}
 use Rattle.task_duties.specs.Places.{numbers}
 use Rattle.task_duties.specs.Broker.Outbox.{outbox, event_of, read_from, answered, live_calls}
 use Rattle.task_duties.specs.Broker.Owes.{broker_version, awaited_of}

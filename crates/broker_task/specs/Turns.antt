@@ -1,6 +1,6 @@
 -- What a turn of the task of the broker returns.
 use Rattle.std.specs.Prelude.{◌≡◌, List, map}
-use Rattle.task_duties.specs.Pairwise.{EachPair}
+use Rattle.std.specs.List.{AllZip as EachPair}
 use Rattle.task_duties.specs.TaskOwes.{TaskGiven, TaskOwes, BrokerDone, NoMemory}
 use Rattle.task_duties.specs.GivenEnds.{all_retired}
 use Rattle.broker_task.specs.declared.switchboard.Switchboard.{Switchboard}

@@ -5,7 +5,7 @@ ghost use Rattle.vchan_rule.specs.Seated.{view, IsOpen};
 ghost use Rattle.end_view.specs.EndView.{IsUnused};
 ghost use Rattle.qrexec_frame.specs.declared.message.Message.{Message as Said};
 ghost use Rattle.qrexec_frame.specs.Messages.{IsSpellable};
-ghost use Rattle.qrexec_frame.specs.Streams.{Each};
+ghost use Rattle.std.specs.List.{AllByRecursion as Each};
 ghost use Rattle.call_broker.specs.declared.event.Event.{Event as Told};
 ghost use Rattle.control_port.specs.Port.{HasSaid, HasFewerLeft};
 ghost use Rattle.control_port.specs.declared.talk.Talker.TheVariants.{Broker};

@@ -1,7 +1,7 @@
 //! The ends of the task, at its start and when it is done.
 ghost use Rattle.std.specs.Prelude.{◌≡◌, ◌≤◌, ◌<◌, ◌^◌, [], true, length, vec_capacity};
-ghost use Rattle.qrexec_frame.specs.Streams.{Each};
-ghost use Rattle.task_duties.specs.Pairwise.{EachPair};
+ghost use Rattle.std.specs.List.{AllByRecursion as Each};
+ghost use Rattle.std.specs.List.{AllZip as EachPair};
 ghost use Rattle.broker_task.specs.Lines.{end_of, IsLine};
 ghost use Rattle.broker_task.specs.Given.{IsNewClient, IsRetiredOf, IsGivenBack};
 ghost use Rattle.broker_task.specs.Starting.{AreStarted};

@@ -61,7 +61,7 @@ pub struct BrokerDone {
     pub ends: Vec<RetiredEnd>,
 }
 
-ghost use Rattle.qrexec_frame.specs.Streams.{Each};
+ghost use Rattle.std.specs.List.{AllByRecursion as Each};
 ghost use Rattle.broker_task.specs.Lines.{IsLine};
 ghost use Rattle.broker_task.specs.Rounds.{IsReady};
 ghost use Rattle.broker_task.specs.Given.{given_now};

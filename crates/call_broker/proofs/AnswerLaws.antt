@@ -6,6 +6,9 @@ use Rattle.std.specs.BTreeMap.{BTreeMap}
 use Rattle.std.specs.BTreeSet.{BTreeSet}
 use Rattle.std.proofs.lemmas.Bool.Decides.{nat_tests}
 use Rattle.std.proofs.lemmas.Nat.{mul-add-lt}
+use Rattle.std.proofs.lemmas.Bool.{and_parts}
+use Rattle.std.proofs.Math.Bool.{or-false, or-true}
+use Rattle.list_laws.proofs.Tests.{equal-self}
 use Rattle.call_broker.specs.declared.calls.Calls.{Calls}
 use Rattle.call_broker.specs.declared.event.Event.{Event}
 use Rattle.call_broker.specs.declared.event.Event.TheVariants.{Trigger, Terminated}
@@ -17,14 +20,13 @@ use Rattle.call_broker.specs.Pair.{Pair, Ordered, Alone, has, is_of, towards, by
 use Rattle.call_broker.specs.Journal.{drops}
 use Rattle.call_broker.specs.Tables.{calls_at, live_of, number_of, IsTabled}
 use Rattle.call_broker.proofs.DroppedLaws.{dropped-is}
-use Rattle.call_broker.proofs.OpenLaws.{both}
 
 -- ---- the place of a pair among the pages
 
 pub page-within : (n from to : ℕ) → (nat_le 1 from && nat_le from n) ≡ true → (nat_le 1 to && nat_le to n) ≡ true → (from - 1) * n + (to - 1) < n * n
 page-within n from to of_from of_to =
-    let f = both (nat_le 1 from) (nat_le from n) of_from in
-    let t = both (nat_le 1 to) (nat_le to n) of_to in
+    let f = and_parts (nat_le 1 from) (nat_le from n) of_from in
+    let t = and_parts (nat_le 1 to) (nat_le to n) of_to in
     let f_low : 1 ≤ from = grind (arith, nat_tests, f.0) in
     let f_high : from ≤ n = grind (arith, nat_tests, f.1) in
     let t_low : 1 ≤ to = grind (arith, nat_tests, t.0) in
@@ -33,25 +35,18 @@ page-within n from to of_from of_to =
 
 -- ---- which domains are of which pair
 
-self-eq : (n : ℕ) → (n == n) ≡ true
-self-eq n = grind (arith, nat_tests)
-
-or-true : (a : Bool) → (a || true) ≡ true
-or-true true = refl
-or-true false = refl
-
 pub of-caller : (from to : ℕ) → is_of from (Ordered from to) ≡ true
-of-caller from to = rw (self-eq from) refl
+of-caller from to = rw (equal-self from) refl
 
 pub of-target : (from to : ℕ) → is_of to (Ordered from to) ≡ true
-of-target from to = rw (self-eq to) (or-true (to == from))
+of-target from to = rw (equal-self to) (or-true (to == from))
 
-of-towards : (from : ℕ) (o : Option ℕ) → is_of from (towards from o) ≡ true
-of-towards from None = self-eq from
+pub of-towards : (from : ℕ) (o : Option ℕ) → is_of from (towards from o) ≡ true
+of-towards from None = equal-self from
 of-towards from (Some to) = by_test (to == from)
   where
     by_test : (b : Bool) → is_of from (if b then Alone from else Ordered from to) ≡ true
-    by_test true = self-eq from
+    by_test true = equal-self from
     by_test false = of-caller from to
 
 -- ---- a call from one domain to another
@@ -165,17 +160,10 @@ of-terminated hub from other port = by_test (is_domain hub other && not (other =
   where
     by_test : (b : Bool) → is_of from (if b then by_port from other port else Alone from) ≡ true
     by_test true = of-by-port from other port
-    by_test false = self-eq from
+    by_test false = equal-self from
 
 pub sender-gone : (hub : Domains) (es : List Event) (from other port : ℕ) → list_any (drops from) es ≡ true → PassedOver ≡ decision hub es (Terminated from other port)
 sender-gone hub es from other port gone = rw (dropped-is hub (pair_of hub (Terminated from other port)) from es (of-terminated hub from other port), gone) refl
-
-if-passed : (b : Bool) → PassedOver ≡ (if b then PassedOver else PassedOver)
-if-passed true = refl
-if-passed false = refl
-
-pub no-other : (hub : Domains) (es : List Event) (from other port : ℕ) → (is_domain hub other && not (other == from)) ≡ false → PassedOver ≡ decision hub es (Terminated from other port)
-no-other hub es from other port none = rw none (if-passed (has from (state_after hub es (Alone from)).dropped))
 
 abbrev ending_in : Domains → List Event → ℕ → ℕ → Pair → Decision
 ending_in hub es from port pair = if has from (state_after hub es pair).dropped then PassedOver else ends_call pair (state_after hub es pair) port
@@ -188,10 +176,6 @@ by-live hub es from other port caller server up there is =
     let mine : is_of from (Ordered caller server) ≡ true = ap (is_of from) is ∙ of-by-port from other port in
     let alive : has from (state_after hub es (Ordered caller server)).dropped ≡ false = dropped-is hub (Ordered caller server) from es mine ∙ up in
     sym (ap (ending_in hub es from port) pair ∙ ap (λ b. if b then PassedOver else ends_call (Ordered caller server) (state_after hub es (Ordered caller server)) port) alive)
-
-or-none : (b : Bool) → (b || false) ≡ b
-or-none true = refl
-or-none false = refl
 
 -- which domains of a pair are dropped, by the two domains that name it
 gone-of-pair : (es : List Event) (from other port caller server : ℕ) → Ordered caller server ≡ by_port from other port → list_any (drops from) es ≡ false
@@ -208,7 +192,7 @@ gone-of-pair es from other port caller server is up = by_case (by-port-cases fro
         let same : Ordered caller server ≡ Ordered other from = is ∙ pair in
         let c : caller ≡ other = cc in
         let s : server ≡ from = cc in
-        rw (c, s, up) (or-none (list_any (drops other) es))
+        rw (c, s, up) (or-false (list_any (drops other) es))
 
 module _ (hub : Domains) (es : List Event) (calls : BTreeMap (ℕ × ℕ) Calls) (dropped : BTreeSet ℕ) (was : IsTabled hub es calls dropped) where
   -- the live calls of the pair, by the table

@@ -8,7 +8,7 @@ use Rattle.std.proofs.lemmas.List.{get_or_past}
 use Rattle.std.proofs.lemmas.List.Elements.{All-get_or}
 use Rattle.std.specs.BTreeMap.{BTreeMap}
 use Rattle.std.specs.BTreeSet.{BTreeSet}
-use Rattle.qrexec_frame.specs.Streams.{Each}
+use Rattle.list_laws.proofs.Each.{each-push}
 use Rattle.call_broker.specs.declared.calls.Calls.{Calls}
 use Rattle.call_broker.specs.declared.event.Event.{Event}
 use Rattle.call_broker.specs.declared.event.Event.TheVariants.{Trigger, Terminated, Dropped}
@@ -20,7 +20,7 @@ use Rattle.call_broker.specs.declared.broker.Broker.TheInside.{Inside}
 use Rattle.call_broker.specs.declared.decision.Decision.{Decision}
 use Rattle.call_broker.proofs.DroppedLaws.{dropped-is}
 use Rattle.call_broker.proofs.OpenLaws.{taken-view}
-use Rattle.call_broker.proofs.AnswerLaws.{of-caller, of-target}
+use Rattle.call_broker.proofs.AnswerLaws.{of-target, of-caller}
 use Rattle.call_broker.proofs.TabledLaws.{tabled-more}
 use Rattle.call_broker.specs.Brokered.{Brokered}
 use Rattle.call_broker.specs.Inside.{hub_of, brokered, IsKept}
@@ -74,10 +74,6 @@ decided-push hub before [] x h is = (is ∙ ap (λ es. decision hub es x.event) 
     append-none (y ∷ xs) = ap (λ r. y ∷ r) (append-none xs)
 decided-push hub before (y ∷ journal) x h is =
     (h.0, decided-push hub (before ++ y.event ∷ []) journal x h.1 (is ∙ ap (λ es. decision hub es x.event) (sym (append_assoc before (y.event ∷ []) (events journal)))))
-
-pub each-push : {A : Type 0} (P : A → Type 0) (xs : List A) (x : A) → Each P xs → P x → Each P (xs ++ x ∷ [])
-each-push P [] x h here = (here, tt)
-each-push P (y ∷ xs) x h here = (h.0, each-push P xs x h.1 here)
 
 pub events-push : (journal : List Entry) (x : Entry) → events (journal ++ x ∷ []) ≡ events journal ++ x.event ∷ []
 events-push [] x = refl

@@ -3,6 +3,7 @@ use Rattle.std.proofs.Common.{◌≡◌, ℕ, List, [], ◌∷◌, ◌++◌, ref
 use Rattle.std.specs.Prelude.{true, false, Bool, ◌==◌, ◌||◌, if◌then◌else◌}
 use Rattle.std.specs.List.{list_any}
 use Rattle.std.proofs.lemmas.Bool.Decides.{nat_tests}
+use Rattle.std.proofs.Math.Bool.{or-false}
 use Rattle.call_broker.specs.declared.event.Event.{Event}
 use Rattle.call_broker.specs.declared.event.Event.TheVariants.{Trigger, Terminated, Dropped}
 use Rattle.call_broker.specs.declared.decision.Decision.{Decision}
@@ -58,10 +59,6 @@ run-dropped hub pair d s (e ∷ es) mine =
     run-dropped hub pair d (step hub pair s e) es mine
     ∙ ap (λ b. list_any (drops d) es || b) (step-dropped hub pair d s e mine)
     ∙ sym (or-assoc (drops d e) (list_any (drops d) es) (has d s.dropped))
-
-or-false : (a : Bool) → (a || false) ≡ a
-or-false true = refl
-or-false false = refl
 
 -- a pair takes a domain of its own for dropped if and only if an event dropped it
 pub dropped-is : (hub : Domains) (pair : Pair) (d : ℕ) (es : List Event) → is_of d pair ≡ true → has d (state_after hub es pair).dropped ≡ list_any (drops d) es

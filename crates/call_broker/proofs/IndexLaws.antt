@@ -11,6 +11,7 @@ use Rattle.std.proofs.lemmas.Slice.Eq.{bytes_eq-Decides}
 use Rattle.std.proofs.Common.{get_or}
 use Rattle.std.proofs.Math.Seq.{drop-cons}
 use Rattle.std.proofs.lemmas.List.{drop-map}
+use Rattle.std.proofs.lemmas.Bool.{false_from_ne_true}
 use Rattle.call_broker.specs.declared.domain.DomainEntry.{DomainEntry}
 use Rattle.call_broker.specs.Domains.{place_of}
 
@@ -25,16 +26,12 @@ has_name name key = is_at (λ (k : Vec ℕ). slice_cmp nat_cmp name k.items) key
 pub has_name-is : (name : List ℕ) (key : Vec ℕ) → has_name name key ≡ bytes_eq name key.items
 has_name-is name key = is_eq-slice_cmp name key.items
 
-from-bool : (b : Bool) → (b ≡ true → ⊥) → b ≡ false
-from-bool true never = absurd (never refl)
-from-bool false _ = refl
-
 pub bytes_eq-sym : (xs ys : List ℕ) → bytes_eq xs ys ≡ bytes_eq ys xs
 bytes_eq-sym xs ys = by_test (bytes_eq xs ys) refl
   where
     by_test : (b : Bool) → bytes_eq xs ys ≡ b → bytes_eq xs ys ≡ bytes_eq ys xs
     by_test true same = same ∙ sym ((bytes_eq-Decides ys xs).1 (sym ((bytes_eq-Decides xs ys).0 same)))
-    by_test false apart = apart ∙ sym (from-bool (bytes_eq ys xs) (λ same. let back = (bytes_eq-Decides xs ys).1 (sym ((bytes_eq-Decides ys xs).0 same)) in cc))
+    by_test false apart = apart ∙ sym (false_from_ne_true (bytes_eq ys xs) (λ same. let back = (bytes_eq-Decides xs ys).1 (sym ((bytes_eq-Decides ys xs).0 same)) in cc))
 
 -- keys that compare as equal have one name
 same-key : (key other : Vec ℕ) → name_cmp key other ≡ Equal → key.items ≡ other.items
@@ -66,7 +63,7 @@ lookup-inserted name key number (e ∷ entries) = by_order (name_cmp key e.0) re
         by_entry : (b : Bool) → has_name name e.0 ≡ b → lookup (has_name name) (e ∷ insert_entry name_cmp entries key number) ≡ (if bytes_eq name key.items then Some number else lookup (has_name name) (e ∷ entries))
         by_entry true found =
             let is_e : name ≡ e.0.items = (bytes_eq-Decides name e.0.items).0 (sym (has_name-is name e.0) ∙ found) in
-            let not_key : bytes_eq name key.items ≡ false = from-bool (bytes_eq name key.items) (λ same. apart-key key e.0 is (sym ((bytes_eq-Decides name key.items).0 same) ∙ is_e)) in
+            let not_key : bytes_eq name key.items ≡ false = false_from_ne_true (bytes_eq name key.items) (λ same. apart-key key e.0 is (sym ((bytes_eq-Decides name key.items).0 same) ∙ is_e)) in
             rw (found, not_key) refl
         by_entry false found = rw found more
 

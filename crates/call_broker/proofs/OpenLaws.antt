@@ -1,6 +1,6 @@
 -- What is known of a pair if a call of it is accepted, or ended.
 use Rattle.std.proofs.Common.{◌≡◌, ℕ, suc, ◌<◌, List, [], ◌∷◌, length, refl, ap, ◌∙◌, arith, Option, Some, None}
-use Rattle.std.specs.Prelude.{true, false, Bool, ◌==◌, ◌&&◌, not, nat_le, bytes_eq, option_map, if◌then◌else◌}
+use Rattle.std.specs.Prelude.{true, false, Bool, ◌==◌, not, nat_le, bytes_eq, option_map, if◌then◌else◌}
 use Rattle.std.proofs.lemmas.Bool.Decides.{nat_tests}
 use Rattle.call_broker.specs.declared.event.Event.{Event}
 use Rattle.call_broker.specs.declared.event.Event.TheVariants.{Trigger, Terminated}
@@ -9,11 +9,6 @@ use Rattle.call_broker.specs.declared.decision.Decision.{Decision}
 use Rattle.call_broker.specs.declared.decision.Decision.TheVariants.{Accepted, Refused, Ended, PassedOver}
 use Rattle.call_broker.specs.Domains.{Domains, is_domain, place_of, domain_at, target_of, is_service, pages_of, port_after}
 use Rattle.call_broker.specs.Pair.{Pair, Ordered, Alone, PairState, has, towards, pair_of, takes_call, answers, ends_call, state_after, decision}
-
-pub both : (a b : Bool) → (a && b) ≡ true → (a ≡ true) × (b ≡ true)
-both true true h = (refl, refl)
-both true false h = cc
-both false b h = cc
 
 -- an ordered pair that may have a call with this port
 pub record IsOpen (hub : Domains) (s : PairState) (from to port : ℕ) : Type 0 where

@@ -1,7 +1,7 @@
 -- Ports-apart: the accepted calls of an ordered pair have the ports from its first one on, by steps of 2, and no more than it has pages.
 use Rattle.std.proofs.Common.{◌≡◌, ◌≢◌, ℕ, ◌+◌, ◌*◌, ◌<◌, ◌≤◌, suc, zero, List, [], ◌∷◌, ◌++◌, length, refl, ap, sym, subst, ◌∙◌, arith, ◌⊎◌, inl, inr, Option, Some, None}
 use Rattle.std.specs.Prelude.{true, false, Bool, min, max, ◌%◌, nat_le, nat_lt, slice_index_or, ◌==◌, ◌&&◌, not, if◌then◌else◌}
-use Rattle.std.proofs.lemmas.Bool.{cases_lt}
+use Rattle.std.proofs.lemmas.Bool.{cases_lt, and_parts}
 use Rattle.std.proofs.lemmas.Bool.Decides.{nat_tests}
 use Rattle.call_broker.specs.declared.decision.Entry.{Entry}
 use Rattle.call_broker.specs.declared.event.Event.{Event}
@@ -90,11 +90,6 @@ other-trigger : (hub : Domains) (f t from to : ℕ) (s s' : PairState) (target s
 other-trigger hub f t from to s s' target service ident d (inl none) apart = no-port f t from target service ident d none
 other-trigger hub f t from to s s' target service ident d (inr is) apart = rw (is.0, apart) refl
 
-both : (a b : Bool) → (a && b) ≡ true → (a ≡ true) × (b ≡ true)
-both true true h = (refl, refl)
-both true false h = cc
-both false b h = cc
-
 -- a trigger to no domain or to its sender
 refused-none : (f t from : ℕ) (target service ident : List ℕ) (b : Bool) (cause : Cause) → port_in f t (Trigger from target service ident) (if b then PassedOver else Refused cause) ≡ None
 refused-none f t from target service ident true cause = refl
@@ -134,7 +129,7 @@ on-pair : (hub : Domains) (before : List Event) (f t from to : ℕ) (target serv
     (if b then settles (state_after hub before (Ordered f t)) (Trigger from target service ident) (decided_by hub from to service false (state_after hub before (Ordered f t))) else state_after hub before (Ordered f t))
     (port_in f t (Trigger from target service ident) (decided_by hub from to service false (state_after hub before (Ordered from to))))
 on-pair hub before f t from to target service ident true same =
-    let parts = both (from == f) (to == t) same in
+    let parts = and_parts (from == f) (to == t) same in
     let is_f : from ≡ f = grind (arith, nat_tests, parts.0) in
     let is_t : to ≡ t = grind (arith, nat_tests, parts.1) in
     on-own hub before f t from to target service ident is_f is_t

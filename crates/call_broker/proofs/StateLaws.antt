@@ -2,6 +2,7 @@
 use Rattle.std.proofs.Common.{◌≡◌, ℕ, ◌+◌, ◌≤◌, List, [], ◌∷◌, ◌++◌, refl, ap, sym, ◌∙◌, arith, append_assoc, Option, Some, None, subst}
 use Rattle.std.specs.Prelude.{true, false, Bool, ◌==◌, ◌&&◌, ◌||◌, if◌then◌else◌}
 use Rattle.std.specs.List.{list_any}
+use Rattle.std.proofs.lemmas.Bool.{and_parts, or_parts}
 use Rattle.call_broker.specs.declared.decision.Entry.{Entry}
 use Rattle.call_broker.specs.declared.event.Event.{Event}
 use Rattle.call_broker.specs.declared.event.Event.TheVariants.{Trigger, Terminated, Dropped}
@@ -14,10 +15,6 @@ use Rattle.call_broker.proofs.PortLaws.{IsStep, on-event, state-after}
 use Rattle.call_broker.proofs.Decided.{accepted-view}
 
 -- ---- which domains were dropped
-
-or-parts : (a b : Bool) → (a || b) ≡ false → (a ≡ false) × (b ≡ false)
-or-parts true b h = cc
-or-parts false b h = (refl, h)
 
 settles-up : (d : ℕ) (s : PairState) (e : Event) (decision : Decision) → has d s.dropped ≡ false → drops d e ≡ false → has d (settles s e decision).dropped ≡ false
 settles-up d s (Dropped domain) decision up clear = rw (clear, up) refl
@@ -39,7 +36,7 @@ step-up hub pair d s e up clear = by_own (belongs hub pair e)
 
 run-up : (hub : Domains) (pair : Pair) (d : ℕ) (s : PairState) (es : List Event) → has d s.dropped ≡ false → list_any (drops d) es ≡ false → has d (run_on hub pair s es).dropped ≡ false
 run-up hub pair d s [] up clear = up
-run-up hub pair d s (e ∷ es) up clear = let parts = or-parts (drops d e) (list_any (drops d) es) clear in run-up hub pair d (step hub pair s e) es (step-up hub pair d s e up parts.0) parts.1
+run-up hub pair d s (e ∷ es) up clear = let parts = or_parts (drops d e) (list_any (drops d) es) clear in run-up hub pair d (step hub pair s e) es (step-up hub pair d s e up parts.0) parts.1
 
 -- a domain that clear event drops isn't dropped for any pair
 pub still-up : (hub : Domains) (pair : Pair) (d : ℕ) (es : List Event) → list_any (drops d) es ≡ false → has d (state_after hub es pair).dropped ≡ false
@@ -51,7 +48,7 @@ dropped-events d (x ∷ journal) = ap (λ b. drops d x.event || b) (dropped-even
 
 pub none-before : (d : ℕ) (before rest : List Event) → list_any (drops d) (before ++ rest) ≡ false → list_any (drops d) before ≡ false
 none-before d [] rest clear = refl
-none-before d (e ∷ before) rest clear = let parts = or-parts (drops d e) (list_any (drops d) (before ++ rest)) clear in let more = none-before d before rest parts.1 in rw (parts.0, more) refl
+none-before d (e ∷ before) rest clear = let parts = or_parts (drops d e) (list_any (drops d) (before ++ rest)) clear in let more = none-before d before rest parts.1 in rw (parts.0, more) refl
 
 -- ---- when an entry is decided
 
@@ -85,11 +82,6 @@ pub call_sum-append : (hub : Domains) (f t : ℕ) (xs ys : List Event) → call_
 call_sum-append hub f t [] ys = omega arith
 call_sum-append hub f t (x ∷ xs) ys = omega (arith, call_sum-append hub f t xs ys)
 
-both : (a b : Bool) → (a && b) ≡ true → (a ≡ true) × (b ≡ true)
-both true true h = (refl, refl)
-both true false h = cc
-both false b h = cc
-
 -- an event that takes a port of the pair is one of its calls
 port-counts : (hub : Domains) (before : List Event) (f t port : ℕ) (e : Event) (d : Decision) → d ≡ decision hub before e → port_in f t e d ≡ Some port → call_count hub f t e ≡ 1
 port-counts hub before f t port (Trigger from target service ident) (Accepted to p) is h = by_test (from == f && to == t) refl h
@@ -97,7 +89,7 @@ port-counts hub before f t port (Trigger from target service ident) (Accepted to
     by_test : (b : Bool) → (from == f && to == t) ≡ b → (if b then Some p else None) ≡ Some port → call_count hub f t (Trigger from target service ident) ≡ 1
     by_test true same e =
         let named = (accepted-view hub before from target service ident to p (sym is)).named in
-        let parts = both (from == f) (to == t) same in
+        let parts = and_parts (from == f) (to == t) same in
         rw (named, parts.0, parts.1) refl
     by_test false same e = cc
 port-counts hub before f t port (Trigger from target service ident) (Refused cause) is h = cc

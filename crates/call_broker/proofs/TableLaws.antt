@@ -1,17 +1,13 @@
 -- What a change of one pair leaves of the table of calls.
 use Rattle.std.proofs.Common.{◌≡◌, ℕ, ◌+◌, ◌∷◌, refl, ap, sym, ◌∙◌, arith, Some}
-use Rattle.std.specs.Prelude.{true, false, Bool, ◌==◌, ◌&&◌, not, filter, nat_lt, cond, if◌then◌else◌}
+use Rattle.std.specs.Prelude.{true, false, Bool, ◌==◌, not, filter, nat_lt, cond, if◌then◌else◌}
 use Rattle.std.specs.Ordering.{is_eq, nat_cmp}
 use Rattle.std.specs.Cmp.{tied_then}
 use Rattle.std.specs.BTreeMap.{BTreeMap, UpdatesBy}
 use Rattle.std.proofs.lemmas.Bool.Decides.{nat_tests}
+use Rattle.std.proofs.lemmas.Bool.{and_parts}
 use Rattle.call_broker.specs.declared.calls.Calls.{Calls}
 use Rattle.call_broker.specs.Tables.{pair_cmp, calls_at, live_of, number_of, is_same, AddsCall, EndsCall}
-
-both : (a b : Bool) → (a && b) ≡ true → (a ≡ true) × (b ≡ true)
-both true true h = (refl, refl)
-both true false h = cc
-both false b h = cc
 
 nat-cmp-eq : (x y : ℕ) → is_eq (nat_cmp x y) ≡ (x == y)
 nat-cmp-eq x y = by_less (nat_lt x y) refl (x == y) refl
@@ -28,7 +24,7 @@ same-pair from to f t = sym (tied_then (nat_cmp from f) (nat_cmp to t)) ∙ rw (
 -- the pair that is one with another has its numbers
 pub is-same : (from to f t : ℕ) → is_same from to f t ≡ true → (from ≡ f) × (to ≡ t)
 is-same from to f t same =
-    let parts = both (from == f) (to == t) same in
+    let parts = and_parts (from == f) (to == t) same in
     (grind (arith, nat_tests, parts.0), grind (arith, nat_tests, parts.1))
 
 pub calls-updated : (old new : BTreeMap (ℕ × ℕ) Calls) (from to : ℕ) (calls : Calls) → UpdatesBy pair_cmp (pair_cmp (from, to)) old new (Some calls)

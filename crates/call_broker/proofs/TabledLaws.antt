@@ -1,5 +1,5 @@
 -- The tables follow the pairs: they stand for one more event once they are settled by its decision.
-use Rattle.std.proofs.Common.{◌≡◌, ℕ, ◌+◌, List, [], ◌∷◌, ◌++◌, refl, ap, sym, ◌∙◌, arith, subst}
+use Rattle.std.proofs.Common.{◌≡◌, ℕ, ◌+◌, List, [], ◌∷◌, ◌++◌, refl, ap, sym, ◌∙◌, subst}
 use Rattle.std.specs.Prelude.{true, false, Bool, ◌==◌, ◌&&◌, ◌||◌, not, filter, if◌then◌else◌}
 use Rattle.std.specs.List.{list_any}
 use Rattle.std.specs.Map.{lookup}
@@ -7,7 +7,7 @@ use Rattle.std.specs.BTreeMap.{BTreeMap, is_at}
 use Rattle.std.specs.BTreeSet.{BTreeSet}
 use Rattle.std.specs.BTreeSet as set
 use Rattle.std.specs.Ordering.{nat_cmp}
-use Rattle.std.proofs.lemmas.Bool.Decides.{nat_tests}
+use Rattle.list_laws.proofs.Tests.{equal-self}
 use Rattle.call_broker.specs.declared.calls.Calls.{Calls}
 use Rattle.call_broker.specs.declared.event.Event.{Event}
 use Rattle.call_broker.specs.declared.event.Event.TheVariants.{Trigger, Terminated, Dropped}
@@ -22,8 +22,9 @@ use Rattle.call_broker.proofs.PortLaws.{state-after}
 use Rattle.call_broker.proofs.DroppedLaws.{dropped-is, dropped-more}
 use Rattle.call_broker.proofs.OpenLaws.{IsTaken, domain-found, trigger-ends-none, terminated-takes-none, taken-view, taken-pair, ended-pair}
 use Rattle.call_broker.proofs.TableLaws.{is-same}
+use Rattle.call_broker.proofs.AnswerLaws.{of-caller}
 
-own-pair : (p : Pair) (f t : ℕ) → is_pair p (Ordered f t) ≡ true → p ≡ Ordered f t
+pub own-pair : (p : Pair) (f t : ℕ) → is_pair p (Ordered f t) ≡ true → p ≡ Ordered f t
 own-pair (Ordered from to) f t same = let is = is-same from to f t same in ap (λ x. Ordered x to) is.0 ∙ ap (λ x. Ordered f x) is.1
 own-pair (Alone d) f t same = cc
 
@@ -110,14 +111,8 @@ terminated-kept hub es from other port d calls calls' dropped dropped' idle is s
 
 -- ---- an accepted trigger
 
-self-eq : (n : ℕ) → (n == n) ≡ true
-self-eq n = grind (arith, nat_tests)
-
-of-caller : (from to : ℕ) → is_of from (Ordered from to) ≡ true
-of-caller from to = rw (self-eq from) refl
-
 of-target : (from to : ℕ) → (to == from) ≡ false → is_of to (Ordered from to) ≡ true
-of-target from to apart = rw (apart, self-eq to) refl
+of-target from to apart = rw (apart, equal-self to) refl
 
 taken : (hub : Domains) (es : List Event) (from : ℕ) (target service ident : List ℕ) (to port : ℕ) (calls calls' : BTreeMap (ℕ × ℕ) Calls) (dropped dropped' : BTreeSet ℕ)
     → (is_domain hub from && is_domain hub to) ≡ true → Accepted to port ≡ decision hub es (Trigger from target service ident)

@@ -1,6 +1,6 @@
 -- The laws of a broker, over all its journals: each pair stands alone, no port is given out twice, and an accepted call is between domains that the broker serves.
 use Rattle.std.specs.Prelude.{◌≡◌, ◌≢◌, ℕ, ◌+◌, ◌<◌, ◌≤◌, suc, zero, true, false, List, [], ◌∷◌, ◌++◌, filter, AllPairs, Some}
-use Rattle.qrexec_frame.specs.Streams.{Each}
+use Rattle.std.specs.List.{AllByRecursion as Each}
 use Rattle.call_broker.specs.declared.event.Event.{Event}
 use Rattle.call_broker.specs.declared.event.Event.TheVariants.{Trigger}
 use Rattle.call_broker.specs.declared.decision.Decision.{Decision}

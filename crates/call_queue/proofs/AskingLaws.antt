@@ -4,17 +4,21 @@ use Rattle.std.specs.Prelude.{true, false, Bool, not, nat_lt, ◌&&◌, bytes_eq
 use Rattle.std.proofs.lemmas.List.{append-nil, take-append-drop}
 use Rattle.std.proofs.lemmas.List.Elements.{filter-append, filter_map-append}
 use Rattle.std.proofs.lemmas.Slice.Eq.{bytes_eq-Decides}
+use Rattle.std.specs.List.{AllByRecursion as Each}
+use Rattle.list_laws.specs.Lists.{IsPrefixOf, AreDifferent}
+use Rattle.list_laws.proofs.Each.{each-get, each-weaker, each-filter}
+use Rattle.list_laws.proofs.Places.{get-map, take-next}
+use Rattle.list_laws.proofs.Tests.{same-bytes, other-bytes, and-second}
 use Rattle.qrexec_frame.specs.declared.message.Message.{Message}
 use Rattle.qrexec_frame.specs.declared.message.Message.TheVariants as m
-use Rattle.qrexec_frame.specs.Streams.{Each, IsPrefixOf}
 use Rattle.scenario_file.specs.declared.scenario.CallPlan.{CallPlan}
 use Rattle.task_duties.specs.Words.{ident_of}
 use Rattle.task_duties.specs.Agent.Answers.{Answer, Waits, IsRefused, At, Asked, waits, waits_as, answer_in}
 use Rattle.task_duties.specs.Agent.Saying.{Asking, asking, asking_of, is_at, is_refusal, opened, open_after, asks_for, KeepsTo}
 use Rattle.task_duties.proofs.SubLists.{Sub, length-sub, sub-filter, sub-kept, sub-more, sub-all}
-use Rattle.call_queue.specs.Queue.{Queued, QueueState, asked_as, asked_by, fresh, is_open_to, open_idents, open_count, IsDue, trigger_of, after_trigger, answered_call, after_answer, AreDifferent}
+use Rattle.call_queue.specs.Queue.{Queued, QueueState, asked_as, asked_by, fresh, is_open_to, open_idents, open_count, IsDue, trigger_of, after_trigger, answered_call, after_answer}
 use Rattle.call_queue.specs.Asking.{open_along, Extends, IsWithin, Asks}
-use Rattle.call_queue.proofs.Places.{each-at, each-map, map-get, map-set-same}
+use Rattle.call_queue.proofs.Places.{map-set-same}
 use Rattle.call_queue.proofs.Sublists.{sub-same, sub-joined, sub-of}
 
 -- ---- one message more
@@ -56,14 +60,6 @@ opened-not answer target (Some a) calls each = by_tests (bytes_eq a.target targe
     by_tests true true is = each
     by_tests false false is = each
     by_tests false true is = each
-
-each-filter : {A : Type 0} (P : A → Type 0) (p : A → Bool) (xs : List A) → Each P xs → Each P (filter p xs)
-each-filter P p [] each = tt
-each-filter {A} P p (x ∷ xs) each = by_test (p x) (each-filter P p xs each.1)
-  where
-    by_test : (b : Bool) → Each P (filter p xs) → Each P (if b then x ∷ filter p xs else filter p xs)
-    by_test true rest = (each.0, rest)
-    by_test false rest = rest
 
 after-not : (answer : List ℕ → Answer) (target : List ℕ) (m : Message) (calls : List (List ℕ)) → Each (λ x. is_refusal (answer x) ≡ false) calls
     → Each (λ x. is_refusal (answer x) ≡ false) (open_after answer target m calls)
@@ -134,14 +130,6 @@ after-trigger-message answer target version call calls = by_version (nat_lt vers
     by_version true = refl
     by_version false = refl
 
-take-next : {A : Type 0} (xs : List A) (n : ℕ) (x : A) → slice_get xs n ≡ Some x → take (n + 1) xs ≡ take n xs ++ x ∷ []
-take-next {A} xs n x is = let e : n + 1 ≡ suc n = omega arith in rw e (by_place xs n is)
-  where
-    by_place : (ys : List A) (k : ℕ) → slice_get ys k ≡ Some x → take (suc k) ys ≡ take k ys ++ x ∷ []
-    by_place [] k is' = cc
-    by_place (y ∷ ys) zero is' = let same : y ≡ x = cc in ap (λ z. z ∷ []) same
-    by_place (y ∷ ys) (suc k) is' = ap (λ r. y ∷ r) (by_place ys k is')
-
 asking-one : (version : ℕ) (call : CallPlan) → filter_map asking (trigger_of version call ∷ []) ≡ asking_of call ∷ []
 asking-one version call = by_version (nat_lt version 3)
   where
@@ -171,7 +159,7 @@ pub asks-triggered : (q : QueueState) (c : Queued) (version : ℕ) (said : List 
 asks-triggered q c version said due closed a = record {
   asked = filter_map-append asking said (trigger_of version c.call ∷ []) ∙ (ap (λ l. l ++ filter_map asking (trigger_of version c.call ∷ [])) a.asked
       ∙ (ap (λ l. take q.next (map (λ x. asking_of x.call) q.calls) ++ l) (asking-one version c.call)
-      ∙ (sym (take-next (map (λ x. asking_of x.call) q.calls) q.next (asking_of c.call) (map-get (λ x. asking_of x.call) q.calls q.next c due.0))
+      ∙ (sym (take-next (map (λ x. asking_of x.call) q.calls) q.next (asking_of c.call) (get-map (λ x. asking_of x.call) q.calls q.next c due.0))
       ∙ ap (take (q.next + 1)) (sym (map-set-same (λ x. asking_of x.call) q.calls q.next c (opened_at c) due.0 refl)))));
   within = λ answer extends target. within answer target (subst (λ l. Each (IsLast answer) l) (map-set-same asked_as q.calls q.next c (opened_at c) due.0 refl) extends);
 }
@@ -185,7 +173,7 @@ asks-triggered q c version said due closed a = record {
     within answer target extends =
         let w = a.within answer extends target in
         let calls = open_along answer target [] said in
-        let last = each-at (IsLast answer) (asked_by q) q.next (asked_as c) extends (map-get asked_as q.calls q.next c due.0) in
+        let last = each-get (IsLast answer) (asked_by q) q.next (asked_as c) extends (get-map asked_as q.calls q.next c due.0) in
         let sub = opens-too (ident_of c.call.number) calls (open_idents target q.calls) (is_refusal c.answer) (bytes_eq c.call.to target) (is_refusal (answer (ident_of c.call.number)))
         (refused-last c.answer (answer (ident_of c.call.number)) last) w.some in
         within-more q (after_trigger q c) said (trigger_of version c.call) answer target w (few target)
@@ -193,10 +181,6 @@ asks-triggered q c version said due closed a = record {
         (subst (λ l. Sub (opened answer target (Some (asking_of c.call)) calls) l) (sym (opens-at target q.calls q.next c (not (is_refusal c.answer)) closed due.0)) sub))
 
 -- ---- an answer
-
-and-right : (a b : Bool) → (a && b) ≡ true → b ≡ true
-and-right true b is = is
-and-right false b is = cc
 
 same-call : (ident : List ℕ) (answer : Answer) (c : Queued) → (answered_call ident answer c).call ≡ c.call
 same-call ident answer c = by_test (waits_as ident (asked_as c))
@@ -216,7 +200,7 @@ last-before : (ident : List ℕ) (answer : Answer) (final : List ℕ → Answer)
 last-before ident answer final c h = by_test (waits_as ident (asked_as c)) refl h
   where
     by_test : (b : Bool) → waits_as ident (asked_as c) ≡ b → IsLast final (asked_as (if b then given_answer answer c else c)) → IsLast final (asked_as c)
-    by_test true is h' none = let some : waits c.answer ≡ true = and-right (bytes_eq (ident_of c.call.number) ident) (waits c.answer) is in cc
+    by_test true is h' none = let some : waits c.answer ≡ true = and-second (bytes_eq (ident_of c.call.number) ident) (waits c.answer) is in cc
     by_test false is h' none = h' none
 
 lasts-before : (ident : List ℕ) (answer : Answer) (final : List ℕ → Answer) (calls : List Queued) → Each (IsLast final) (map asked_as (map (answered_call ident answer) calls)) → Each (IsLast final) (map asked_as calls)
@@ -273,7 +257,7 @@ asks-answered q ident answer said done a = record {
       record {
         keeps = w.keeps;
         some = sub-of calls (filter (stays_open final) (open_idents target q.calls)) (open_idents target (after_answer q ident answer).calls)
-            (sub-kept (stays_open final) calls (open_idents target q.calls) w.some (each-map (λ x. is_refusal (final x) ≡ false) (λ x. stays_open final x ≡ true) (λ x no. rw no refl) calls (along-not final target said [] tt)))
+            (sub-kept (stays_open final) calls (open_idents target q.calls) w.some (each-weaker (λ x. is_refusal (final x) ≡ false) (λ x. stays_open final x ≡ true) (λ x no. rw no refl) calls (along-not final target said [] tt)))
             (answer-keeps ident answer final target q.calls done extends);
       };
 }
@@ -320,7 +304,7 @@ asks-ended q place d port c said is at a = record {
     within final target extends =
         let w = a.within final extends target in
         let calls = open_along final target [] said in
-        let last : final (ident_of c.call.number) ≡ c.answer = each-at (IsLast final) (asked_by q) place (asked_as c) extends (map-get asked_as q.calls place c is) (at-waits d port c.answer at) in
+        let last : final (ident_of c.call.number) ≡ c.answer = each-get (IsLast final) (asked_by q) place (asked_as c) extends (get-map asked_as q.calls place c is) (at-waits d port c.answer at) in
         let no : goes_on final d port (ident_of c.call.number) ≡ false = rw (last, at) refl in
         within-more q (record q { calls = slice_set q.calls place (shut c) }) said (m.Terminated d port) final target w (λ none. cc)
         (sub-of (filter (goes_on final d port) calls) (filter (goes_on final d port) (open_idents target q.calls)) (open_idents target (slice_set q.calls place (shut c)))
@@ -341,16 +325,6 @@ asks-stranger q d port said a = record {
 pub asks-none : (calls : List CallPlan) → Asks (record { calls = map fresh calls; next = 0 }) []
 asks-none calls = record { asked = refl; within = λ final extends target. record { keeps = tt; some = tt } }
 
-own-bytes : (xs : List ℕ) → bytes_eq xs xs ≡ true
-own-bytes xs = (bytes_eq-Decides xs xs).1 refl
-
-other-bytes : (xs ys : List ℕ) → (xs ≡ ys → ⊥) → bytes_eq xs ys ≡ false
-other-bytes xs ys apart = by_test (bytes_eq xs ys) refl
-  where
-    by_test : (b : Bool) → bytes_eq xs ys ≡ b → bytes_eq xs ys ≡ false
-    by_test true is = absurd (apart ((bytes_eq-Decides xs ys).0 is))
-    by_test false is = is
-
 abbrev asked_ident : Asked → List ℕ
 asked_ident a = ident_of a.call.number
 
@@ -362,7 +336,7 @@ behind a asked (b ∷ rest) apart each =
 -- if no two calls have the same ident, the answers so far are final ones that agree with themselves
 pub own-answers : (asked : List Asked) → AreDifferent (map asked_ident asked) → Extends asked (answer_in asked)
 own-answers [] apart = tt
-own-answers (a ∷ asked) apart = (λ done. rw (own-bytes (asked_ident a)) refl, behind a asked asked apart.0 (own-answers asked apart.1))
+own-answers (a ∷ asked) apart = (λ done. rw (same-bytes (asked_ident a)) refl, behind a asked asked apart.0 (own-answers asked apart.1))
 
 -- so the triggers are those of the first calls, and the limit is kept
 pub asks-in-order : (q : QueueState) (said : List Message) → Asks q said → IsPrefixOf (filter_map asking said) (map (λ c. asking_of c.call) q.calls)

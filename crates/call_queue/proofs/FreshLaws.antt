@@ -1,27 +1,20 @@
 -- A queue before anything was heard or sent.
 use Rattle.std.proofs.Common.{◌≡◌, ◌≢◌, ℕ, ◌<◌, ◌≤◌, ◌^◌, suc, zero, List, [], ◌∷◌, ◌++◌, length, map, drop, get_or, refl, ap, sym, ◌∙◌, arith, Some, subst, decimal}
-use Rattle.std.specs.Prelude.{true, false, slice_index, replicate}
+use Rattle.std.specs.Prelude.{false, slice_index, replicate}
 use Rattle.std.specs.BTreeMap.{BTreeMap}
-use Rattle.std.specs.Str.{all_ascii_digits}
 use Rattle.std.specs.Str.Parse.{digits_value}
 use Rattle.std.proofs.lemmas.Fmt.{digits_value-decimal}
 use Rattle.std.proofs.lemmas.List.{length-map, map-append}
-use Rattle.std.proofs.lemmas.Str.Parse.{IsNumeralModel, numerals_by_value, tells_all_ascii_digits}
-use Rattle.qrexec_frame.specs.Streams.{Each}
+use Rattle.std.specs.List.{AllByRecursion as Each, AllZip as EachPair}
+use Rattle.list_laws.specs.Lists.{AreDifferent}
+use Rattle.list_laws.proofs.Tests.{decimal-numerals}
 use Rattle.scenario_file.specs.declared.scenario.CallPlan.{CallPlan}
 use Rattle.call_broker.specs.Domains.{place_of}
-use Rattle.task_duties.specs.Pairwise.{EachPair}
 use Rattle.task_duties.specs.Words.{ident_of}
 use Rattle.call_queue.specs.declared.call.QueuedCall.{QueuedCall}
-use Rattle.call_queue.specs.Queue.{fresh, asked_as, answer_of, open_idents, AreDifferent, FitsTrigger}
+use Rattle.call_queue.specs.Queue.{fresh, asked_as, answer_of, open_idents, FitsTrigger}
 use Rattle.call_queue.specs.Index.{IsFirst, IsIndex}
 use Rattle.call_queue.specs.Inside.{queued, all_queued, idents, targets, IsFaithful, IsCounted, AreKept, IsFresh}
-
-pub pair-more : {A B : Type 0} (R : A → B → Type 0) (xs : List A) (ys : List B) (x : A) (y : B) → EachPair R xs ys → R x y → EachPair R (xs ++ x ∷ []) (ys ++ y ∷ [])
-pair-more R [] [] x y each last = (last, tt)
-pair-more R [] (z ∷ ys) x y each last = absurd each
-pair-more R (z ∷ xs) [] x y each last = absurd each
-pair-more R (z ∷ xs) (w ∷ ys) x y each last = (each.0, pair-more R xs ys x y each.1 last)
 
 pub pair-at : {A : Type 0} (R : A → ℕ → Type 0) (xs : List A) (x : A) (rest : List A) (ys : List ℕ) (d : ℕ) → EachPair R (xs ++ x ∷ rest) ys → (length xs < length ys) × R x (get_or ys (length xs) d)
 pair-at R [] x rest [] d each = absurd each
@@ -31,13 +24,10 @@ pair-at R (z ∷ xs) x rest (y ∷ ys) d each = let r = pair-at R xs x rest ys d
 
 -- ---- idents of different numbers differ
 
-own : IsNumeralModel (λ ds. all_ascii_digits ds ≡ true) (digits_value 10)
-own = numerals_by_value _ tells_all_ascii_digits
-
 one-number : (n k : ℕ) → n < 2 ^ 32 → k < 2 ^ 32 → ident_of n ≡ ident_of k → n ≡ k
 one-number n k small_n small_k is =
     let digits : decimal n ≡ decimal k = ap (drop 5) is in
-    sym (digits_value-decimal own n (omega (arith, small_n))) ∙ (ap (digits_value 10) digits ∙ digits_value-decimal own k (omega (arith, small_k)))
+    sym (digits_value-decimal decimal-numerals n (omega (arith, small_n))) ∙ (ap (digits_value 10) digits ∙ digits_value-decimal decimal-numerals k (omega (arith, small_k)))
 
 abbrev IsSmall : CallPlan → Type 0
 IsSmall c = c.number < 2 ^ 32

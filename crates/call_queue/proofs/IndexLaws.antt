@@ -10,6 +10,7 @@ use Rattle.std.proofs.lemmas.Bool.Decides.{nat_tests}
 use Rattle.std.proofs.lemmas.Map.Text.{is_eq-slice_cmp}
 use Rattle.std.proofs.lemmas.List.{append-nil, length-append, take-append-drop}
 use Rattle.std.proofs.lemmas.Slice.Eq.{bytes_eq-Decides}
+use Rattle.std.proofs.lemmas.Bool.{false_from_ne_true}
 use Rattle.script_words.specs.Numbers.{number_of}
 use Rattle.service_gate.proofs.Numbers.{number_of-decimal, spelled}
 use Rattle.call_broker.specs.Domains.{place_of}
@@ -17,10 +18,6 @@ use Rattle.call_broker.proofs.IndexLaws.{bytes_eq-sym}
 use Rattle.task_duties.specs.Words.{ident_of}
 use Rattle.call_queue.specs.Index.{number_in, place_in, target_in, HasTargets}
 use denote.Ref.{Bor}
-
-from-bool : (b : Bool) → (b ≡ true → ⊥) → b ≡ false
-from-bool true never = absurd (never refl)
-from-bool false _ = refl
 
 -- ---- idents and numbers
 
@@ -53,7 +50,7 @@ place-noted old new number place small put ident = by_number (number_in ident) r
     by_number : (o : Option ℕ) → number_in ident ≡ o → option_and_then (tree.get nat_cmp new) o ≡ (if bytes_eq ident (ident_of number) then Some place else option_and_then (tree.get nat_cmp old) o)
     by_number None is =
         let apart : bytes_eq ident (ident_of number) ≡ false =
-        from-bool (bytes_eq ident (ident_of number)) (λ same. let e : None ≡ Some number = sym is ∙ (ap number_in ((bytes_eq-Decides ident (ident_of number)).0 same) ∙ ident-names number small) in cc) in
+        false_from_ne_true (bytes_eq ident (ident_of number)) (λ same. let e : None ≡ Some number = sym is ∙ (ap number_in ((bytes_eq-Decides ident (ident_of number)).0 same) ∙ ident-names number small) in cc) in
         rw apart refl
     by_number (Some k) is = by_same (is_eq (nat_cmp number k)) refl
       where
@@ -66,7 +63,7 @@ place-noted old new number place small put ident = by_number (number_in ident) r
             put k ∙ (ap (λ b. cond b (Some place) (tree.get nat_cmp old k)) same ∙ rw here refl)
         by_same false other =
             let apart : bytes_eq ident (ident_of number) ≡ false =
-            from-bool (bytes_eq ident (ident_of number)) (λ same.
+            false_from_ne_true (bytes_eq ident (ident_of number)) (λ same.
             let e : Some k ≡ Some number = sym is ∙ (ap number_in ((bytes_eq-Decides ident (ident_of number)).0 same) ∙ ident-names number small) in
             let e' : k ≡ number = cc in
             let w : false ≡ true = sym other ∙ (ap (λ n. is_eq (nat_cmp number n)) e' ∙ number-self number) in

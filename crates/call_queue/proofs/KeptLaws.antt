@@ -1,20 +1,24 @@
 -- How a queue is kept inside when one of its calls changes.
 use Rattle.std.proofs.Common.{◌≡◌, ℕ, ◌+◌, ◌<◌, ◌≤◌, suc, zero, List, [], ◌∷◌, length, map, drop, refl, ap, sym, ◌∙◌, arith, Option, Some, None, subst, get_or}
 use Rattle.std.specs.Prelude.{true, false, Bool, ◌&&◌, ◌||◌, bytes_eq, slice_get, slice_set, slice_index, ◌==◌, if◌then◌else◌, option_map}
-use Rattle.std.specs.List.{list_any}
+use Rattle.std.specs.List.{list_any, AllByRecursion as Each}
 use Rattle.std.specs.BTreeMap.{BTreeMap}
 use Rattle.std.proofs.lemmas.Bool.{eqb-true, eqb-false}
 use Rattle.std.proofs.lemmas.Slice.Eq.{bytes_eq-Decides}
-use Rattle.qrexec_frame.specs.Streams.{Each}
+use Rattle.std.proofs.Math.Bool.{and-false}
+use Rattle.list_laws.specs.Lists.{AreDifferent}
+use Rattle.list_laws.proofs.Each.{each-get, each-weaker, each-both}
+use Rattle.list_laws.proofs.Places.{get-map}
+use Rattle.list_laws.proofs.Tests.{other-bytes, and-first}
 use Rattle.call_broker.specs.Domains.{place_of}
 use Rattle.task_duties.specs.Words.{ident_of}
 use Rattle.task_duties.specs.Agent.Answers.{Answer, waits, waits_as}
 use Rattle.task_duties.specs.Agent.Saying.{is_refusal}
 use Rattle.call_queue.specs.declared.call.QueuedCall.{QueuedCall}
-use Rattle.call_queue.specs.Queue.{Queued, asked_as, answer_of, is_open_to, open_count, answered_call, AreDifferent}
+use Rattle.call_queue.specs.Queue.{Queued, asked_as, answer_of, is_open_to, open_count, answered_call}
 use Rattle.call_queue.specs.Index.{IsIndex}
 use Rattle.call_queue.specs.Inside.{queued, all_queued, idents, targets, IsFaithful, IsCounted, AreKept}
-use Rattle.call_queue.proofs.Places.{each-at, each-set, each-map, each-both, map-get, map-set-same, map-set-one, length-set-one}
+use Rattle.call_queue.proofs.Places.{each-set, map-set-same, map-set-one, length-set-one}
 use Rattle.call_queue.proofs.CountLaws.{one, count-set, one-place, Recounts}
 
 -- the element at a place that is within
@@ -27,17 +31,6 @@ and-true : (b : Bool) → (b && true) ≡ b
 and-true true = refl
 and-true false = refl
 
-and-false : (b : Bool) → (b && false) ≡ false
-and-false true = refl
-and-false false = refl
-
-pub other-bytes : (xs ys : List ℕ) → (xs ≡ ys → ⊥) → bytes_eq xs ys ≡ false
-other-bytes xs ys apart = by_test (bytes_eq xs ys) refl
-  where
-    by_test : (b : Bool) → bytes_eq xs ys ≡ b → bytes_eq xs ys ≡ false
-    by_test true is' = absurd (apart ((bytes_eq-Decides xs ys).0 is'))
-    by_test false is' = is'
-
 abbrev IsPlaced : List (List ℕ) → QueuedCall → Type 0
 IsPlaced names c = place_of names c.given.value.to ≡ Some c.target
 
@@ -48,7 +41,7 @@ counted-one calls counts new i c c' d is given re placed_c counted_c (placed, co
     subst (λ l. slice_index new d.target ≡ open_count d.given.value.to l) (sym (map-set-one queued calls i c')) (by_target (d.target == c.target) refl)
   where
     changed : open_count d.given.value.to (slice_set (all_queued calls) i (queued c')) + one (is_open_to d.given.value.to (queued c)) ≡ open_count d.given.value.to (all_queued calls) + one (is_open_to d.given.value.to (queued c'))
-    changed = count-set d.given.value.to (all_queued calls) i (queued c) (queued c') (map-get queued calls i c is)
+    changed = count-set d.given.value.to (all_queued calls) i (queued c) (queued c') (get-map queued calls i c is)
 
     by_target : (b : Bool) → (d.target == c.target) ≡ b → slice_index new d.target ≡ open_count d.given.value.to (slice_set (all_queued calls) i (queued c'))
     by_target true same =
@@ -76,10 +69,10 @@ pub kept-set : (calls : List QueuedCall) (index : BTreeMap ℕ ℕ) (counts new 
 kept-set calls index counts new next next' i c c' k is given target faithful re closed within =
     let names : idents (slice_set calls i c') ≡ idents calls = map-set-same (λ x. ident_of x.given.value.number) calls i c c' is (ap (λ g. ident_of g.number) given) in
     let tos : targets (slice_set calls i c') ≡ targets calls = map-set-same (λ x. x.given.value.to) calls i c c' is (ap (λ g. g.to) given) in
-    let placed = each-at (IsPlaced (targets calls)) calls i c k.first is in
-    let counted = each-at (IsCounted (all_queued calls) counts) calls i c k.counted is in
+    let placed = each-get (IsPlaced (targets calls)) calls i c k.first is in
+    let counted = each-get (IsCounted (all_queued calls) counts) calls i c k.counted is in
     let placed' : IsPlaced (targets calls) c' = ap (λ g. place_of (targets calls) g.to) given ∙ (placed ∙ ap Some (sym target)) in
-    let each = each-map (λ d. IsPlaced (targets calls) d × IsCounted (all_queued calls) counts d) (IsCounted (all_queued (slice_set calls i c')) new) (λ d both. counted-one calls counts new i c c' d is given re placed counted both)
+    let each = each-weaker (λ d. IsPlaced (targets calls) d × IsCounted (all_queued calls) counts d) (IsCounted (all_queued (slice_set calls i c')) new) (λ d both. counted-one calls counts new i c c' d is given re placed counted both)
     calls (each-both (IsPlaced (targets calls)) (IsCounted (all_queued calls) counts) calls k.first k.counted) in
     let last : slice_index new c'.target ≡ open_count c'.given.value.to (all_queued (slice_set calls i c')) =
     subst (λ t. slice_index new t ≡ open_count c'.given.value.to (all_queued (slice_set calls i c'))) (sym target)
@@ -135,13 +128,13 @@ done-here ident (x ∷ calls) zero c apart is named done =
     let own : ident_at x ≡ ident = ap ident_at same ∙ named in
     rw (over, and-false (bytes_eq (ident_at x) ident)) (none-here ident calls (subst (λ n. Each (λ j. n ≡ j → ⊥) (map ident_at calls)) own apart.0))
 done-here ident (x ∷ calls) (suc i) c apart is named done =
-    let other : ident_at x ≡ ident → ⊥ = λ e. each-at (λ j. ident_at x ≡ j → ⊥) (map ident_at calls) i (ident_at c) apart.0 (map-get ident_at calls i c is) (e ∙ sym named) in
+    let other : ident_at x ≡ ident → ⊥ = λ e. each-get (λ j. ident_at x ≡ j → ⊥) (map ident_at calls) i (ident_at c) apart.0 (get-map ident_at calls i c is) (e ∙ sym named) in
     rw (other-bytes (ident_at x) ident other) (done-here ident calls i c apart.1 is named done)
 
 pub done-alone : (calls : List QueuedCall) (ident : List ℕ) (i : ℕ) (c : QueuedCall) → AreDifferent (idents calls) → slice_get calls i ≡ Some c → ident_of c.given.value.number ≡ ident
     → waits (answer_of c.answer) ≡ false → list_any (waits_as ident) (map asked_as (all_queued calls)) ≡ false
 done-alone calls ident i c apart is named done =
-    done-here ident (all_queued calls) i (queued c) (subst (λ l. AreDifferent l) (idents-same calls) apart) (map-get queued calls i c is) named done
+    done-here ident (all_queued calls) i (queued c) (subst (λ l. AreDifferent l) (idents-same calls) apart) (get-map queued calls i c is) named done
 
 unanswered : (ident : List ℕ) (answer : Answer) (calls : List Queued) → Each (λ j. ident ≡ j → ⊥) (map ident_at calls) → map (answered_call ident answer) calls ≡ calls
 unanswered ident answer [] apart = refl
@@ -162,18 +155,14 @@ answered-one ident answer (x ∷ calls) zero c apart is w named =
     let own : ident_at x ≡ ident = ap ident_at same ∙ named in
     rw w' (ap (λ y. given_to answer y ∷ calls) (sym same) ∙ ap (λ r. given_to answer x ∷ r) (sym (unanswered ident answer calls (subst (λ n. Each (λ j. n ≡ j → ⊥) (map ident_at calls)) own apart.0))))
 answered-one ident answer (x ∷ calls) (suc i) c apart is w named =
-    let other : bytes_eq (ident_at x) ident ≡ false = other-bytes (ident_at x) ident (λ e. each-at (λ j. ident_at x ≡ j → ⊥) (map ident_at calls) i (ident_at c) apart.0 (map-get ident_at calls i c is) (e ∙ sym named)) in
+    let other : bytes_eq (ident_at x) ident ≡ false = other-bytes (ident_at x) ident (λ e. each-get (λ j. ident_at x ≡ j → ⊥) (map ident_at calls) i (ident_at c) apart.0 (get-map ident_at calls i c is) (e ∙ sym named)) in
     rw other (ap (λ r. x ∷ r) (answered-one ident answer calls i c apart.1 is w named))
-
-and-left : (a b : Bool) → (a && b) ≡ true → a ≡ true
-and-left true b is = refl
-and-left false b is = cc
 
 pub answered-at : (calls : List QueuedCall) (ident : List ℕ) (answer : Answer) (i : ℕ) (c : QueuedCall) → AreDifferent (idents calls) → slice_get calls i ≡ Some c → waits_as ident (asked_as (queued c)) ≡ true
     → slice_set (all_queued calls) i (given_to answer (queued c)) ≡ map (answered_call ident answer) (all_queued calls)
 answered-at calls ident answer i c apart is w =
-    answered-one ident answer (all_queued calls) i (queued c) (subst (λ l. AreDifferent l) (idents-same calls) apart) (map-get queued calls i c is) w
-    ((bytes_eq-Decides (ident_of c.given.value.number) ident).0 (and-left (bytes_eq (ident_of c.given.value.number) ident) (waits (answer_of c.answer)) w))
+    answered-one ident answer (all_queued calls) i (queued c) (subst (λ l. AreDifferent l) (idents-same calls) apart) (get-map queued calls i c is) w
+    ((bytes_eq-Decides (ident_of c.given.value.number) ident).0 (and-first (bytes_eq (ident_of c.given.value.number) ident) (waits (answer_of c.answer)) w))
 
 -- an answer changes nothing if no call waits by its ident
 pub answered-none : (ident : List ℕ) (answer : Answer) (calls : List Queued) → list_any (waits_as ident) (map asked_as calls) ≡ false → map (answered_call ident answer) calls ≡ calls

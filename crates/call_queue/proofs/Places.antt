@@ -1,46 +1,12 @@
 -- Elements at places of a list.
 use Rattle.std.proofs.Common.{◌≡◌, ℕ, ◌<◌, suc, zero, List, [], ◌∷◌, length, map, drop, refl, ap, sym, ◌∙◌, arith, Some, subst, get_or}
 use Rattle.std.specs.Prelude.{slice_get, slice_set, slice_index}
-use Rattle.qrexec_frame.specs.Streams.{Each}
-
-pub each-at : {A : Type 0} (P : A → Type 0) (xs : List A) (i : ℕ) (x : A) → Each P xs → slice_get xs i ≡ Some x → P x
-each-at P [] i x each is = cc
-each-at {A} P (y ∷ xs) zero x each is = let same : y ≡ x = cc in subst P same each.0
-each-at P (y ∷ xs) (suc i) x each is = each-at P xs i x each.1 is
+use Rattle.std.specs.List.{AllByRecursion as Each}
 
 pub each-set : {A : Type 0} (P : A → Type 0) (xs : List A) (i : ℕ) (x : A) → Each P xs → P x → Each P (slice_set xs i x)
 each-set P [] i x each new = tt
 each-set P (y ∷ xs) zero x each new = (new, each.1)
 each-set P (y ∷ xs) (suc i) x each new = (each.0, each-set P xs i x each.1 new)
-
-pub each-map : {A : Type 0} (P Q : A → Type 0) → ((x : A) → P x → Q x) → (xs : List A) → Each P xs → Each Q xs
-each-map P Q go [] each = tt
-each-map P Q go (x ∷ xs) each = (go x each.0, each-map P Q go xs each.1)
-
-pub each-both : {A : Type 0} (P Q : A → Type 0) (xs : List A) → Each P xs → Each Q xs → Each (λ x. P x × Q x) xs
-each-both P Q [] p q = tt
-each-both P Q (x ∷ xs) p q = ((p.0, q.0), each-both P Q xs p.1 q.1)
-
-pub within-get : {A : Type 0} (xs : List A) (i : ℕ) (x : A) → slice_get xs i ≡ Some x → i < length xs
-within-get [] i x is = cc
-within-get (y ∷ xs) zero x is = omega arith
-within-get (y ∷ xs) (suc i) x is = omega (arith, within-get xs i x is)
-
-pub get-within : {A : Type 0} (xs : List A) (i : ℕ) → i < length xs → (x : A) × (slice_get xs i ≡ Some x)
-get-within [] i less = absurd (omega (arith, less))
-get-within (y ∷ xs) zero less = (y, refl)
-get-within (y ∷ xs) (suc i) less = get-within xs i (omega (arith, less))
-
-pub map-get : {A B : Type 0} (f : A → B) (xs : List A) (i : ℕ) (x : A) → slice_get xs i ≡ Some x → slice_get (map f xs) i ≡ Some (f x)
-map-get f [] i x is = cc
-map-get f (y ∷ xs) zero x is = let same : y ≡ x = cc in ap (λ z. Some (f z)) same
-map-get f (y ∷ xs) (suc i) x is = map-get f xs i x is
-
--- what is at a place of a mapped list comes from that place
-pub map-got : {A B : Type 0} (f : A → B) (xs : List A) (i : ℕ) (y : B) → slice_get (map f xs) i ≡ Some y → (x : A) × (slice_get xs i ≡ Some x) × (f x ≡ y)
-map-got f [] i y is = cc
-map-got f (x ∷ xs) zero y is = (x, refl, cc)
-map-got f (x ∷ xs) (suc i) y is = map-got f xs i y is
 
 -- a mapped list doesn't see a change that f doesn't see
 pub map-set-same : {A B : Type 0} (f : A → B) (xs : List A) (i : ℕ) (x y : A) → slice_get xs i ≡ Some x → f y ≡ f x → map f (slice_set xs i y) ≡ map f xs

@@ -1,11 +1,10 @@
 -- A queue after each of its calls: how it is kept inside, and what contracts see of it.
 use Rattle.std.proofs.Common.{◌≡◌, ℕ, ◌+◌, ◌-◌, ◌<◌, ◌≤◌, suc, zero, List, [], ◌∷◌, ◌++◌, length, map, drop, refl, ap, sym, ◌∙◌, arith, Option, Some, None, subst, get_or}
-use Rattle.std.specs.Prelude.{true, false, Bool, not, ◌&&◌, bytes_eq, slice_get, slice_set, slice_index, if◌then◌else◌, MatchOption}
-use Rattle.std.specs.List.{list_any}
+use Rattle.std.specs.Prelude.{true, false, Bool, not, bytes_eq, slice_get, slice_set, slice_index, if◌then◌else◌, MatchOption}
+use Rattle.std.specs.List.{list_any, AllByRecursion as Each}
 use Rattle.std.specs.BTreeMap.{BTreeMap}
 use Rattle.qrexec_frame.specs.declared.message.Message.{Message}
 use Rattle.qrexec_frame.specs.declared.message.Message.TheVariants.{Terminated}
-use Rattle.qrexec_frame.specs.Streams.{Each}
 use Rattle.call_broker.specs.Domains.{place_of}
 use Rattle.task_duties.specs.Words.{ident_of}
 use Rattle.task_duties.specs.Agent.Answers.{Answer, IsRefused, At, waits, waits_as}
@@ -13,16 +12,21 @@ use Rattle.task_duties.specs.Agent.Saying.{is_refusal}
 use Rattle.call_queue.specs.declared.call.CallAnswer.{CallAnswer}
 use Rattle.call_queue.specs.declared.call.CallAnswer.TheVariants as given
 use Rattle.call_queue.specs.declared.call.QueuedCall.{QueuedCall}
-use Rattle.call_queue.specs.Queue.{Queued, QueueState, asked_as, answer_of, is_open_to, open_count, IsDue, IsHeld, HasToSay, trigger_of, after_trigger, after_answer, IsWaitingAt, IsConnectedAt, AreDifferent, FitsTrigger}
+use Rattle.call_queue.specs.Queue.{Queued, QueueState, asked_as, answer_of, is_open_to, open_count, IsDue, IsHeld, HasToSay, trigger_of, after_trigger, after_answer, IsWaitingAt, IsConnectedAt, FitsTrigger}
 use Rattle.call_queue.specs.Asking.{Asks}
 use Rattle.call_queue.specs.Index.{place_in}
 use Rattle.call_queue.specs.Inside.{queued, all_queued, idents, targets, IsFaithful, IsCounted, AreKept}
-use Rattle.call_queue.proofs.Places.{each-at, map-get, map-got, map-set-one, within-get, drop-set, drop-set-if, drop-next, drop-at}
+use Rattle.call_queue.proofs.Places.{map-set-one, drop-set, drop-set-if, drop-next, drop-at}
 use Rattle.call_queue.proofs.CountLaws.{one, count-set, name-at, Recounts, recounts-not, recounts-set}
 use Rattle.call_queue.proofs.KeptLaws.{get-or-get, kept-set, given_to, answered-at, none-waits, done-alone}
 use Rattle.call_queue.proofs.AskingLaws.{asks-triggered, asks-ended}
 use Rattle.std.proofs.lemmas.List.{length-map}
 use Rattle.std.proofs.lemmas.Slice.Eq.{bytes_eq-Decides}
+use Rattle.std.proofs.lemmas.Option.{slice_get_within}
+use Rattle.list_laws.specs.Lists.{AreDifferent}
+use Rattle.list_laws.proofs.Each.{each-get}
+use Rattle.list_laws.proofs.Places.{get-map, get-map-back}
+use Rattle.list_laws.proofs.Tests.{and-second}
 
 -- what contracts see of these calls, the first `next` of which were requested
 abbrev pub seen : List QueuedCall → ℕ → QueueState
@@ -36,14 +40,14 @@ seen_set calls i x next = record { calls = slice_set calls i x; next = next }
 
 pub has-room : (calls : List QueuedCall) (index : BTreeMap ℕ ℕ) (counts : List ℕ) (next i : ℕ) (c : QueuedCall) → AreKept calls index counts next → slice_get calls i ≡ Some c → c.target < length counts
 has-room calls index counts next i c k is =
-    let at = name-at (targets calls) c.given.value.to c.target (each-at (λ x. place_of (targets calls) x.given.value.to ≡ Some x.target) calls i c k.first is) in
-    let less = within-get (targets calls) c.target c.given.value.to at in
+    let at = name-at (targets calls) c.given.value.to c.target (each-get (λ x. place_of (targets calls) x.given.value.to ≡ Some x.target) calls i c k.first is) in
+    let less = slice_get_within (targets calls) c.target c.given.value.to at in
     let long = length-map calls (λ x. x.given.value.to) in
     omega (arith, less, long, k.as_many)
 
 pub is-counted : (calls : List QueuedCall) (index : BTreeMap ℕ ℕ) (counts : List ℕ) (next i : ℕ) (c : QueuedCall) → AreKept calls index counts next → slice_get calls i ≡ Some c
     → slice_index counts c.target ≡ open_count c.given.value.to (all_queued calls)
-is-counted calls index counts next i c k is = each-at (IsCounted (all_queued calls) counts) calls i c k.counted is
+is-counted calls index counts next i c k is = each-get (IsCounted (all_queued calls) counts) calls i c k.counted is
 
 own-name : (c : QueuedCall) → c.is_open ≡ true → is_open_to c.given.value.to (queued c) ≡ true
 own-name c is = let same = (bytes_eq-Decides c.given.value.to c.given.value.to).1 refl in rw (is, same) refl
@@ -52,7 +56,7 @@ pub counts-some : (calls : List QueuedCall) (index : BTreeMap ℕ ℕ) (counts :
     → 0 < slice_index counts c.target
 counts-some calls index counts next i c k is o =
     let counted = is-counted calls index counts next i c k is in
-    let set = count-set c.given.value.to (all_queued calls) i (queued c) (record { call = c.given.value; answer = answer_of c.answer; is_open = false }) (map-get queued calls i c is) in
+    let set = count-set c.given.value.to (all_queued calls) i (queued c) (record { call = c.given.value; answer = answer_of c.answer; is_open = false }) (get-map queued calls i c is) in
     let was : one (is_open_to c.given.value.to (queued c)) ≡ 1 = ap one (own-name c o) in
     omega (arith, counted, set, was)
 
@@ -64,10 +68,10 @@ counted_in c = record c { is_open = not (is_refusal (answer_of c.answer)) }
 pub kept-in : (calls : List QueuedCall) (index : BTreeMap ℕ ℕ) (counts new : List ℕ) (next : ℕ) (c c' : QueuedCall) → AreKept calls index counts next → slice_get calls next ≡ Some c → c' ≡ counted_in c
     → new ≡ (if is_refusal (answer_of c.answer) then counts else slice_set counts c.target (slice_index counts c.target + 1)) → AreKept (slice_set calls next c') index new (next + 1)
 kept-in calls index counts new next c c' k is c_is new_is =
-    let f = each-at IsFaithful calls next c k.faithful is in
+    let f = each-get IsFaithful calls next c k.faithful is in
     let shut : c.is_open ≡ false = drop-at (λ x. x.is_open ≡ false) next calls c k.closed is in
     let room = has-room calls index counts next next c k is in
-    let less = within-get calls next c is in
+    let less = slice_get_within calls next c is in
     let e : next + 1 ≡ suc next = omega arith in
     let closed : Each (λ x. x.is_open ≡ false) (drop (next + 1) (slice_set calls next c')) = subst (λ n. Each (λ x. x.is_open ≡ false) (drop n (slice_set calls next c'))) (sym e) (drop-next (λ x. x.is_open ≡ false) next calls c' k.closed) in
     let faithful : IsFaithful c' = subst IsFaithful (sym c_is) (record { number = f.number; to = f.to; service = f.service; stdin = f.stdin; short_to = f.short_to; short_service = f.short_service }) in
@@ -86,7 +90,7 @@ same-some o x y p q = let both : Some x ≡ Some y = sym p ∙ q in cc
 pub view-in : (calls : List QueuedCall) (next : ℕ) (c c' : QueuedCall) (x : Queued) → slice_get calls next ≡ Some c → c' ≡ counted_in c → slice_get (all_queued calls) next ≡ Some x
     → seen (slice_set calls next c') (next + 1) ≡ after_trigger (seen calls next) x
 view-in calls next c c' x is c_is x_is =
-    let same : x ≡ queued c = same-some (slice_get (all_queued calls) next) x (queued c) x_is (map-get queued calls next c is) in
+    let same : x ≡ queued c = same-some (slice_get (all_queued calls) next) x (queued c) x_is (get-map queued calls next c is) in
     let P : Queued → Type 0 = λ y. seen (slice_set calls next c') (next + 1) ≡ after_trigger (seen calls next) y in
     subst P (sym same) (ap (λ l. record { calls = l; next = next + 1 }) (map-set-one queued calls next c' ∙ ap (λ y. slice_set (all_queued calls) next (queued y)) c_is))
 
@@ -107,7 +111,7 @@ asks-in calls index counts next c c' said version m k is c_is says asks =
 -- the call that is due stands at the next place, isn't open, and has room for its count
 pub place-due : (calls : List QueuedCall) (next : ℕ) (c : QueuedCall) → ((x : Queued) × IsDue (seen calls next) x) → c ≡ get_or calls next c → slice_get calls next ≡ Some c
 place-due calls next c due is =
-    let less = within-get (all_queued calls) next due.0 due.1.0 in
+    let less = slice_get_within (all_queued calls) next due.0 due.1.0 in
     let long = length-map calls queued in
     get-or-get calls next c (omega (arith, less, long)) is
 
@@ -118,7 +122,7 @@ pub due-few : (calls : List QueuedCall) (index : BTreeMap ℕ ℕ) (counts : Lis
     → ((x : Queued) × IsDue (seen calls next) x) → slice_index counts c.target < 16
 due-few calls index counts next c k is due =
     let counted = is-counted calls index counts next next c k is in
-    let same : due.0 ≡ queued c = same-some (slice_get (all_queued calls) next) due.0 (queued c) due.1.0 (map-get queued calls next c is) in
+    let same : due.0 ≡ queued c = same-some (slice_get (all_queued calls) next) due.0 (queued c) due.1.0 (get-map queued calls next c is) in
     let few : open_count c.given.value.to (all_queued calls) < 16 = subst (λ (y : Queued). open_count y.call.to (all_queued calls) < 16) same due.1.1 in
     omega (arith, counted, few)
 
@@ -131,7 +135,7 @@ pub kept-out : (calls : List QueuedCall) (index : BTreeMap ℕ ℕ) (counts new 
     → (waits (answer_of answer) ≡ true → waits (answer_of c.answer) ≡ true) → c' ≡ counted_out answer c
     → new ≡ (if c.is_open then slice_set counts c.target (slice_index counts c.target - 1) else counts) → AreKept (slice_set calls i c') index new next
 kept-out calls index counts new next i answer c c' k is before c_is new_is =
-    let f = each-at IsFaithful calls i c k.faithful is in
+    let f = each-get IsFaithful calls i c k.faithful is in
     let room = has-room calls index counts next i c k is in
     let some = counts-some calls index counts next i c k is in
     let shut : c'.is_open ≡ false = ap (λ x. x.is_open) c_is in
@@ -147,14 +151,14 @@ kept-out calls index counts new next i answer c c' k is before c_is new_is =
 pub view-out : (calls : List QueuedCall) (next i : ℕ) (answer : CallAnswer) (c c' : QueuedCall) (x : Queued) → slice_get calls i ≡ Some c → c' ≡ counted_out answer c → slice_get (all_queued calls) i ≡ Some x
     → seen (slice_set calls i c') next ≡ seen_set (all_queued calls) i (record { call = x.call; answer = answer_of answer; is_open = false }) next
 view-out calls next i answer c c' x is c_is x_is =
-    let same : x ≡ queued c = same-some (slice_get (all_queued calls) i) x (queued c) x_is (map-get queued calls i c is) in
+    let same : x ≡ queued c = same-some (slice_get (all_queued calls) i) x (queued c) x_is (get-map queued calls i c is) in
     ap (λ l. record { calls = l; next = next })
     (map-set-one queued calls i c' ∙ (ap (λ y. slice_set (all_queued calls) i (queued y)) c_is ∙ ap (λ (y : Queued). slice_set (all_queued calls) i (record { call = y.call; answer = answer_of answer; is_open = false })) (sym same)))
 
 pub view-shut : (calls : List QueuedCall) (next i : ℕ) (c c' : QueuedCall) (x : Queued) → slice_get calls i ≡ Some c → c' ≡ counted_out c.answer c → slice_get (all_queued calls) i ≡ Some x
     → seen (slice_set calls i c') next ≡ seen_set (all_queued calls) i (record x { is_open = false }) next
 view-shut calls next i c c' x is c_is x_is =
-    let same : x ≡ queued c = same-some (slice_get (all_queued calls) i) x (queued c) x_is (map-get queued calls i c is) in
+    let same : x ≡ queued c = same-some (slice_get (all_queued calls) i) x (queued c) x_is (get-map queued calls i c is) in
     view-out calls next i c.answer c c' x is c_is x_is ∙ ap (λ a. seen_set (all_queued calls) i (record { call = x.call; answer = a; is_open = false }) next) (sym (ap (λ (y : Queued). y.answer) same))
 
 pub asks-out : (calls : List QueuedCall) (next i d port : ℕ) (c c' : QueuedCall) (said : List Message) → slice_get calls i ≡ Some c → c' ≡ counted_out c.answer c → IsConnectedAt (seen calls next) i d port
@@ -166,15 +170,11 @@ asks-out calls next i d port c c' said is c_is at asks =
 
 pub waiting-at : (calls : List QueuedCall) (i : ℕ) (c : QueuedCall) (ident : List ℕ) → slice_get calls i ≡ Some c → (at : IsWaitingAt (record { calls = all_queued calls; next = 0 }) i ident) → waits_as ident (asked_as (queued c)) ≡ true
 waiting-at calls i c ident is at =
-    let same : at.0 ≡ queued c = same-some (slice_get (all_queued calls) i) at.0 (queued c) at.1 (map-get queued calls i c is) in
+    let same : at.0 ≡ queued c = same-some (slice_get (all_queued calls) i) at.0 (queued c) at.1 (get-map queued calls i c is) in
     ap (λ (y : Queued). waits_as ident (asked_as y)) (sym same) ∙ at.2
 
-and-right : (a b : Bool) → (a && b) ≡ true → b ≡ true
-and-right true b is = is
-and-right false b is = cc
-
 pub waits-at : (calls : List QueuedCall) (next i : ℕ) (c : QueuedCall) (ident : List ℕ) → slice_get calls i ≡ Some c → IsWaitingAt (seen calls next) i ident → waits (answer_of c.answer) ≡ true
-waits-at calls next i c ident is at = and-right (bytes_eq (ident_of c.given.value.number) ident) (waits (answer_of c.answer)) (waiting-at calls i c ident is at)
+waits-at calls next i c ident is at = and-second (bytes_eq (ident_of c.given.value.number) ident) (waits (answer_of c.answer)) (waiting-at calls i c ident is at)
 
 -- the call that waits at a place is given its answer
 pub view-answered : (calls : List QueuedCall) (next i : ℕ) (ident : List ℕ) (answer : Answer) (c : QueuedCall) (x : Queued) → AreDifferent (idents calls) → slice_get calls i ≡ Some c → IsWaitingAt (seen calls next) i ident
@@ -185,7 +185,7 @@ view-answered calls next i ident answer c x apart is at x_is =
 pub view-refused : (calls : List QueuedCall) (index : BTreeMap ℕ ℕ) (counts : List ℕ) (next i : ℕ) (c c' : QueuedCall) (ident : List ℕ) → AreKept calls index counts next → slice_get calls i ≡ Some c
     → c' ≡ counted_out given.Refused c → IsWaitingAt (seen calls next) i ident → seen (slice_set calls i c') next ≡ after_answer (seen calls next) ident IsRefused
 view-refused calls index counts next i c c' ident k is c_is at =
-    view-out calls next i given.Refused c c' (queued c) is c_is (map-get queued calls i c is)
+    view-out calls next i given.Refused c c' (queued c) is c_is (get-map queued calls i c is)
     ∙ view-answered calls next i ident IsRefused c (record { call = c.given.value; answer = IsRefused; is_open = false }) k.differ is at refl
 
 -- a call that was let through keeps no input
@@ -195,7 +195,7 @@ connected_with to port stdin c = record c { plan = record c.plan { stdin = stdin
 pub kept-connected : (calls : List QueuedCall) (index : BTreeMap ℕ ℕ) (counts : List ℕ) (next i to port : ℕ) (stdin : List ℕ) (c : QueuedCall) → AreKept calls index counts next → slice_get calls i ≡ Some c
     → AreKept (slice_set calls i (connected_with to port stdin c)) index counts next
 kept-connected calls index counts next i to port stdin c k is =
-    let f = each-at IsFaithful calls i c k.faithful is in
+    let f = each-get IsFaithful calls i c k.faithful is in
     kept-set calls index counts counts next next i c (connected_with to port stdin c) k is refl refl
     (record { number = f.number; to = f.to; service = f.service; stdin = λ w. cc; short_to = f.short_to; short_service = f.short_service })
     (recounts-not counts c.target c.is_open) (drop-set-if (λ x. x.is_open ≡ false) next calls i c (connected_with to port stdin c) k.closed is (λ h. h)) k.within
@@ -209,8 +209,8 @@ view-connected calls index counts next i to port stdin c ident k is at =
 pub stdin-at : (calls : List QueuedCall) (index : BTreeMap ℕ ℕ) (counts : List ℕ) (next i : ℕ) (c : QueuedCall) (x : Queued) (ident : List ℕ) → AreKept calls index counts next → slice_get calls i ≡ Some c
     → IsWaitingAt (seen calls next) i ident → slice_get (all_queued calls) i ≡ Some x → c.plan.stdin ≡ x.call.stdin
 stdin-at calls index counts next i c x ident k is at x_is =
-    let f = each-at IsFaithful calls i c k.faithful is in
-    let same : x ≡ queued c = same-some (slice_get (all_queued calls) i) x (queued c) x_is (map-get queued calls i c is) in
+    let f = each-get IsFaithful calls i c k.faithful is in
+    let same : x ≡ queued c = same-some (slice_get (all_queued calls) i) x (queued c) x_is (get-map queued calls i c is) in
     f.stdin (waits-at calls next i c ident is at) ∙ ap (λ (y : Queued). y.call.stdin) (sym same)
 
 -- ---- what is next
@@ -220,14 +220,14 @@ pub held-by : (calls : List QueuedCall) (index : BTreeMap ℕ ℕ) (counts : Lis
     → IsHeld (seen calls next)
 held-by calls index counts next c k is full =
     let counted = is-counted calls index counts next next c k is in
-    let at = map-get queued calls next c is in
+    let at = get-map queued calls next c is in
     subst (λ o. MatchOption o (Unit {0}) (λ x. 16 ≤ open_count x.call.to (all_queued calls))) (sym at) (omega (arith, counted, full))
 
 pub due-by : (calls : List QueuedCall) (index : BTreeMap ℕ ℕ) (counts : List ℕ) (next : ℕ) (c : QueuedCall) → AreKept calls index counts next → slice_get calls next ≡ Some c → slice_index counts c.target < 16
     → IsDue (seen calls next) (queued c)
 due-by calls index counts next c k is few =
     let counted = is-counted calls index counts next next c k is in
-    (map-get queued calls next c is, omega (arith, counted, few))
+    (get-map queued calls next c is, omega (arith, counted, few))
 
 -- if not all were requested, there is a next one
 pub next-at : (calls : List QueuedCall) (index : BTreeMap ℕ ℕ) (counts : List ℕ) (next : ℕ) (c : QueuedCall) → AreKept calls index counts next → (next ≡ length calls → ⊥) → c ≡ get_or calls next c → slice_get calls next ≡ Some c
@@ -243,34 +243,34 @@ fits-trigger c f = (omega (arith, ap length f.to, f.short_to), omega (arith, ap 
 pub says-due : (calls : List QueuedCall) (index : BTreeMap ℕ ℕ) (counts : List ℕ) (next version : ℕ) (c : QueuedCall) (m : Message) → AreKept calls index counts next → slice_get calls next ≡ Some c → slice_index counts c.target < 16
     → m ≡ trigger_of version c.plan → HasToSay (seen calls next) version (Some m)
 says-due calls index counts next version c m k is few m_is =
-    (queued c, due-by calls index counts next c k is few, m_is ∙ same-trigger version c (each-at IsFaithful calls next c k.faithful is))
+    (queued c, due-by calls index counts next c k is few, m_is ∙ same-trigger version c (each-get IsFaithful calls next c k.faithful is))
 
 -- ---- a call by its ident
 
 pub found-at : (calls : List QueuedCall) (index : BTreeMap ℕ ℕ) (counts : List ℕ) (next i : ℕ) (ident : List ℕ) → AreKept calls index counts next → place_in index ident ≡ Some i
     → (c : QueuedCall) × (slice_get calls i ≡ Some c) × (ident_of c.given.value.number ≡ ident)
 found-at calls index counts next i ident k is =
-    map-got (λ c. ident_of c.given.value.number) calls i ident (name-at (idents calls) ident i (sym (k.indexed.first ident) ∙ is))
+    get-map-back (λ c. ident_of c.given.value.number) calls i ident (name-at (idents calls) ident i (sym (k.indexed.first ident) ∙ is))
 
 pub found-within : (calls : List QueuedCall) (index : BTreeMap ℕ ℕ) (counts : List ℕ) (next i : ℕ) (ident : List ℕ) → AreKept calls index counts next → place_in index ident ≡ Some i → i < length calls
-found-within calls index counts next i ident k is = let f = found-at calls index counts next i ident k is in within-get calls i f.0 f.1
+found-within calls index counts next i ident k is = let f = found-at calls index counts next i ident k is in slice_get_within calls i f.0 f.1
 
 -- the call that the index has waits by the ident, if it waits at all
 pub found-waits : (calls : List QueuedCall) (index : BTreeMap ℕ ℕ) (counts : List ℕ) (next i : ℕ) (ident : List ℕ) (c : QueuedCall) → AreKept calls index counts next → place_in index ident ≡ Some i → c ≡ get_or calls i c
     → waits (answer_of c.answer) ≡ true → IsWaitingAt (seen calls next) i ident
 found-waits calls index counts next i ident c k is c_is w =
     let f = found-at calls index counts next i ident k is in
-    let at : slice_get calls i ≡ Some c = get-or-get calls i c (within-get calls i f.0 f.1) c_is in
+    let at : slice_get calls i ≡ Some c = get-or-get calls i c (slice_get_within calls i f.0 f.1) c_is in
     let same : f.0 ≡ c = same-some (slice_get calls i) f.0 c f.1 at in
     let named : bytes_eq (ident_of c.given.value.number) ident ≡ true = (bytes_eq-Decides (ident_of c.given.value.number) ident).1 (ap (λ x. ident_of x.given.value.number) (sym same) ∙ f.2) in
-    (queued c, map-get queued calls i c at, rw (named, w) refl)
+    (queued c, get-map queued calls i c at, rw (named, w) refl)
 
 -- if it doesn't wait, no call does
 pub found-done : (calls : List QueuedCall) (index : BTreeMap ℕ ℕ) (counts : List ℕ) (next i : ℕ) (ident : List ℕ) (c : QueuedCall) → AreKept calls index counts next → place_in index ident ≡ Some i → c ≡ get_or calls i c
     → waits (answer_of c.answer) ≡ false → list_any (waits_as ident) (map asked_as (all_queued calls)) ≡ false
 found-done calls index counts next i ident c k is c_is w =
     let f = found-at calls index counts next i ident k is in
-    let at : slice_get calls i ≡ Some c = get-or-get calls i c (within-get calls i f.0 f.1) c_is in
+    let at : slice_get calls i ≡ Some c = get-or-get calls i c (slice_get_within calls i f.0 f.1) c_is in
     let same : f.0 ≡ c = same-some (slice_get calls i) f.0 c f.1 at in
     done-alone calls ident i c k.differ at (ap (λ x. ident_of x.given.value.number) (sym same) ∙ f.2) w
 

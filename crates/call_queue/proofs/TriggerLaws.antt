@@ -3,11 +3,10 @@ use Rattle.std.proofs.Common.{◌≡◌, ℕ, ◌+◌, ◌<◌, ◌≤◌, ◌^�
 use Rattle.std.specs.Prelude.{true, false, Bool, ◌&&◌, Contains, codes, nat_lt, if◌then◌else◌}
 use Rattle.std.specs.Str.{all_ascii_digits}
 use Rattle.std.specs.Char.{is_ascii_digit}
-use Rattle.std.specs.Str.Parse.{digits_value}
 use Rattle.std.proofs.lemmas.Fmt.{digits_decimal, length-decimal-le}
 use Rattle.std.proofs.lemmas.Bool.Decides.{nat_tests}
 use Rattle.std.proofs.lemmas.List.Elements.{Contains-append_cases}
-use Rattle.std.proofs.lemmas.Str.Parse.{IsNumeralModel, numerals_by_value, tells_all_ascii_digits}
+use Rattle.list_laws.proofs.Tests.{decimal-numerals}
 use Rattle.qrexec_frame.specs.Texts.{FitsText, padded, ended}
 use Rattle.qrexec_frame.specs.declared.message.Message.TheVariants.{Trigger, Trigger3}
 use Rattle.qrexec_frame.specs.Messages.{written}
@@ -16,9 +15,6 @@ use Rattle.scenario_file.specs.declared.scenario.CallPlan.{CallPlan}
 use Rattle.call_queue.specs.Queue.{FitsTrigger, trigger_of}
 use Rattle.task_duties.specs.Words.{ident_of}
 use Rattle.task_duties.proofs.Elements.{Has, has-from}
-
-own : IsNumeralModel (λ ds. all_ascii_digits ds ≡ true) (digits_value 10)
-own = numerals_by_value _ tells_all_ascii_digits
 
 no-nul : (ds : List ℕ) → all_ascii_digits ds ≡ true → Has ds 0 → ⊥
 no-nul [] digits h = h
@@ -44,7 +40,7 @@ letters c = in-letters (has-from (codes "call-") 0 c)
     in-letters (inr (inr (inr (inr (inr h))))) = h
 
 pub ident-no-nul : (number : ℕ) → number < 2 ^ 32 → Contains (ident_of number) 0 → ⊥
-ident-no-nul number small c = ⊎_elim letters (λ d. no-nul (decimal number) (digits_decimal own number (omega (arith, small))) (has-from (decimal number) 0 d)) (Contains-append_cases (codes "call-") (decimal number) 0 c)
+ident-no-nul number small c = ⊎_elim letters (λ d. no-nul (decimal number) (digits_decimal decimal-numerals number (omega (arith, small))) (has-from (decimal number) 0 d)) (Contains-append_cases (codes "call-") (decimal number) 0 c)
 
 pub ident-short : (number : ℕ) → number < 2 ^ 32 → length (ident_of number) ≤ 31
 ident-short number small = let d = length-decimal-le 10 number (lit< tt) (omega (arith, small)) (omega (arith, small)) in omega (arith, d, length-append (codes "call-") (decimal number))

@@ -1,7 +1,7 @@
 -- What a queue stands for: the messages that were sent for it.
 use Rattle.std.specs.Prelude.{◌≡◌, ℕ, false, List, [], ◌∷◌, map, filter_map, take}
+use Rattle.std.specs.List.{AllByRecursion as Each}
 use Rattle.qrexec_frame.specs.declared.message.Message.{Message}
-use Rattle.qrexec_frame.specs.Streams.{Each}
 use Rattle.task_duties.specs.Words.{ident_of}
 use Rattle.task_duties.specs.Agent.Answers.{Answer, Asked, waits}
 use Rattle.task_duties.specs.Agent.Saying.{asking, asking_of, open_after, KeepsTo}

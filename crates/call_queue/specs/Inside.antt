@@ -1,7 +1,8 @@
 -- How a queue is kept inside.
 use Rattle.std.specs.Prelude.{◌≡◌, ℕ, ◌≤◌, true, false, List, length, map, drop, Some, slice_index}
 use Rattle.std.specs.BTreeMap.{BTreeMap}
-use Rattle.qrexec_frame.specs.Streams.{Each}
+use Rattle.std.specs.List.{AllByRecursion as Each}
+use Rattle.list_laws.specs.Lists.{AreDifferent}
 use Rattle.scenario_file.specs.declared.scenario.CallPlan.{CallPlan}
 use Rattle.call_broker.specs.Domains.{place_of}
 use Rattle.task_duties.specs.Words.{ident_of}
@@ -9,7 +10,7 @@ use Rattle.task_duties.specs.Agent.Answers.{waits}
 use Rattle.call_queue.specs.declared.call.QueuedCall.{QueuedCall}
 use Rattle.call_queue.specs.declared.call.CallAnswer.TheVariants.{Waits}
 use Rattle.call_queue.specs.declared.queue.CallQueue.TheInside.{Inside}
-use Rattle.call_queue.specs.Queue.{Queued, QueueState, answer_of, open_count, AreDifferent}
+use Rattle.call_queue.specs.Queue.{Queued, QueueState, answer_of, open_count}
 use Rattle.call_queue.specs.Index.{IsIndex}
 
 -- what contracts see of a call

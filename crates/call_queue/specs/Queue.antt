@@ -1,10 +1,9 @@
 -- An agent's own calls in their order: which of them were requested, what they were answered, and which are open.
 -- Source: the messages are those of the qrexec protocol; the order, the idents and the limit are this project's own.
-use Rattle.std.specs.Prelude.{◌≡◌, ◌≢◌, ℕ, ◌+◌, ◌<◌, ◌≤◌, ◌&&◌, not, nat_lt, bytes_eq, Bool, false, List, [], ◌∷◌, ◌++◌, length, map, Option, Some, None, MatchOption, true, slice_get, slice_set, if◌then◌else◌}
+use Rattle.std.specs.Prelude.{◌≡◌, ℕ, ◌+◌, ◌<◌, ◌≤◌, ◌&&◌, not, nat_lt, bytes_eq, Bool, false, List, [], ◌∷◌, ◌++◌, length, map, Option, Some, None, MatchOption, true, slice_get, slice_set, if◌then◌else◌}
 use Rattle.qrexec_frame.specs.declared.message.Message.{Message}
 use Rattle.qrexec_frame.specs.declared.message.Message.TheVariants.{Trigger3, Trigger}
 use Rattle.qrexec_frame.specs.Messages.{written}
-use Rattle.qrexec_frame.specs.Streams.{Each}
 use Rattle.scenario_file.specs.declared.scenario.CallPlan.{CallPlan}
 use Rattle.task_duties.specs.Words.{ident_of}
 use Rattle.task_duties.specs.Agent.Answers.{Answer, Waits, IsRefused, At, Asked, waits_as}
@@ -93,11 +92,6 @@ abbrev pub after_answer : QueueState → List ℕ → Answer → QueueState
 after_answer q ident answer = record { calls = map (answered_call ident answer) q.calls; next = q.next }
 
 -- ---- what is required of the calls
-
--- no element comes twice
-abbrev pub AreDifferent : {A : Type 0} → List A → Type 0
-AreDifferent [] = Unit {0}
-AreDifferent {A} (x ∷ xs) = Each (λ (y : A). x ≢ y) xs × AreDifferent xs
 
 -- the texts of a call fit a trigger of either version
 abbrev pub FitsTrigger : CallPlan → Type 0

@@ -1,8 +1,8 @@
 //! The places of an agent's calls by their numbers, and of their targets by name.
 ghost use Rattle.std.specs.Prelude.{◌≡◌, ◌<◌, ◌^◌, List, ℕ, Some, bytes_eq, if◌then◌else◌, map, length, ◌++◌, ◌∷◌, [], IfOk, OnOk};
-ghost use Rattle.qrexec_frame.specs.Streams.{Each};
+ghost use Rattle.std.specs.List.{AllByRecursion as Each};
 ghost use Rattle.call_broker.specs.Domains.{place_of};
-ghost use Rattle.task_duties.specs.Pairwise.{EachPair};
+ghost use Rattle.std.specs.List.{AllZip as EachPair};
 ghost use Rattle.task_duties.specs.Words.{ident_of};
 ghost use Rattle.call_queue.specs.Index.{place_in, number_in, IsIndex, IsFirst, HasTargets};
 

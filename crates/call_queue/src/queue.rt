@@ -2,13 +2,14 @@
 ghost use Rattle.std.specs.Prelude.{◌≡◌, ◌<◌, ◌+◌, ◌-◌, not, true, vec_len, slice_index, if◌then◌else◌, ◌++◌, ◌∷◌, [], ℕ, List, None, Some, false, length, map, IfOk, IfSome, slice_get, slice_set};
 ghost use Rattle.std.specs.List.{list_any};
 ghost use Rattle.qrexec_frame.specs.Messages.{IsSpellable};
-ghost use Rattle.qrexec_frame.specs.Streams.{Each};
+ghost use Rattle.std.specs.List.{AllByRecursion as Each};
 ghost use Rattle.qrexec_frame.specs.declared.message.Message.{Message as Said};
 ghost use Rattle.qrexec_frame.specs.declared.message.Message.TheVariants.{Terminated};
 ghost use Rattle.task_duties.specs.Words.{ident_of};
 ghost use Rattle.task_duties.specs.Agent.Saying.{is_refusal};
 ghost use Rattle.task_duties.specs.Agent.Answers.{IsRefused, At, waits_as};
-ghost use Rattle.call_queue.specs.Queue.{Queued, asked_as, asked_by, answer_of, fresh, IsDue, IsHeld, HasToSay, HasToSayOfLen, trigger_of, after_trigger, after_answer, FitsTrigger, AreDifferent, IsWaitingAt, IsConnectedAt};
+ghost use Rattle.call_queue.specs.Queue.{Queued, asked_as, asked_by, answer_of, fresh, IsDue, IsHeld, HasToSay, HasToSayOfLen, trigger_of, after_trigger, after_answer, FitsTrigger, IsWaitingAt, IsConnectedAt};
+ghost use Rattle.list_laws.specs.Lists.{AreDifferent};
 ghost use Rattle.call_queue.specs.Asking.{Asks};
 
 use crate::call::{CallAnswer, QueuedCall};

@@ -1,6 +1,6 @@
 //! A queue before anything was heard or sent.
 ghost use Rattle.std.specs.Prelude.{◌≡◌, map, IfOk};
-ghost use Rattle.task_duties.specs.Pairwise.{EachPair};
+ghost use Rattle.std.specs.List.{AllZip as EachPair};
 ghost use Rattle.call_queue.specs.Inside.{IsFresh};
 
 use crate::call::{CallAnswer, QueuedCall};

@@ -4,9 +4,9 @@ use Rattle.std.specs.Prelude.{Bool, false, ℤ, is_none, if◌then◌else◌}
 use Rattle.vchan_protocol.specs.declared.call.EndState.TheVariants.{Shut}
 use Rattle.service_gate.specs.Triple.{Triple}
 use Rattle.service_gate.specs.Owing.{builtin_owes}
-use Rattle.service_gate.specs.ServiceResult.{IsSmallCode}
 use Rattle.service_gate.specs.declared.builtin.Builtin.{Builtin}
 use Rattle.service_gate.proofs.EveryService.{small_codes}
+use Rattle.service_gate.specs.ServiceResult.{IsSmallCode}
 use Rattle.qrexec_data.specs.declared.outcome.Outcome.{Outcome}
 use Rattle.qrexec_data.specs.declared.outcome.Outcome.TheVariants.{Done, Fault, Closed, Gone}
 use Rattle.qrexec_data.specs.Answering.{AnsweringState, is_over, over_if, done_if, after_gone, laid_on}

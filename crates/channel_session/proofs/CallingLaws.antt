@@ -25,9 +25,6 @@ ends-by-bytes (Some (Fault f)) end b h = tt
 ends-by-bytes (Some Closed) end b h = absurd b
 ends-by-bytes (Some Gone) end b h = absurd b
 
-pub by-bytes : (outcome : Option Outcome) → outcome ≡ None → IsByBytes outcome
-by-bytes outcome h = subst IsByBytes (sym h) tt
-
 -- bytes that were drained were taken
 pub took : (caller new : CallerState) (end end' : SeatedEnd) (count : ℕ) (buf : List ℕ) (saw : Bool) → IsCalling caller end → caller.replies.outcome ≡ None
     → view end' ≡ drained_to (view end) (More count) buf saw → IsOpen end' → new.inbox.got ≡ caller.inbox.got ++ take count buf → new.requests ≡ caller.requests

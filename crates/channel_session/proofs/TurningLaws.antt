@@ -1,44 +1,31 @@
 -- A turn of a session, by its parts: the look for a signal, the drain and the write.
-use Rattle.std.proofs.Common.{◌≡◌, ℕ, ◌<◌, ◌≤◌, List, ◌++◌, length, take, None, refl, sym, ap, ◌∙◌, inl, inr, subst, arith, length-append}
-use Rattle.std.specs.Prelude.{◌↔◌, ◌⊎◌, Bool, true, false, not, ◌||◌, min, IsSome}
-use Rattle.std.proofs.lemmas.List.{length-take}
+use Rattle.std.proofs.Common.{◌≡◌, ℕ, ◌<◌, ◌≤◌, List, length, None, refl, sym, ap, ◌∙◌, inl, inr, subst, arith}
+use Rattle.std.specs.Prelude.{◌↔◌, ◌⊎◌, Bool, true, false, not, ◌||◌, IsSome}
 use Rattle.vchan_protocol.specs.declared.call.Call.TheVariants.{Write, Drain}
-use Rattle.vchan_protocol.specs.declared.call.Answer.TheVariants.{Wrote, Full, PeerClosed, NotYet}
+use Rattle.vchan_protocol.specs.declared.call.Answer.TheVariants.{Full, PeerClosed, NotYet}
 use Rattle.vchan_protocol.specs.Table.Calls.{Trace}
-use Rattle.vchan_protocol.specs.Table.Ends.{Standing}
 use Rattle.vchan_protocol.specs.History.Core.{standing_of}
-use Rattle.vchan_protocol.specs.Answering.Causes.{DrainCause, WriteCause, write_closed, wrote_none, write_full, wrote_some, room_at}
-use Rattle.vchan_protocol.specs.Answering.Loads.{Loads, loads_of}
+use Rattle.vchan_protocol.specs.Answering.Causes.{DrainCause, WriteCause}
+use Rattle.vchan_protocol.specs.Answering.Loads.{loads_of}
 use Rattle.vchan_lifecycle.specs.declared.DrainAnswer.{DrainAnswer}
 use Rattle.vchan_lifecycle.specs.declared.DrainAnswer.TheVariants.{NotYet as IsNotYet}
-use Rattle.vchan_lifecycle.specs.Lifecycle.{drain_told, FindsNotYet, most_asked as asked_most}
+use Rattle.vchan_lifecycle.specs.Lifecycle.{drain_told, FindsNotYet}
 use Rattle.vchan_stream.specs.declared.WriteAnswer.{WriteAnswer}
 use Rattle.vchan_stream.specs.declared.WriteAnswer.TheVariants.{Full as IsFull, PeerClosed as IsShut}
-use Rattle.vchan_stream.specs.Stream.{most_asked, write_told}
+use Rattle.vchan_stream.specs.Stream.{write_told}
 use Rattle.service_gate.specs.Owing.{builtin_owes}
 use Rattle.qrexec_data.specs.CallerSide.{IsStill}
 use Rattle.qrexec_data.specs.ServingSide.{ServingStandsFor, IsStill as ServingStill}
 use Rattle.end_view.specs.EndView.{EndView}
 use Rattle.vchan_rule.specs.Seated.{SeatedEnd, view}
 use Rattle.vchan_rule.specs.Ends.{IsSameEnd}
+use Rattle.vchan_rule.specs.Called.{most_asked as asked_most, most_asked}
+use Rattle.vchan_rule.proofs.EndLaws.{same-end-then}
 use Rattle.channel_session.specs.Calling.{CallerAt, CallerTurns, CallerReads, CallerWrites}
 use Rattle.channel_session.specs.Answering.{ServingAt, ServingTurns, ServingReads, ServingWrites, HasNothing}
-use Rattle.channel_session.specs.Turning.{Pace, IsMade, KeepsBytes, FindsFull, FindsShut, SendsNone, NothingWaits, WasShut, RingIsFull, PeerIsShut, HasSeenShut, KeepsShut, turned_by}
+use Rattle.channel_session.specs.Turning.{Pace, IsMade, KeepsBytes, FindsFull, FindsShut, SendsNone, NothingWaits, WasShut, RingIsFull, PeerIsShut, KeepsShut, turned_by}
 
 -- ---- bytes
-
-pub grew : (old bytes : List ℕ) (count : ℕ) → 1 ≤ count → count ≤ length bytes → length old < length (old ++ take count bytes)
-grew old bytes count some few = simp (length-append, length-take) (omega arith)
-
-pub grew-or-same : (old bytes : List ℕ) (count : ℕ) → length old ≤ length (old ++ take count bytes)
-grew-or-same old bytes count = simp (length-append) (omega arith)
-
--- a write that had bytes to send and told a count sent at least one
-pub wrote-some : (e : Standing) (n : ℕ) (loads : Loads) (count : ℕ) → 0 < n → WriteCause e n loads (Wrote count) → 1 ≤ count
-wrote-some e n loads count some (write_closed shut is) = cc
-wrote-some e n loads count some (wrote_none here none is) = absurd (omega (arith, none))
-wrote-some e n loads count some (write_full last pair here bytes room is) = cc
-wrote-some e n loads count some (wrote_some last pair here bytes room is) = let same : count ≡ min n (room_at e last) = cc in omega (arith, same)
 
 -- ---- what one call found
 
@@ -67,10 +54,6 @@ pub finds-shut : (at now : SeatedEnd) (piece : List ℕ) → Trace (standing_of 
 finds-shut at now piece trail cause = record { trail = trail; cause = (cause IsShut).0 refl }
 
 -- ---- the parts of a turn
-
--- the same end of the same page, over two calls
-same-end-then : (a b c : SeatedEnd) → IsSameEnd a b → IsSameEnd b c → IsSameEnd a c
-same-end-then a b c one two = (two.0 ∙ one.0, two.1 ∙ one.1, two.2 ∙ one.2, two.3 ∙ one.3)
 
 sends-as : (P Q : Type 0) (waiting : List ℕ) (shut shut' : Bool) (before now : SeatedEnd) → (P → Q) → shut ≡ shut' → SendsNone P waiting shut before now → SendsNone Q waiting shut' before now
 sends-as P Q waiting shut shut' before now f same (NothingWaits still is) = NothingWaits (f still) is
@@ -175,10 +158,6 @@ serving-turns false false old a b c pace same same' same'' is serving was none r
     )
 
 -- ---- the peer
-
--- an end that has seen its peer's end has seen it after more events too
-pub saw-stays : (peer_shut noticed : Bool) (before now : SeatedEnd) → HasSeenShut peer_shut before → now.side.saw ≡ (before.side.saw || noticed) → HasSeenShut peer_shut now
-saw-stays peer_shut noticed before now seen is shut = is ∙ ap (λ saw. saw || noticed) (seen shut)
 
 -- what is kept of the peer, after the look and the drain
 pub keeps-shut : (old mid new : Pace) (before at left now : SeatedEnd) → mid ≡ old → IsSameEnd before at → IsSameEnd at left → KeepsShut mid new left now → KeepsShut old new before now

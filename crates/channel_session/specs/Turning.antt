@@ -11,8 +11,8 @@ use Rattle.end_view.specs.EndView.{EndView}
 use Rattle.qrexec_data.specs.declared.outcome.Outcome.{Outcome}
 use Rattle.vchan_rule.specs.Seated.{SeatedEnd, view}
 use Rattle.vchan_rule.specs.Ends.{IsSameEnd}
+use Rattle.vchan_rule.specs.Called.{most_asked}
 use Rattle.vchan_lifecycle.specs.Lifecycle.{FindsNotYet}
-use Rattle.vchan_stream.specs.Stream.{most_asked}
 use Rattle.channel_session.specs.declared.turned.Turned.{Turned}
 use Rattle.channel_session.specs.declared.turned.Turned.TheVariants.{Moved, Quiet}
 

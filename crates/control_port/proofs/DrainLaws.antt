@@ -8,9 +8,10 @@ use Rattle.vchan_protocol.specs.Answering.Causes.{DrainCause, drain_got, drain_a
 use Rattle.vchan_protocol.specs.Answering.Loads.{Loads, loads_of}
 use Rattle.vchan_protocol.specs.History.Core.{standing_of}
 use Rattle.end_view.specs.EndView.{EndView}
-use Rattle.vchan_lifecycle.specs.Lifecycle.{drained_to, most_asked}
+use Rattle.vchan_lifecycle.specs.Lifecycle.{drained_to}
 use Rattle.vchan_lifecycle.specs.declared.DrainAnswer.TheVariants.{More}
 use Rattle.vchan_rule.specs.Seated.{SeatedEnd, view}
+use Rattle.vchan_rule.specs.Called.{most_asked}
 
 got-some : (e : Standing) (n : ℕ) (loads : Loads) (count : ℕ) → 0 < n → DrainCause e n loads (Got count) → 0 < count
 got-some e n loads count some (drain_got last older pairs none not_all waits is) = omega (arith, some, waits, counted (waiting_at e last) is)

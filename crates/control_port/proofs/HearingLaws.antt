@@ -2,18 +2,16 @@
 use Rattle.std.proofs.Common.{◌≡◌, ℕ, List, [], ◌∷◌, ◌++◌, map, Option, Some, None, true, false, refl, sym, ap, ◌∙◌}
 use Rattle.std.specs.Prelude.{Bool, Ok, Err}
 use Rattle.std.proofs.lemmas.List.{append-nil}
+use Rattle.list_laws.specs.Lists.{IsPrefixOf}
 use Rattle.qrexec_frame.specs.declared.message.Message.{Message}
 use Rattle.qrexec_frame.specs.Grammar.{Fault}
-use Rattle.qrexec_frame.specs.Streams.{Placed, Ending, IsPrefixOf}
+use Rattle.qrexec_frame.specs.Streams.{Placed, Ending}
 use Rattle.qrexec_hello.specs.Greeting.{greeting}
 use Rattle.qrexec_hello.specs.declared.hello.HelloFault.{HelloFault}
 use Rattle.qrexec_data.specs.declared.fault.SessionFault.TheVariants as fault
 use Rattle.qrexec_data.specs.Seeing.{offset, number}
 use Rattle.task_duties.specs.Hearing.{hears_on, allowed, first_fault, fault_of_end}
 use Rattle.control_port.specs.Port.{EachMay, HearsSoFar, Nothing, Greeted}
-
-the_messages : List (Placed Message) → List Message
-the_messages placed = map (λ p. p.message) placed
 
 -- messages that may be heard are heard as they are, and then what follows
 pub allowed-on : (may : Message → Bool) (placed more : List (Placed Message)) → EachMay may placed → allowed may (placed ++ more) ≡ map (λ p. p.message) placed ++ allowed may more

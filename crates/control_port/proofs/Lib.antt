@@ -1,3 +1,3 @@
 mod HearingLaws
-mod PortLaws
+pub mod PortLaws
 pub mod DrainLaws

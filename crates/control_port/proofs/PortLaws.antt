@@ -1,8 +1,9 @@
 -- What a control port stands for, through each of its calls.
 use Rattle.std.proofs.Common.{◌≡◌, ℕ, List, [], ◌∷◌, ◌++◌, take, Option, Some, None, true, false, refl, sym, ap, ◌∙◌, subst, append_assoc}
 use Rattle.std.specs.Prelude.{Bool, Result, Ok, Err, IfOk, IsSome}
-use Rattle.std.specs.List.{flat_map}
+use Rattle.std.specs.List.{flat_map, AllByRecursion as Each}
 use Rattle.std.proofs.lemmas.List.{append-nil}
+use Rattle.list_laws.specs.Lists.{IsPrefixOf}
 use Rattle.qrexec_frame.specs.declared.channel.Channel.TheVariants.{Control}
 use Rattle.qrexec_frame.specs.declared.fault.FrameFault.{FrameFault}
 use Rattle.qrexec_frame.specs.declared.fault.NextError.TheVariants as error
@@ -10,7 +11,7 @@ use Rattle.qrexec_frame.specs.declared.message.Message.{Message}
 use Rattle.qrexec_frame.specs.declared.message.Message.TheVariants.{Hello}
 use Rattle.qrexec_frame.specs.Messages.{written, IsSpellable}
 use Rattle.qrexec_frame.specs.Fronts.{reading}
-use Rattle.qrexec_frame.specs.Streams.{Placed, Each, IsPrefixOf}
+use Rattle.qrexec_frame.specs.Streams.{Placed}
 use Rattle.qrexec_frame.specs.Decoding.{DecoderState, StandsFor, Reads, Answers, after_feed}
 use Rattle.qrexec_hello.specs.Greeting.{greeting}
 use Rattle.qrexec_hello.specs.declared.hello.HelloFault.{HelloFault}
@@ -44,11 +45,6 @@ use Rattle.control_port.specs.Port.{PortState, SentWhole, HasSaid, HasSaidMore, 
 use Rattle.control_port.proofs.HearingLaws.{heard-all, one-more, one-wrong, silent, refused}
 
 -- ---- what went out
-
-pub got-same : (e : EndView) (answer : SendAnswer) (payload : List ℕ) → (sent_to e answer payload).got ≡ e.got
-got-same e Sent payload = refl
-got-same e (NoRoom prod cons) payload = refl
-got-same e PeerClosed payload = refl
 
 flat-more : (ms : List Message) (m : Message) → flat_map written (ms ++ m ∷ []) ≡ flat_map written ms ++ written m
 flat-more [] m = append-nil (written m)
@@ -294,3 +290,10 @@ pub retire-notes : (was new : Side) (payload : List ℕ) (answer : Answer) → T
 retire-notes was new payload answer trace is =
     let all : AllStores (ops new.trail) = subst AllStores (sym (retire_events (standing_of was) new.trail answer trace)) (retire-stores was.role was.state) in
     ap (λ (s : Side). s.notes) is ∙ notes-stored (begins was Retire payload) new.trail all
+
+pub said-still : (old new : PortState) (said : List Message) → OnlyHears old new → HasSaid old said → HasSaid new said
+said-still old new said only h = record {
+  each = subst (λ k. Each (λ m. (may_say k m ≡ true) × IsSpellable m) said) (sym only.1) h.each;
+  whole = subst (λ (g : Bool). SentWhole g new.own said (view new.end).sent) (sym only.3)
+      (subst (λ (o : ℕ). SentWhole old.greeted o said (view new.end).sent) (sym only.2) (subst (λ e. SentWhole old.greeted old.own said (view e).sent) (sym only.0) h.whole));
+}

@@ -3,11 +3,12 @@ use Rattle.std.specs.Prelude.{◌≡◌, ◌%◌, ◌^◌, ◌<◌, ℕ, length,
 use Rattle.qrexec_frame.specs.declared.channel.Channel.TheVariants.{Control}
 use Rattle.qrexec_frame.specs.declared.message.Message.{Message}
 use Rattle.qrexec_frame.specs.Decoding.{DecoderState, StandsFor}
-use Rattle.qrexec_frame.specs.Streams.{Placed, Each, IsPrefixOf}
+use Rattle.qrexec_frame.specs.Streams.{Placed}
 use Rattle.qrexec_frame.specs.Messages.{written, IsSpellable}
 use Rattle.qrexec_frame.specs.declared.message.Message.TheVariants.{Hello}
 use Rattle.qrexec_hello.specs.Greeting.{greeting}
-use Rattle.std.specs.List.{flat_map}
+use Rattle.std.specs.List.{flat_map, AllByRecursion as Each}
+use Rattle.list_laws.specs.Lists.{IsPrefixOf}
 use Rattle.qrexec_frame.specs.Fronts.{reading}
 use Rattle.vchan_packet.specs.declared.SendAnswer.{SendAnswer}
 use Rattle.vchan_packet.specs.declared.SendAnswer.TheVariants.{Sent, NoRoom, PeerClosed}

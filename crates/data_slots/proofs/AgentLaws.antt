@@ -1,8 +1,8 @@
 -- What an agent concludes from its data ends after they are given back.
 use Rattle.std.proofs.Common.{◌≡◌, List, [], ◌∷◌, map, ap, ◌∙◌, subst, inl, inr}
+use Rattle.std.specs.List.{AllZip as EachPair}
 use Rattle.end_view.specs.EndView.{EndView}
 use Rattle.task_duties.specs.declared.place.PagePlace.{PagePlace}
-use Rattle.task_duties.specs.Pairwise.{EachPair}
 use Rattle.task_duties.specs.TaskOwes.{EndAt, IsSameEnd, AreEnds}
 use Rattle.data_slots.specs.Slots.{Held, held_at}
 use Rattle.data_slots.specs.Done.{HasEnd}

@@ -1,24 +1,23 @@
 -- What is kept of the ends agrees with the session of each.
-use Rattle.std.proofs.Common.{◌≡◌, ℕ, ◌<◌, List, [], ◌∷◌, ◌++◌, length, get_or, map, refl, ap, sym, ◌∙◌, arith, Option, Some, zero, suc, subst}
+use Rattle.std.proofs.Common.{◌≡◌, ℕ, ◌<◌, List, [], ◌∷◌, ◌++◌, length, get_or, map, refl, ap, sym, ◌∙◌, arith, Option, Some, suc, subst}
 use Rattle.std.specs.Prelude.{true, false, slice_get, unwrap_or}
-use Rattle.qrexec_frame.specs.Streams.{Each}
 use Rattle.task_duties.specs.declared.place.PagePlace.{PagePlace}
-use Rattle.task_duties.specs.declared.place.PagePlace.TheVariants.{Payload}
+use Rattle.task_duties.specs.declared.done.SessionEnd.{SessionEnd}
 use Rattle.data_slots.specs.declared.slot.Slot.{Slot}
 use Rattle.data_slots.specs.declared.slot.Stage.{Stage}
 use Rattle.data_slots.specs.declared.slot.Stage.TheVariants.{Unused, Calls, Awaits, Serves, CallIsOver, ServingIsOver, Taken}
 use Rattle.data_slots.specs.declared.ends.Ends.{Ends}
-use Rattle.data_slots.specs.Slots.{Held, place_at}
+use Rattle.data_slots.specs.Slots.{Held}
 use Rattle.data_slots.specs.Sessions.{Session, NotBegun, session_of, sessions_in, is_open}
-use Rattle.data_slots.specs.declared.done.SessionOver.{SessionOver}
 use Rattle.data_slots.specs.Agreeing.{place_if_free, places_free, SessionStands, IsOpenAt, Agrees}
 use Rattle.data_slots.specs.Stages.{Frame, place_of, frame_of, use_of, is_session, IsStage}
 use Rattle.data_slots.specs.Whole.{frames, held_in, sessions, unused_at, unused_in, session_at, opened_in, IsNoted, IsWhole, state_of}
-use Rattle.data_slots.proofs.ListLaws.{get-map, get-map-back, each-get}
 use Rattle.data_slots.proofs.OpenLaws.{open-at}
 use Rattle.data_slots.proofs.TurnLaws.{tells-begun}
 use Rattle.data_slots.proofs.OpenedLaws.{session-here, session-told, told-place, read-any}
-use Rattle.std.specs.List.{cons_option}
+use Rattle.std.specs.List.{cons_option, AllByRecursion as Each}
+use Rattle.list_laws.proofs.Places.{get-map, get-map-back}
+use Rattle.list_laws.proofs.Each.{each-get}
 
 one-free : (version : ℕ) (place : PagePlace) (stage : Stage) (rest : List PagePlace) → IsStage version stage → cons_option (unused_at place (use_of stage)) rest ≡ place_if_free place (session_of stage) ++ rest
 one-free version place (Unused end) rest h = refl
@@ -80,7 +79,7 @@ agrees e whole = record {
         let lies = told-place e.domain e.calls.items e.served.items slot.from slot.to slot.port (use_of slot.stage) told.0 noted told.1 in
         let held : slice_get (held_in slots) n ≡ Some (frame_of slot).held = get-map (λ (s : Slot). (frame_of s).held) slots n slot back.1 in
         let at : slice_get (sessions_in slots) n ≡ Some (session_of slot.stage) = get-map (λ (s : Slot). session_of s.stage) slots n slot back.1 in
-        subst (λ (o : SessionOver). IsOpenAt (state_of e false) o) (sym (session-here fs n (frame_of slot) told.0 here told.1)) (record {
+        subst (λ (o : SessionEnd). IsOpenAt (state_of e false) o) (sym (session-here fs n (frame_of slot) told.0 here told.1)) (record {
           begun = tells-begun e n slot told.0 whole back.1 told.1;
           at = n;
           place_is = get-map (λ (h : Held). h.place) (held_in slots) n (frame_of slot).held held ∙ ap (λ (p : PagePlace). Some p) (sym lies);

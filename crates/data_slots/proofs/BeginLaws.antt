@@ -2,21 +2,22 @@
 use Rattle.std.proofs.Common.{◌≡◌, ℕ, List, get_or, refl, ap, sym, ◌∙◌, Option, Some}
 use Rattle.std.specs.Prelude.{slice_get, Bool}
 use Rattle.std.proofs.lemmas.Option.{get_or_from_slice_get}
+use Rattle.std.specs.List.{AllByRecursion as Each}
+use Rattle.list_laws.proofs.Places.{get-map, get-map-back}
+use Rattle.list_laws.proofs.Each.{each-get}
 use Rattle.ring_words.specs.declared.page.Role.{Role}
 use Rattle.ring_words.specs.declared.page.Role.TheVariants.{Server, Client}
 use Rattle.service_gate.specs.declared.builtin.Builtin.{Builtin}
-use Rattle.qrexec_frame.specs.Streams.{Each}
 use Rattle.task_duties.specs.declared.place.PagePlace.{PagePlace}
 use Rattle.task_duties.specs.declared.place.PagePlace.TheVariants.{Payload}
+use Rattle.task_duties.specs.declared.done.SessionEnd.{SessionEnd}
 use Rattle.data_slots.specs.declared.slot.Slot.{Slot}
-use Rattle.data_slots.specs.declared.done.SessionOver.{SessionOver}
 use Rattle.data_slots.specs.declared.slot.Stage.{Stage}
 use Rattle.data_slots.specs.declared.slot.Stage.TheVariants.{Unused, Calls, Awaits, Serves, CallIsOver, ServingIsOver, Taken}
 use Rattle.data_slots.specs.Sessions.{Session}
 use Rattle.data_slots.specs.Slots.{Held, Called, Serves as ServedHere, SlotsState, IsEndOf}
 use Rattle.data_slots.specs.Stages.{ForNothing, ForCall, ForServing, Frame, place_of, frame_of, use_of, end_of, IsStage, IsUnusedBy}
 use Rattle.data_slots.specs.Whole.{frames, held_in, IsUsedAt}
-use Rattle.data_slots.proofs.ListLaws.{get-map, get-map-back, each-get}
 
 -- a slot whose end is unused
 pub record IsFree (slots : List Slot) (at : ℕ) (place : PagePlace) (slot : Slot) : Type 0 where
@@ -88,7 +89,7 @@ free-client domain version from port slots at slot stages ends free =
     (each-get (λ h. IsEndOf domain h.place h.role) (held_in slots) at (frame_of slot).held ends (get-map (λ s. (frame_of s).held) slots at slot free.here)))
 
 -- two states are the same if their lists are
-pub same-state : (domain version : ℕ) (held held' : List Held) (unused unused' late late' : List PagePlace) (called called' : List (Option Called)) (served served' : List ServedHere) (opened opened' : List SessionOver) (are are' : List Session) (spent : Bool)
+pub same-state : (domain version : ℕ) (held held' : List Held) (unused unused' late late' : List PagePlace) (called called' : List (Option Called)) (served served' : List ServedHere) (opened opened' : List SessionEnd) (are are' : List Session) (spent : Bool)
     → held ≡ held' → unused ≡ unused' → late ≡ late' → called ≡ called' → served ≡ served' → opened ≡ opened' → are ≡ are'
     → ◌≡◌ {A = SlotsState} (record { domain = domain; version = version; held = held; unused = unused; late = late; called = called; served = served; opened = opened; sessions = are; spent = spent })
     (record { domain = domain; version = version; held = held'; unused = unused'; late = late'; called = called'; served = served'; opened = opened'; sessions = are'; spent = spent })

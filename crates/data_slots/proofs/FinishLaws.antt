@@ -2,14 +2,14 @@
 use Rattle.std.proofs.Common.{◌≡◌, ◌≢◌, ℕ, ◌+◌, ◌≤◌, zero, suc, List, [], ◌∷◌, ◌++◌, map, refl, ap, sym, ◌∙◌, arith, append_assoc, subst, Option, Some, None, inr}
 use Rattle.std.specs.Prelude.{false, slice_get, option_map, option_and_then, IsSome}
 use Rattle.std.proofs.lemmas.List.{map-append}
-use Rattle.qrexec_frame.specs.Streams.{Each}
+use Rattle.std.specs.List.{AllByRecursion as Each, AllZip as EachPair}
+use Rattle.list_laws.proofs.Each.{each-push, some-get}
 use Rattle.end_view.specs.EndView.{EndView}
 use Rattle.service_gate.specs.declared.builtin.Builtin.{Builtin}
 use Rattle.task_duties.specs.declared.place.PagePlace.{PagePlace}
 use Rattle.task_duties.specs.declared.place.PagePlace.TheVariants.{Payload}
 use Rattle.task_duties.specs.declared.done.ServedDone.{ServedDone}
 use Rattle.task_duties.specs.declared.ends.RetiredEnd.{RetiredEnd}
-use Rattle.task_duties.specs.Pairwise.{EachPair}
 use Rattle.task_duties.specs.TaskOwes.{EndAt}
 use Rattle.task_duties.specs.GivenEnds.{all_retired, retired_at}
 use Rattle.data_slots.specs.declared.slot.Slot.{Slot}
@@ -24,7 +24,6 @@ use Rattle.data_slots.specs.Reports.{call_in, served_in}
 use Rattle.data_slots.specs.Stages.{Use, ForCall, ForServing, Frame, place_of, frame_of, use_of, is_session, CanRetire, IsStage, IsReportOf}
 use Rattle.data_slots.specs.Whole.{frames, held_in, called_of, serves_of, IsUsedAt, HaveEnds}
 use Rattle.data_slots.specs.Finished.{AreReported, AreFinished, AreCalls, AreServings, KeepsServings, HasCall, IsElsewhere, KeepsOthers, call_at, served_at}
-use Rattle.data_slots.proofs.ListLaws.{each-push, some-get}
 
 pub append-nil : {A : Type 0} (xs : List A) → xs ++ [] ≡ xs
 append-nil [] = refl
@@ -50,9 +49,6 @@ pub record AreRetiring (first : EndAt) (slots rest : List Slot) (retired : List 
   pub done : List EndAt
   pub are : retired ≡ first ∷ done
   pub retires : Retires slots rest done
-
-pub none-retired : (first : EndAt) (slots : List Slot) → Each (λ s. CanRetire s.stage) slots → AreRetiring first slots slots (first ∷ [])
-none-retired first slots can = record { done = []; are = refl; retires = record { can = can; held = refl; honest = tt } }
 
 pub one-more : (first : EndAt) (slots rest : List Slot) (slot : Slot) (retired : List EndAt) (e : EndAt) → held_at e ≡ (frame_of slot).held → e.view.turned ≡ false
     → AreRetiring first slots (slot ∷ rest) retired → AreRetiring first slots rest (retired ++ e ∷ [])
@@ -91,15 +87,6 @@ pub record AreReporting (first : EndAt) (slots rest : List Slot) (retired : List
   pub retires : Retires slots rest done
   pub closed : Each (λ s. is_session s.stage ≡ false) rest
   pub reported : (version : ℕ) → Each (λ s. IsStage version s.stage) slots → Each (λ s. IsStage version s.stage) rest × ReportsOn version slots rest done reports
-
-pub none-reported : (first : EndAt) (slots : List Slot) → Each (λ s. CanRetire s.stage) slots → Each (λ s. is_session s.stage ≡ false) slots → AreReporting first slots slots (first ∷ []) []
-none-reported first slots can closed = record {
-  done = [];
-  are = refl;
-  retires = record { can = can; held = refl; honest = tt };
-  closed = closed;
-  reported = λ version each. (each, λ ends more is. is);
-}
 
 pub one-reported : (first : EndAt) (slots rest : List Slot) (slot : Slot) (retired : List EndAt) (reports : List Report) (e : EndAt) (r : Report) → held_at e ≡ (frame_of slot).held → e.view.turned ≡ false
     → ((version : ℕ) → IsStage version slot.stage → IsReportOf version (place_of slot) (use_of slot.stage) e.view r)
@@ -304,9 +291,6 @@ has-serving first now served k q are here later =
     let a = are k q here in
     let e = later k q (omega arith) here ∙ a.1 in
     subst (λ (x : Option Report). IsSome (option_and_then served_in x)) (sym e) refl
-
-pub keeps-are : (old new : List Report) (served : List ServedNote) → KeepsServings old new → AreServings old served → AreServings new served
-keeps-are old new served keeps are number n is = let a = are number n is in (a.0, keeps n.at number a.0 a.1)
 
 pub served-same : (old new : List Report) (served : List ServedNote) → KeepsServings old new → AreServings old served → map (served_at new) served ≡ map (served_at old) served
 served-same old new served keeps are = mapped served (λ m n is. same n (are m n is))

@@ -1,8 +1,7 @@
 -- Ends that were just given are whole.
 use Rattle.std.proofs.Common.{◌≡◌, ℕ, zero, suc, List, [], ◌∷◌, map, replicate, refl, ap, sym, Option, Some, None}
 use Rattle.std.specs.Prelude.{false, Bool, ◌≤◌, slice_get, unwrap_or, option_map, if◌then◌else◌}
-use Rattle.qrexec_frame.specs.Streams.{Each}
-use Rattle.std.specs.List.{cons_option}
+use Rattle.std.specs.List.{cons_option, AllByRecursion as Each}
 use Rattle.task_duties.specs.declared.place.PagePlace.TheVariants.{Payload}
 use Rattle.task_duties.specs.declared.ends.DataEnd.{DataEnd}
 use Rattle.task_duties.specs.TaskOwes.{places_in}

@@ -2,36 +2,26 @@
 use Rattle.std.proofs.Common.{◌≡◌, ◌≢◌, ℕ, ◌+◌, ◌<◌, List, refl, ap, sym, ◌∙◌, arith, Some, length}
 use Rattle.std.specs.Prelude.{true, false, Bool, ◌==◌, ◌&&◌, cond, slice_get}
 use Rattle.std.specs.HashMap.{get}
-use Rattle.std.proofs.lemmas.Bool.Decides.{nat_tests}
 use Rattle.std.proofs.lemmas.Option.{slice_get_within}
+use Rattle.std.proofs.lemmas.Bool.{and_parts}
+use Rattle.list_laws.proofs.Tests.{equal-self, same-number}
 use Rattle.task_duties.specs.declared.place.PagePlace.{PagePlace}
 use Rattle.task_duties.specs.declared.place.PagePlace.TheVariants.{Payload}
 use Rattle.data_slots.specs.Slots.{AreApart}
 use Rattle.data_slots.specs.Index.{PlaceIndex, same_key, end_at, IsIndexOf}
 
-both : (a b : Bool) → (a && b) ≡ true → (a ≡ true) × (b ≡ true)
-both true true h = (refl, refl)
-both true false h = cc
-both false b h = cc
-
-same-number : (a b : ℕ) → (a == b) ≡ true → a ≡ b
-same-number a b h = grind (arith, nat_tests, h)
-
-self : (n : ℕ) → (n == n) ≡ true
-self n = grind (arith, nat_tests)
-
 -- keys that are the same name the same place
 same-place : (a b c f t p : ℕ) → same_key (a, b, c) (f, t, p) ≡ true → Payload a b c ≡ Payload f t p
 same-place a b c f t p h =
-    let one = both (a == f && b == t) (c == p) h in
-    let two = both (a == f) (b == t) one.0 in
+    let one = and_parts (a == f && b == t) (c == p) h in
+    let two = and_parts (a == f) (b == t) one.0 in
     let e = same-number a f two.0 in
     let e' = same-number b t two.1 in
     let e'' = same-number c p one.1 in
     cc
 
 key-self : (a b c : ℕ) → same_key (a, b, c) (a, b, c) ≡ true
-key-self a b c = rw (self a, self b, self c) refl
+key-self a b c = rw (equal-self a, equal-self b, equal-self c) refl
 
 -- the index of the ends before a number
 pub record IsIndexUpTo (count : ℕ) (places : List PagePlace) (index : PlaceIndex) : Type 0 where

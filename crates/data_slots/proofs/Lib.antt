@@ -1,4 +1,3 @@
-pub mod ListLaws
 mod IndexLaws
 mod PlaceLaws
 mod OpenLaws

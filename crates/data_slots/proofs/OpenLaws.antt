@@ -1,17 +1,14 @@
 -- Which sessions are open when one begins or is over.
 use Rattle.std.proofs.Common.{◌≡◌, ◌≢◌, ℕ, ◌+◌, ◌<◌, ◌≤◌, zero, suc, List, [], ◌∷◌, ◌++◌, length, get_or, set, refl, ap, sym, subst, ◌∙◌, arith, Option, Some, None}
 use Rattle.std.specs.Prelude.{true, false, Bool, ◌==◌, slice_get, unwrap_or, if◌then◌else◌}
-use Rattle.std.specs.List.{swap_remove}
+use Rattle.std.specs.List.{swap_remove, AllByRecursion as Each}
 use Rattle.std.proofs.lemmas.List.Sums.{sum_by-append, sum_by-cons, sum_by-swap_remove}
 use Rattle.std.proofs.lemmas.Bool.Decides.{nat_tests}
-use Rattle.qrexec_frame.specs.Streams.{Each}
+use Rattle.list_laws.proofs.Places.{get-set-same, get-set-other}
+use Rattle.list_laws.proofs.Tests.{same-number}
 use Rattle.data_slots.specs.declared.slot.Slot.{Slot}
 use Rattle.data_slots.specs.Stages.{is_session}
 use Rattle.data_slots.specs.Whole.{times, sessions, AreOpen}
-use Rattle.data_slots.proofs.ListLaws.{get-set-same, get-set-other}
-
-pub same-number : (i j : ℕ) → (i == j) ≡ true → i ≡ j
-same-number i j h = grind (arith, nat_tests, h)
 
 pub other-number : (i j : ℕ) → (i == j) ≡ false → j ≢ i
 other-number i j h e = let self : (i == i) ≡ true = grind (arith, nat_tests) in let k : (i == j) ≡ true = ap (λ n. i == n) e ∙ self in let w : false ≡ true = sym h ∙ k in bad w

@@ -1,29 +1,27 @@
 -- The open sessions as contracts see them, and how many of them are on pages that are laid when they are first used.
-use Rattle.std.proofs.Common.{◌≡◌, ◌≢◌, ℕ, ◌+◌, ◌<◌, ◌≤◌, zero, suc, List, [], ◌∷◌, ◌++◌, length, get_or, map, set, take, refl, ap, sym, ◌∙◌, arith, Option, Some, None, subst}
-use Rattle.std.specs.Prelude.{true, false, Bool, ◌==◌, ◌||◌, filter_map, count_by, slice_get, unwrap_or, IsPermutation, if◌then◌else◌}
+use Rattle.std.proofs.Common.{◌≡◌, ◌≢◌, ℕ, ◌+◌, ◌<◌, ◌≤◌, zero, suc, List, [], ◌∷◌, ◌++◌, length, get_or, set, take, refl, ap, sym, ◌∙◌, arith, Option, Some, None, subst}
+use Rattle.std.specs.Prelude.{true, false, Bool, ◌==◌, count_by, slice_get, unwrap_or, IsPermutation, if◌then◌else◌}
 use Rattle.std.specs.List.{swap_remove}
 use Rattle.std.proofs.lemmas.List.{map-append}
 use Rattle.std.proofs.lemmas.List.Elements.{filter_map-append}
 use Rattle.std.proofs.lemmas.List.Sums.{sum_by-cons, count_by_more_yes, count_by_more_no}
 use Rattle.std.proofs.lemmas.List.Sorted.{IsPermutation-map, IsPermutation-sym, IsPermutation-swap_remove}
-use Rattle.qrexec_frame.specs.Streams.{Each}
-use Rattle.service_gate.specs.declared.builtin.Builtin.{Builtin}
+use Rattle.list_laws.proofs.Places.{get-set-same, get-set-other, get-map, get-map-back}
+use Rattle.list_laws.proofs.Each.{each-get}
 use Rattle.task_duties.specs.declared.place.PagePlace.{PagePlace}
-use Rattle.task_duties.specs.declared.place.PagePlace.TheVariants.{Control, Payload}
+use Rattle.task_duties.specs.declared.place.PagePlace.TheVariants.{Payload}
+use Rattle.task_duties.specs.declared.done.SessionEnd.{SessionEnd}
 use Rattle.task_duties.specs.Places.{is_place, has_place}
-use Rattle.task_duties.proofs.OutboxLaw.{same-self}
+use Rattle.task_duties.proofs.Places.{same-self}
 use Rattle.data_slots.specs.declared.slot.Slot.{Slot}
 use Rattle.data_slots.specs.declared.slot.Stage.{Stage}
 use Rattle.data_slots.specs.declared.slot.Stage.TheVariants.{Unused, Calls, Awaits, Serves, CallIsOver, ServingIsOver, Taken}
 use Rattle.data_slots.specs.declared.note.CallNote.{CallNote}
 use Rattle.data_slots.specs.declared.note.ServedNote.{ServedNote}
 use Rattle.data_slots.specs.declared.ends.Ends.{Ends}
-use Rattle.data_slots.specs.declared.done.SessionOver.{SessionOver}
 use Rattle.data_slots.specs.Slots.{place_at, late_count}
-use Rattle.data_slots.specs.Stages.{Use, ForNothing, ForCall, ForServing, Frame, place_of, frame_of, use_of, told_of, is_session, is_late}
-use Rattle.data_slots.specs.Index.{PlaceIndex, IsIndexOf}
-use Rattle.data_slots.specs.Whole.{frames, places, sessions, late_in, told_by, session_at, opened_in, late_by, is_late_at, times, AreOpen, IsNoted, IsWhole, state_of}
-use Rattle.data_slots.proofs.ListLaws.{get-set-same, get-set-other, get-map, get-map-back, each-get}
+use Rattle.data_slots.specs.Stages.{Use, ForNothing, ForCall, ForServing, Frame, frame_of, use_of, told_of, is_session, is_late}
+use Rattle.data_slots.specs.Whole.{frames, sessions, late_in, told_by, session_at, opened_in, late_by, is_late_at, times, AreOpen, IsNoted, IsWhole, state_of}
 use Rattle.data_slots.proofs.OpenLaws.{other-number, open-at}
 use Rattle.data_slots.proofs.WholeLaws.{places-apart}
 use Rattle.data_slots.proofs.TurnLaws.{busy-within, busy-slot}
@@ -40,15 +38,15 @@ opened-set fs (n ∷ numbers) at f none = by_test (n == at) refl (opened-set fs 
     by_test true is more = absurd (let e : ◌≡◌ {A = ℕ} (if n == at then 1 else 0) 1 = ap (λ (b : Bool). if b then 1 else 0) is in omega (arith, parts, none, e))
     by_test false is more =
         let e : ◌≡◌ {A = ℕ} (if n == at then 1 else 0) 0 = ap (λ (b : Bool). if b then 1 else 0) is in
-        let same : session_at (set fs at f) n ≡ session_at fs n = ap (λ (o : Option Frame). unwrap_or (told_by o) (record { domain = 0; port = 0; number = None })) (get-set-other fs at n f (λ k. other-number n at is (sym k))) in
+        let same : session_at (set fs at f) n ≡ session_at fs n = ap (λ (o : Option Frame). unwrap_or (told_by o) (record { domain = 0; port = 0; call = None })) (get-set-other fs at n f (λ k. other-number n at is (sym k))) in
         ap (λ s. s ∷ opened_in (set fs at f) numbers) same ∙ ap (λ l. session_at fs n ∷ l) (more (omega (arith, parts, none, e)))
 
-pub session-here : (fs : List Frame) (at : ℕ) (f : Frame) (told : SessionOver) → slice_get fs at ≡ Some f → told_of f.held.place f.used ≡ Some told → session_at fs at ≡ told
+pub session-here : (fs : List Frame) (at : ℕ) (f : Frame) (told : SessionEnd) → slice_get fs at ≡ Some f → told_of f.held.place f.used ≡ Some told → session_at fs at ≡ told
 session-here fs at f told here is =
-    ap (λ (o : Option Frame). unwrap_or (told_by o) (record { domain = 0; port = 0; number = None })) here ∙ ap (λ (o : Option SessionOver). unwrap_or o (record { domain = 0; port = 0; number = None })) is
+    ap (λ (o : Option Frame). unwrap_or (told_by o) (record { domain = 0; port = 0; call = None })) here ∙ ap (λ (o : Option SessionEnd). unwrap_or o (record { domain = 0; port = 0; call = None })) is
 
 -- a session begins
-pub opened-more : (fs : List Frame) (are : List Bool) (numbers : List ℕ) (at : ℕ) (f f' : Frame) (told : SessionOver) → AreOpen are numbers → slice_get are at ≡ Some false → slice_get fs at ≡ Some f
+pub opened-more : (fs : List Frame) (are : List Bool) (numbers : List ℕ) (at : ℕ) (f f' : Frame) (told : SessionEnd) → AreOpen are numbers → slice_get are at ≡ Some false → slice_get fs at ≡ Some f
     → told_of f'.held.place f'.used ≡ Some told → opened_in (set fs at f') (numbers ++ at ∷ []) ≡ opened_in fs numbers ++ told ∷ []
 opened-more fs are numbers at f f' told are_open shut here is =
     let none : times at numbers ≡ 0 = are_open at ∙ ap (λ (o : Option Bool). if unwrap_or o false then 1 else 0) shut in
@@ -57,15 +55,11 @@ opened-more fs are numbers at f f' told are_open shut here is =
     ∙ ap (λ s. opened_in fs numbers ++ s ∷ []) (session-here (set fs at f') at f' told (get-set-same fs at f f' here) is))
 
 -- a session is over
-pub opened-less : (fs : List Frame) (numbers : List ℕ) (next at : ℕ) (f : Frame) (told : SessionOver) → next < length numbers → at ≡ get_or numbers next at → slice_get fs at ≡ Some f
+pub opened-less : (fs : List Frame) (numbers : List ℕ) (next at : ℕ) (f : Frame) (told : SessionEnd) → next < length numbers → at ≡ get_or numbers next at → slice_get fs at ≡ Some f
     → told_of f.held.place f.used ≡ Some told → IsPermutation (told ∷ opened_in fs (swap_remove numbers next at)) (opened_in fs numbers)
 opened-less fs numbers next at f told less read here is =
     let moved = IsPermutation-map (session_at fs) numbers (at ∷ swap_remove numbers next at) (IsPermutation-swap_remove numbers next at less read) in
     subst (λ s. IsPermutation (s ∷ opened_in fs (swap_remove numbers next at)) (opened_in fs numbers)) (session-here fs at f told here is) (IsPermutation-sym (opened_in fs numbers) (opened_in fs (at ∷ swap_remove numbers next at)) moved)
-
-pub none-opened : (fs : List Frame) (numbers : List ℕ) → opened_in fs numbers ≡ [] → numbers ≡ []
-none-opened fs [] is = refl
-none-opened fs (n ∷ numbers) is = cc
 
 -- ---- pages that are laid when they are first used
 
@@ -119,33 +113,33 @@ late-there (g ∷ fs) (suc i) f here apart = by_late g.late refl (late-there fs 
     by_late false is more = rw is more
 
 -- an open session is reported
-pub session-told : (f t p : ℕ) (stage : Stage) → is_session stage ≡ true → (told : SessionOver) × (told_of (Payload f t p) (use_of stage) ≡ Some told)
+pub session-told : (f t p : ℕ) (stage : Stage) → is_session stage ≡ true → (told : SessionEnd) × (told_of (Payload f t p) (use_of stage) ≡ Some told)
 session-told f t p (Unused end) is = cc
-session-told f t p (Calls number input side session) is = (record { domain = t; port = p; number = Some number }, refl)
-session-told f t p (Awaits number service serving side) is = (record { domain = f; port = p; number = None }, refl)
-session-told f t p (Serves number service side session) is = (record { domain = f; port = p; number = None }, refl)
+session-told f t p (Calls number input side session) is = (record { domain = t; port = p; call = Some number }, refl)
+session-told f t p (Awaits number service serving side) is = (record { domain = f; port = p; call = None }, refl)
+session-told f t p (Serves number service side session) is = (record { domain = f; port = p; call = None }, refl)
 session-told f t p (CallIsOver number input came end) is = cc
 session-told f t p (ServingIsOver number service came end) is = cc
 session-told f t p Taken is = cc
 
 -- and lies where it is reported to lie
-pub told-place : (domain : ℕ) (calls : List (Option CallNote)) (served : List ServedNote) (f t p : ℕ) (used : Use) (told : SessionOver) → IsNoted domain calls served (Payload f t p) used → told_of (Payload f t p) used ≡ Some told
-    → place_at domain told.number told.domain told.port ≡ Payload f t p
+pub told-place : (domain : ℕ) (calls : List (Option CallNote)) (served : List ServedNote) (f t p : ℕ) (used : Use) (told : SessionEnd) → IsNoted domain calls served (Payload f t p) used → told_of (Payload f t p) used ≡ Some told
+    → place_at domain told.call told.domain told.port ≡ Payload f t p
 told-place domain calls served f t p ForNothing told noted is = cc
 told-place domain calls served f t p (ForCall number input) told noted is =
-    let it : SessionOver = record { domain = t; port = p; number = Some number } in
+    let it : SessionEnd = record { domain = t; port = p; call = Some number } in
     let same : it ≡ told = cc in
     let n = noted.0 in
     let from_is : Payload f t p ≡ Payload domain n.to n.port = noted.2 in
     let own : f ≡ domain = cc in
-    subst (λ (x : SessionOver). place_at domain x.number x.domain x.port ≡ Payload f t p) same (ap (λ (d : ℕ). Payload d t p) (sym own))
+    subst (λ (x : SessionEnd). place_at domain x.call x.domain x.port ≡ Payload f t p) same (ap (λ (d : ℕ). Payload d t p) (sym own))
 told-place domain calls served f t p (ForServing number service) told noted is =
-    let it : SessionOver = record { domain = f; port = p; number = None } in
+    let it : SessionEnd = record { domain = f; port = p; call = None } in
     let same : it ≡ told = cc in
     let n = noted.0 in
     let to_is : Payload f t p ≡ Payload n.from domain n.port = noted.2 in
     let own : t ≡ domain = cc in
-    subst (λ (x : SessionOver). place_at domain x.number x.domain x.port ≡ Payload f t p) same (ap (λ (d : ℕ). Payload f d p) (sym own))
+    subst (λ (x : SessionEnd). place_at domain x.call x.domain x.port ≡ Payload f t p) same (ap (λ (d : ℕ). Payload f d p) (sym own))
 
 -- an element is the same, whatever is read where there is none
 pub read-any : (xs : List ℕ) (k : ℕ) → k < length xs → get_or xs k 0 ≡ get_or xs k (get_or xs k 0)
@@ -163,8 +157,8 @@ late-counted e whole = each e.busy.items (λ k less. open-at (sessions slots) e.
     fs : List Frame
     fs = frames slots
 
-    is_on_late : SessionOver → Bool
-    is_on_late o = has_place (place_at e.domain o.number o.domain o.port) (late_in fs)
+    is_on_late : SessionEnd → Bool
+    is_on_late o = has_place (place_at e.domain o.call o.domain o.port) (late_in fs)
 
     one : (n : ℕ) → slice_get (sessions slots) n ≡ Some true → is_late_at fs n ≡ is_on_late (session_at fs n)
     one n is =

@@ -3,16 +3,16 @@ use Rattle.std.proofs.Common.{◌≡◌, ℕ, ◌<◌, zero, suc, List, [], ◌�
 use Rattle.std.specs.Prelude.{true, false, Bool, ◌||◌, slice_get}
 use Rattle.std.proofs.lemmas.Option.{slice_get_within, slice_get_read}
 use Rattle.std.proofs.lemmas.List.{length-map}
+use Rattle.list_laws.proofs.Places.{get-map, get-map-back}
 use Rattle.task_duties.specs.declared.place.PagePlace.{PagePlace}
 use Rattle.task_duties.specs.declared.place.PagePlace.TheVariants.{Payload}
 use Rattle.task_duties.specs.Places.{is_place, has_place}
-use Rattle.task_duties.proofs.OutboxLaw.{same-self}
 use Rattle.task_duties.proofs.ServedLaw.{same-place}
+use Rattle.task_duties.proofs.Places.{same-self}
 use Rattle.data_slots.specs.declared.slot.Slot.{Slot}
 use Rattle.data_slots.specs.Stages.{Use, ForNothing, ForCall, ForServing, Frame, place_of, frame_of, use_of, is_nothing}
 use Rattle.data_slots.specs.Index.{PlaceIndex, end_at, IsIndexOf}
 use Rattle.data_slots.specs.Whole.{frames, places, unused_in, IsUsedAt}
-use Rattle.data_slots.proofs.ListLaws.{get-map, get-map-back}
 
 -- an unused end at a place
 record Found (p : PagePlace) (fs : List Frame) : Type 0 where

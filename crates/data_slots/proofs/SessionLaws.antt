@@ -1,19 +1,19 @@
 -- The session of an end through a turn, and those of all ends.
-use Rattle.std.proofs.Common.{◌≡◌, ◌≢◌, ℕ, ◌+◌, ◌<◌, ◌≤◌, zero, suc, List, [], ◌∷◌, ◌++◌, length, map, get_or, set, drop, take, replicate, refl, ap, sym, ◌∙◌, subst, arith, add-one, inl, inr, Option, Some, None}
+use Rattle.std.proofs.Common.{◌≡◌, ◌≢◌, ℕ, ◌+◌, ◌<◌, ◌≤◌, zero, suc, List, [], ◌∷◌, length, get_or, set, drop, take, replicate, refl, ap, sym, ◌∙◌, subst, arith, add-one, inl, inr, Option, Some, None}
 use Rattle.std.specs.Prelude.{true, false, Bool, ◌==◌, ◌-◌, Result, Ok, Err, IfOk, IfNone, slice_get, unwrap_or, if◌then◌else◌}
 use Rattle.std.specs.List.{swap_remove}
 use Rattle.std.proofs.lemmas.List.{map-set, take-set}
 use Rattle.std.proofs.lemmas.List.Sums.{sum_by-cons, sum_by-swap_remove, sum_by-take-drop}
-use Rattle.std.proofs.lemmas.Bool.Decides.{nat_tests}
 use Rattle.std.proofs.lemmas.Bool.{false≢true}
+use Rattle.list_laws.proofs.Places.{get-map, get-set-same, get-set-other}
+use Rattle.list_laws.proofs.Tests.{same-number}
 use Rattle.qrexec_data.specs.declared.outcome.Outcome.{Outcome}
-use Rattle.service_gate.specs.declared.builtin.Builtin.{Builtin}
 use Rattle.end_view.specs.EndView.{EndView}
 use Rattle.vchan_rule.specs.Seated.{view}
 use Rattle.channel_session.specs.declared.turned.Turned.{Turned}
 use Rattle.channel_session.specs.Calling.{CallerAt, CallerTurns, IsRetired}
 use Rattle.channel_session.specs.Answering.{ServingAt, ServingTurns}
-use Rattle.channel_session.specs.Turning.{first_pace, KeepsBytes}
+use Rattle.channel_session.specs.Turning.{KeepsBytes}
 use Rattle.channel_session.proofs.KeepingLaws.{keeps-all, keeps-then, retired-keeps}
 use Rattle.task_duties.specs.declared.ends.DataEnd.{DataEnd}
 use Rattle.task_duties.specs.declared.ends.DoneEnd.{DoneEnd}
@@ -24,18 +24,12 @@ use Rattle.data_slots.specs.declared.slot.Slot.{Slot}
 use Rattle.data_slots.specs.declared.slot.Stage.{Stage}
 use Rattle.data_slots.specs.declared.slot.Stage.TheVariants.{Unused, Calls, Awaits, Serves, CallIsOver, ServingIsOver, Taken}
 use Rattle.data_slots.specs.Sides.{seen_under}
-use Rattle.data_slots.specs.Stages.{Use, ForNothing, ForCall, ForServing, use_of, is_session, CanTurn}
+use Rattle.data_slots.specs.Stages.{ForNothing, use_of, is_session, CanTurn}
 use Rattle.data_slots.specs.Given.{unused_slots}
 use Rattle.data_slots.specs.Whole.{sessions, times, AreOpen, TakesFrom}
-use Rattle.data_slots.specs.Sessions.{Session, NotBegun, CallsWith, AwaitsPage, ServesWith, EndedWith, session_of, sessions_in, session_at, is_open, got_in, sent_in, LosesNothing, ComesToItsEnd, TakesTurn, HadNotBegun, CallMade, ServingMade, PageCame, PageAwaited, IsOver, WasOver, AllTakeTurns, KeepsSessions, Begins, OneTakesTurn}
-use Rattle.data_slots.proofs.ListLaws.{get-map, get-set-same, get-set-other}
-use Rattle.data_slots.proofs.OpenLaws.{same-number, other-number}
-
-never-call : (number : ℕ) (input : List ℕ) → ForCall number input ≡ ForNothing → ⊥
-never-call number input e = cc
-
-never-serving : (number : ℕ) (service : Builtin) → ForServing number service ≡ ForNothing → ⊥
-never-serving number service e = cc
+use Rattle.data_slots.specs.Sessions.{Session, NotBegun, CallsWith, AwaitsPage, ServesWith, EndedWith, session_of, sessions_in, session_at, is_open, got_in, sent_in, LosesNothing, ComesToItsEnd, TakesTurn, HadNotBegun, CallMade, ServingMade, PageCame, PageAwaited, WasOver, AllTakeTurns, KeepsSessions, Begins, OneTakesTurn}
+use Rattle.data_slots.proofs.OpenLaws.{other-number}
+use Rattle.data_slots.proofs.BeginLaws.{call-used, serving-used}
 
 -- ---- one session
 
@@ -96,11 +90,11 @@ shut-stays Taken is = HadNotBegun refl refl
 -- an end that is used for nothing has no session
 not-begun : (stage : Stage) → use_of stage ≡ ForNothing → session_of stage ≡ NotBegun
 not-begun (Unused end) h = refl
-not-begun (Calls number input side session) h = absurd (never-call number input.value.items h)
-not-begun (Awaits number service serving side) h = absurd (never-serving number service.value h)
-not-begun (Serves number service side session) h = absurd (never-serving number service.value h)
-not-begun (CallIsOver number input came end) h = absurd (never-call number input.value.items h)
-not-begun (ServingIsOver number service came end) h = absurd (never-serving number service.value h)
+not-begun (Calls number input side session) h = absurd (call-used number input.value.items h)
+not-begun (Awaits number service serving side) h = absurd (serving-used number service.value h)
+not-begun (Serves number service side session) h = absurd (serving-used number service.value h)
+not-begun (CallIsOver number input came end) h = absurd (call-used number input.value.items h)
+not-begun (ServingIsOver number service came end) h = absurd (serving-used number service.value h)
 not-begun Taken h = refl
 
 -- ---- its bytes

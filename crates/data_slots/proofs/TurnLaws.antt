@@ -1,27 +1,27 @@
 -- All ends through a turn of one session.
-use Rattle.std.proofs.Common.{◌≡◌, ℕ, ◌<◌, List, [], ◌∷◌, ◌++◌, length, map, set, get_or, refl, ap, sym, ◌∙◌, arith, append_assoc, subst, Option, Some, None}
-use Rattle.std.specs.Prelude.{true, false, slice_get, option_map, IsPermutation, Result, Ok, Err, OnOk}
-use Rattle.std.specs.List.{swap_remove}
+use Rattle.std.proofs.Common.{◌≡◌, ℕ, ◌<◌, List, [], ◌∷◌, ◌++◌, length, map, set, get_or, refl, ap, sym, ◌∙◌, append_assoc, subst, Option, Some, None}
+use Rattle.std.specs.Prelude.{true, false, slice_get, option_map, IsPermutation}
+use Rattle.std.specs.List.{swap_remove, AllByRecursion as Each}
 use Rattle.std.proofs.lemmas.List.{append-nil, map-set, length-map}
 use Rattle.std.proofs.lemmas.List.Sorted.{IsPermutation-refl, IsPermutation-trans, IsPermutation-append_right}
 use Rattle.std.proofs.lemmas.Option.{slice_get_within, get_or_from_slice_get}
-use Rattle.qrexec_frame.specs.Streams.{Each}
+use Rattle.list_laws.specs.Lists.{SomeOf}
+use Rattle.list_laws.proofs.Places.{get-map, get-map-back, map-set-same, set-same}
+use Rattle.list_laws.proofs.Each.{each-get, each-set, some-get}
 use Rattle.task_duties.specs.declared.place.PagePlace.{PagePlace}
 use Rattle.task_duties.specs.declared.place.PagePlace.TheVariants.{Control, Payload}
-use Rattle.task_duties.specs.Pairwise.{SomeOf}
+use Rattle.task_duties.specs.declared.done.SessionEnd.{SessionEnd}
 use Rattle.data_slots.specs.declared.slot.Slot.{Slot}
 use Rattle.data_slots.specs.declared.slot.Stage.{Stage}
 use Rattle.data_slots.specs.declared.slot.Stage.TheVariants.{Unused, Calls, Awaits, Serves, CallIsOver, ServingIsOver, Taken}
 use Rattle.data_slots.specs.declared.note.CallNote.{CallNote}
 use Rattle.data_slots.specs.declared.note.ServedNote.{ServedNote}
 use Rattle.data_slots.specs.declared.ends.Ends.{Ends}
-use Rattle.data_slots.specs.declared.done.SessionOver.{SessionOver}
 use Rattle.data_slots.specs.Slots.{SlotsState, IsEndOf}
 use Rattle.data_slots.specs.Done.{IsToldOver, IsBegun, TellsMore}
 use Rattle.data_slots.specs.Stages.{Use, ForNothing, ForCall, ForServing, Frame, place_of, frame_of, use_of, is_session, told_of, IsStage, CanTurn, CanRetire}
 use Rattle.data_slots.specs.Index.{PlaceIndex, IsIndexOf}
 use Rattle.data_slots.specs.Whole.{frames, sessions, called_of, serves_of, AreOpen, HaveEnds, IsNoted, AreWhole, IsWhole, state_of, IsTurned, HasSameEnds}
-use Rattle.data_slots.proofs.ListLaws.{get-map, get-map-back, each-get, each-set, map-set-same, set-same, some-get}
 use Rattle.data_slots.proofs.OpenLaws.{open-at, open-less}
 use Rattle.data_slots.proofs.WholeLaws.{held-set, places-set}
 
@@ -93,12 +93,12 @@ turns-over domain version slots index busy next calls served at slot slot' whole
 
 -- ---- what is reported
 
-begun : (e : Ends) (place : PagePlace) (used : Use) (told : SessionOver) → IsNoted e.domain e.calls.items e.served.items place used → told_of place used ≡ Some told → IsToldOver (state_of e false) told
+begun : (e : Ends) (place : PagePlace) (used : Use) (told : SessionEnd) → IsNoted e.domain e.calls.items e.served.items place used → told_of place used ≡ Some told → IsToldOver (state_of e false) told
 begun e (Payload from to port) (ForCall number input) told noted tells =
     let n = noted.0 in
     let to_is : to ≡ n.to = ends-to from to port e.domain n.to n.port noted.2 in
     let port_is : port ≡ n.port = ends-port from to port e.domain n.to n.port noted.2 in
-    let it : SessionOver = record { domain = to; port = port; number = Some number } in
+    let it : SessionEnd = record { domain = to; port = port; call = Some number } in
     let same : it ≡ told = cc in
     subst (λ t. IsToldOver (state_of e false) t) same (called_of n, called-at e number n noted.1, sym to_is, sym port_is)
   where
@@ -114,7 +114,7 @@ begun e (Payload from to port) (ForServing number service) told noted tells =
     let n = noted.0 in
     let from_is : n.from ≡ from = sym (ends-from from to port n.from e.domain n.port noted.2) in
     let port_is : n.port ≡ port = sym (ends-port from to port n.from e.domain n.port noted.2) in
-    let it : SessionOver = record { domain = from; port = port; number = None } in
+    let it : SessionEnd = record { domain = from; port = port; call = None } in
     let same : it ≡ told = cc in
     subst (λ t. IsToldOver (state_of e false) t) same
     (some-get (λ x. (x.from ≡ from) × (x.port ≡ port)) (map serves_of e.served.items) number (serves_of n) (get-map serves_of e.served.items number n noted.1) (from_is, port_is))
@@ -132,17 +132,17 @@ begun e place ForNothing told noted tells = absurd (never place tells)
 begun e (Control d) (ForCall number input) told noted tells = cc
 begun e (Control d) (ForServing number service) told noted tells = cc
 
-pub tells-begun : (e : Ends) (at : ℕ) (slot : Slot) (told : SessionOver) → IsWhole e → slice_get e.slots.items at ≡ Some slot → told_of (place_of slot) (use_of slot.stage) ≡ Some told → IsToldOver (state_of e false) told
+pub tells-begun : (e : Ends) (at : ℕ) (slot : Slot) (told : SessionEnd) → IsWhole e → slice_get e.slots.items at ≡ Some slot → told_of (place_of slot) (use_of slot.stage) ≡ Some told → IsToldOver (state_of e false) told
 tells-begun e at slot told whole here tells =
     begun e (place_of slot) (use_of slot.stage) told
     (each-get (λ f. IsNoted e.domain e.calls.items e.served.items f.held.place f.used) (frames e.slots.items) at (frame_of slot) whole.noted (get-map frame_of e.slots.items at slot here)) tells
 
 -- ---- one turn after another
 
-pub tells-none : (s : SlotsState) (opened before : List SessionOver) → opened ≡ s.opened → TellsMore s (record s { opened = opened }) before before
+pub tells-none : (s : SlotsState) (opened before : List SessionEnd) → opened ≡ s.opened → TellsMore s (record s { opened = opened }) before before
 tells-none s opened before same = ([], sym (append-nil before), subst (λ l. IsPermutation l s.opened) (sym same) (IsPermutation-refl s.opened), tt)
 
-tells-after : (s s' s'' : SlotsState) (before mid now : List SessionOver) → s'.called ≡ s.called → s'.served ≡ s.served → TellsMore s s' before mid → TellsMore s' s'' mid now → TellsMore s s'' before now
+tells-after : (s s' s'' : SlotsState) (before mid now : List SessionEnd) → s'.called ≡ s.called → s'.served ≡ s.served → TellsMore s s' before mid → TellsMore s' s'' mid now → TellsMore s s'' before now
 tells-after s s' s'' before mid now called served one two = (
   one.0 ++ two.0,
   two.1 ∙ (ap (λ l. l ++ two.0) one.1 ∙ append_assoc before one.0 two.0),
@@ -151,7 +151,7 @@ tells-after s s' s'' before mid now called served one two = (
   each-both one.0 one.3 (each-same two.0 two.3),
 )
   where
-    each-both : (xs : List SessionOver) → Each (IsToldOver s) xs → Each (IsToldOver s) two.0 → Each (IsToldOver s) (xs ++ two.0)
+    each-both : (xs : List SessionEnd) → Each (IsToldOver s) xs → Each (IsToldOver s) two.0 → Each (IsToldOver s) (xs ++ two.0)
     each-both [] a b = b
     each-both (x ∷ xs) a b = (a.0, each-both xs a.1 b)
 
@@ -159,38 +159,30 @@ tells-after s s' s'' before mid now called served one two = (
     begun-same (Some n) domain port h = (h.0, ap (λ cs. slice_get cs n) (sym called) ∙ h.1, h.2, h.3)
     begun-same None domain port h = subst (λ xs. SomeOf (λ x. (x.from ≡ domain) × (x.port ≡ port)) xs) served h
 
-    each-same : (xs : List SessionOver) → Each (IsToldOver s') xs → Each (IsToldOver s) xs
+    each-same : (xs : List SessionEnd) → Each (IsToldOver s') xs → Each (IsToldOver s) xs
     each-same [] a = tt
-    each-same (x ∷ xs) a = (begun-same x.number x.domain x.port a.0, each-same xs a.1)
+    each-same (x ∷ xs) a = (begun-same x.call x.domain x.port a.0, each-same xs a.1)
 
 -- what a loop of turns keeps
-pub record IsTurning (old new : Ends) (before now : List SessionOver) : Type 0 where
+pub record IsTurning (old new : Ends) (before now : List SessionEnd) : Type 0 where
   pub turned : IsTurned old new before now
   pub same : HasSameEnds old new
   pub retire : Each (λ s. CanRetire s.stage) new.slots.items
 
 -- if no session is over
-pub turned-not : (e : Ends) (over : List SessionOver) → IsWhole e → IsTurned e e over over
+pub turned-not : (e : Ends) (over : List SessionEnd) → IsWhole e → IsTurned e e over over
 turned-not e over whole = record { whole = whole; state = refl; told = tells-none (state_of e false) (state_of e false).opened over refl }
 
-pub turned-after : (a b c : Ends) (before mid now : List SessionOver) → IsTurned a b before mid → IsTurned b c mid now → IsTurned a c before now
+pub turned-after : (a b c : Ends) (before mid now : List SessionEnd) → IsTurned a b before mid → IsTurned b c mid now → IsTurned a c before now
 turned-after a b c before mid now one two = record {
   whole = two.whole;
   state = two.state ∙ ap (λ (s : SlotsState). record s { opened = (state_of c false).opened; sessions = (state_of c false).sessions }) one.state;
   told = tells-after (state_of a false) (state_of b false) (state_of c false) before mid now (ap (λ (s : SlotsState). s.called) one.state) (ap (λ (s : SlotsState). s.served) one.state) one.told two.told;
 }
 
--- if the second call succeeds
-pub turned-ok : {A E : Type 0} (r : Result A E) (P Q : Type 0) → (P → Q) → OnOk r P → OnOk r Q
-turned-ok (Ok v) P Q go h = go h
-turned-ok (Err e) P Q go h = tt
-
-pub turning-on : (a b c : Ends) (before mid now : List SessionOver) → IsTurning a b before mid → IsTurned b c mid now → HasSameEnds b c → Each (λ s. CanRetire s.stage) c.slots.items → IsTurning a c before now
+pub turning-on : (a b c : Ends) (before mid now : List SessionEnd) → IsTurning a b before mid → IsTurned b c mid now → HasSameEnds b c → Each (λ s. CanRetire s.stage) c.slots.items → IsTurning a c before now
 turning-on a b c before mid now h turned same retire = record {
   turned = turned-after a b c before mid now h.turned turned;
   same = (same.0 ∙ h.same.0, same.1 ∙ h.same.1, same.2 ∙ h.same.2);
   retire = retire;
 }
-
-pub same-ends-after : (a b c : Ends) → HasSameEnds a b → HasSameEnds b c → HasSameEnds a c
-same-ends-after a b c one two = (two.0 ∙ one.0, two.1 ∙ one.1, two.2 ∙ one.2)

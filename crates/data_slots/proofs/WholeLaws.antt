@@ -2,13 +2,16 @@
 use Rattle.std.proofs.Common.{◌≡◌, ◌≢◌, ℕ, zero, suc, List, [], ◌∷◌, ◌++◌, length, set, refl, ap, sym, ◌∙◌, ◌⊎◌, inl, inr, Option, Some, None, subst}
 use Rattle.std.specs.Prelude.{true, false, Bool, ◌==◌, slice_get}
 use Rattle.std.proofs.lemmas.List.{map-set}
-use Rattle.qrexec_frame.specs.Streams.{Each}
+use Rattle.std.specs.List.{AllByRecursion as Each}
+use Rattle.list_laws.proofs.Places.{get-set-same, get-set-other, get-map, get-map-back, map-set-same, get-push, get-push-before, get-push-last}
+use Rattle.list_laws.proofs.Each.{each-set, each-weaker}
+use Rattle.list_laws.proofs.Tests.{same-number}
 use Rattle.task_duties.specs.declared.place.PagePlace.{PagePlace}
 use Rattle.task_duties.specs.declared.place.PagePlace.TheVariants.{Payload}
 use Rattle.service_gate.specs.declared.builtin.Builtin.{Builtin}
 use Rattle.task_duties.specs.Places.{is_place, without}
-use Rattle.task_duties.proofs.OutboxLaw.{same-self}
 use Rattle.task_duties.proofs.ServedLaw.{same-place}
+use Rattle.task_duties.proofs.Places.{same-self}
 use Rattle.data_slots.specs.declared.slot.Slot.{Slot}
 use Rattle.data_slots.specs.declared.slot.Stage.{Stage}
 use Rattle.data_slots.specs.declared.slot.Stage.TheVariants.{Unused, Calls, Awaits, Serves, CallIsOver, ServingIsOver, Taken}
@@ -18,12 +21,7 @@ use Rattle.data_slots.specs.Slots.{IsEndOf}
 use Rattle.data_slots.specs.Stages.{Use, ForNothing, ForCall, ForServing, Frame, place_of, frame_of, use_of, is_session, IsStage}
 use Rattle.data_slots.specs.Index.{PlaceIndex, IsIndexOf}
 use Rattle.data_slots.specs.Whole.{frames, held_in, places, sessions, unused_in, AreOpen, IsUsedAt, HaveEnds, IsNoted, AreWhole}
-use Rattle.data_slots.proofs.ListLaws.{get-set-same, get-set-other, get-map, get-map-back, each-set, map-set-same, get-push, get-push-before, get-push-last}
-use Rattle.data_slots.proofs.OpenLaws.{open-more, same-number, other-number}
-
-each-more : {A : Type 0} (P Q : A → Type 0) (xs : List A) → ((x : A) → P x → Q x) → Each P xs → Each Q xs
-each-more P Q [] go each = tt
-each-more P Q (x ∷ xs) go each = (go x each.0, each-more P Q xs go each.1)
+use Rattle.data_slots.proofs.OpenLaws.{open-more, other-number}
 
 -- an end that is used stays as it is when an unused one is put to use
 used-stays : (fs : List Frame) (i at : ℕ) (f f' : Frame) (place : PagePlace) (used : Use) → slice_get fs i ≡ Some f → f.used ≡ ForNothing → (used ≡ ForNothing → ⊥) → IsUsedAt fs at place used
@@ -173,7 +171,7 @@ begins domain version slots index busy calls calls' served served' at slot slot'
     let P : List Frame → Type 0 = λ fs. HaveEnds domain fs calls' served' in
     let N : List Frame → Type 0 = λ fs. Each (λ f. IsNoted domain calls' served' f.held.place f.used) fs in
     let shut : slice_get (sessions slots) at ≡ Some false = get-map (λ (s : Slot). is_session s.stage) slots at slot here ∙ ap Some (is-shut slot.stage unused) in
-    let were = each-more (λ f. IsNoted domain calls served f.held.place f.used) (λ f. IsNoted domain calls' served' f.held.place f.used) (frames slots) more whole.noted in
+    let were = each-weaker (λ f. IsNoted domain calls served f.held.place f.used) (λ f. IsNoted domain calls' served' f.held.place f.used) more (frames slots) whole.noted in
     let O : List Bool → Type 0 = λ bs. AreOpen bs (busy ++ at ∷ []) in
     record {
       version_is = whole.version_is;

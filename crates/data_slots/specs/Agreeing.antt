@@ -1,14 +1,14 @@
 -- How what is kept of the ends agrees with the session of each.
 -- Source: this project's own.
 use Rattle.std.specs.Prelude.{◌≡◌, ℕ, ◌≤◌, true, List, [], ◌∷◌, ◌++◌, map, slice_get, Some}
-use Rattle.qrexec_frame.specs.Streams.{Each}
+use Rattle.std.specs.List.{AllByRecursion as Each}
 use Rattle.task_duties.specs.declared.place.PagePlace.{PagePlace}
+use Rattle.task_duties.specs.declared.done.SessionEnd.{SessionEnd}
 use Rattle.service_gate.specs.Owing.{builtin_owes}
 use Rattle.service_gate.specs.declared.builtin.Builtin.{Builtin}
 use Rattle.channel_session.specs.Calling.{IsCalling}
 use Rattle.channel_session.specs.Answering.{IsAnswering, IsAtWork}
-use Rattle.data_slots.specs.declared.done.SessionOver.{SessionOver}
-use Rattle.data_slots.specs.Slots.{Held, SlotsState, place_at}
+use Rattle.data_slots.specs.Slots.{SlotsState, place_at}
 use Rattle.data_slots.specs.Sessions.{Session, NotBegun, CallsWith, ServesWith, is_open, session_at}
 use Rattle.data_slots.specs.Done.{IsToldOver}
 
@@ -25,10 +25,10 @@ abbrev pub places_of : SlotsState → List PagePlace
 places_of s = map (λ h. h.place) s.held
 
 -- a session that is told of as open was begun, and is open at the place where it is told to be
-pub record IsOpenAt (s : SlotsState) (o : SessionOver) : Type 0 where
+pub record IsOpenAt (s : SlotsState) (o : SessionEnd) : Type 0 where
   pub begun : IsToldOver s o
   pub at : ℕ
-  pub place_is : slice_get (places_of s) at ≡ Some (place_at s.domain o.number o.domain o.port)
+  pub place_is : slice_get (places_of s) at ≡ Some (place_at s.domain o.call o.domain o.port)
   pub is_open : is_open (session_at s.sessions at) ≡ true
 
 -- the two parts of a session that is open agree, in this version

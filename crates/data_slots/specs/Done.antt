@@ -1,17 +1,17 @@
 -- What is given back of data ends that are done with.
 -- Source: this project's own.
 use Rattle.std.specs.Prelude.{◌≡◌, ℕ, false, List, ◌∷◌, ◌++◌, map, Option, Some, None, slice_get, IsPermutation}
+use Rattle.std.specs.List.{AllByRecursion as Each}
+use Rattle.list_laws.specs.Lists.{SomeOf}
 use Rattle.service_gate.specs.Owing.{builtin_owes}
 use Rattle.end_view.specs.EndView.{EndView}
 use Rattle.task_duties.specs.declared.place.PagePlace.{PagePlace}
 use Rattle.task_duties.specs.declared.place.PagePlace.TheVariants.{Payload}
 use Rattle.task_duties.specs.declared.done.ServedDone.{ServedDone}
-use Rattle.task_duties.specs.Pairwise.{SomeOf}
-use Rattle.qrexec_frame.specs.Streams.{Each}
+use Rattle.task_duties.specs.declared.done.SessionEnd.{SessionEnd}
 use Rattle.task_duties.specs.TaskOwes.{EndAt}
 use Rattle.task_duties.specs.Agent.Sessions.{CallerDone, CallerOwes, IsService, ServingOwes}
 use Rattle.data_slots.specs.declared.done.CallOver.{CallOver}
-use Rattle.data_slots.specs.declared.done.SessionOver.{SessionOver}
 use Rattle.data_slots.specs.Slots.{Held, held_at, Called, Serves, SlotsState}
 
 -- ends that are given back: one that was retired before, and behind it those that were held, in their order, none of which is turned over
@@ -47,9 +47,9 @@ abbrev pub IsBegun : SlotsState → Option ℕ → ℕ → ℕ → Type 0
 IsBegun s (Some number) domain port = (c : Called) × (slice_get s.called number ≡ Some (Some c)) × (c.to ≡ domain) × (c.port ≡ port)
 IsBegun s None domain port = SomeOf (λ x. (x.from ≡ domain) × (x.port ≡ port)) s.served
 
-abbrev pub IsToldOver : SlotsState → SessionOver → Type 0
-IsToldOver s over = IsBegun s over.number over.domain over.port
+abbrev pub IsToldOver : SlotsState → SessionEnd → Type 0
+IsToldOver s over = IsBegun s over.call over.domain over.port
 
 -- sessions that are reported over come after those before: exactly those that were open and no longer are, each once
-abbrev pub TellsMore : SlotsState → SlotsState → List SessionOver → List SessionOver → Type 0
-TellsMore old new before now = (told : List SessionOver) × (now ≡ before ++ told) × IsPermutation (told ++ new.opened) old.opened × Each (IsToldOver old) told
+abbrev pub TellsMore : SlotsState → SlotsState → List SessionEnd → List SessionEnd → Type 0
+TellsMore old new before now = (told : List SessionEnd) × (now ≡ before ++ told) × IsPermutation (told ++ new.opened) old.opened × Each (IsToldOver old) told

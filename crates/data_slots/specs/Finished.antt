@@ -1,7 +1,7 @@
 -- What ends report when all of them are retired.
 use Rattle.std.specs.Prelude.{◌≡◌, ◌≢◌, ℕ, List, [], ◌∷◌, slice_get, option_and_then, Option, Some, None, IsSome}
+use Rattle.std.specs.List.{AllByRecursion as Each}
 use Rattle.task_duties.specs.declared.done.ServedDone.{ServedDone}
-use Rattle.qrexec_frame.specs.Streams.{Each}
 use Rattle.task_duties.specs.TaskOwes.{EndAt}
 use Rattle.data_slots.specs.declared.done.CallOver.{CallOver}
 use Rattle.data_slots.specs.declared.note.CallNote.{CallNote}

@@ -8,9 +8,9 @@ use Rattle.service_gate.specs.declared.builtin.Builtin.{Builtin}
 use Rattle.end_view.specs.EndView.{EndView, IsUnused}
 use Rattle.task_duties.specs.declared.place.PagePlace.{PagePlace}
 use Rattle.task_duties.specs.declared.place.PagePlace.TheVariants.{Control, Payload}
+use Rattle.task_duties.specs.declared.done.SessionEnd.{SessionEnd}
 use Rattle.task_duties.specs.TaskOwes.{EndAt}
 use Rattle.task_duties.specs.Places.{has_place}
-use Rattle.data_slots.specs.declared.done.SessionOver.{SessionOver}
 use Rattle.data_slots.specs.Sessions.{Session}
 
 -- what stays the same of an end: its place, and which end of which page it is
@@ -51,7 +51,7 @@ pub record SlotsState : Type 0 where
   -- what it serves, in the order in which that began
   pub served : List Serves
   -- the sessions that are open, each as it is told once it is over, in no order that matters
-  pub opened : List SessionOver
+  pub opened : List SessionEnd
   -- the session of each end, in the order in which the ends were given
   pub sessions : List Session
   -- memory didn't suffice for a turn, and the ends can only be given up
@@ -64,7 +64,7 @@ place_at own None domain port = Payload domain own port
 
 -- how many open sessions are on pages that are laid when they are first used
 abbrev pub late_count : SlotsState → ℕ
-late_count s = count_by (λ o. has_place (place_at s.domain o.number o.domain o.port) s.late) s.opened
+late_count s = count_by (λ o. has_place (place_at s.domain o.call o.domain o.port) s.late) s.opened
 
 -- ---- what is given
 

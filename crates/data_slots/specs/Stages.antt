@@ -8,6 +8,7 @@ use Rattle.vchan_rule.specs.Seated.{view, IsOpen}
 use Rattle.end_view.specs.EndView.{EndView, IsUnused, no_end}
 use Rattle.task_duties.specs.declared.place.PagePlace.{PagePlace}
 use Rattle.task_duties.specs.declared.place.PagePlace.TheVariants.{Payload}
+use Rattle.task_duties.specs.declared.done.SessionEnd.{SessionEnd}
 use Rattle.page_offer.specs.declared.server.LaidPage.{LaidPage}
 use Rattle.page_offer.specs.Views.{unused_view}
 use Rattle.task_duties.specs.GivenEnds.{done_view, fresh_view}
@@ -21,7 +22,6 @@ use Rattle.data_slots.specs.declared.slot.Stage.{Stage}
 use Rattle.data_slots.specs.declared.slot.Stage.TheVariants.{Unused, Calls, Awaits, Serves, CallIsOver, ServingIsOver, Taken}
 use Rattle.data_slots.specs.declared.slot.CallerResult.{CallerResult}
 use Rattle.data_slots.specs.declared.slot.Slot.{Slot}
-use Rattle.data_slots.specs.declared.done.SessionOver.{SessionOver}
 use Rattle.data_slots.specs.declared.report.Report.{Report}
 use Rattle.data_slots.specs.declared.report.Report.TheVariants.{Call, Serving}
 use Rattle.data_slots.specs.Done.{caller_done}
@@ -137,9 +137,9 @@ HasComeOut outcome (Serves number service side session) = IsAtWork session.servi
 HasComeOut outcome _ = ⊥
 
 -- what the broker is told of a session at this place, once it is over
-abbrev pub told_of : PagePlace → Use → Option SessionOver
-told_of (Payload from to port) (ForCall number input) = Some (record { domain = to; port = port; number = Some number })
-told_of (Payload from to port) (ForServing number service) = Some (record { domain = from; port = port; number = None })
+abbrev pub told_of : PagePlace → Use → Option SessionEnd
+told_of (Payload from to port) (ForCall number input) = Some (record { domain = to; port = port; call = Some number })
+told_of (Payload from to port) (ForServing number service) = Some (record { domain = from; port = port; call = None })
 told_of place used = None
 
 -- a report is that of an end at this place, with this use and this view

@@ -1,16 +1,15 @@
 -- How the ends of an agent, and what is noted of them, agree.
-use Rattle.std.specs.Prelude.{◌≡◌, ℕ, ◌+◌, ◌≤◌, ◌==◌, Bool, false, List, map, filter_map, length, slice_get, option_map, unwrap_or, Option, Some, None, if◌then◌else◌}
-use Rattle.std.specs.List.{sum_by}
-use Rattle.qrexec_frame.specs.Streams.{Each}
+use Rattle.std.specs.Prelude.{◌≡◌, ℕ, ◌+◌, ◌≤◌, ◌==◌, Bool, false, List, map, filter_map, slice_get, option_map, unwrap_or, Option, Some, None, if◌then◌else◌}
+use Rattle.std.specs.List.{sum_by, AllByRecursion as Each}
 use Rattle.task_duties.specs.declared.place.PagePlace.{PagePlace}
 use Rattle.task_duties.specs.declared.place.PagePlace.TheVariants.{Payload}
+use Rattle.task_duties.specs.declared.done.SessionEnd.{SessionEnd}
 use Rattle.data_slots.specs.declared.slot.Slot.{Slot}
 use Rattle.data_slots.specs.declared.note.CallNote.{CallNote}
 use Rattle.data_slots.specs.declared.note.ServedNote.{ServedNote}
 use Rattle.data_slots.specs.declared.ends.Ends.{Ends}
 use Rattle.data_slots.specs.Slots.{Held, Called, Serves, SlotsState, IsEndOf}
 use Rattle.data_slots.specs.Stages.{Use, ForNothing, ForCall, ForServing, Frame, place_of, frame_of, told_of, is_session, IsStage}
-use Rattle.data_slots.specs.declared.done.SessionOver.{SessionOver}
 use Rattle.data_slots.specs.Done.{TellsMore}
 use Rattle.data_slots.specs.Sessions.{sessions_in}
 use Rattle.data_slots.specs.Index.{PlaceIndex, IsIndexOf}
@@ -42,15 +41,15 @@ abbrev pub late_in : List Frame → List PagePlace
 late_in fs = filter_map (λ f. if f.late then Some f.held.place else None) fs
 
 -- the session of the end of a number, as it is told once it is over
-abbrev pub told_by : Option Frame → Option SessionOver
+abbrev pub told_by : Option Frame → Option SessionEnd
 told_by (Some f) = told_of f.held.place f.used
 told_by None = None
 
-abbrev pub session_at : List Frame → ℕ → SessionOver
-session_at fs at = unwrap_or (told_by (slice_get fs at)) (record { domain = 0; port = 0; number = None })
+abbrev pub session_at : List Frame → ℕ → SessionEnd
+session_at fs at = unwrap_or (told_by (slice_get fs at)) (record { domain = 0; port = 0; call = None })
 
 -- those of the ends of these numbers
-abbrev pub opened_in : List Frame → List ℕ → List SessionOver
+abbrev pub opened_in : List Frame → List ℕ → List SessionEnd
 opened_in fs numbers = map (session_at fs) numbers
 
 -- whether the page of the end of a number is laid when it is first used
@@ -129,7 +128,7 @@ state_of e spent = record {
 -- ---- a turn
 
 -- after the turn all ends are whole, and the only sessions that are no longer open are those that were reported
-pub record IsTurned (old new : Ends) (before now : List SessionOver) : Type 0 where
+pub record IsTurned (old new : Ends) (before now : List SessionEnd) : Type 0 where
   pub whole : IsWhole new
   pub state : state_of new false ≡ record (state_of old false) { opened = (state_of new false).opened; sessions = (state_of new false).sessions }
   pub told : TellsMore (state_of old false) (state_of new false) before now

@@ -3,17 +3,6 @@ use qrexec_data::Outcome;
 use qrexec_frame::Bytes;
 use task_duties::{RetiredEnd, ServedDone};
 
-/// A session that is over, as MSG_CONNECTION_TERMINATED reports it to the broker.
-#[derive(Clone, Copy, Debug, PartialEq, Eq)]
-pub struct SessionOver {
-    /// The domain at the other end.
-    pub domain: u32,
-    /// The port of the session.
-    pub port: u32,
-    /// Which of the agent's own calls it is, counted from 0, or `None` if the agent served it.
-    pub number: Option<usize>,
-}
-
 /// What came of the session of a call of the agent's own.
 #[derive(Debug, Drop)]
 pub struct CallOver {

@@ -1,9 +1,9 @@
 //! The data ends of an agent, and what is noted of them.
 ghost use Rattle.std.specs.Prelude.{◌≡◌, ◌+◌, ◌<◌, ◌≤◌, ◌++◌, ◌∷◌, [], ℕ, true, false, is_some, Some, None, IfOk, IfErr, IfSome, OnOk, OnErr, length, map, drop, get_or, replicate, slice_get, slice_set, vec_capacity, if◌then◌else◌};
-ghost use Rattle.qrexec_frame.specs.Streams.{Each};
+ghost use Rattle.std.specs.List.{AllByRecursion as Each};
 ghost use Rattle.task_duties.specs.declared.place.PagePlace.TheVariants.{Payload};
 ghost use Rattle.task_duties.specs.Places.{has_place, without};
-ghost use Rattle.task_duties.specs.Pairwise.{EachPair};
+ghost use Rattle.std.specs.List.{AllZip as EachPair};
 ghost use Rattle.task_duties.specs.TaskOwes.{places_in};
 ghost use Rattle.task_duties.specs.GivenEnds.{all_given, all_retired, retired_at};
 ghost use Rattle.data_slots.specs.Slots.{held_at, late_count, IsGiven, AreApart};
@@ -15,7 +15,7 @@ ghost use Rattle.data_slots.specs.Index.{IsIndexOf};
 ghost use Rattle.data_slots.specs.Whole.{frames, held_in, places, unused_in, IsUsedAt, IsWhole, IsTurned, TakesFrom, HasSameEnds, state_of};
 ghost use Rattle.data_slots.specs.Sessions.{NotBegun, sessions_in, AllTakeTurns, KeepsSessions, OneTakesTurn};
 
-use crate::done::{DataDone, SessionOver};
+use crate::done::DataDone;
 use crate::finish::{finish_all, give_up_all, session_ends};
 use crate::index::{Index, end_at};
 use crate::note::{CallNote, ServedNote};
@@ -26,7 +26,7 @@ use qrexec_data::{Caller, Serving};
 use service_gate::Builtin;
 use std::alloc::Global;
 use std::snapshot::Snapshot;
-use task_duties::{DataEnd, RetiredEnd};
+use task_duties::{DataEnd, RetiredEnd, SessionEnd};
 use vchan_io::Memory;
 
 /// The most bytes that a session puts into one message.
@@ -128,7 +128,7 @@ impl<'p> Ends<'p> {
         ensures ok { OnOk result (state_of self.new false ≡ record (state_of self.old false) {
           unused = without (Payload self.old.domain to port) (unused_in (frames self.old.slots.items));
           called = slice_set (state_of self.old false).called number (Some (record { to = to; port = port; input = input.items }));
-          opened = (state_of self.old false).opened ++ record { domain = to; port = port; number = Some number } ∷ [];
+          opened = (state_of self.old false).opened ++ record { domain = to; port = port; call = Some number } ∷ [];
           sessions = (state_of self.new false).sessions;
         }) }
         ensures kept { KeepsSessions (sessions_in self.old.slots.items) (sessions_in self.new.slots.items) }
@@ -163,7 +163,7 @@ impl<'p> Ends<'p> {
         ensures ok { OnOk result (state_of self.new false ≡ record (state_of self.old false) {
           unused = without (Payload from self.old.domain port) (unused_in (frames self.old.slots.items));
           served = (state_of self.old false).served ++ record { from = from; port = port; service = service } ∷ [];
-          opened = (state_of self.old false).opened ++ record { domain = from; port = port; number = None } ∷ [];
+          opened = (state_of self.old false).opened ++ record { domain = from; port = port; call = None } ∷ [];
           sessions = (state_of self.new false).sessions;
         }) }
         ensures kept { KeepsSessions (sessions_in self.old.slots.items) (sessions_in self.new.slots.items) }
@@ -199,7 +199,7 @@ impl<'p> Ends<'p> {
     pub(crate) fn turn(
         &mut self,
         scratch: &mut [u8],
-        over: &mut Vec<SessionOver>,
+        over: &mut Vec<SessionEnd>,
     ) -> Result<bool, Memory>
         requires whole { IsWhole self.old }
         requires retire { Each (λ s. CanRetire s.stage) self.old.slots.items }
@@ -228,7 +228,7 @@ impl<'p> Ends<'p> {
 
     // Makes one turn of each open session, and appends those that are over now to `over`. Returns whether any
     // moved bytes or is over.
-    fn turn_open(&mut self, scratch: &mut [u8], over: &mut Vec<SessionOver>) -> Result<bool, Memory>
+    fn turn_open(&mut self, scratch: &mut [u8], over: &mut Vec<SessionEnd>) -> Result<bool, Memory>
         requires whole { IsWhole self.old }
         requires retire { Each (λ s. CanRetire s.stage) self.old.slots.items }
         requires some { 0 < length scratch.old }
@@ -282,7 +282,7 @@ impl<'p> Ends<'p> {
         &mut self,
         next: usize,
         scratch: &mut [u8],
-        over: &mut Vec<SessionOver>,
+        over: &mut Vec<SessionEnd>,
     ) -> Result<bool, Memory>
         requires whole { IsWhole self.old }
         requires retire { Each (λ s. CanRetire s.stage) self.old.slots.items }

@@ -1,6 +1,6 @@
 //! What is given back of ends that are done with.
 ghost use Rattle.std.specs.Prelude.{◌≡◌, ◌≢◌, ◌+◌, ◌≤◌, [], ℕ, Some, IsSome, false, IfOk, length, map, slice_get, vec_capacity};
-ghost use Rattle.qrexec_frame.specs.Streams.{Each};
+ghost use Rattle.std.specs.List.{AllByRecursion as Each};
 ghost use Rattle.task_duties.specs.GivenEnds.{all_retired, retired_at};
 ghost use Rattle.data_slots.specs.Done.{AreBack};
 ghost use Rattle.data_slots.specs.Stages.{CanRetire, is_session};

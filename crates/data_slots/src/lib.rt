@@ -17,6 +17,6 @@ mod side;
 mod slot;
 mod slots;
 
-pub use done::{CallOver, DataDone, SessionOver};
+pub use done::{CallOver, DataDone};
 pub use side::retire_given;
 pub use slots::DataSlots;

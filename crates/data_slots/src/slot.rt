@@ -21,7 +21,7 @@ ghost use Rattle.data_slots.specs.Sessions.{AwaitsPage, ServesWith, Begins, Take
 ghost use Rattle.data_slots.specs.Sides.{HasLaid, IsSideOf, seen_under, is_late_unused, is_late_side, is_late_done};
 ghost use Rattle.data_slots.specs.Stages.{ForCall, ForServing, IsStage, CanRetire, CanTurn, IsUnusedBy, IsNewCaller, IsNewServing, HasComeOut, IsReportOf, HasPage, is_nothing, is_session, is_late, use_of, told_of, result_of, framed, place_of, frame_of};
 
-use crate::done::{CallOver, SessionOver};
+use crate::done::CallOver;
 use crate::report::Report;
 use crate::side::{Side, open_server, retire_unused};
 use channel_session::{CallerEnd, CallerSession, ServingEnd, ServingSession};
@@ -32,7 +32,7 @@ use service_gate::Builtin;
 use std::alloc::Global;
 use std::mem;
 use std::snapshot::Snapshot;
-use task_duties::{DoneEnd, PagePlace, RetiredEnd, ServedDone, UnusedEnd};
+use task_duties::{DoneEnd, PagePlace, RetiredEnd, ServedDone, SessionEnd, UnusedEnd};
 use vchan_io::Memory;
 use vchan_rule::End;
 
@@ -169,7 +169,7 @@ impl<'p> Slot<'p> {
     /// Makes one turn of an open session. Returns what the broker must be told if the session is over now.
     /// Returns `Memory` if memory runs out; the end can still be retired then. It also fails if the task at
     /// the other end ran out of memory before it opened that end.
-    pub(crate) fn turn(&mut self, scratch: &mut [u8]) -> Result<Option<SessionOver>, Memory>
+    pub(crate) fn turn(&mut self, scratch: &mut [u8]) -> Result<Option<SessionEnd>, Memory>
         requires open { CanTurn self.old.stage }
         requires retire { CanRetire self.old.stage }
         requires some { 0 < length scratch.old }
@@ -195,7 +195,7 @@ impl<'p> Slot<'p> {
     // Finishes a session that ended like this, and returns what the broker must be told. A function apart, so
     // that other turns don't pay for the room of a whole stage.
     #[inline(never)]
-    fn end(&mut self, outcome: Outcome) -> SessionOver
+    fn end(&mut self, outcome: Outcome) -> SessionEnd
         requires over { HasComeOut outcome self.old.stage }
         requires session { is_session self.old.stage ≡ true }
         requires retire { CanRetire self.old.stage }
@@ -245,20 +245,20 @@ impl<'p> Slot<'p> {
     }
 
     // What the broker is told of a session.
-    fn told(&self) -> SessionOver
+    fn told(&self) -> SessionEnd
         requires session { is_session self.now.stage ≡ true }
         ensures { told_of (place_of self.now) (use_of self.now.stage) ≡ Some result }
     {
         match &self.stage {
-            Stage::Calls { number, .. } => SessionOver {
+            Stage::Calls { number, .. } => SessionEnd {
                 domain: self.to,
                 port: self.port,
-                number: Some(*number),
+                call: Some(*number),
             },
-            Stage::Awaits { .. } | Stage::Serves { .. } => SessionOver {
+            Stage::Awaits { .. } | Stage::Serves { .. } => SessionEnd {
                 domain: self.from,
                 port: self.port,
-                number: None,
+                call: None,
             },
             _ => unreachable!(),
         }

@@ -1,19 +1,19 @@
 //! All data ends of one agent.
 ghost use Rattle.std.specs.Prelude.{◌≡◌, ◌+◌, ◌<◌, ◌≤◌, ◌↔◌, ◌++◌, ◌∷◌, [], true, false, IsTrue, Some, None, IfOk, IfErr, OnOk, OnErr, length, map, replicate, slice_get, slice_set};
-ghost use Rattle.qrexec_frame.specs.Streams.{Each};
+ghost use Rattle.std.specs.List.{AllByRecursion as Each};
 ghost use Rattle.task_duties.specs.declared.place.PagePlace.TheVariants.{Payload};
 ghost use Rattle.task_duties.specs.Places.{has_place, without};
-ghost use Rattle.task_duties.specs.Pairwise.{EachPair};
+ghost use Rattle.std.specs.List.{AllZip as EachPair};
 ghost use Rattle.task_duties.specs.TaskOwes.{places_in};
 ghost use Rattle.task_duties.specs.GivenEnds.{all_given, all_retired, retired_at};
 
-use crate::done::{DataDone, SessionOver};
+use crate::done::DataDone;
 use crate::ends::Ends;
 use service_gate::Builtin;
 use std::alloc::Global;
 use std::marker::Model;
 use std::snapshot::Snapshot;
-use task_duties::{DataEnd, RetiredEnd};
+use task_duties::{DataEnd, RetiredEnd, SessionEnd};
 use vchan_io::Memory;
 
 /// All data ends of an agent, in the order in which they were given.
@@ -31,7 +31,7 @@ pub struct DataSlots<'p> {
 
 impl<'p> Model for DataSlots<'p> {
     ghost use Rattle.std.specs.Prelude.{◌≡◌, ◌+◌, ◌≤◌, false, [], length, vec_capacity};
-    ghost use Rattle.qrexec_frame.specs.Streams.{Each};
+    ghost use Rattle.std.specs.List.{AllByRecursion as Each};
     ghost use Rattle.data_slots.specs.Slots.{SlotsState};
     ghost use Rattle.data_slots.specs.Stages.{CanRetire};
     ghost use Rattle.data_slots.specs.Whole.{IsWhole, state_of};
@@ -121,7 +121,7 @@ impl<'p> DataSlots<'p> {
         ensures ok { OnOk result (self.new ≡ record self.old {
           unused = without (Payload self.old.domain to port) self.old.unused;
           called = slice_set self.old.called number (Some (record { to = to; port = port; input = input.items }));
-          opened = self.old.opened ++ record { domain = to; port = port; number = Some number } ∷ [];
+          opened = self.old.opened ++ record { domain = to; port = port; call = Some number } ∷ [];
           sessions = self.new.sessions;
         }) }
         ensures kept { KeepsSessions self.old.sessions self.new.sessions }
@@ -140,7 +140,7 @@ impl<'p> DataSlots<'p> {
         ensures ok { OnOk result (self.new ≡ record self.old {
           unused = without (Payload from self.old.domain port) self.old.unused;
           served = self.old.served ++ record { from = from; port = port; service = service } ∷ [];
-          opened = self.old.opened ++ record { domain = from; port = port; number = None } ∷ [];
+          opened = self.old.opened ++ record { domain = from; port = port; call = None } ∷ [];
           sessions = self.new.sessions;
         }) }
         ensures kept { KeepsSessions self.old.sessions self.new.sessions }
@@ -156,7 +156,7 @@ impl<'p> DataSlots<'p> {
     ///
     /// Returns `Memory` if memory runs out; the ends can only be given up then, and nothing is promised of
     /// `over`.
-    pub fn turn(&mut self, scratch: &mut [u8], over: &mut Vec<SessionOver>) -> Result<bool, Memory>
+    pub fn turn(&mut self, scratch: &mut [u8], over: &mut Vec<SessionEnd>) -> Result<bool, Memory>
         requires whole { self.old.spent ≡ false }
         requires some { 0 < length scratch.old }
         ensures ok { OnOk result (self.new ≡ record self.old { opened = self.new.opened; sessions = self.new.sessions }) }

@@ -24,7 +24,6 @@ use Rattle.call_queue.proofs.call.CallAnswer.TheSendSync as answer
 use Rattle.call_queue.specs.contracts.call.QueuedCall as queued
 use Rattle.call_queue.specs.contracts.queue.CallQueue as queue
 use Rattle.call_queue.specs.contracts.queue.CallQueue.TheInside as queue_inside
-use Rattle.agent_control.proofs.control.SessionEnd.TheSendSync as session_end
 use Rattle.agent_control.specs.contracts.control.AgentControl as control
 use Rattle.channel_session.proofs.Sent.{caller_send, serving_send}
 use Rattle.qrexec_data.proofs.serving.Serving.TheSendSync as serving
@@ -32,6 +31,7 @@ use Rattle.service_gate.proofs.builtin.Builtin.TheSendSync as builtin
 use Rattle.task_duties.proofs.done.CallDone.TheSendSync as call_done
 use Rattle.task_duties.proofs.done.ServedDone.TheSendSync as served_done
 use Rattle.task_duties.proofs.done.ControlEnd.TheSendSync as control_end
+use Rattle.task_duties.proofs.done.SessionEnd.TheSendSync as session_end
 use Rattle.vchan_rule.proofs.turned.Retired.TheSendSync as retired
 use Rattle.page_offer.proofs.Sent.{server_send, client_send, open_server_send, open_client_send, done_server_send, done_client_send}
 use Rattle.task_duties.specs.contracts.ends.UnusedEnd as unused
@@ -39,7 +39,6 @@ use Rattle.task_duties.specs.contracts.ends.DoneEnd as done
 use Rattle.task_duties.specs.contracts.ends.RetiredEnd as retired_end
 use Rattle.task_duties.proofs.place.PagePlace.TheSendSync as place
 use Rattle.task_duties.specs.contracts.ends.DataEnd as data_end
-use Rattle.data_slots.proofs.done.SessionOver.TheSendSync as session_over
 use Rattle.data_slots.specs.contracts.note.CallNote as call_note
 use Rattle.data_slots.specs.contracts.note.ServedNote as served_note
 use Rattle.data_slots.specs.contracts.side.Side as side
@@ -196,7 +195,7 @@ agent_send κ =
 
 agent_task_send : (κ : _) → IsSend (agent_task.the_row κ)
 agent_task_send κ =
-    let fields : FieldsHave IsSend (agent_inside.the_type κ).parts = (search (sendable, crosses, agent_send) depth 20, (search (sendable, crosses), (search (sendable, crosses, session_over.the_send), (search sendable, tt)))) in
+    let fields : FieldsHave IsSend (agent_inside.the_type κ).parts = (search (sendable, crosses, agent_send) depth 20, (search (sendable, crosses), (search (sendable, crosses, session_end.the_send), (search sendable, tt)))) in
     view_send (agent_inside.the_row κ) _ _ _ _ (declared_send (agent_inside.the_type κ) fields)
 
 -- ---- the task of the broker

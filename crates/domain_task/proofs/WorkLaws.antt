@@ -2,6 +2,7 @@
 use Rattle.std.proofs.Common.{◌≡◌, ◌≢◌, ℕ, ◌+◌, ◌-◌, ◌<◌, ◌≤◌, zero, suc, Bool, true, false, List, [], ◌∷◌, drop, length, Option, Some, None, refl, sym, ap, ◌∙◌, subst, arith, inl, inr}
 use Rattle.std.specs.Prelude.{◌⊎◌, is_some, IsSome}
 use Rattle.std.proofs.lemmas.Bool.{false≢true}
+use Rattle.std.specs.List.{AllZip as EachPair}
 use Rattle.qrexec_data.specs.declared.outcome.Outcome.{Outcome}
 use Rattle.scenario_file.specs.declared.acts.Act.{Act}
 use Rattle.end_view.specs.EndView.{EndView}
@@ -9,7 +10,6 @@ use Rattle.vchan_rule.specs.Seated.{view}
 use Rattle.task_pool.specs.declared.task.Turn.{Turn}
 use Rattle.task_pool.specs.declared.task.Turn.TheVariants as turn
 use Rattle.task_duties.specs.declared.done.ControlEnd.{ControlEnd}
-use Rattle.task_duties.specs.Pairwise.{EachPair}
 use Rattle.task_duties.specs.Hostile.Given.{HostilePlan}
 use Rattle.channel_session.specs.declared.turned.Turned.{Turned}
 use Rattle.channel_session.specs.declared.turned.Turned.TheVariants.{Moved, Quiet, Passed}
@@ -24,13 +24,14 @@ use Rattle.agent_task.specs.State.{AgentState, TurnsEach}
 use Rattle.agent_task.specs.Moving.{HearsNothing, SaysNoMore, HasNotGreeted, WasNotGreeted, HasStopped, TurnsControl, TurnsChannel, KeepsChannel}
 use Rattle.broker_task.specs.Lines.{is_shut}
 use Rattle.broker_task.specs.Moving.{BrokerLine, HasMoved, IsQuiet, HasTurned}
+use Rattle.broker_task.specs.Posting.{one_if}
 use Rattle.hostile_task.specs.Plan.{HostileState}
 use Rattle.hostile_task.specs.Turns.{GoesOn, all_turns, turns_left}
 use Rattle.domain_task.specs.declared.done.TaskDone.{TaskDone}
 use Rattle.domain_task.specs.declared.task.Task.{Task}
 use Rattle.domain_task.specs.declared.task.Task.TheVariants.{Agent, Broker, Hostile}
 use Rattle.domain_task.specs.Turning.{TaskTurns}
-use Rattle.domain_task.specs.Working.{bytes_on, bytes_of, HearsAndSaysNothing, IsStill, ChannelRests, IsUp, WasOver, SessionRests, CallerRests, ServingRests, PageCame, PageAwaited, HadNotBegun, HadEnded, AgentRests, one_if, work_in, work_in_all, work_of, work_with, work_with_all, Rests, turns_made, Works}
+use Rattle.domain_task.specs.Working.{bytes_on, bytes_of, HearsAndSaysNothing, IsStill, ChannelRests, IsUp, WasOver, SessionRests, CallerRests, ServingRests, PageAwaited, HasNotBegun, HadEnded, AgentRests, work_in, work_in_all, work_of, work_with, work_with_all, Rests, turns_made, Works}
 
 more-or-same : (a b : ℕ) → a ≤ b → (a < b) ⊎ (a ≡ b)
 more-or-same zero zero within = inr refl
@@ -155,45 +156,40 @@ serving-moves Moved before now h none = inl (moved-bytes (view before.end) (view
 serving-moves Quiet before now h none = inr (not-moved Quiet (inl refl))
 serving-moves Passed before now h none = inr (not-moved Passed (inr refl))
 
-plus-none : (n : ℕ) → n + 0 ≡ n
-plus-none n = omega arith
-
--- the number of a session that is open is that of its bytes
-open-worth : (session : Session) → is_open session ≡ true → work_in session ≡ length (got_in session) + length (sent_in session)
+-- the number of a session that is open is that of its bytes, and two more at most
+open-worth : (session : Session) → is_open session ≡ true → work_in session ≤ length (got_in session) + length (sent_in session) + 2
 open-worth NotBegun is = absurd (false≢true is)
-open-worth (CallsWith at) is = plus-none (bytes_on at.end)
-open-worth AwaitsPage is = refl
-open-worth (ServesWith at) is = plus-none (bytes_on at.end)
+open-worth (CallsWith at) is = omega arith
+open-worth AwaitsPage is = omega arith
+open-worth (ServesWith at) is = omega arith
 open-worth (EndedWith end) is = absurd (false≢true is)
 
 -- a session that takes its turn
 session-works : (old new : Session) → TakesTurn old new → Works-or (work_in old) (work_in new) (SessionRests old new)
 session-works old new (by.HadNotBegun was is) =
     let a : work_in old ≡ 0 = ap work_in was in
-    let b : work_in new ≡ 0 = ap work_in is in (omega (arith, a, b), inr (HadNotBegun was b))
+    let b : work_in new ≡ 0 = ap work_in is in (omega (arith, a, b), inr (HasNotBegun was is))
 session-works old new (by.CallMade before now turned was is did none) = joined (ap work_in was) (ap work_in is) (caller-keeps turned before now did) (caller-moves turned before now did none)
   where
-    joined : work_in old ≡ bytes_on before.end + 0 → work_in new ≡ bytes_on now.end + 0 → KeepsBytes (view before.end) (view now.end) → (bytes_on before.end < bytes_on now.end) ⊎ (turned ≢ Moved)
+    joined : work_in old ≡ bytes_on before.end + 2 → work_in new ≡ bytes_on now.end + 2 → KeepsBytes (view before.end) (view now.end) → (bytes_on before.end < bytes_on now.end) ⊎ (turned ≢ Moved)
         → Works-or (work_in old) (work_in new) (SessionRests old new)
     joined a b keeps (inl more) = (omega (arith, a, b, more), inl (omega (arith, a, b, more)))
     joined a b keeps (inr rests) = (omega (arith, a, b, keeps.got, keeps.sent), inr (CallerRests before now turned was is did rests))
 session-works old new (by.ServingMade before now turned was is did none) = joined (ap work_in was) (ap work_in is) (serving-keeps turned before now did) (serving-moves turned before now did none)
   where
-    joined : work_in old ≡ bytes_on before.end + 0 → work_in new ≡ bytes_on now.end + 0 → KeepsBytes (view before.end) (view now.end) → (bytes_on before.end < bytes_on now.end) ⊎ (turned ≢ Moved)
+    joined : work_in old ≡ bytes_on before.end + 2 → work_in new ≡ bytes_on now.end + 2 → KeepsBytes (view before.end) (view now.end) → (bytes_on before.end < bytes_on now.end) ⊎ (turned ≢ Moved)
         → Works-or (work_in old) (work_in new) (SessionRests old new)
     joined a b keeps (inl more) = (omega (arith, a, b, more), inl (omega (arith, a, b, more)))
     joined a b keeps (inr rests) = (omega (arith, a, b, keeps.got, keeps.sent), inr (ServingRests before now turned was is did rests))
-session-works old new (by.PageCame before now turned was first is did none) = joined (ap work_in was) (ap work_in is) (serving-moves turned before now did none)
-  where
-    joined : work_in old ≡ 0 → work_in new ≡ bytes_on now.end + 0 → (bytes_on before.end < bytes_on now.end) ⊎ (turned ≢ Moved) → Works-or (work_in old) (work_in new) (SessionRests old new)
-    joined a b (inl more) = (omega (arith, a), inl (omega (arith, a, b, more)))
-    joined a b (inr rests) = (omega (arith, a), inr (PageCame before now turned was first is did rests))
+session-works old new (by.PageCame before now turned was first is did none) =
+    let a : work_in old ≡ 1 = ap work_in was in
+    let b : work_in new ≡ bytes_on now.end + 2 = ap work_in is in (omega (arith, a, b), inl (omega (arith, a, b)))
 session-works old new (by.PageAwaited was is) =
-    let a : work_in old ≡ 0 = ap work_in was in
-    let b : work_in new ≡ 0 = ap work_in is in (omega (arith, a, b), inr (PageAwaited was is))
+    let a : work_in old ≡ 1 = ap work_in was in
+    let b : work_in new ≡ 1 = ap work_in is in (omega (arith, a, b), inr (PageAwaited was is))
 session-works old new (by.IsOver ends) =
     let a = open-worth old ends.was_open in
-    let b : work_in new ≡ length ends.end.got + length ends.end.sent + 1 = ap work_in ends.is in
+    let b : work_in new ≡ length ends.end.got + length ends.end.sent + 3 = ap work_in ends.is in
     let got : length (got_in new) ≡ length ends.end.got = ap (λ (s : Session). length (got_in s)) ends.is in
     let sent : length (sent_in new) ≡ length ends.end.sent = ap (λ (s : Session). length (sent_in s)) ends.is in
     (omega (arith, a, b, got, sent, ends.keeps.got, ends.keeps.sent), inl (omega (arith, a, b, got, sent, ends.keeps.got, ends.keeps.sent)))
@@ -202,11 +198,11 @@ session-works old new (by.WasOver end was is) =
 
 -- one that hadn't begun before the turn may begin in it
 begun-works : (new : Session) → Works-or (work_in NotBegun) (work_in new) (SessionRests NotBegun new)
-begun-works new = (omega arith, by_work (more-or-same 0 (work_in new) (omega arith)))
-  where
-    by_work : (0 < work_in new) ⊎ (0 ≡ work_in new) → (work_in NotBegun < work_in new) ⊎ SessionRests NotBegun new
-    by_work (inl more) = inl more
-    by_work (inr none) = inr (HadNotBegun refl (sym none))
+begun-works NotBegun = (omega arith, inr (HasNotBegun refl refl))
+begun-works (CallsWith at) = (omega arith, inl (omega arith))
+begun-works AwaitsPage = (omega arith, inl (omega arith))
+begun-works (ServesWith at) = (omega arith, inl (omega arith))
+begun-works (EndedWith end) = (omega arith, inl (omega arith))
 
 at-works : (old new : Session) → (old ≢ NotBegun → TakesTurn old new) → Works-or (work_in old) (work_in new) (SessionRests old new)
 at-works NotBegun new takes = begun-works new
@@ -234,7 +230,7 @@ rest-both old new a b first second olds news behind after one all (suc i) =
     subst (λ (s : Session). SessionRests s (session_at new (suc i))) (sym (behind i)) (subst (λ (s : Session). SessionRests (session_at olds i) s) (sym (after i)) (all i))
 
 sessions-work : (old new : List Session) → ((i : ℕ) → session_at old i ≢ NotBegun → TakesTurn (session_at old i) (session_at new i)) → Works-or (work_in_all old) (work_in_all new) (AllRest old new)
-sessions-work [] [] takes = (omega arith, inr (λ i. HadNotBegun refl refl))
+sessions-work [] [] takes = (omega arith, inr (λ i. HasNotBegun refl refl))
 sessions-work [] (y ∷ new) takes =
     joined-works 0 (work_in y) 0 (work_in_all new) _ _ _ (rest-both [] (y ∷ new) NotBegun y refl refl [] new (λ i. refl) (λ i. refl))
     (begun-works y) (sessions-work [] new (λ i begun. takes (suc i) begun))
@@ -253,9 +249,26 @@ agent-works old new takes keeps turns =
 
 -- ---- the broker
 
+-- the bytes of an end grew, or there are as many as before
+bytes-more : (old new : BrokerLine) → length (view old.end).got ≤ length (view new.end).got → length (view old.end).sent ≤ length (view new.end).sent
+    → (bytes_on old.end < bytes_on new.end) ⊎ ((length (view new.end).got ≡ length (view old.end).got) × (length (view new.end).sent ≡ length (view old.end).sent))
+bytes-more old new got sent = by_sum (more-or-same (bytes_on old.end) (bytes_on new.end) (omega (arith, got, sent)))
+  where
+    by_sum : (bytes_on old.end < bytes_on new.end) ⊎ (bytes_on old.end ≡ bytes_on new.end)
+        → (bytes_on old.end < bytes_on new.end) ⊎ ((length (view new.end).got ≡ length (view old.end).got) × (length (view new.end).sent ≡ length (view old.end).sent))
+    by_sum (inl more) = inl more
+    by_sum (inr same) = inr (omega (arith, got, sent, same), omega (arith, got, sent, same))
+
 line-works : (old new : BrokerLine) → HasTurned old new → (work_with old ≤ work_with new) × ((work_with old < work_with new) ⊎ Rests old new)
 line-works old new t = by_shut (is_shut (view old.end).state) (is_shut (view new.end).state) refl refl
   where
+    -- it stays as it was, up or dropped
+    by_bytes : is_shut (view new.end).state ≡ is_shut (view old.end).state → (is_shut (view new.end).state ≡ false → IsQuiet old new)
+        → (bytes_on old.end < bytes_on new.end) ⊎ ((length (view new.end).got ≡ length (view old.end).got) × (length (view new.end).sent ≡ length (view old.end).sent))
+        → (work_with old ≤ work_with new) × ((work_with old < work_with new) ⊎ Rests old new)
+    by_bytes shut quiet (inl more) = let same = ap one_if shut in (omega (arith, more, same), inl (omega (arith, more, same)))
+    by_bytes shut quiet (inr none) = let same = ap one_if shut in (omega (arith, none.0, none.1, same), inr (record { shut = shut; got = none.0; sent = none.1; quiet = quiet }))
+
     by_found : is_shut (view old.end).state ≡ false → is_shut (view new.end).state ≡ false → HasMoved old new ⊎ IsQuiet old new → (work_with old ≤ work_with new) × ((work_with old < work_with new) ⊎ Rests old new)
     by_found was is (inl (inl more)) =
         let before = ap one_if was in
@@ -263,14 +276,10 @@ line-works old new t = by_shut (is_shut (view old.end).state) (is_shut (view new
     by_found was is (inl (inr more)) =
         let before = ap one_if was in
         let after = ap one_if is in (omega (arith, t.grows.got, t.grows.sent, before, after), inl (omega (arith, more, t.grows.got, before, after)))
-    by_found was is (inr quiet) =
-        let before = ap one_if was in
-        let after = ap one_if is in (omega (arith, t.grows.got, t.grows.sent, before, after), inr (record { shut = is ∙ sym was; quiet = λ up. quiet }))
+    by_found was is (inr quiet) = by_bytes (is ∙ sym was) (λ up. quiet) (bytes-more old new t.grows.got t.grows.sent)
 
     by_shut : (a b : Bool) → is_shut (view old.end).state ≡ a → is_shut (view new.end).state ≡ b → (work_with old ≤ work_with new) × ((work_with old < work_with new) ⊎ Rests old new)
-    by_shut true true was is =
-        let before = ap one_if was in
-        let after = ap one_if is in (omega (arith, t.grows.got, t.grows.sent, before, after), inr (record { shut = is ∙ sym was; quiet = λ up. absurd (false≢true (sym up ∙ is)) }))
+    by_shut true true was is = by_bytes (is ∙ sym was) (λ up. absurd (false≢true (sym up ∙ is))) (bytes-more old new t.grows.got t.grows.sent)
     by_shut true false was is = absurd (false≢true (sym is ∙ t.grows.shut was))
     by_shut false true was is =
         let before = ap one_if was in

@@ -1,32 +1,28 @@
 -- How much a task has done, as a number that no turn lowers, and what a turn is that doesn't raise it.
 -- Source: this project's own.
-use Rattle.std.specs.Prelude.{◌≡◌, ◌≢◌, ◌⊎◌, ℕ, ◌+◌, ◌-◌, ◌<◌, ◌≤◌, Bool, true, false, List, [], ◌∷◌, length, Option, Some, None, is_some}
+use Rattle.std.specs.Prelude.{◌≡◌, ◌≢◌, ◌⊎◌, ℕ, ◌+◌, ◌-◌, ◌<◌, ◌≤◌, false, List, [], ◌∷◌, length, Option, Some, None, is_some}
+use Rattle.std.specs.List.{AllZip as EachPair}
 use Rattle.end_view.specs.EndView.{EndView}
 use Rattle.vchan_rule.specs.Seated.{SeatedEnd, view}
 use Rattle.task_pool.specs.declared.task.Turn.{Turn}
 use Rattle.task_pool.specs.declared.task.Turn.TheVariants as turn
-use Rattle.task_duties.specs.Pairwise.{EachPair}
 use Rattle.task_duties.specs.declared.done.ControlEnd.{ControlEnd}
 use Rattle.channel_session.specs.declared.turned.Turned.{Turned}
 use Rattle.channel_session.specs.declared.turned.Turned.TheVariants.{Moved}
 use Rattle.channel_session.specs.Calling.{CallerAt, CallerTurns}
 use Rattle.channel_session.specs.Answering.{ServingAt, ServingTurns}
-use Rattle.channel_session.specs.Turning.{first_pace}
-use Rattle.data_slots.specs.Sessions.{Session, NotBegun, CallsWith, AwaitsPage, ServesWith, EndedWith, session_at, got_in, sent_in, has_ended}
+use Rattle.data_slots.specs.Sessions.{Session, NotBegun, CallsWith, AwaitsPage, ServesWith, EndedWith, session_at, got_in, sent_in}
 use Rattle.agent_control.specs.declared.control.AgentControl.{AgentControl}
 use Rattle.agent_task.specs.State.{AgentState}
 use Rattle.agent_task.specs.Moving.{HearsNothing}
 use Rattle.broker_task.specs.Lines.{is_shut}
 use Rattle.broker_task.specs.Moving.{BrokerLine, IsQuiet}
+use Rattle.broker_task.specs.Posting.{one_if}
 use Rattle.hostile_task.specs.Plan.{HostileState}
 use Rattle.hostile_task.specs.Turns.{all_turns, turns_left}
 use Rattle.domain_task.specs.declared.done.TaskDone.{TaskDone}
 use Rattle.domain_task.specs.declared.task.Task.{Task}
 use Rattle.domain_task.specs.declared.task.Task.TheVariants.{Agent, Broker, Hostile}
-
-abbrev pub one_if : Bool → ℕ
-one_if true = 1
-one_if false = 0
 
 -- ---- an agent, by its control channel and its sessions
 
@@ -38,9 +34,17 @@ abbrev pub bytes_of : Option AgentControl → ℕ
 bytes_of (Some control) = bytes_on control.port.end
 bytes_of None = 0
 
--- what came and went in a session, and one more once it is over
+-- how far a session has come: it has begun, its page is at hand, it is over
+abbrev pub steps_in : Session → ℕ
+steps_in NotBegun = 0
+steps_in AwaitsPage = 1
+steps_in (CallsWith at) = 2
+steps_in (ServesWith at) = 2
+steps_in (EndedWith end) = 3
+
+-- what came and went in a session, and its steps
 abbrev pub work_in : Session → ℕ
-work_in session = length (got_in session) + length (sent_in session) + one_if (has_ended session)
+work_in session = length (got_in session) + length (sent_in session) + steps_in session
 
 abbrev pub work_in_all : List Session → ℕ
 work_in_all [] = 0
@@ -65,14 +69,12 @@ pub data ChannelRests (old new : AgentState) : Type 0 where
   IsUp : old.over ≡ None → new.over ≡ None → IsStill old.channel new.channel → ChannelRests old new
   WasOver : (how : ControlEnd) → old.over ≡ Some how → new.over ≡ Some how → ChannelRests old new
 
--- a session moved nothing in a turn that it made or passed over; or the page that it awaits didn't come; or it hadn't begun before the turn, and has moved nothing since;
--- or it had been over
+-- a session moved nothing in a turn that it made or passed over; or the page that it awaits didn't come; or it hasn't begun; or it had been over
 pub data SessionRests (old new : Session) : Type 0 where
   CallerRests : (before now : CallerAt) (turned : Turned) → old ≡ CallsWith before → new ≡ CallsWith now → CallerTurns turned before now → turned ≢ Moved → SessionRests old new
   ServingRests : (before now : ServingAt) (turned : Turned) → old ≡ ServesWith before → new ≡ ServesWith now → ServingTurns turned before now → turned ≢ Moved → SessionRests old new
-  PageCame : (before now : ServingAt) (turned : Turned) → old ≡ AwaitsPage → before.pace ≡ first_pace → new ≡ ServesWith now → ServingTurns turned before now → turned ≢ Moved → SessionRests old new
   PageAwaited : old ≡ AwaitsPage → new ≡ AwaitsPage → SessionRests old new
-  HadNotBegun : old ≡ NotBegun → work_in new ≡ 0 → SessionRests old new
+  HasNotBegun : old ≡ NotBegun → new ≡ NotBegun → SessionRests old new
   HadEnded : (end : EndView) → old ≡ EndedWith end → new ≡ EndedWith end → SessionRests old new
 
 pub record AgentRests (old new : AgentState) : Type 0 where
@@ -89,9 +91,11 @@ abbrev pub work_with_all : List BrokerLine → ℕ
 work_with_all [] = 0
 work_with_all (line ∷ lines) = work_with line + work_with_all lines
 
--- a domain was quiet, or had been dropped
+-- a domain was quiet, or had been dropped; nothing was heard from it, and nothing said to it
 pub record Rests (old new : BrokerLine) : Type 0 where
   pub shut : is_shut (view new.end).state ≡ is_shut (view old.end).state
+  pub got : length (view new.end).got ≡ length (view old.end).got
+  pub sent : length (view new.end).sent ≡ length (view old.end).sent
   pub quiet : is_shut (view new.end).state ≡ false → IsQuiet old new
 
 -- ---- a hostile domain, by the turns of its acts

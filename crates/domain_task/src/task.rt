@@ -1,11 +1,12 @@
 //! One type for the tasks of a run.
 ghost use Rattle.std.specs.Prelude.{◌≡◌, ◌≤◌, ◌<◌, ◌^◌, ◌∷◌, [], IfOk, length, map};
-ghost use Rattle.qrexec_frame.specs.Streams.{Each};
+ghost use Rattle.std.specs.List.{AllByRecursion as Each};
 ghost use Rattle.ring_words.specs.declared.page.Role.TheVariants.{Server};
 ghost use Rattle.end_view.specs.EndView.{IsUnused};
 ghost use Rattle.vchan_rule.specs.Seated.{view};
 ghost use Rattle.call_broker.specs.Domains.{count_of};
-ghost use Rattle.call_queue.specs.Queue.{AreDifferent, FitsTrigger};
+ghost use Rattle.list_laws.specs.Lists.{AreDifferent};
+ghost use Rattle.call_queue.specs.Queue.{FitsTrigger};
 ghost use Rattle.data_slots.specs.Slots.{AreApart, IsGiven};
 ghost use Rattle.broker_task.specs.Given.{IsNewClient};
 ghost use Rattle.broker_task.specs.Replies.{HasShortNames};

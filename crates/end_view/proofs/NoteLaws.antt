@@ -1,5 +1,6 @@
 -- What an end has noted after a whole call: its state, whether it has seen its peer's end, and whether it is retired. Each row is walked once.
 use Rattle.std.proofs.Common.{◌≡◌, ℕ, suc, zero, ◌+◌, ◌==◌, min, nat_lt, Bool, true, false, not, ◌&&◌, ◌||◌, cond, List, [], ◌∷◌, refl, subst, sym, ap, ◌∙◌}
+use Rattle.std.proofs.Math.Bool.{or-false}
 use Rattle.ring_words.specs.declared.page.Role.{Role}
 use Rattle.ring_words.specs.declared.page.Role.TheVariants.{Server, Client}
 use Rattle.ring_words.specs.declared.page.WordName.{WordName}
@@ -18,7 +19,7 @@ use Rattle.vchan_protocol.specs.declared.call.EndState.TheVariants.{Fresh, Open,
 use Rattle.vchan_protocol.specs.declared.side.Side.{Side}
 use Rattle.vchan_protocol.specs.Table.Plan.{Plan, does, answers, Leads}
 use Rattle.vchan_protocol.specs.Table.Ends.{Standing, written_ring, read_ring, prod_word, cons_word, peer_live, own_live, own_gone, peer_gone, peer_pending, state_after, free_at, ready_at, low8, low16, low32}
-use Rattle.vchan_protocol.specs.Table.Calls.{Trace, put_bytes, take_bytes, put_index, take_index, put, take, notify, ask, write, write_open, write_looked, read, read_live, read_looked, drain_found, drain_last, drain_gone, drain_further, drain_live, drain_second, drain, connect, connect_right, close, retire, retire_shut, plan_of, send, send_open, send_looked, recv, recv_live, recv_looked, IsAllowed}
+use Rattle.vchan_protocol.specs.Table.Calls.{Trace, put_bytes, take_bytes, put, take, notify, ask, write, write_open, write_looked, read, read_live, read_looked, drain_found, drain_last, drain_gone, drain_further, drain_live, drain_second, drain, connect, connect_right, close, retire, retire_shut, plan_of, send, send_open, send_looked, recv, recv_live, recv_looked, IsAllowed}
 use Rattle.vchan_protocol.specs.History.Core.{standing_of, begins, is_shut, sees_end, sets_gone, saw_after, made}
 use Rattle.vchan_protocol.specs.OneEnd.OneCall.{side_along}
 use Rattle.end_view.specs.AfterCall.{state_told, retires, SeesAsTold}
@@ -73,10 +74,6 @@ not_seen : (saw here : Bool) → (saw || (here && false)) ≡ saw
 not_seen true here = refl
 not_seen false true = refl
 not_seen false false = refl
-
-none_more : (b : Bool) → (b || false) ≡ b
-none_more true = refl
-none_more false = refl
 
 module _ (P : Noted) where
   n_answers : (role : Role) (state : EndState) (saw retired : Bool) (answer : Answer) → P state saw retired answer → Notes role P state saw retired (answers answer)
@@ -160,10 +157,10 @@ module _ (P : Noted) where
   -- the call goes on by what they show
   n_if_shut : (role : Role) (saw retired b : Bool) (closed going : Plan) → Notes role P Open (saw || true) retired closed → Notes role P Open saw retired going → Notes role P Open (saw || b) retired (cond b closed going)
   n_if_shut role saw retired true closed going one two = one
-  n_if_shut role saw retired false closed going one two = subst (λ (b : Bool). Notes role P Open b retired going) (sym (none_more saw)) two
+  n_if_shut role saw retired false closed going one two = subst (λ (b : Bool). Notes role P Open b retired going) (sym (or-false saw)) two
 
   n_if_here : (role : Role) (saw retired b : Bool) (here away : Plan) → Notes role P Open saw retired here → Notes role P Open (saw || true) retired away → Notes role P Open (saw || not b) retired (cond b here away)
-  n_if_here role saw retired true here away one two = subst (λ (b : Bool). Notes role P Open b retired here) (sym (none_more saw)) one
+  n_if_here role saw retired true here away one two = subst (λ (b : Bool). Notes role P Open b retired here) (sym (or-false saw)) one
   n_if_here role saw retired false here away one two = two
 
   module _ (e : Standing) (state : EndState) (saw retired : Bool) where
@@ -206,10 +203,10 @@ module _ (e : Standing) (saw retired : Bool) where
   Rows call now plan = Notes e.role (Told Open saw retired call) Open now retired plan
 
   same : retired ≡ (retired || false)
-  same = sym (none_more retired)
+  same = sym (or-false retired)
 
   unseen : saw ≡ (saw || false)
-  unseen = sym (none_more saw)
+  unseen = sym (or-false saw)
 
   -- ---- a write and a send
 
@@ -343,10 +340,10 @@ always false = refl
 
 module _ (e : Standing) (saw retired : Bool) where
   same_saw : saw ≡ (saw || false)
-  same_saw = sym (none_more saw)
+  same_saw = sym (or-false saw)
 
   same_gone : retired ≡ (retired || false)
-  same_gone = sym (none_more retired)
+  same_gone = sym (or-false retired)
 
   n_retires : (state : EndState) → e.state ≡ state → Notes e.role (Told state saw retired Retire) state saw retired (retire e state)
   n_retires Fresh is = let P = Told Fresh saw retired Retire in n_close P e Fresh saw retired _ (n_retire_shut P e Shut saw retired (refl, same_saw, always retired))

@@ -1,21 +1,13 @@
 -- The view of an end after a call that ends no stream, opens or shuts nothing and retires nothing: only its lists, and whether it saw its peer's end, may change.
-use Rattle.std.proofs.Common.{◌≡◌, ℕ, ◌++◌, ◌||◌, Bool, true, false, Option, Some, None, List, take, refl, ap, ◌∙◌}
+use Rattle.std.proofs.Common.{◌≡◌, ℕ, ◌++◌, ◌||◌, Bool, false, Option, Some, None, List, take, refl, ap, ◌∙◌}
+use Rattle.std.proofs.Math.Bool.{or-false}
 use Rattle.vchan_protocol.specs.declared.call.Answer.{Answer}
 use Rattle.vchan_protocol.specs.declared.call.Call.{Call}
-use Rattle.vchan_protocol.specs.declared.call.EndState.{EndState}
 use Rattle.vchan_protocol.specs.declared.side.EndedBy.{EndedBy}
 use Rattle.vchan_protocol.specs.History.Core.{ending, drains, first_ended, misleads}
 use Rattle.vchan_protocol.specs.OneEnd.OneCall.{bytes_out, bytes_in}
 use Rattle.end_view.specs.EndView.{EndView}
 use Rattle.end_view.specs.AfterCall.{answered_view, state_told, retires}
-
-pub or_no : (b : Bool) → (b || false) ≡ b
-or_no true = refl
-or_no false = refl
-
-pub or_yes : (b : Bool) → (b || true) ≡ true
-or_yes true = refl
-or_yes false = refl
 
 pub ended_no : (ended : Option EndedBy) → first_ended ended None ≡ ended
 ended_no None = refl
@@ -32,9 +24,9 @@ pub quiet_view : (e : EndView) (call : Call) (payload buffer : List ℕ) (answer
     answered_view e call payload buffer answer saw ≡ record e { sent = sent; got = got; saw = saw' }
 quiet_view e call payload buffer answer saw saw' sent got q sends gets sees =
     let ended = ap (λ (o : Option EndedBy). first_ended e.ended o) q.ends ∙ ended_no e.ended in
-    let drained = ap (λ (b : Bool). e.drained || b) q.drained ∙ or_no e.drained in
-    let misled = ap (λ (b : Bool). e.misled || b) q.misled ∙ or_no e.misled in
-    let retired = ap (λ (b : Bool). e.retired || b) q.stays ∙ or_no e.retired in
+    let drained = ap (λ (b : Bool). e.drained || b) q.drained ∙ or-false e.drained in
+    let misled = ap (λ (b : Bool). e.misled || b) q.misled ∙ or-false e.misled in
+    let retired = ap (λ (b : Bool). e.retired || b) q.stays ∙ or-false e.retired in
     λ i. record {
       page = e.page;
       role = e.role;

@@ -1,5 +1,5 @@
 -- The view of an end after a whole call, and the views of two ends that are done with their page.
-use Rattle.std.proofs.Common.{◌≡◌, ℕ, ◌+◌, ◌≤◌, ◌++◌, ◌||◌, Bool, true, false, cond, List, [], ◌∷◌, take, length, refl, subst, sym, ap, ◌∙◌}
+use Rattle.std.proofs.Common.{◌≡◌, ℕ, Bool, true, false, List, [], ◌∷◌, refl, subst, sym, ap, ◌∙◌}
 use Rattle.atomic_table.specs.Seated.{TableId}
 use Rattle.ring_words.specs.declared.order.Orders.{Orders}
 use Rattle.vchan_protocol.specs.declared.op.PastEvent.{PastEvent}
@@ -11,15 +11,11 @@ use Rattle.vchan_protocol.specs.History.Core.{begins, made}
 use Rattle.vchan_protocol.specs.Honest.LifeLaw.{SaysOrders}
 use Rattle.vchan_protocol.specs.Always.Invariant.{PageSettled, StreamSettled}
 use Rattle.vchan_protocol.specs.OneEnd.OneCall.{IsOver, side_along}
-use Rattle.vchan_protocol.proofs.OneEnd.OneCallWay.{over_tells}
+use Rattle.vchan_protocol.proofs.OneEnd.OneCallWay.{over_tells, along-role}
 use Rattle.end_view.specs.EndView.{view_of, hostile_trail}
 use Rattle.end_view.specs.AfterCall.{ViewAfterCall, SeesAsTold}
 use Rattle.end_view.specs.Settled.{settled_view, AreDone, IsSettled, IsHonestRing, IsTurnedRing}
 use Rattle.end_view.proofs.NoteLaws.{notes_told}
-
-along-role : (s : Side) (events : List PastEvent) → (side_along s events).role ≡ s.role
-along-role s [] = refl
-along-role s (event ∷ events) = along-role (made s event.op event.taken) events
 
 along-consumed : (s : Side) (events : List PastEvent) → (side_along s events).consumed ≡ s.consumed
 along-consumed s [] = refl

@@ -1,13 +1,13 @@
 -- What holds of a page after both its ends are retired.
 -- The statements are this project's own.
-use Rattle.std.specs.Prelude.{◌≡◌, ℕ, ◌+◌, ◌≤◌, List, length, take, Bool, true, false, IsSome}
+use Rattle.std.specs.Prelude.{◌≡◌, ℕ, ◌+◌, ◌≤◌, length, take, true, false, IsSome}
+use Rattle.list_laws.specs.Lists.{IsPrefixOf}
 use Rattle.atomic_table.specs.Seated.{TableId}
 use Rattle.ring_words.specs.Rings.{size}
 use Rattle.ring_words.specs.declared.order.Orders.{Orders}
 use Rattle.ring_words.specs.declared.page.Role.TheVariants.{Server, Client}
 use Rattle.vchan_protocol.specs.declared.call.EndState.TheVariants.{Shut}
 use Rattle.vchan_protocol.specs.declared.side.Side.{Side}
-use Rattle.vchan_protocol.specs.Honest.RingLaw.{IsPrefixOf}
 use Rattle.vchan_protocol.specs.Honest.LifeLaw.{SaysOrders}
 use Rattle.vchan_protocol.specs.Always.Invariant.{PageSettled}
 use Rattle.end_view.specs.EndView.{EndView, view_of}

@@ -1,6 +1,6 @@
 -- The bytes that a hostile user stores one after another.
-use Rattle.std.proofs.Common.{◌≡◌, ℕ, ◌+◌, ◌%◌, ◌^◌, ◌<◌, List, [], ◌∷◌, ◌++◌, length, take, slice_index, refl, sym, ap, ◌∙◌, arith}
-use Rattle.std.proofs.lemmas.List.{length-take, take_more}
+use Rattle.std.proofs.Common.{◌≡◌, ℕ, ◌+◌, ◌%◌, ◌^◌, ◌<◌, List, [], ◌∷◌, ◌++◌, length, take, slice_index, refl, sym, ap, ◌∙◌, arith, append_assoc}
+use Rattle.std.proofs.lemmas.List.{length-take, take_more, append-nil}
 use Rattle.ring_words.specs.Rings.{place}
 use Rattle.ring_words.specs.Page.{order_of}
 use Rattle.ring_words.specs.declared.order.Orders.{Orders}
@@ -50,3 +50,11 @@ stored_more s now index at byte lies bytes is less value there =
     (λ i. strays (is i) (Store (RingByte (written_ring s.role) (lies_at i)) (value i)) 0)
     ∙ sym (along_push s (byte_stores s.role s.orders index (take at bytes)) (Store (RingByte (written_ring s.role) (place (index + length (take at bytes)) order)) (slice_index bytes at)) 0)
     ∙ ap (λ (events : List PastEvent). strays_along s events) (sym (byte_stores-push s.role s.orders index (take at bytes) (slice_index bytes at)) ∙ ap (λ (xs : List ℕ). byte_stores s.role s.orders index xs) (sym (take_more bytes at 0 less)))
+
+pub along_trail : (s : Side) (events : List PastEvent) → (strays_along s events).trail ≡ s.trail ++ events
+along_trail s [] = sym (append-nil s.trail)
+along_trail s (event ∷ events) = along_trail (strays s event.op event.taken) events ∙ append_assoc s.trail (event ∷ []) events
+
+pub along_turned : (s : Side) (events : List PastEvent) → (strays_along s events).turned ≡ s.turned
+along_turned s [] = refl
+along_turned s (event ∷ events) = along_turned (strays s event.op event.taken) events

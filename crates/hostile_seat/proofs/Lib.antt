@@ -1,1 +1,1 @@
-mod ByteLaws
+pub mod ByteLaws

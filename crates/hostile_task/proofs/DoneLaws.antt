@@ -1,29 +1,30 @@
 -- A task whose acts are all done owes the trails of its ends.
-use Rattle.std.proofs.Common.{◌≡◌, ℕ, ◌+◌, ◌≤◌, Bool, true, false, List, [], ◌∷◌, ◌++◌, Option, None, length, map, take, if◌then◌else◌, refl, sym, subst, ap, ◌∙◌, arith}
-use Rattle.std.specs.List.{flat_map}
+use Rattle.std.proofs.Common.{◌≡◌, ℕ, ◌+◌, Bool, true, false, List, [], ◌∷◌, ◌++◌, Option, None, length, map, take, if◌then◌else◌, refl, sym, subst, ap, ◌∙◌, arith}
+use Rattle.std.specs.List.{flat_map, AllByRecursion as Each, AllZip as EachPair}
 use Rattle.std.specs.Option.{option_and_then}
-use Rattle.std.proofs.lemmas.List.{append-nil, length-map}
+use Rattle.std.proofs.lemmas.List.{append-nil}
 use Rattle.std.proofs.lemmas.Option.{slice_get_past}
 use Rattle.std.proofs.Math.Seq.{take-length}
+use Rattle.list_laws.proofs.Each.{each-through}
 use Rattle.ring_words.specs.declared.page.Role.{Role}
 use Rattle.ring_words.specs.declared.page.Role.TheVariants.{Server}
 use Rattle.vchan_protocol.specs.declared.op.PastEvent.{PastEvent}
 use Rattle.vchan_protocol.specs.Table.Ends.{written_ring, prod_word}
 use Rattle.end_view.specs.EndView.{EndView, hostile_trail}
 use Rattle.vchan_rule.specs.Seated.{view}
-use Rattle.qrexec_frame.specs.Streams.{Each}
 use Rattle.hostile_seat.specs.Hostile.{strays_along}
+use Rattle.hostile_seat.proofs.ByteLaws.{along_trail, along_role, along_turned}
 use Rattle.scenario_file.specs.declared.acts.Act.{Act}
 use Rattle.task_duties.specs.declared.place.PagePlace.{PagePlace}
 use Rattle.task_duties.specs.declared.place.PagePlace.TheVariants.{Control, Payload}
 use Rattle.task_duties.specs.declared.ends.RetiredEnd.{RetiredEnd}
-use Rattle.task_duties.specs.Pairwise.{EachPair}
 use Rattle.task_duties.specs.Places.{is_place}
 use Rattle.task_duties.specs.TaskOwes.{EndAt, IsSameEnd, AreEnds, AreGivenBack, IsTurnedFrom, before_turned, TaskOwes, Hostile, NoMemory}
 use Rattle.task_duties.specs.GivenEnds.{done_view, retired_at, all_retired}
 use Rattle.task_duties.specs.Hostile.Given.{HostilePlan}
 use Rattle.task_duties.specs.Hostile.Stores.{loaded, stores_of, role_at}
 use Rattle.task_duties.specs.Hostile.Trail.{words_of, first_voice, retiring, IsTrail}
+use Rattle.task_duties.proofs.Places.{same-self}
 use Rattle.hostile_task.specs.declared.domain.HostileDomain.{HostileDomain}
 use Rattle.hostile_task.specs.declared.page.TurnedPage.{TurnedPage}
 use Rattle.hostile_task.specs.declared.pages.Pages.{Pages}
@@ -35,9 +36,8 @@ use Rattle.hostile_task.specs.Pages.{AreSamePages, IsRetiredOf, given_in, given_
 use Rattle.hostile_task.specs.UnderWay.{IsTrailSoFar, IsPart, words_at, ActsDone, IsPageSoFar, IsUnderWay}
 use Rattle.hostile_task.specs.Finishing.{Finishes}
 use Rattle.hostile_task.specs.Turns.{Pays}
-use Rattle.hostile_task.proofs.PageLaws.{along_trail, along_role, along_turned, along_before}
+use Rattle.hostile_task.proofs.PageLaws.{along_before}
 use Rattle.hostile_task.proofs.TurnLaws.{none_left, state_of}
-use Rattle.hostile_task.proofs.DrawLaws.{is_place-same}
 use Rattle.hostile_task.proofs.TrailLaws.{all_acts}
 
 -- ---- lists in step
@@ -53,10 +53,6 @@ pairs_of_pairs R P S f g [] [] gives pairs all = tt
 pairs_of_pairs R P S f g [] (y ∷ ys) gives pairs all = absurd pairs
 pairs_of_pairs R P S f g (x ∷ xs) [] gives pairs all = absurd pairs
 pairs_of_pairs R P S f g (x ∷ xs) (y ∷ ys) gives pairs all = (gives x y pairs.0 all.0, pairs_of_pairs R P S f g xs ys gives pairs.1 all.1)
-
-each_mapped : {A B : Type 0} (Q : B → Type 0) (f : A → B) (xs : List A) → Each (λ x. Q (f x)) xs → Each Q (map f xs)
-each_mapped Q f [] all = tt
-each_mapped Q f (x ∷ xs) all = (all.0, each_mapped Q f xs all.1)
 
 map-pairs : {A B C : Type 0} (R : A → B → Type 0) (f : A → C) (g : B → C) (xs : List A) (ys : List B) → ((x : A) (y : B) → R x y → g y ≡ f x) → EachPair R xs ys → map g ys ≡ map f xs
 map-pairs R f g [] [] same pairs = refl
@@ -74,7 +70,7 @@ are_at : (none : EndView) (ends : List EndAt) → AreApart (map (λ e. e.place) 
 unfolding end_at
 are_at none [] apart = tt
 are_at none (e ∷ ends) apart =
-    (ap (λ (test : Bool). if test then e.view else end_at none ends e.place) (sym (is_place-same e.place)), later ends apart.0 (are_at none ends apart.1))
+    (ap (λ (test : Bool). if test then e.view else end_at none ends e.place) (sym (same-self e.place)), later ends apart.0 (are_at none ends apart.1))
   where
     later : (others : List EndAt) → Each (λ q. is_place e.place q ≡ false) (map (λ o. o.place) others) → Each (λ o. o.view ≡ end_at none ends o.place) others
         → Each (λ o. o.view ≡ (if is_place e.place o.place then e.view else end_at none ends o.place)) others
@@ -128,7 +124,7 @@ page_from plan p page r retired so_far = record {
 are_back : (plan : HostilePlan) (p : Progress) (every : List TurnedPage) (rs : List RetiredEnd) → Each (IsPageSoFar plan p) every → EachPair IsRetiredOf every rs → AreGivenBack true (map given_of every) (all_retired rs)
 are_back plan p every rs so_far retired = record {
   same = pairs_of_pairs IsRetiredOf (IsPageSoFar plan p) IsSameEnd given_of retired_at every rs (λ page r is here. page_same plan p page r is here) retired so_far;
-  turned_are = each_mapped (λ e. e.view.turned ≡ true) retired_at rs
+  turned_are = each-through (λ e. e.view.turned ≡ true) retired_at rs
       (each_of_pairs IsRetiredOf (IsPageSoFar plan p) (λ r. (done_view r.retired).turned ≡ true) every rs (λ page r is here. page_turned plan p page r is here) retired so_far);
 }
 
@@ -139,12 +135,6 @@ pub back_pays : (domain : HostileDomain) (old new : Pages) (p next : Progress) (
     → TaskOwes (Hostile (plan_of domain (places_in old)) (given_in old)) (NoMemory (all_retired rs))
 back_pays domain old new p next spelled rs same way retired =
     (true, subst (λ (given : List EndAt). AreGivenBack true given (all_retired rs)) same.given (are_back (plan_of domain (places_in new)) next (new.control ∷ new.payload.items) rs way.so_far retired))
-
--- the list of ends has room for those of the same pages
-pub same_room : (old new : Pages) (room : ℕ) → AreSamePages old new → length old.payload.items + 1 ≤ room → length new.payload.items + 1 ≤ room
-same_room old new room same less =
-    let count : length (map given_of (new.control ∷ new.payload.items)) ≡ length (map given_of (old.control ∷ old.payload.items)) = ap (λ (ends : List EndAt). length ends) same.given in
-    omega (arith, less, count, length-map new.payload.items given_of, length-map old.payload.items given_of)
 
 pub done_pays : (domain : HostileDomain) (pages : Pages) (p : Progress) (spelled : List ℕ) (result : HostileTurn) → IsUnderWay domain pages p spelled → p.acts ≡ length domain.acts → Finishes domain.number pages result
     → Pays (state_of domain pages p) result
@@ -159,7 +149,7 @@ done_pays domain pages p spelled (turn.Done done) way all finishes = (
       back = back;
       are = are_at (view pages.control.given.value) ends (subst (λ (ps : List PagePlace). AreApart ps) (sym places) way.apart);
     },
-    each_mapped (λ e. IsTrail plan e.place e.view.trail) retired_at done.ends.items
+    each-through (λ e. IsTrail plan e.place e.view.trail) retired_at done.ends.items
         (each_of_pairs IsRetiredOf (IsPageSoFar plan p) (λ r. IsTrail plan r.place (done_view r.retired).trail) every done.ends.items (λ page r retired so_far. page_done plan p page r all retired so_far) finishes.1 way.so_far),
     pairs_of_pairs IsRetiredOf (IsPageSoFar plan p) IsTurnedFrom given_of retired_at every done.ends.items (λ page r retired so_far. page_from plan p page r retired so_far) finishes.1 way.so_far,
   ),

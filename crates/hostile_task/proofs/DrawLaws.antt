@@ -1,5 +1,5 @@
 -- A drawn store falls on one page alone.
-use Rattle.std.proofs.Common.{◌≡◌, ℕ, ◌+◌, ◌%◌, ◌<◌, ◌==◌, ◌&&◌, suc, zero, Bool, true, false, List, [], ◌∷◌, ◌++◌, length, map, slice_get, slice_set, slice_index_or, unwrap_or, if◌then◌else◌, refl, sym, subst, ap, ◌∙◌, append_assoc, arith, add-one}
+use Rattle.std.proofs.Common.{◌≡◌, ℕ, ◌+◌, ◌%◌, ◌<◌, ◌&&◌, suc, zero, Bool, false, List, [], ◌∷◌, ◌++◌, length, map, slice_get, slice_set, slice_index_or, unwrap_or, if◌then◌else◌, refl, sym, subst, ap, ◌∙◌, append_assoc, arith, add-one}
 use Rattle.std.specs.Option.{option_map_or}
 use Rattle.std.proofs.Math.Nat.{mod-lt}
 use Rattle.ring_words.specs.declared.order.Orders.{Orders}
@@ -11,33 +11,26 @@ use Rattle.task_duties.specs.Places.{is_place}
 use Rattle.scenario_file.specs.Generator.{Drawn, drawn, next_number}
 use Rattle.task_duties.specs.Hostile.Given.{HostilePlan}
 use Rattle.task_duties.specs.Hostile.Stores.{field_of, header_words, stored, drawn_on, scribbled}
+use Rattle.task_duties.proofs.Places.{same-self}
 use Rattle.ring_words.specs.declared.page.WordName.{WordName}
 use Rattle.ring_words.specs.declared.page.WordName.TheVariants.{LeftCons, SrvNotify}
-use Rattle.qrexec_frame.specs.Streams.{Each}
-use Rattle.std.proofs.lemmas.Bool.Decides.{nat_tests}
 use Rattle.hostile_task.specs.declared.page.TurnedPage.{TurnedPage}
 use Rattle.hostile_task.specs.Plan.{AreApart}
 use Rattle.hostile_task.specs.declared.pages.Pages.{Pages}
 use Rattle.hostile_task.specs.Pages.{after_events, AreAfter, places_in}
 use Rattle.hostile_task.proofs.PageLaws.{are_after_none, are_after_then, are_same_after}
-use Rattle.std.specs.List.{flat_map}
+use Rattle.std.specs.List.{flat_map, AllByRecursion as Each}
 use Rattle.std.proofs.lemmas.List.{append-nil, length-map}
 use Rattle.std.proofs.lemmas.Grind.{flat_map-append}
+use Rattle.list_laws.proofs.Tests.{equal-either-way}
 
 -- ---- places
 
-pub is_place-same : (p : PagePlace) → is_place p p ≡ true
-is_place-same (Control d) = grind (arith, nat_tests)
-is_place-same (Payload from to port) = grind (arith, nat_tests)
-
-eq-comm : (a b : ℕ) → (a == b) ≡ (b == a)
-eq-comm a b = grind (arith, nat_tests)
-
 pub is_place-comm : (p q : PagePlace) → is_place p q ≡ is_place q p
-is_place-comm (Control d) (Control e) = eq-comm d e
+is_place-comm (Control d) (Control e) = equal-either-way d e
 is_place-comm (Control d) (Payload from to port) = refl
 is_place-comm (Payload from to port) (Control d) = refl
-is_place-comm (Payload f t p) (Payload from to port) = λ i. (eq-comm f from i && eq-comm t to i) && eq-comm p port i
+is_place-comm (Payload f t p) (Payload from to port) = λ i. (equal-either-way f from i && equal-either-way t to i) && equal-either-way p port i
 
 -- the store of the page at an index, and no other
 abbrev pub falls_on : List PagePlace → ℕ → PastEvent → PagePlace → List PastEvent
@@ -61,7 +54,7 @@ untouched q event (x ∷ xs) apart =
 pub set-falls_on : (xs : List TurnedPage) (at : ℕ) (d : TurnedPage) (event : PastEvent) → AreApart (map (λ p. p.place) xs) → at < length xs
     → slice_set xs at (after_events (slice_index_or xs at d) (event ∷ [])) ≡ map (λ p. after_events p (falls_on (map (λ p. p.place) xs) at event p.place)) xs
 set-falls_on [] at d event apart less = absurd (omega arith)
-set-falls_on (x ∷ xs) zero d event apart less = λ i. after_events x (on (sym (is_place-same x.place) i) event) ∷ untouched x.place event xs apart.0 i
+set-falls_on (x ∷ xs) zero d event apart less = λ i. after_events x (on (sym (same-self x.place) i) event) ∷ untouched x.place event xs apart.0 i
 set-falls_on (x ∷ xs) (suc n) d event apart less =
     λ i. after_events x (on (sym (not_at x.place (map (λ p. p.place) xs) n apart.0) i) event) ∷ set-falls_on xs n d event apart.1 (omega arith) i
 

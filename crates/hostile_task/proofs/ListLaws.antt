@@ -1,11 +1,6 @@
 -- Lists that are changed in place, and lists in step.
 use Rattle.std.proofs.Common.{◌≡◌, ℕ, ◌+◌, ◌<◌, ◌≤◌, suc, zero, List, [], ◌∷◌, ◌++◌, length, take, drop, map, slice_index_or, slice_set, refl, sym, subst, ap, ◌∙◌, arith, add-one, append-nil}
-use Rattle.std.specs.declared.vec.IntoIter.{IntoIter}
-use Rattle.std.specs.Vec.Iter.{into_iter_items, into_iter_len}
-use Rattle.std.proofs.lemmas.Grind.{common_steps}
 use Rattle.std.proofs.Math.Seq.{take-append_seam}
-use Rattle.qrexec_frame.specs.Streams.{Each}
-use Rattle.task_duties.specs.Pairwise.{EachPair}
 
 -- f of the first few elements, and the others as they are
 abbrev pub map_first : {A : Type 0} → (A → A) → ℕ → List A → List A
@@ -43,47 +38,15 @@ map_more {A} f i xs items d new are less is =
 
 -- ---- each element
 
-pub each_at : {A : Type 0} (P : A → Type 0) (xs : List A) (i : ℕ) (d : A) → Each P xs → i < length xs → P (slice_index_or xs i d)
-each_at P [] i d all less = absurd (omega arith)
-each_at P (x ∷ xs) zero d all less = all.0
-each_at P (x ∷ xs) (suc n) d all less = each_at P xs n d all.1 (omega arith)
-
-pub each_map : {A B : Type 0} (P : A → Type 0) (Q : B → Type 0) (f : A → B) (xs : List A) → ((x : A) → P x → Q (f x)) → Each P xs → Each Q (map f xs)
-each_map P Q f [] gives all = tt
-each_map P Q f (x ∷ xs) gives all = (gives x all.0, each_map P Q f xs gives all.1)
-
-pub each_gives : {A : Type 0} (P Q : A → Type 0) (xs : List A) → ((x : A) → P x → Q x) → Each P xs → Each Q xs
-each_gives P Q [] gives all = tt
-each_gives P Q (x ∷ xs) gives all = (gives x all.0, each_gives P Q xs gives all.1)
-
-pub each_both : {A : Type 0} (P Q R : A → Type 0) (xs : List A) → ((x : A) → P x → Q x → R x) → Each P xs → Each Q xs → Each R xs
-each_both P Q R [] gives ps qs = tt
-each_both P Q R (x ∷ xs) gives ps qs = (gives x ps.0 qs.0, each_both P Q R xs gives ps.1 qs.1)
-
-pub map-each : {A B : Type 0} (f g : A → B) (xs : List A) → Each (λ x. f x ≡ g x) xs → map f xs ≡ map g xs
-map-each f g [] all = refl
-map-each f g (x ∷ xs) all = λ i. all.0 i ∷ map-each f g xs all.1 i
-
 pub map-map : {A B C : Type 0} (f : A → B) (g : B → C) (xs : List A) → map g (map f xs) ≡ map (λ x. g (f x)) xs
 map-map f g [] = refl
 map-map {A} {B} {C} f g (x ∷ xs) = ap (λ (ys : List C). g (f x) ∷ ys) (map-map f g xs)
 
 -- ---- lists in step
 
--- one pair more
-pub pairs_push : {A B : Type 0} (R : A → B → Type 0) (xs : List A) (ys : List B) (x : A) (y : B) → EachPair R xs ys → R x y → EachPair R (xs ++ x ∷ []) (ys ++ y ∷ [])
-pairs_push R [] [] x y all one = (one, tt)
-pairs_push R [] (b ∷ bs) x y all one = absurd all
-pairs_push R (a ∷ others) [] x y all one = absurd all
-pairs_push R (a ∷ others) (b ∷ bs) x y all one = (all.0, pairs_push R others bs x y all.1 one)
-
 -- what was written through a vector's elements is what it has
 pub written_back : {A : Type 0} (n : ℕ) (items old : List A) → length items ≡ n → take n (items ++ drop (length items) old) ≡ items
 written_back {A} n items old is = subst (λ (k : ℕ). take k (items ++ drop (length items) old) ≡ items) is (take-append_seam items (drop (length items) old))
-
--- an iterator with nothing left has no items
-pub none_left : {X Z : Type 0} (it : IntoIter X Z) → into_iter_len it ≡ 0 → length (into_iter_items it) ≡ 0
-none_left it none = grind (arith, common_steps, none)
 
 -- a list whose rest is empty is the whole
 pub whole_list : {A : Type 0} (xs ys all : List A) → xs ++ ys ≡ all → length ys ≡ 0 → xs ≡ all

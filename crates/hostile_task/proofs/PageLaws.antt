@@ -1,6 +1,5 @@
 -- Pages after some events of their hostile user.
-use Rattle.std.proofs.Common.{◌≡◌, List, [], ◌∷◌, ◌++◌, map, refl, sym, ap, ◌∙◌, append_assoc}
-use Rattle.std.proofs.lemmas.List.{append-nil}
+use Rattle.std.proofs.Common.{◌≡◌, List, [], ◌∷◌, ◌++◌, map, refl, ap, ◌∙◌}
 use Rattle.vchan_protocol.specs.declared.op.PastEvent.{PastEvent}
 use Rattle.vchan_protocol.specs.declared.side.Side.{Side}
 use Rattle.vchan_protocol.specs.Hostile.Turned.{strays}
@@ -19,22 +18,6 @@ use Rattle.hostile_task.proofs.ListLaws.{map-map}
 pub along_append : (s : Side) (first more : List PastEvent) → strays_along (strays_along s first) more ≡ strays_along s (first ++ more)
 along_append s [] more = refl
 along_append s (event ∷ events) more = along_append (strays s event.op event.taken) events more
-
-pub along_trail : (s : Side) (events : List PastEvent) → (strays_along s events).trail ≡ s.trail ++ events
-along_trail s [] = sym (append-nil s.trail)
-along_trail s (event ∷ events) = along_trail (strays s event.op event.taken) events ∙ append_assoc s.trail (event ∷ []) events
-
-pub along_role : (s : Side) (events : List PastEvent) → (strays_along s events).role ≡ s.role
-along_role s [] = refl
-along_role s (event ∷ events) = along_role (strays s event.op event.taken) events
-
-pub along_orders : (s : Side) (events : List PastEvent) → (strays_along s events).orders ≡ s.orders
-along_orders s [] = refl
-along_orders s (event ∷ events) = along_orders (strays s event.op event.taken) events
-
-pub along_turned : (s : Side) (events : List PastEvent) → (strays_along s events).turned ≡ s.turned
-along_turned s [] = refl
-along_turned s (event ∷ events) = along_turned (strays s event.op event.taken) events
 
 -- what the end was before it was turned
 pub along_before : (e : SeatedSide) (events : List PastEvent) → before_turned (last_view (side_after e events)) ≡ before_turned (last_view e)

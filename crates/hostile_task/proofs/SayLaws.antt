@@ -31,11 +31,6 @@ said-push v bytes (first ∷ loads) cons =
     ap (λ (s : Saying). record s { events = once ++ s.events }) (said-push (moved v (fits v bytes first)) (drop (fits v bytes first) bytes) loads cons)
     ∙ (λ i. record { events = sym (append_assoc once next.events (said_once next.voice next.left cons)) i; voice = moved next.voice (fits next.voice next.left cons); left = drop (fits next.voice next.left cons) next.left })
 
--- the voice keeps its orders
-said-orders : (v : Voice) (bytes loads : List ℕ) → (said v bytes loads).voice.orders ≡ v.orders
-said-orders v bytes [] = refl
-said-orders v bytes (cons ∷ loads) = said-orders (moved v (fits v bytes cons)) (drop (fits v bytes cons) bytes) loads
-
 -- nothing is sent yet
 pub nothing_said : (v : Voice) (bytes : List ℕ) (p : Progress) → p.own ≡ v.own → p.turns ≡ 0 → p.said ≡ 0 → SaysSoFar v bytes p []
 nothing_said v bytes p own turns none = record {

@@ -3,20 +3,15 @@ use Rattle.std.proofs.Common.{◌≡◌, ℕ, ◌+◌, ◌<◌, ◌^◌, suc, ze
 use Rattle.std.specs.Prelude.{Contains, codes}
 use Rattle.std.specs.Str.{all_ascii_digits}
 use Rattle.std.specs.Char.{is_ascii_digit}
-use Rattle.std.specs.Str.Parse.{digits_value}
 use Rattle.std.proofs.lemmas.Fmt.{digits_decimal}
 use Rattle.std.proofs.lemmas.Bool.{and_parts, false≢true}
 use Rattle.std.proofs.lemmas.List.Elements.{Contains-append_cases}
-use Rattle.std.proofs.lemmas.Str.Parse.{IsNumeralModel, numerals_by_value, tells_all_ascii_digits}
 use Rattle.std.specs.List.{flat_map}
 use Rattle.std.proofs.lemmas.Grind.{flat_map-append}
 use Rattle.std.proofs.lemmas.List.{append-nil}
+use Rattle.list_laws.proofs.Tests.{decimal-numerals}
 use Rattle.task_duties.specs.Places.{numbers}
-
--- one number more
-pub numbers-push : (from count : ℕ) → numbers from 1 (suc count) ≡ numbers from 1 count ++ (from + count) ∷ []
-numbers-push from zero = ap (λ (n : ℕ). n ∷ []) (omega arith)
-numbers-push from (suc count) = ap (λ (ns : List ℕ). from ∷ ns) (numbers-push (from + 1) count ∙ ap (λ (n : ℕ). numbers (from + 1) 1 count ++ n ∷ []) (omega arith))
+use Rattle.task_duties.proofs.Places.{numbers-more}
 
 -- one text more after the others
 pub flat_map-numbers : (f : ℕ → List ℕ) (before : List ℕ) (count : ℕ) → (before ++ flat_map f (numbers 1 1 count)) ++ f (count + 1) ≡ before ++ flat_map f (numbers 1 1 (suc count))
@@ -24,12 +19,9 @@ flat_map-numbers f before count =
     append_assoc before (flat_map f (numbers 1 1 count)) (f (count + 1))
     ∙ ap (λ (more : List ℕ). before ++ more)
     (ap (λ (last : List ℕ). flat_map f (numbers 1 1 count) ++ last) (ap f (omega arith) ∙ sym (append-nil (f (1 + count))))
-    ∙ sym (flat_map-append f (numbers 1 1 count) ((1 + count) ∷ [])) ∙ ap (λ (ns : List ℕ). flat_map f ns) (sym (numbers-push 1 count)))
+    ∙ sym (flat_map-append f (numbers 1 1 count) ((1 + count) ∷ [])) ∙ ap (λ (ns : List ℕ). flat_map f ns) (sym (numbers-more 1 count)))
 
 -- ---- idents
-
-own : IsNumeralModel (λ ds. all_ascii_digits ds ≡ true) (digits_value 10)
-own = numerals_by_value _ tells_all_ascii_digits
 
 no_nul_digit : (ds : List ℕ) → all_ascii_digits ds ≡ true → ¬ Contains ds 0
 no_nul_digit [] all (k, within, is) = omega arith
@@ -48,4 +40,4 @@ no_nul_letter (suc zero, within, is) = cc
 no_nul_letter (suc (suc k), within, is) = omega arith
 
 pub no_nul_ident : (number : ℕ) → number < 2 ^ 32 → ¬ Contains (codes "h-" ++ decimal number) 0
-no_nul_ident number small has = ⊎_elim no_nul_letter (no_nul_digit (decimal number) (digits_decimal own number (omega (arith, small)))) (Contains-append_cases (codes "h-") (decimal number) 0 has)
+no_nul_ident number small has = ⊎_elim no_nul_letter (no_nul_digit (decimal number) (digits_decimal decimal-numerals number (omega (arith, small)))) (Contains-append_cases (codes "h-") (decimal number) 0 has)

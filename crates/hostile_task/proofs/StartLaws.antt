@@ -1,5 +1,6 @@
 -- A task that begins: its ends are turned over, and nothing is done.
-use Rattle.std.proofs.Common.{◌≡◌, ℕ, false, true, List, [], ◌∷◌, ◌++◌, length, map, slice_get, refl, sym, subst, ap, ◌∙◌, arith}
+use Rattle.std.proofs.Common.{◌≡◌, ℕ, true, List, [], ◌∷◌, ◌++◌, length, map, slice_get, refl, sym, subst, ap, ◌∙◌, arith}
+use Rattle.std.specs.List.{AllByRecursion as Each, AllZip as EachPair}
 use Rattle.ring_words.specs.declared.page.WordName.TheVariants.{RightProd}
 use Rattle.vchan_protocol.specs.declared.op.Op.TheVariants.{Load}
 use Rattle.vchan_protocol.specs.declared.op.PastEvent.{PastEvent}
@@ -7,19 +8,17 @@ use Rattle.vchan_protocol.specs.Table.Ends.{low32}
 use Rattle.vchan_protocol.specs.Hostile.Turned.{strays}
 use Rattle.end_view.specs.EndView.{view_of}
 use Rattle.vchan_rule.specs.Seated.{SeatedEnd, SeatedSide, view}
-use Rattle.qrexec_frame.specs.Streams.{Each}
 use Rattle.task_duties.specs.declared.place.PagePlace.{PagePlace}
 use Rattle.task_duties.specs.declared.place.PagePlace.TheVariants.{Control, Payload}
 use Rattle.task_duties.specs.declared.ends.DataEnd.{DataEnd}
 use Rattle.task_duties.specs.declared.ends.UnusedEnd.TheVariants.{Laid}
-use Rattle.task_duties.specs.Pairwise.{EachPair}
-use Rattle.task_duties.specs.Places.{is_place}
 use Rattle.task_duties.specs.TaskOwes.{all_ends, before_turned, places_in}
 use Rattle.task_duties.specs.GivenEnds.{all_given, fresh_view}
 use Rattle.task_duties.specs.Hostile.Given.{HostilePlan}
 use Rattle.ring_words.specs.declared.page.Role.TheVariants.{Server}
 use Rattle.task_duties.specs.Hostile.Stores.{role_at, orders_at}
 use Rattle.task_duties.specs.Hostile.Trail.{first_voice}
+use Rattle.task_duties.proofs.Places.{no-control}
 use Rattle.hostile_task.specs.declared.domain.HostileDomain.{HostileDomain}
 use Rattle.hostile_task.specs.declared.page.TurnedPage.{TurnedPage}
 use Rattle.hostile_task.specs.declared.pages.Pages.{Pages}
@@ -112,11 +111,6 @@ pages_so_far domain plan own [] (p ∷ ps) number orders pairs fits = absurd pai
 pages_so_far domain plan own (d ∷ ends) [] number orders pairs fits = absurd pairs
 pages_so_far domain plan own (d ∷ ends) (p ∷ ps) number orders pairs fits = (start_payload domain plan own d p number orders pairs.0 fits.0, pages_so_far domain plan own ends ps number orders pairs.1 fits.1)
 
--- a control page lies at no data page's place
-apart_from_control : (d : ℕ) (ends : List DataEnd) → Each (λ q. is_place (Control d) q ≡ false) (places_in (all_given ends))
-apart_from_control d [] = tt
-apart_from_control d (e ∷ ends) = (refl, apart_from_control d ends)
-
 -- ---- the whole task
 
 pub start_places : (domain : HostileDomain) (e : SeatedEnd) (ends : List DataEnd) (ps : Pages) → IsTurnedOver (Control domain.number) e ps.control → EachPair IsDataTurnedOver ends ps.payload.items
@@ -138,7 +132,7 @@ start_way domain e ends ps end value own spelled control payload control_fits fi
       nothing_said = λ _. refl;
       control = subst IsControl (sym control.place_is) tt;
       payload = payloads ends ps.payload.items payload;
-      apart = subst (λ (places : List PagePlace). AreApart places) (sym (start_places domain e ends ps control payload)) (apart_from_control domain.number ends, apart);
+      apart = subst (λ (places : List PagePlace). AreApart places) (sym (start_places domain e ends ps control payload)) (no-control domain.number ends, apart);
       so_far = (start_control domain plan e ps.control end value own refl refl control control_fits same side index, pages_so_far domain plan own ends ps.payload.items refl refl payload fits);
     }
 

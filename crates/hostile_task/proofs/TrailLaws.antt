@@ -21,7 +21,8 @@ use Rattle.hostile_task.specs.Saying.{voice_at, SaysSoFar}
 use Rattle.hostile_task.specs.Pages.{after_events}
 use Rattle.hostile_task.specs.UnderWay.{ActsDone, words_at, IsPart, IsControlTrail, IsTrailSoFar, IsPageSoFar, IsPayload}
 use Rattle.hostile_task.proofs.SayLaws.{nothing_said}
-use Rattle.hostile_task.proofs.PageLaws.{along_trail, along_role, along_orders, along_turned, along_before}
+use Rattle.hostile_task.proofs.PageLaws.{along_before}
+use Rattle.hostile_seat.proofs.ByteLaws.{along_trail, along_role, along_orders, along_turned}
 
 -- ---- acts
 

@@ -1,8 +1,9 @@
 -- A turn of an act keeps what is known of all pages.
 use Rattle.std.proofs.Common.{◌≡◌, ℕ, ◌+◌, ◌<◌, Bool, true, false, List, [], ◌∷◌, ◌++◌, Option, Some, None, length, suc, zero, slice_get, slice_index_or, refl, sym, subst, ap, ◌∙◌, arith}
+use Rattle.std.specs.List.{AllByRecursion as Each}
+use Rattle.list_laws.proofs.Each.{each-mapped, each-weaker, each-with}
 use Rattle.vchan_protocol.specs.declared.op.PastEvent.{PastEvent}
 use Rattle.vchan_rule.specs.Seated.{SeatedSide}
-use Rattle.qrexec_frame.specs.Streams.{Each}
 use Rattle.scenario_file.specs.declared.acts.Act.{Act}
 use Rattle.scenario_file.specs.declared.acts.Act.TheVariants.{Hello, Say, Trigger, Terminate, Poke, Scribble, Signal, Rest}
 use Rattle.scenario_file.specs.declared.acts.ActPage.{ActPage}
@@ -21,7 +22,6 @@ use Rattle.hostile_task.specs.Plan.{plan_of, AreApart}
 use Rattle.hostile_task.specs.Pages.{after_events, AreAfter, places_in}
 use Rattle.hostile_task.specs.Saying.{voice_at, after_turn, held_words, IsReady, AreWords, SaysSoFar, SaysOn, SaysOrSaid, side_after}
 use Rattle.hostile_task.specs.UnderWay.{IsTrailSoFar, IsControlTrail, IsPageSoFar, EachPage, IsControl, IsPayload, HasBegun, IsUnderWay, most_turns}
-use Rattle.hostile_task.proofs.ListLaws.{each_map, each_gives, each_both}
 use Rattle.hostile_task.proofs.PageLaws.{are_after_none, are_same_after}
 use Rattle.hostile_task.proofs.TrailLaws.{page_stores, page_rests, page_with, payload_stays, payload_passes, control_says, control_said, says_here}
 
@@ -47,11 +47,11 @@ way_stores domain act old new p next spelled way at within none after is =
       begun = not_begun (slice_get domain.acts next.acts) next spelled turns;
       nothing_said = λ _. said;
       control = subst (λ (q : TurnedPage). IsControl q.place) (sym after.control) way.control;
-      payload = subst (λ (qs : List TurnedPage). Each (λ q. IsPayload q.place) qs) (sym after.payload) (each_map (λ q. IsPayload q.place) (λ q. IsPayload q.place) page old.payload.items (λ q h. h) way.payload);
+      payload = subst (λ (qs : List TurnedPage). Each (λ q. IsPayload q.place) qs) (sym after.payload) (each-mapped (λ q. IsPayload q.place) (λ q. IsPayload q.place) page old.payload.items (λ q h. h) way.payload);
       apart = subst (λ (ps : List PagePlace). AreApart ps) (sym places) way.apart;
       so_far = subst (λ (ps : List PagePlace). EachPage (IsPageSoFar (plan_of domain ps) next) new) (sym places) (
         subst (λ (q : TurnedPage). IsPageSoFar plan next q) (sym after.control) (keeps old.control way.so_far.0),
-        subst (λ (qs : List TurnedPage). Each (IsPageSoFar plan next) qs) (sym after.payload) (each_map (IsPageSoFar plan p) (IsPageSoFar plan next) page old.payload.items keeps way.so_far.1),
+        subst (λ (qs : List TurnedPage). Each (IsPageSoFar plan next) qs) (sym after.payload) (each-mapped (IsPageSoFar plan p) (IsPageSoFar plan next) page old.payload.items keeps way.so_far.1),
       );
     }
 
@@ -73,7 +73,7 @@ way_rests domain turns pages p next false spelled way at within goes_on is =
       control = way.control;
       payload = way.payload;
       apart = way.apart;
-      so_far = (keeps pages.control way.so_far.0, each_gives (IsPageSoFar plan p) (IsPageSoFar plan next) pages.payload.items keeps way.so_far.1);
+      so_far = (keeps pages.control way.so_far.0, each-weaker (IsPageSoFar plan p) (IsPageSoFar plan next) keeps pages.payload.items way.so_far.1);
     }
 
 -- ---- saying
@@ -147,7 +147,7 @@ way_says domain act bytes pages end p mid over before spelled way at within word
     keeps : (next : Progress) → IsControlTrail plan pages.control.place next trail → ((q : TurnedPage) → IsPayload q.place → IsPageSoFar plan p q → IsPageSoFar plan next q) → EachPage (IsPageSoFar plan next) (with_control pages end)
     keeps next is others = (
       control_after plan p next pages.control end turn.more way.control way.so_far.0 turn.end_is is,
-      each_both (λ q. IsPayload q.place) (IsPageSoFar plan p) (IsPageSoFar plan next) pages.payload.items others way.payload way.so_far.1,
+      each-with (λ q. IsPayload q.place) (IsPageSoFar plan p) (IsPageSoFar plan next) pages.payload.items others way.payload way.so_far.1,
     )
 
     by_over : (b : Bool) → over ≡ b → IsUnderWay domain (with_control pages end) (after_turn b mid) spelled

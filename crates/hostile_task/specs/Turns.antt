@@ -2,9 +2,8 @@
 -- Source: this project's own.
 use Rattle.std.specs.Prelude.{◌≡◌, ℕ, ◌+◌, ◌-◌, ◌<◌, ◌≤◌, List, [], ◌∷◌, None, drop, length, slice_get}
 use Rattle.std.specs.Option.{option_and_then}
-use Rattle.qrexec_frame.specs.Streams.{Each}
+use Rattle.std.specs.List.{AllByRecursion as Each, AllZip as EachPair}
 use Rattle.scenario_file.specs.declared.acts.Act.{Act}
-use Rattle.task_duties.specs.Pairwise.{EachPair}
 use Rattle.task_duties.specs.TaskOwes.{TaskOwes, Hostile, HostileDone, NoMemory, IsSameEnd}
 use Rattle.task_duties.specs.GivenEnds.{all_retired}
 use Rattle.task_duties.specs.Hostile.Trail.{words_of}

@@ -1,13 +1,12 @@
 -- How far a hostile domain is: the events so far of a page are those of the acts that are done, and a part of those of the act under way.
 -- Source: this project's own.
 use Rattle.std.specs.Prelude.{◌≡◌, ℕ, ◌≤◌, ◌<◌, true, List, [], ◌∷◌, ◌++◌, Option, Some, None, length, take, slice_get}
-use Rattle.std.specs.List.{flat_map}
+use Rattle.std.specs.List.{flat_map, AllByRecursion as Each}
 use Rattle.std.specs.Option.{option_and_then, option_map_or}
 use Rattle.ring_words.specs.declared.page.Role.TheVariants.{Server}
 use Rattle.vchan_protocol.specs.declared.op.PastEvent.{PastEvent}
 use Rattle.vchan_protocol.specs.Table.Ends.{written_ring, prod_word}
 use Rattle.vchan_rule.specs.Seated.{view, last_view}
-use Rattle.qrexec_frame.specs.Streams.{Each}
 use Rattle.scenario_file.specs.declared.acts.Act.{Act}
 use Rattle.scenario_file.specs.declared.acts.Act.TheVariants.{Rest}
 use Rattle.task_duties.specs.TaskOwes.{before_turned}

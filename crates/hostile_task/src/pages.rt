@@ -41,10 +41,10 @@ impl<'p> Pages<'p> {
     ghost use Rattle.scenario_file.specs.Generator.{Drawn};
     ghost use Rattle.vchan_protocol.specs.Table.Ends.{peer_pending};
     ghost use Rattle.hostile_task.specs.Plan.{plan_of, AreApart};
-    ghost use Rattle.task_duties.specs.Pairwise.{EachPair};
+    ghost use Rattle.std.specs.List.{AllZip as EachPair};
     ghost use Rattle.task_duties.specs.declared.place.PagePlace.TheVariants.{Control};
     ghost use Rattle.hostile_task.specs.Pages.{AreAfter, places_in, IsTurnedOver, IsDataTurnedOver, IsLaid, IsRetiredOf};
-    ghost use Rattle.qrexec_frame.specs.Streams.{Each};
+    ghost use Rattle.std.specs.List.{AllByRecursion as Each};
     ghost use Rattle.hostile_task.specs.UnderWay.{HaveOrders, HaveRoles};
 
     /// Turns the ends of a domain over to it, the end of its control page first. `turned` has room for the

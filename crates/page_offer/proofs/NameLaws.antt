@@ -1,12 +1,11 @@
 -- What the name of a page tells, and what holds of the page under it.
-use Rattle.std.proofs.Common.{◌≡◌, ℕ, ◌≤◌, refl, ap, subst, sym, ◌∙◌}
-use Rattle.std.proofs.Math.Bridge.{le_prop}
+use Rattle.std.proofs.Common.{◌≡◌, ℕ, refl, sym, ◌∙◌}
 use Rattle.atomic_table.specs.Seated.{TableId}
-use Rattle.ring_words.specs.declared.order.Order.{Order}
 use Rattle.ring_words.specs.declared.order.Orders.{Orders}
 use Rattle.end_view.specs.EndView.{EndView}
 use Rattle.end_view.specs.Settled.{IsDone, IsHonestPage, IsHonestRing, IsSettled, IsTurnedRing, Settled}
 use Rattle.ring_words.specs.Rings.{size}
+use Rattle.ring_words.proofs.OrderLaws.{same_order, same_rings}
 use Rattle.page_offer.specs.declared.server.ServerLast.{ServerLast}
 use Rattle.page_offer.specs.declared.server.ServerLast.TheVariants as server
 use Rattle.page_offer.specs.Names.{IsNameOf}
@@ -20,41 +19,6 @@ server_page name (server.Waits page own back) = refl
 server_page name (server.Settled settled back) = refl
 
 -- ---- the orders of a name
-
-in_range_prop : (number : ℕ) → IsProp ((10 ≤ number) × (number ≤ 20))
-in_range_prop number = hlevel (le_prop)
-
-distinct_prop : (left right : ℕ) → IsProp (left ≡ right → 12 ≤ left)
-distinct_prop left right = hlevel (le_prop)
-
--- an order is told by its number
-same_order : (a b : Order) → a.number ≡ b.number → a ≡ b
-same_order a b same = moved a.number a.in_range same
-  where
-    here : (p : (10 ≤ b.number) × (b.number ≤ 20)) → (let whole : Order = record { number = b.number; in_range = p } in whole) ≡ b
-    here p = ap (λ (q : (10 ≤ b.number) × (b.number ≤ 20)). let whole : Order = record { number = b.number; in_range = q } in whole) (in_range_prop b.number p b.in_range)
-
-    moved : (number : ℕ) (p : (10 ≤ number) × (number ≤ 20)) → number ≡ b.number → (let whole : Order = record { number = number; in_range = p } in whole) ≡ b
-    moved number p is =
-        let P : ℕ → Type 0 = λ n. (p : (10 ≤ n) × (n ≤ 20)) → (let whole : Order = record { number = n; in_range = p } in whole) ≡ b in
-        subst P (sym is) here p
-
--- the orders of a page are told by those of its rings
-same_rings : (a b : Orders) → a.left ≡ b.left → a.right ≡ b.right → a ≡ b
-same_rings a b left right = on_left a.left left a.right right a.distinct
-  where
-    here : (p : b.left.number ≡ b.right.number → 12 ≤ b.left.number) → (let whole : Orders = record { left = b.left; right = b.right; distinct = p } in whole) ≡ b
-    here p = ap (λ (q : b.left.number ≡ b.right.number → 12 ≤ b.left.number). let whole : Orders = record { left = b.left; right = b.right; distinct = q } in whole) (distinct_prop b.left.number b.right.number p b.distinct)
-
-    on_right : (r : Order) → r ≡ b.right → (p : b.left.number ≡ r.number → 12 ≤ b.left.number) → (let whole : Orders = record { left = b.left; right = r; distinct = p } in whole) ≡ b
-    on_right r is =
-        let P : Order → Type 0 = λ r. (p : b.left.number ≡ r.number → 12 ≤ b.left.number) → (let whole : Orders = record { left = b.left; right = r; distinct = p } in whole) ≡ b in
-        subst P (sym is) here
-
-    on_left : (l : Order) → l ≡ b.left → (r : Order) → r ≡ b.right → (p : l.number ≡ r.number → 12 ≤ l.number) → (let whole : Orders = record { left = l; right = r; distinct = p } in whole) ≡ b
-    on_left l is =
-        let P : Order → Type 0 = λ l. (r : Order) → r ≡ b.right → (p : l.number ≡ r.number → 12 ≤ l.number) → (let whole : Orders = record { left = l; right = r; distinct = p } in whole) ≡ b in
-        subst P (sym is) on_right
 
 -- a name belongs only to pages of the same orders
 pub same_orders : (a b : Orders) (s t : ℕ) (name : TableId) → IsNameOf a s name → IsNameOf b t name → a ≡ b

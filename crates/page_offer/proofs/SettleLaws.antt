@@ -10,11 +10,7 @@ use Rattle.page_offer.specs.declared.client.ClientLast.{ClientLast}
 use Rattle.page_offer.specs.declared.client.ClientLast.TheVariants as client
 use Rattle.page_offer.specs.Views.{DoneEnd, named, named_page}
 use Rattle.page_offer.specs.Offers.{server_end, client_end}
-
-server_page : (name : TableId) (last : ServerLast) → (server_end name last).page ≡ name
-server_page name server.Unlaid = refl
-server_page name (server.Waits page own back) = refl
-server_page name (server.Settled settled back) = refl
+use Rattle.page_offer.proofs.NameLaws.{server_page}
 
 client_page : (name : TableId) (last : ClientLast) → (client_end name last).page ≡ name
 client_page name client.Unlaid = refl

@@ -1,15 +1,16 @@
 -- A caller keeps what it stands for.
-use Rattle.std.proofs.Common.{◌≡◌, ℕ, ◌+◌, ◌-◌, ◌<◌, ◌≤◌, ◌^◌, suc, List, [], ◌∷◌, ◌++◌, length, take, drop, refl, ap, sym, ◌∙◌, subst, arith, length-append, ◌⊎◌, inl, inr, Option, Some, None}
+use Rattle.std.proofs.Common.{◌≡◌, ℕ, ◌+◌, ◌-◌, ◌<◌, ◌≤◌, ◌^◌, List, [], ◌∷◌, ◌++◌, length, take, drop, refl, ap, sym, ◌∙◌, subst, arith, ◌⊎◌, inl, inr, Option, Some, None}
 use Rattle.std.proofs.lemmas.List.{append-nil, length-drop, length-take-le}
 use Rattle.std.proofs.lemmas.Bool.Decides.{nat_tests}
-use Rattle.std.proofs.lemmas.Bool.{eqb-true}
 use Rattle.std.specs.Prelude.{true, false, Bool, min, nat_lt, ◌==◌, is_none, is_some, not, if◌then◌else◌, IsSome, ◌↔◌}
+use Rattle.list_laws.proofs.Tests.{no-length, has-length, not-empty}
+use Rattle.list_laws.proofs.Results.{none-is}
 use Rattle.qrexec_frame.specs.declared.channel.Channel.TheVariants.{Data}
 use Rattle.qrexec_frame.specs.declared.message.Message.{Message}
 use Rattle.qrexec_frame.specs.declared.message.Message.TheVariants.{Hello, Stdin}
 use Rattle.qrexec_frame.specs.Messages.{written}
 use Rattle.qrexec_frame.specs.Grammar.{Fault}
-use Rattle.qrexec_frame.specs.Fronts.{front, reading, fault_at}
+use Rattle.qrexec_frame.specs.Fronts.{front, fault_at}
 use Rattle.qrexec_frame.specs.Streams.{Whole, Bad, Short, Placed, Reading, Rest}
 use Rattle.qrexec_data.specs.declared.fault.SessionFault.TheVariants as fault
 use Rattle.qrexec_data.specs.declared.outcome.Outcome.{Outcome}
@@ -24,6 +25,7 @@ use Rattle.qrexec_data.proofs.SpelledLaws.{spelled, spelled-behind, each-one, ta
 use Rattle.qrexec_data.proofs.ReadingLaws.{ReadsNext, reading-short, reading-bad, reading-next}
 use Rattle.qrexec_data.proofs.HearingLaws.{left-over, seen-frame, joined-piece}
 use Rattle.qrexec_data.proofs.RepliesLaws.{if-true, if-false, Heard, GoesOn, Decides, placed_at, hears}
+use Rattle.qrexec_data.proofs.MaySendLaws.{some-limit}
 
 -- ---- reading
 
@@ -92,7 +94,7 @@ read-message c h m n small whole r is new new_is = by_heard (subst H (sym is) (h
           λ _ _. record { knows = subst P (sym next.all) (knows next.rest next.ending); goes_on = λ none. let no : None ≡ Some o = sym none ∙ some in cc },
         )
 
-none-or-some : (o : Option Outcome) → (o ≡ None) ⊎ ((x : Outcome) × (o ≡ Some x))
+pub none-or-some : (o : Option Outcome) → (o ≡ None) ⊎ ((x : Outcome) × (o ≡ Some x))
 none-or-some None = inl refl
 none-or-some (Some x) = inr (x, refl)
 
@@ -193,13 +195,6 @@ sends-end own limit r sent s unclosed all =
       done = λ yes. omega (arith, all, s.within);
     }
 
-some-limit : (chunk version : ℕ) → 0 < chunk → 0 < min chunk (most version)
-some-limit chunk version some = by_test (nat_lt version 3) refl
-  where
-    by_test : (b : Bool) → nat_lt version 3 ≡ b → 0 < min chunk (most version)
-    by_test true is = rw is (omega (arith, some))
-    by_test false is = rw is (omega (arith, some))
-
 sends-next : (own version : ℕ) (r : RequestsState) (sent : List ℕ) → 0 < r.chunk → SendsInput own (min r.chunk (most version)) r sent → SendsInput own (min r.chunk (most version)) (laid_next version r) sent
 sends-next own version r sent some s = by_closed r.closed refl
   where
@@ -275,22 +270,6 @@ lends old r piece none is lent =
     later : RequestsState → CallerState
     later x = record old { requests = x }
 
--- nothing goes out
-empty-nothing : (xs ys : List ℕ) → 0 < length ys → xs ++ ys ≡ [] → ⊥
-empty-nothing xs ys some is = let size : length xs + length ys ≡ 0 = sym (length-append xs ys) ∙ ap length is in omega (arith, size, some)
-
-no-length : (xs : List ℕ) → (length xs == 0) ≡ true → xs ≡ []
-no-length [] is = refl
-no-length (x ∷ xs) is = let zero : suc (length xs) ≡ 0 = eqb-true (suc (length xs)) 0 is in absurd (omega (arith, zero))
-
-has-length : (xs : List ℕ) → (length xs == 0) ≡ false → xs ≡ [] → ⊥
-has-length [] some is = cc
-has-length (x ∷ xs) some is = cc
-
-no-some : (o : Option Outcome) → o ≡ None → IsSome o → ⊥
-no-some None is some = cc
-no-some (Some x) is some = cc
-
 pub still : (c : CallerState) → c.replies.outcome ≡ None → ((laid_on c.replies.version c.requests).waiting ≡ []) ↔ IsStill c
 still c none = by_version c.replies.version refl
   where
@@ -298,7 +277,7 @@ still c none = by_version c.replies.version refl
     By v = ((laid_on v c.requests).waiting ≡ []) ↔ IsStill c
 
     nothing-decided : IsSome c.replies.outcome → ⊥
-    nothing-decided some = no-some c.replies.outcome none some
+    nothing-decided some = none-is c.replies.outcome none some
 
     by_closed : (version : ℕ) → c.replies.version ≡ Some version → c.requests.waiting ≡ [] → (b : Bool) → c.requests.closed ≡ b → ((laid_next version c.requests).waiting ≡ []) ↔ IsStill c
     by_closed version is empty true closed =
@@ -315,11 +294,11 @@ still c none = by_version c.replies.version refl
         by_more true more =
             let r : laid_next version c.requests ≡ record c.requests { laid = c.requests.laid + next_len version c.requests; waiting = c.requests.waiting ++ written (Stdin (take (next_len version c.requests) (drop c.requests.laid c.requests.input))) }
             = if-false c.requests.closed _ _ closed ∙ if-true (nat_lt c.requests.laid (length c.requests.input)) _ _ more in
-            (λ h. absurd (empty-nothing c.requests.waiting _ (written-some (record { stream = In; bytes = take (next_len version c.requests) (drop c.requests.laid c.requests.input) })) (sym (ap (λ x. x.waiting) r) ∙ h)), λ h. absurd (not_still h))
+            (λ h. absurd (not-empty c.requests.waiting _ (written-some (record { stream = In; bytes = take (next_len version c.requests) (drop c.requests.laid c.requests.input) })) (sym (ap (λ x. x.waiting) r) ∙ h)), λ h. absurd (not_still h))
         by_more false more =
             let r : laid_next version c.requests ≡ record c.requests { closed = true; waiting = c.requests.waiting ++ written (Stdin []) }
             = if-false c.requests.closed _ _ closed ∙ if-false (nat_lt c.requests.laid (length c.requests.input)) _ _ more in
-            (λ h. absurd (empty-nothing c.requests.waiting _ (written-some (end_of In)) (sym (ap (λ x. x.waiting) r) ∙ h)), λ h. absurd (not_still h))
+            (λ h. absurd (not-empty c.requests.waiting _ (written-some (end_of In)) (sym (ap (λ x. x.waiting) r) ∙ h)), λ h. absurd (not_still h))
 
     by_waiting : (version : ℕ) → c.replies.version ≡ Some version → (b : Bool) → (length c.requests.waiting == 0) ≡ b → By (Some version)
     by_waiting version is true empty =

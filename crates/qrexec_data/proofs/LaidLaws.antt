@@ -5,6 +5,8 @@ use Rattle.std.proofs.lemmas.Bool.Decides.{nat_tests}
 use Rattle.std.proofs.lemmas.Bool.{eqb-true}
 use Rattle.std.specs.Prelude.{true, false, Bool, ℤ, ◌&&◌, ◌==◌, nat_lt, min, IsSome, is_some, is_none, if◌then◌else◌, ◌↔◌}
 use Rattle.std.specs.List.{flat_map}
+use Rattle.list_laws.proofs.Tests.{no-length, has-length, not-empty}
+use Rattle.list_laws.proofs.Results.{none-is}
 use Rattle.qrexec_frame.specs.declared.message.Message.{Message}
 use Rattle.qrexec_frame.specs.declared.message.Message.TheVariants.{Hello, Stdout, Stderr, ExitCode}
 use Rattle.qrexec_frame.specs.Messages.{written}
@@ -22,6 +24,7 @@ use Rattle.qrexec_data.proofs.HearingLaws.{joined-piece, joined-other}
 use Rattle.qrexec_data.proofs.SpelledLaws.{spelled, spelled-behind, each-one, gone-on}
 use Rattle.qrexec_data.proofs.AnsweringLaws.{none-if}
 use Rattle.qrexec_data.proofs.ServesLaws.{sends-faulted}
+use Rattle.qrexec_data.proofs.MaySendLaws.{some-limit, flat-more}
 
 -- ---- what stays
 
@@ -104,10 +107,6 @@ sends-one owes owed limit a b input sent p s output some least shut own closed c
       done = λ is. let no : false ≡ true = sym (closed ∙ shut) ∙ is in cc;
     }
 
-flat-more : (ms ns : List Message) → flat_map written (ms ++ ns) ≡ flat_map written ms ++ flat_map written ns
-flat-more [] ns = refl
-flat-more (m ∷ ms) ns = ap (λ r. written m ++ r) (flat-more ms ns) ∙ sym (append_assoc (written m) (flat_map written ms) (flat_map written ns))
-
 -- the ends and the exit code are laid
 sends-ends : {S : Type 0} (owes : S → List ℕ → Triple) (owed : List ℕ → Triple) (limit : ℕ) (a : AnsweringState S) (input sent : List ℕ) (code : ℤ) → SendsOutputs owes owed limit a input sent
     → a.closed ≡ false → a.code ≡ Some code → a.out ≡ [] → a.err ≡ [] → SendsOutputs owes owed limit (record a { closed = true; waiting = a.waiting ++ end_bytes code }) input sent
@@ -131,13 +130,6 @@ sends-ends {S} owes owed limit a input sent code s shut code_is out err =
           ∙ ap (λ e. written (Hello a.own) ++ flat_map written (map message_of s.pieces ++ e)) (sym last);
       done = λ _. (out, err, ap is_some code_is);
     }
-
-some-limit : (chunk version : ℕ) → 0 < chunk → 0 < min chunk (most version)
-some-limit chunk version some = by_test (nat_lt version 3) refl
-  where
-    by_test : (b : Bool) → nat_lt version 3 ≡ b → 0 < min chunk (most version)
-    by_test true is = rw is (omega (arith, some))
-    by_test false is = rw is (omega (arith, some))
 
 not-closed : {S : Type 0} (owes : S → List ℕ → Triple) (owed : List ℕ → Triple) (limit : ℕ) (a : AnsweringState S) (input sent : List ℕ) → SendsOutputs owes owed limit a input sent
     → ((a.out ≡ []) × (a.err ≡ []) → ⊥) → (b : Bool) → a.closed ≡ b → a.closed ≡ false
@@ -321,10 +313,6 @@ over-cases a b is = by_closed a.closed a.waiting a.outcome is
         none w None = refl
         none w (Some o) = refl
 
-no-code : (c : Option ℤ) → c ≡ None → IsSome c → ⊥
-no-code None is some = cc
-no-code (Some x) is some = cc
-
 -- the code of a stream that is closed
 closed-code : {S : Type 0} (owes : S → List ℕ → Triple) (owed : List ℕ → Triple) (version : Option ℕ) (a : AnsweringState S) (input sent : List ℕ) → SendsAnswers owes owed version a input sent
     → a.closed ≡ true → IsSome a.code
@@ -357,7 +345,7 @@ stands-gone {S} owes owed old inside answering sent count same is stands =
     On x = ServingStandsFor owes owed (record inside { answering = x }) now
 
     by_code : (s : ServingStandsFor owes owed inside sent) → gone.closed ≡ true → gone.waiting ≡ [] → gone.outcome ≡ None → IsSome gone.code → (c : Option ℤ) → gone.code ≡ c → On (done_if c gone)
-    by_code s closed empty none some None is = absurd (no-code gone.code is some)
+    by_code s closed empty none some None is = absurd (none-is gone.code is some)
     by_code s closed empty none some (Some code) is =
         let k = serves-same owes owed inside.answering gone sent now kept sends _ _ s.read.serves in
         record {
@@ -396,31 +384,15 @@ stands-gone {S} owes owed old inside answering sent count same is stands =
 
 -- ---- if nothing goes out
 
-behind-some : (xs ys : List ℕ) → 0 < length ys → xs ++ ys ≡ [] → ⊥
-behind-some [] ys some is = some-not ys some is
-behind-some (x ∷ xs) ys some is = cc
-
-no-length : (xs : List ℕ) → (length xs == 0) ≡ true → xs ≡ []
-no-length [] is = refl
-no-length (x ∷ xs) is = let zero_is : suc (length xs) ≡ 0 = eqb-true (suc (length xs)) 0 is in absurd (omega (arith, zero_is))
-
-has-length : (xs : List ℕ) → (length xs == 0) ≡ false → xs ≡ [] → ⊥
-has-length [] some is = cc
-has-length (x ∷ xs) some is = cc
-
-no-outcome : (o : Option Outcome) → o ≡ None → IsSome o → ⊥
-no-outcome None is some = cc
-no-outcome (Some x) is some = cc
-
 -- why nothing goes out waits for nothing
 still-waits : {S : Type 0} (a : AnsweringState S) → a.outcome ≡ None → IsStill a → a.waiting ≡ []
-still-waits a none (inl some) = absurd (no-outcome a.outcome none some)
+still-waits a none (inl some) = absurd (none-is a.outcome none some)
 still-waits a none (inr (inl unread)) = unread.1
 still-waits a none (inr (inr given)) = given.waits
 
 -- and, once greeted, that all was given
 still-given : {S : Type 0} (a : AnsweringState S) (version : ℕ) → a.outcome ≡ None → a.version ≡ Some version → IsStill a → HasGivenAll a
-still-given a version none greeted (inl some) = absurd (no-outcome a.outcome none some)
+still-given a version none greeted (inl some) = absurd (none-is a.outcome none some)
 still-given a version none greeted (inr (inl unread)) = let no : None ≡ Some version = sym unread.0 ∙ greeted in cc
 still-given a version none greeted (inr (inr given)) = given
 
@@ -433,7 +405,7 @@ still-serving {S} a none going = by_version a.version refl
     by_closed : (version : ℕ) (code : ℤ) → a.version ≡ Some version → a.code ≡ Some code → a.waiting ≡ [] → (b : Bool) → a.closed ≡ b → By (laid_end (Some code) a)
     by_closed version code greeted is empty true closed = absurd (some-not a.waiting (going closed) empty)
     by_closed version code greeted is empty false closed =
-        subst By (sym (if-false a.closed _ _ closed)) (λ h. absurd (behind-some a.waiting (end_bytes code) (omega arith) h), λ h. let g = still-given a version none greeted h in let no : None ≡ Some code = sym g.unended ∙ is in cc)
+        subst By (sym (if-false a.closed _ _ closed)) (λ h. absurd (not-empty a.waiting (end_bytes code) (omega arith) h), λ h. let g = still-given a version none greeted h in let no : None ≡ Some code = sym g.unended ∙ is in cc)
 
     by_code : (version : ℕ) → a.version ≡ Some version → a.waiting ≡ [] → a.out ≡ [] → a.err ≡ [] → (c : Option ℤ) → a.code ≡ c → By (laid_end c a)
     by_code version greeted empty out err None is = (λ h. inr (inr (record { greeted = ap is_some greeted; out = out; err = err; waits = empty; unended = is })), λ h. empty)
@@ -442,14 +414,14 @@ still-serving {S} a none going = by_version a.version refl
     by_err : (version : ℕ) → a.version ≡ Some version → a.waiting ≡ [] → nat_lt 0 (length a.out) ≡ false → (b : Bool) → nat_lt 0 (length a.err) ≡ b → By (laid_next version a)
     by_err version greeted empty out true is =
         subst By (sym (if-false (nat_lt 0 (length a.out)) _ _ out ∙ if-true (nat_lt 0 (length a.err)) _ _ is))
-        (λ h. absurd (behind-some a.waiting (written (Stderr (take (next_len version a a.err) a.err))) (omega arith) h), λ h. absurd (some-not a.err (some-bytes a.err is) (still-given a version none greeted h).err))
+        (λ h. absurd (not-empty a.waiting (written (Stderr (take (next_len version a a.err) a.err))) (omega arith) h), λ h. absurd (some-not a.err (some-bytes a.err is) (still-given a version none greeted h).err))
     by_err version greeted empty out false is =
         subst By (sym (if-false (nat_lt 0 (length a.out)) _ _ out ∙ if-false (nat_lt 0 (length a.err)) _ _ is)) (by_code version greeted empty (no-bytes a.out out) (no-bytes a.err is) a.code refl)
 
     by_out : (version : ℕ) → a.version ≡ Some version → a.waiting ≡ [] → (b : Bool) → nat_lt 0 (length a.out) ≡ b → By (laid_next version a)
     by_out version greeted empty true is =
         subst By (sym (if-true (nat_lt 0 (length a.out)) _ _ is))
-        (λ h. absurd (behind-some a.waiting (written (Stdout (take (next_len version a a.out) a.out))) (omega arith) h), λ h. absurd (some-not a.out (some-bytes a.out is) (still-given a version none greeted h).out))
+        (λ h. absurd (not-empty a.waiting (written (Stdout (take (next_len version a a.out) a.out))) (omega arith) h), λ h. absurd (some-not a.out (some-bytes a.out is) (still-given a version none greeted h).out))
     by_out version greeted empty false is = by_err version greeted empty is (nat_lt 0 (length a.err)) refl
 
     by_waiting : (version : ℕ) → a.version ≡ Some version → (b : Bool) → (length a.waiting == 0) ≡ b → By (laid_on (Some version) a)

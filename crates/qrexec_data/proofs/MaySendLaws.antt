@@ -4,10 +4,10 @@ use Rattle.std.proofs.lemmas.List.{append-nil, take-append-drop}
 use Rattle.std.proofs.lemmas.Bool.{false≢true}
 use Rattle.std.specs.Prelude.{true, false, Bool, ℤ, min, nat_lt, is_some, MatchOption, MatchBool}
 use Rattle.std.specs.List.{flat_map}
+use Rattle.list_laws.specs.Lists.{IsPrefixOf}
 use Rattle.qrexec_frame.specs.declared.message.Message.{Message}
 use Rattle.qrexec_frame.specs.declared.message.Message.TheVariants.{Hello, Stdout, Stderr, ExitCode}
 use Rattle.qrexec_frame.specs.Messages.{written}
-use Rattle.qrexec_frame.specs.Streams.{IsPrefixOf}
 use Rattle.service_gate.specs.Triple.{Triple}
 use Rattle.qrexec_data.specs.Pieces.{Stream, In, Out, Err as Errors, Piece, message_of, end_of, joined, is_stream, ArePieces, is_input, is_output}
 use Rattle.qrexec_data.specs.Seeing.{serving_sees}
@@ -45,7 +45,7 @@ each-more : (reads : Stream → Bool) (limit : ℕ) (ps qs : List Piece) → Are
 each-more reads limit [] qs each more = more
 each-more reads limit (p ∷ ps) qs each more = (each.0, each-more reads limit ps qs each.1 more)
 
-flat-more : (ms ns : List Message) → flat_map written (ms ++ ns) ≡ flat_map written ms ++ flat_map written ns
+pub flat-more : (ms ns : List Message) → flat_map written (ms ++ ns) ≡ flat_map written ms ++ flat_map written ns
 flat-more [] ns = refl
 flat-more (m ∷ ms) ns = ap (λ r. written m ++ r) (flat-more ms ns) ∙ sym (append_assoc (written m) (flat_map written ms) (flat_map written ns))
 
@@ -53,7 +53,7 @@ map-more : (ps qs : List Piece) → map message_of (ps ++ qs) ≡ map message_of
 map-more [] qs = refl
 map-more (p ∷ ps) qs = ap (λ r. message_of p ∷ r) (map-more ps qs)
 
-some-limit : (chunk version : ℕ) → 0 < chunk → 0 < min chunk (most version)
+pub some-limit : (chunk version : ℕ) → 0 < chunk → 0 < min chunk (most version)
 some-limit chunk version some = by_test (nat_lt version 3) refl
   where
     by_test : (b : Bool) → nat_lt version 3 ≡ b → 0 < min chunk (most version)

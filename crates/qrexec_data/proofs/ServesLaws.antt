@@ -1,8 +1,9 @@
 -- A side that serves keeps what is seen of one more message, and owes the rest.
-use Rattle.std.proofs.Common.{◌≡◌, ℕ, ◌<◌, ◌^◌, List, [], ◌∷◌, ◌++◌, length, map, refl, ap, sym, ◌∙◌, subst, arith, append_assoc, Option, Some, None}
+use Rattle.std.proofs.Common.{◌≡◌, ℕ, ◌<◌, ◌^◌, List, [], ◌∷◌, ◌++◌, map, refl, ap, sym, ◌∙◌, subst, append_assoc, Option, Some, None}
 use Rattle.std.proofs.lemmas.List.{append-nil}
-use Rattle.std.specs.Prelude.{true, false, Bool, ℤ, IsSome, is_some, min}
+use Rattle.std.specs.Prelude.{true, false, Bool, ℤ, is_some, min}
 use Rattle.std.specs.List.{flat_map}
+use Rattle.list_laws.proofs.Results.{none-is}
 use Rattle.qrexec_frame.specs.declared.message.Message.{Message}
 use Rattle.qrexec_frame.specs.declared.message.Message.TheVariants.{Hello, Stdin}
 use Rattle.qrexec_frame.specs.Messages.{written}
@@ -21,16 +22,13 @@ use Rattle.qrexec_data.specs.Answering.{AnsweringState, AnswersTo, Greets, Stray
 use Rattle.qrexec_data.specs.ServingSide.{Gives, ends_if, SendsOutputs, SendsNothing, SendsAnswers, Serves}
 use Rattle.qrexec_data.proofs.HearingLaws.{Greeted, Accepted, Refused, greeted-any, Follows, follows, joined-piece, ended-piece}
 use Rattle.qrexec_data.proofs.RepliesLaws.{placed_at, small-offset}
+use Rattle.qrexec_data.proofs.PieceLaws.{has_bytes}
 
 -- after one more message: nothing is decided, or whatever follows it makes no difference
 pub data Heard {S : Type 0} (owes : S → List ℕ → Triple) (owed : List ℕ → Triple) (sent : List ℕ) (placed : List (Placed Message)) (p : Placed Message) (a : AnsweringState S) : Type 0 where
   GoesOn : a.outcome ≡ None → a.closed ≡ false → Serves owes owed a sent (placed ++ p ∷ []) (sees_all serving_use (placed ++ p ∷ []) (Rest 0)) → Heard owes owed sent placed p a
   Decides : (f : SessionFault) → a.outcome ≡ Some (outcome.Fault f) → ((rest : List (Placed Message)) (ending : Ending Fault) → Serves owes owed a sent (placed ++ p ∷ rest) (sees_all serving_use (placed ++ p ∷ rest) ending))
       → Heard owes owed sent placed p a
-
-not-some : {A : Type 0} (o : Option A) → o ≡ None → IsSome o → ⊥
-not-some None is some = cc
-not-some (Some x) is some = cc
 
 not-none : {A : Type 0} (o : Option A) (x : A) → o ≡ Some x → o ≡ None → ⊥
 not-none None x is none = cc
@@ -110,10 +108,10 @@ hears-first {S} owes owed sent old new m at k none (Greets unversioned is) = sub
         let agreed : None ≡ agreed_by old.own (placed_at at m ∷ rest) = rw refuses refl in
         let P : Seen → Type 0 = λ x. Serves owes owed (faulted (fault.Hello f) old) sent (placed_at at m ∷ rest) x in
         subst P (sym seen) (record { outcome = refl; ended = k.ended; version = version ∙ agreed; sends = sends-faulted owes owed old.version old (Some (outcome.Fault (fault.Hello f))) [] sent k.sends })))
-hears-first owes owed sent old new m at k none (Stray some stray is) = absurd (not-some old.version k.version some)
-hears-first owes owed sent old new m at k none (Late some bytes m_is ended is) = absurd (not-some old.version k.version some)
-hears-first owes owed sent old new m at k none (Fed some bytes m_is more unended feeds) = absurd (not-some old.version k.version some)
-hears-first owes owed sent old new m at k none (Ended some m_is unended ends) = absurd (not-some old.version k.version some)
+hears-first owes owed sent old new m at k none (Stray some stray is) = absurd (none-is old.version k.version some)
+hears-first owes owed sent old new m at k none (Late some bytes m_is ended is) = absurd (none-is old.version k.version some)
+hears-first owes owed sent old new m at k none (Fed some bytes m_is more unended feeds) = absurd (none-is old.version k.version some)
+hears-first owes owed sent old new m at k none (Ended some m_is unended ends) = absurd (none-is old.version k.version some)
 
 -- ---- the messages after it
 
@@ -165,7 +163,7 @@ unclosed : {S : Type 0} (owes : S → List ℕ → Triple) (owed : List ℕ → 
 unclosed owes owed limit a input sent s none = by_closed a.closed refl
   where
     by_closed : (b : Bool) → a.closed ≡ b → a.closed ≡ false
-    by_closed true is = absurd (not-some a.code none (s.done is).2)
+    by_closed true is = absurd (none-is a.code none (s.done is).2)
     by_closed false is = is
 
 -- the message carries input
@@ -192,10 +190,6 @@ on owes owed sent old q placed m at l bytes m_is unended new own same none shut 
   where
     behind : List Piece → Seen → Seen
     behind pieces x = record { pieces = pieces ++ x.pieces; verdict = x.verdict }
-
-some-bytes : (bytes : List ℕ) → 0 < length bytes → no_bytes bytes ≡ false
-some-bytes [] some = absurd (omega (arith, some))
-some-bytes (b ∷ bytes) some = refl
 
 hears-later : {S : Type 0} (owes : S → List ℕ → Triple) (owed : List ℕ → Triple) (sent : List ℕ) (old new : AnsweringState S) (q : Placed Message) (placed : List (Placed Message)) (m : Message) (at : ℕ)
     → at < 2 ^ 64 → Later owes owed sent old q placed m at → AnswersTo owes m at old new → Heard owes owed sent (q ∷ placed) (placed_at at m) new
@@ -226,7 +220,7 @@ hears-later {S} owes owed sent old new q placed m at small l (Fed some bytes m_i
       stream = s.stream;
       done = λ closed. let no : false ≡ true = sym shut ∙ closed in cc;
     } in
-    subst Is (sym feeds.rest) (on owes owed sent old q placed m at l bytes m_is unended fed refl refl l.undecided shut (rw unended (sym (some-bytes bytes more))) (subst W (sym l.greeted) sends))
+    subst Is (sym feeds.rest) (on owes owed sent old q placed m at l bytes m_is unended fed refl refl l.undecided shut (rw unended (sym (has_bytes bytes more))) (subst W (sym l.greeted) sends))
 hears-later {S} owes owed sent old new q placed m at small l (Ended some m_is unended ends) =
     let done : AnsweringState S = record old { service = new.service; code = Some ends.code; out = new.out; err = new.err } in
     let Is : AnsweringState S → Type 0 = λ x. Heard owes owed sent (q ∷ placed) (placed_at at m) x in

@@ -1,5 +1,5 @@
 -- A side that serves keeps what it stands for.
-use Rattle.std.proofs.Common.{◌≡◌, ℕ, ◌+◌, ◌<◌, ◌^◌, List, [], ◌++◌, length, take, append_assoc, refl, ap, sym, ◌∙◌, subst, ◌⊎◌, inl, inr, Option, Some, None, Result, Ok, Err}
+use Rattle.std.proofs.Common.{◌≡◌, ℕ, ◌+◌, ◌<◌, ◌^◌, List, [], ◌++◌, length, take, append_assoc, refl, ap, sym, ◌∙◌, subst, ◌⊎◌, inl, inr, Some, None, Result, Ok, Err}
 use Rattle.std.proofs.lemmas.List.{take-append-le, append-nil}
 use Rattle.std.specs.Prelude.{true, false, Bool, is_none, is_some}
 use Rattle.qrexec_frame.specs.declared.channel.Channel.TheVariants.{Data}
@@ -24,6 +24,7 @@ use Rattle.qrexec_data.proofs.HearingLaws.{left-over, seen-frame}
 use Rattle.qrexec_data.proofs.RepliesLaws.{placed_at}
 use Rattle.qrexec_data.proofs.AnsweringLaws.{none-if}
 use Rattle.qrexec_data.proofs.ServesLaws.{Heard, GoesOn, Decides, hears, sends-faulted}
+use Rattle.qrexec_data.proofs.CallerLaws.{none-or-some}
 
 -- ---- reading
 
@@ -88,10 +89,6 @@ serves-message {S} owes owed old new sent h m n small whole passed step = by_hea
             goes_on = λ none. let no : None ≡ Some (outcome.Fault f) = sym none ∙ some in cc;
           },
         )
-
-none-or-some : (o : Option Outcome) → (o ≡ None) ⊎ ((x : Outcome) × (o ≡ Some x))
-none-or-some None = inl refl
-none-or-some (Some x) = inr (x, refl)
 
 pub serves-on : {S : Type 0} (owes : S → List ℕ → Triple) (owed : List ℕ → Triple) (old new : ServingState S) (more : Bool) (sent : List ℕ) → old.inbox.read < 2 ^ 64 → IsServing owes owed old sent
     → ReadsInput owes old new more → (more ≡ true → IsServing owes owed new sent) × (more ≡ false → HasServed owes owed new sent)

@@ -5,7 +5,8 @@ use Rattle.std.specs.Int.{w32}
 use Rattle.std.specs.Int.RustNames.{FitsSigned}
 use Rattle.std.proofs.lemmas.Bool.Decides.{nat_tests}
 use Rattle.std.proofs.lemmas.List.{append-nil}
-use Rattle.std.specs.List.{flat_map}
+use Rattle.std.specs.List.{flat_map, AllByRecursion as Each}
+use Rattle.list_laws.specs.Lists.{IsPrefixOf}
 use Rattle.qrexec_frame.specs.declared.channel.Channel.TheVariants.{Data}
 use Rattle.qrexec_frame.specs.declared.message.Message.{Message}
 use Rattle.qrexec_frame.specs.declared.message.Message.TheVariants.{Hello, ExitCode}
@@ -13,13 +14,13 @@ use Rattle.qrexec_frame.specs.Messages.{written}
 use Rattle.qrexec_frame.specs.Grammar.{Fault}
 use Rattle.qrexec_frame.specs.Fronts.{front, reading}
 use Rattle.qrexec_frame.specs.Laws.{IsGood}
-use Rattle.qrexec_frame.specs.Streams.{Placed, Ending, Rest, Each, IsPrefixOf, Begins}
+use Rattle.qrexec_frame.specs.Streams.{Placed, Ending, Rest, Begins}
 use Rattle.qrexec_frame.proofs.StreamLaws.{begins, reads-all}
 use Rattle.qrexec_frame.proofs.GrammarLaws.{is_prefix_code}
 use Rattle.qrexec_frame.proofs.WrittenLaws.{is_read_again}
 use Rattle.service_gate.specs.Triple.{Triple}
 use Rattle.qrexec_data.specs.Pieces.{Stream, In, Out, Err as Errors, Piece, message_of, end_of, joined, has_ended, ArePieces, is_input, is_output}
-use Rattle.qrexec_data.specs.Seeing.{Seen, Use, Carries, Undecided, Exited, sees_on, sees_all, seen_by, caller_use, serving_use, caller_sees, serving_sees, fault_of}
+use Rattle.qrexec_data.specs.Seeing.{Seen, Carries, Undecided, Exited, sees_on, sees_all, seen_by, caller_use, serving_use, caller_sees, serving_sees, fault_of}
 use Rattle.qrexec_data.specs.Sending.{IsCallerStream, IsServingStream}
 use Rattle.qrexec_data.specs.Laws.{FitsTriple, ReadsInput, CallersSeeTriples, CallersAreDone, CallersWait, InputsAreRead, GreetingsAreNoFault}
 use Rattle.qrexec_data.proofs.PieceLaws.{the_messages, NoneEnded, none-more, all_first, Within, Beyond, on-pieces, caller-carries, serving-carries, joined-append, ended-append, none-in, take-pieces}
@@ -65,10 +66,6 @@ on-tail code before none (p ∷ q ∷ r ∷ placed) (suc (suc (suc k))) left is 
 on-tail code before none (p ∷ placed) zero left is = cc
 on-tail code before none (p ∷ q ∷ placed) (suc zero) left is = cc
 on-tail code before none (p ∷ q ∷ r ∷ placed) (suc (suc zero)) left is = cc
-
--- the greeting of the other side is accepted
-abbrev pub greeted : (Message → Use) → List (Placed Message) → Ending Fault → Seen → Type 0
-greeted takes placed ending seen = seen ≡ sees_on takes placed ending []
 
 caller-sees-on : (limit : ℕ) (code : ℤ) (pieces : List Piece) → ArePieces is_output limit pieces → (placed : List (Placed Message)) (k left : ℕ)
     → the_messages placed ≡ take k (map message_of pieces ++ serving_tail code) → SeesCall pieces code (sees_on caller_use placed (Rest left) [])

@@ -3,10 +3,10 @@ use Rattle.std.specs.Prelude.{◌≡◌, ℕ, ℤ, ◌<◌, ◌≤◌, ◌^◌, 
 use Rattle.std.specs.Int.{w32}
 use Rattle.std.specs.Int.RustNames.{FitsSigned}
 use Rattle.std.specs.List.{flat_map}
+use Rattle.list_laws.specs.Lists.{IsPrefixOf}
 use Rattle.qrexec_frame.specs.declared.message.Message.{Message}
 use Rattle.qrexec_frame.specs.declared.message.Message.TheVariants.{Hello}
 use Rattle.qrexec_frame.specs.Messages.{written}
-use Rattle.qrexec_frame.specs.Streams.{IsPrefixOf}
 use Rattle.service_gate.specs.Triple.{Triple}
 use Rattle.qrexec_data.specs.declared.outcome.Outcome.TheVariants.{Done}
 use Rattle.qrexec_data.specs.CallerSide.{CallerState, CallerStandsFor}

@@ -1,12 +1,13 @@
 -- What each side of a call may have sent.
 use Rattle.std.specs.Prelude.{◌≡◌, ℕ, min, nat_lt, MatchBool, List, [], ◌∷◌, ◌++◌, map, Option, Some, None, MatchOption, Result, Ok, Err, if◌then◌else◌}
 use Rattle.std.specs.List.{flat_map}
+use Rattle.list_laws.specs.Lists.{IsPrefixOf}
 use Rattle.qrexec_frame.specs.declared.channel.Channel.TheVariants.{Data}
 use Rattle.qrexec_frame.specs.declared.message.Message.{Message}
 use Rattle.qrexec_frame.specs.declared.message.Message.TheVariants.{Hello, ExitCode}
 use Rattle.qrexec_frame.specs.Messages.{written}
 use Rattle.qrexec_frame.specs.Fronts.{reading}
-use Rattle.qrexec_frame.specs.Streams.{Placed, IsPrefixOf}
+use Rattle.qrexec_frame.specs.Streams.{Placed}
 use Rattle.qrexec_hello.specs.Greeting.{greeting}
 use Rattle.qrexec_hello.specs.declared.hello.HelloFault.{HelloFault}
 use Rattle.service_gate.specs.Triple.{Triple}

@@ -3,6 +3,7 @@ use Rattle.std.proofs.Common.{◌≡◌, ℕ, ◌+◌, ◌<◌, ◌≤◌, ◌%�
 use Rattle.std.proofs.lemmas.List.{length-take-le, length-drop, append-nil, take-append-drop}
 use Rattle.std.proofs.lemmas.Bool.{eqb-true, cases_Bool}
 use Rattle.std.specs.Prelude.{nat_le, if◌then◌else◌, find, ◌==◌, IfOk, IfSome}
+use Rattle.list_laws.specs.Lists.{IsPrefixOf}
 use Rattle.qrexec_frame.specs.declared.channel.Channel.{Channel}
 use Rattle.qrexec_frame.specs.declared.fault.FrameFault.{FrameFault}
 use Rattle.qrexec_frame.specs.declared.fault.NextError.{NextError}
@@ -13,7 +14,7 @@ use Rattle.qrexec_frame.specs.Kinds.{kinds_of, kind_on, number_of, least_len, mo
 use Rattle.qrexec_frame.specs.Messages.{kind_of, Fits, IsSpellable, GoesOn}
 use Rattle.qrexec_frame.specs.Grammar.{number_at, Fault, UnknownType, TooLong, BadLength, NoNul, Says, Spelled, Shows}
 use Rattle.qrexec_frame.specs.Fronts.{front, reading, fault_at}
-use Rattle.qrexec_frame.specs.Streams.{Front, Whole, Bad, Short, Placed, Rest, FaultAt, IsPrefixOf, read_on, then_reading}
+use Rattle.qrexec_frame.specs.Streams.{Front, Whole, Bad, Short, Placed, Rest, FaultAt, read_on, then_reading}
 use Rattle.qrexec_frame.specs.Decoding.{DecoderState, after_message, after_feed, Answers, IsOnlySpelled, FollowsGrammar, StandsFor, Reads}
 use Rattle.qrexec_frame.proofs.TextLaws.{FitsText-field, FitsText-line}
 use Rattle.qrexec_frame.proofs.StreamLaws.{read_on-whole, read_on-short, read_on-bad, reads-then}

@@ -1,8 +1,8 @@
 use Rattle.std.proofs.lemmas.List.{append-nil, take_all, length-take}
 use Rattle.std.proofs.lemmas.Bool.{cases_lt}
 use Rattle.std.proofs.Common.{◌⊎◌, inl, inr, ◌≡◌, ℕ, ◌+◌, ◌-◌, ◌<◌, ◌≤◌, suc, zero, List, [], ◌∷◌, ◌++◌, length, take, refl, ap, sym, ◌∙◌, arith, append_assoc, subst}
-use Rattle.std.specs.List.{flat_map}
-use Rattle.qrexec_frame.specs.Streams.{Front, Whole, Bad, Short, Ending, Rest, FaultAt, Placed, Reading, read_on, reading_by, messages, then_reading, IsPrefixCode, IsReadAgain, Each, Begins, ExtendsFrom, Extends}
+use Rattle.std.specs.List.{flat_map, AllByRecursion as Each}
+use Rattle.qrexec_frame.specs.Streams.{Front, Whole, Bad, Short, Ending, Rest, FaultAt, Placed, Reading, read_on, reading_by, messages, then_reading, IsPrefixCode, IsReadAgain, Begins, ExtendsFrom, Extends}
 
 -- the bytes of the message before are skipped
 pub read_on-skip : {M F : Type 0} (first : List ℕ → Front M F) → (s bs : List ℕ) (at skip : ℕ) → skip ≡ length s → read_on first (s ++ bs) at skip ≡ read_on first bs (at + length s) 0

@@ -1,5 +1,6 @@
 -- What a decoder answers, of the bytes it holds and of all bytes that it was fed.
 use Rattle.std.specs.Prelude.{◌≡◌, ℕ, ◌+◌, ◌%◌, ◌^◌, ◌≤◌, nat_le, if◌then◌else◌, List, [], ◌∷◌, ◌++◌, length, take, drop, Option, Some, None, Result, Ok, Err}
+use Rattle.list_laws.specs.Lists.{IsPrefixOf}
 use Rattle.qrexec_frame.specs.declared.channel.Channel.{Channel}
 use Rattle.qrexec_frame.specs.declared.fault.FrameFault.{FrameFault}
 use Rattle.qrexec_frame.specs.declared.fault.NextError.{NextError}
@@ -7,7 +8,7 @@ use Rattle.qrexec_frame.specs.declared.fault.NextError.TheVariants as error
 use Rattle.qrexec_frame.specs.declared.message.Message.{Message}
 use Rattle.qrexec_frame.specs.Grammar.{Fault, Spelled, Shows, IsBegun}
 use Rattle.qrexec_frame.specs.Fronts.{front, reading, fault_at}
-use Rattle.qrexec_frame.specs.Streams.{Whole, Bad, Short, Placed, Rest, FaultAt, IsPrefixOf}
+use Rattle.qrexec_frame.specs.Streams.{Whole, Bad, Short, Placed, Rest, FaultAt}
 
 -- a decoder: its channel, how many of the bytes given out it still holds, the bytes not yet given out, the
 -- offset of the first of them modulo 2 ^ 64, and the fault that it has answered

@@ -1,12 +1,13 @@
 -- Laws of spellings and of streams of them.
 use Rattle.std.specs.Prelude.{◌≡◌, ℕ, ◌≤◌, List, ◌++◌, length}
-use Rattle.std.specs.List.{flat_map}
+use Rattle.std.specs.List.{flat_map, AllByRecursion as Each}
+use Rattle.list_laws.specs.Lists.{IsPrefixOf}
 use Rattle.qrexec_frame.specs.declared.channel.Channel.{Channel}
 use Rattle.qrexec_frame.specs.declared.message.Message.{Message}
 use Rattle.qrexec_frame.specs.Messages.{written, IsSpellable, GoesOn}
 use Rattle.qrexec_frame.specs.Grammar.{Spelled}
 use Rattle.qrexec_frame.specs.Fronts.{front, reading}
-use Rattle.qrexec_frame.specs.Streams.{Each, IsPrefixOf, Begins, Extends, messages}
+use Rattle.qrexec_frame.specs.Streams.{Begins, Extends, messages}
 
 -- a message that has a spelling, of a channel
 abbrev pub IsGood : Channel → Message → Type 0

@@ -1,7 +1,7 @@
 -- The line that a message is printed as.
 use Rattle.std.specs.Prelude.{ℕ, ◌&&◌, nat_le, if◌then◌else◌, List, [], ◌∷◌, ◌++◌, length, map, codes}
 use Rattle.std.specs.Fmt.{decimal, signed_decimal}
-use Rattle.hex.specs.Hex.{encode_lower}
+pub use Rattle.script_words.specs.Text.{shown_bytes}
 use Rattle.qrexec_frame.specs.declared.message.Message.{Message}
 use Rattle.qrexec_frame.specs.declared.message.Message.TheVariants.{Hello, Stdin, Stdout, Stderr, ExitCode, Exec, JustExec, Connect, Refused, Terminated, Trigger3, Trigger}
 
@@ -13,11 +13,6 @@ shown_byte b = if nat_le 32 b && nat_le b 126 then b else 95
 abbrev pub shown_text : List ℕ → List ℕ
 shown_text [] = codes "-"
 shown_text (b ∷ text) = map shown_byte (b ∷ text)
-
--- bytes in lower case hexadecimal, or `-` if there are none
-abbrev pub shown_bytes : List ℕ → List ℕ
-shown_bytes [] = codes "-"
-shown_bytes (b ∷ bytes) = encode_lower (b ∷ bytes)
 
 -- the words and the numbers that a line begins with
 abbrev pub head_of : Message → List ℕ

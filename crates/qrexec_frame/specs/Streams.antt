@@ -1,4 +1,5 @@
 -- A stream of messages, read one after another, over any grammar of one message.
+use Rattle.list_laws.specs.Lists.{IsPrefixOf}
 use Rattle.std.specs.Prelude.{◌≡◌, ℕ, ◌+◌, ◌-◌, ◌<◌, ◌≤◌, suc, zero, List, [], ◌∷◌, ◌++◌, length, take, map}
 use Rattle.std.specs.List.{flat_map}
 
@@ -56,15 +57,6 @@ pub record IsPrefixCode {M F : Type 0} (first : List ℕ → Front M F) : Type 0
 -- what is written of a good message is read again, whatever follows it
 abbrev pub IsReadAgain : {M F : Type 0} → (List ℕ → Front M F) → (M → List ℕ) → (M → Type 0) → Type 0
 IsReadAgain {M} first written Good = (m : M) (more : List ℕ) → Good m → first (written m ++ more) ≡ Whole m (length (written m))
-
--- xs is the beginning of ys
-abbrev pub IsPrefixOf : {A : Type 0} → List A → List A → Type 0
-IsPrefixOf {A} xs ys = (rest : List A) × (xs ++ rest ≡ ys)
-
--- each element has P
-abbrev pub Each : {A : Type 0} → (A → Type 0) → List A → Type 0
-Each P [] = Unit {0}
-Each P (x ∷ xs) = P x × Each P xs
 
 -- a beginning of written messages: the first few whole, and less than a whole one
 pub record Begins {M F : Type 0} (first : List ℕ → Front M F) (written : M → List ℕ) (ms : List M) (bytes : List ℕ) (at : ℕ) : Type 0 where

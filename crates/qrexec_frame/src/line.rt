@@ -4,7 +4,8 @@ ghost use Rattle.std.specs.Fmt.{decimal, signed_decimal};
 ghost use Rattle.hex.specs.Hex.{encode_lower};
 ghost use Rattle.qrexec_frame.specs.Fronts.{made};
 ghost use Rattle.qrexec_frame.specs.Kinds.{least_len, most_len};
-ghost use Rattle.qrexec_frame.specs.Lines.{line_of, shown_byte, shown_bytes, shown_text, three_texts};
+ghost use Rattle.qrexec_frame.specs.Lines.{line_of, shown_byte, shown_text, three_texts};
+ghost use Rattle.script_words.specs.Text.{shown_bytes};
 
 use crate::encoding::put;
 use crate::front::{field_bytes, line_bytes, u32_at};

@@ -1,12 +1,12 @@
 -- A settled page of two honest ends passed bytes.
 use Rattle.std.proofs.Common.{◌≡◌, ◌∙◌, ℕ, List, subst, ap}
+use Rattle.list_laws.specs.Lists.{IsPrefixOf}
 use Rattle.ring_words.specs.declared.page.Role.TheVariants.{Client}
-use Rattle.vchan_protocol.specs.Honest.RingLaw.{IsPrefixOf}
 use Rattle.end_view.specs.Settled.{Settled, IsSettled}
 use Rattle.vchan_rule.specs.Seated.{PageView, SeatedSide, settled_page}
-use Rattle.vchan_block.specs.Pipe.{IsEndOf}
 use Rattle.ring_example.specs.declared.sides.Received.{Received}
 use Rattle.ring_example.specs.Sides.{HasPassed, HasReceived}
+use Rattle.vchan_lifecycle.specs.Ended.{IsEndOf}
 
 pub passed : (page : PageView) (received : Received) (client : SeatedSide) (s : Settled) → s ≡ settled_page page received.end client
     → HasReceived page received → IsEndOf page.table Client client → IsSettled s → HasPassed received.bytes.items s

@@ -1,13 +1,13 @@
 -- An end at its begin, and what came of the bytes that were passed.
 use Rattle.std.specs.Prelude.{◌≡◌, ℕ, List, [], true, false}
+use Rattle.list_laws.specs.Lists.{IsPrefixOf}
 use Rattle.ring_words.specs.declared.page.Role.{Role}
 use Rattle.ring_words.specs.declared.page.Role.TheVariants.{Server}
-use Rattle.vchan_protocol.specs.Honest.RingLaw.{IsPrefixOf}
 use Rattle.end_view.specs.EndView.{state_at_first}
 use Rattle.end_view.specs.Settled.{Settled, IsSettled}
 use Rattle.vchan_rule.specs.Seated.{PageView, SeatedEnd, view, last_view}
-use Rattle.vchan_block.specs.Pipe.{IsEndOf}
 use Rattle.ring_example.specs.declared.sides.Received.{Received}
+use Rattle.vchan_lifecycle.specs.Ended.{IsEndOf}
 
 -- an end of this role that has done nothing yet
 pub record IsNewEnd (role : Role) (e : SeatedEnd) : Type 0 where

@@ -1,7 +1,7 @@
 //! A page that two threads borrow.
 ghost use Rattle.std.specs.Prelude.{◌≡◌, ◌<◌, IfOk, vec_len};
 ghost use Rattle.ring_words.specs.declared.page.Role.TheVariants.{Server, Client};
-ghost use Rattle.vchan_block.specs.Pipe.{IsEndOf};
+ghost use Rattle.vchan_lifecycle.specs.Ended.{IsEndOf};
 ghost use Rattle.ring_example.specs.Sides.{HasPassed, HasReceived};
 
 use crate::sides::{Received, read_and_retire, write_and_retire};

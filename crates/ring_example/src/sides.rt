@@ -3,7 +3,7 @@ ghost use Rattle.std.specs.Prelude.{◌≡◌, ◌<◌, [], length, take, vec_le
 ghost use Rattle.ring_words.specs.declared.page.Role.TheVariants.{Server, Client};
 ghost use Rattle.vchan_rule.specs.Seated.{view, last_view, IsOpen};
 ghost use Rattle.vchan_rule.specs.Ends.{IsSameEnd};
-ghost use Rattle.vchan_block.specs.Pipe.{IsEndOf};
+ghost use Rattle.vchan_lifecycle.specs.Ended.{IsEndOf};
 ghost use Rattle.ring_example.specs.Sides.{IsNewEnd};
 
 use std::sync::Wait;

@@ -136,7 +136,7 @@ image_laid page zeros header left new long blank one two three =
         (lay_more (header_pieces page) (ring_pieces page Left) zeros header left before_left one two) three
 
 -- a ring's bytes follow its first one
-index_of-byte : (orders : Orders) (ring : Ring) (k : ℕ) → index_of orders (RingByte ring k) ≡ index_of orders (RingByte ring 0) + k
+pub index_of-byte : (orders : Orders) (ring : Ring) (k : ℕ) → index_of orders (RingByte ring k) ≡ index_of orders (RingByte ring 0) + k
 index_of-byte orders Left k = omega arith
 index_of-byte orders Right k = omega arith
 

@@ -5,3 +5,4 @@ pub mod ByteLaws
 pub mod ChoiceLaws
 pub mod ImageLaws
 pub mod LaidLaws
+pub mod OrderLaws

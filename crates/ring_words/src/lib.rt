@@ -8,6 +8,7 @@
 mod choice;
 mod image;
 mod layout;
+mod names;
 mod numbers;
 mod order;
 mod page;
@@ -16,6 +17,7 @@ mod words;
 pub use choice::{BadOrders, SizeTooLarge, check_orders, choose_orders};
 pub use image::{ImageError, page_image, words_of_image};
 pub use layout::Layout;
+pub use names::field_named;
 pub use numbers::{place, ready, room};
 pub use order::{Order, Orders};
 pub use page::{Ring, Role, WordName};

@@ -1,14 +1,14 @@
 -- What holds of the report of a run: a lawful report.
 -- Source: this project's own.
 use Rattle.std.specs.Prelude.{◌≡◌, ◌≢◌, ◌⊎◌, ℕ, ℤ, nat_lt, ◌==◌, ◌&&◌, ◌||◌, Bool, true, false, List, [], ◌∷◌, map, filter, filter_map, slice_get, is_some, bytes_eq, Contains, AllPairs, IsPermutation, IsSome, Option, Some, None, if◌then◌else◌}
-use Rattle.std.specs.List.{flat_map}
+use Rattle.std.specs.List.{flat_map, AllByRecursion as Each, AllZip as EachPair}
 use Rattle.vchan_protocol.specs.declared.side.EndedBy.TheVariants.{AllRead, PeerGone}
 use Rattle.qrexec_frame.specs.declared.channel.Channel.TheVariants as channel
 use Rattle.qrexec_frame.specs.declared.message.Message.{Message}
 use Rattle.qrexec_frame.specs.declared.message.Message.TheVariants as message
 use Rattle.qrexec_frame.specs.Fronts.{reading}
 use Rattle.qrexec_frame.specs.Names.{cleaned_service}
-use Rattle.qrexec_frame.specs.Streams.{Each, messages}
+use Rattle.qrexec_frame.specs.Streams.{messages}
 use Rattle.service_gate.specs.Triple.{Triple}
 use Rattle.service_gate.specs.ServiceResult.{service}
 use Rattle.call_broker.specs.declared.event.Event.TheVariants.{Trigger}
@@ -22,7 +22,6 @@ use Rattle.scenario_file.specs.declared.scenario.CallPlan.{CallPlan}
 use Rattle.scenario_file.specs.Lines.{lines, without_hostile}
 use Rattle.task_duties.specs.declared.place.PagePlace.{PagePlace}
 use Rattle.task_duties.specs.declared.place.PagePlace.TheVariants.{Control, Payload}
-use Rattle.task_duties.specs.Pairwise.{EachPair}
 use Rattle.task_duties.specs.Hearing.{to_agent, to_broker, IsSaid, hears}
 use Rattle.task_duties.specs.Words.{ident_of, exec_line, service_of_line}
 use Rattle.task_duties.specs.Agent.Sessions.{chunk, IsService}

@@ -1,10 +1,10 @@
 -- The eight laws that lead from ends to the report. Each speaks of one page, one domain or one call.
 -- Source: this project's own.
 use Rattle.std.specs.Prelude.{◌≡◌, ◌≢◌, ◌⊎◌, ℕ, ℤ, pos, ◌≤◌, true, false, List, [], ◌∷◌, filter_map, map, is_some, Contains, Option, Some, None}
+use Rattle.std.specs.List.{AllByRecursion as Each, AllZip as EachPair}
 use Rattle.ring_words.specs.declared.order.Orders.{Orders}
 use Rattle.qrexec_frame.specs.declared.message.Message.{Message}
 use Rattle.qrexec_frame.specs.declared.message.Message.TheVariants as message
-use Rattle.qrexec_frame.specs.Streams.{Each}
 use Rattle.service_gate.specs.Triple.{Triple}
 use Rattle.call_broker.specs.declared.event.Event.TheVariants.{Trigger}
 use Rattle.call_broker.specs.declared.decision.Decision.{Decision}
@@ -23,7 +23,6 @@ use Rattle.scenario_file.specs.declared.line.LineResult.TheVariants as line
 use Rattle.scenario_file.specs.declared.line.LineCause.TheVariants as line_cause
 use Rattle.task_duties.specs.declared.place.PagePlace.TheVariants.{Control, Payload}
 use Rattle.task_duties.specs.Places.{numbers}
-use Rattle.task_duties.specs.Pairwise.{EachPair}
 use Rattle.task_duties.specs.Hearing.{to_agent, to_broker, hears}
 use Rattle.task_duties.specs.Words.{ident_of, exec_line}
 use Rattle.task_duties.specs.Agent.Sessions.{CallerDone, ServingOwes, IsService}

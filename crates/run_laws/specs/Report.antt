@@ -1,6 +1,6 @@
 -- The report of a run.
 -- Source: this project's own.
-use Rattle.std.specs.Prelude.{◌≡◌, ℕ, ◌≤◌, ℤ, pos, List, [], true, Option, Some, None, IsSome}
+use Rattle.std.specs.Prelude.{◌≡◌, ℕ, List, [], true, Option, Some, None, IsSome}
 use Rattle.end_view.specs.Settled.{Settled}
 use Rattle.scenario_file.specs.declared.line.Line.{Line}
 use Rattle.scenario_file.specs.declared.line.LineResult.{LineResult}
@@ -13,6 +13,7 @@ use Rattle.run_laws.specs.declared.report.CallResult.TheVariants as result
 use Rattle.run_laws.specs.declared.report.ServedLine.{ServedLine}
 use Rattle.run_laws.specs.declared.report.MixedOutcome.{MixedOutcome}
 use Rattle.run_laws.specs.declared.report.MixedOutcome.TheVariants.{Done, Refused, Fault, Closed, Gone}
+use Rattle.service_gate.specs.ServiceResult.{IsSmallCode}
 
 -- a page that is done with, and where it lay
 pub record SettledPage : Type 0 where
@@ -56,13 +57,9 @@ FitsCaller Closed got = (caller_sees got).verdict ≡ Undecided
 FitsCaller Gone got = (caller_sees got).verdict ≡ Undecided
 FitsCaller Refused got = got ≡ []
 
--- a code of a service
-abbrev pub IsSmall : ℤ → Type 0
-IsSmall code = (n : ℕ) × (n ≤ 255) × (code ≡ pos n)
-
 -- the outcome of a side that served and got these bytes
 abbrev pub FitsServing : MixedOutcome → List ℕ → Type 0
-FitsServing (Done code) got = ((serving_sees got).fault ≡ None) × ((serving_sees got).ended ≡ true) × IsSmall code
+FitsServing (Done code) got = ((serving_sees got).fault ≡ None) × ((serving_sees got).ended ≡ true) × IsSmallCode code
 FitsServing Fault got = IsSome (serving_sees got).fault
 FitsServing Closed got = (serving_sees got).fault ≡ None
 FitsServing Gone got = (serving_sees got).fault ≡ None

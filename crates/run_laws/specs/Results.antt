@@ -1,13 +1,13 @@
 -- A run from what its tasks answered and from its settled pages.
 -- Source: this project's own.
 use Rattle.std.specs.Prelude.{◌≡◌, ℕ, ◌≤◌, true, false, List, [], ◌∷◌, length, map, slice_index_or, Contains, IsPermutation, AllPairs, if◌then◌else◌}
-use Rattle.qrexec_frame.specs.Streams.{Each}
+use Rattle.std.specs.List.{AllByRecursion as Each}
 use Rattle.call_broker.specs.declared.decision.Entry.{Entry}
 use Rattle.end_view.specs.EndView.{EndView, IsUnused, no_end}
 use Rattle.end_view.specs.Settled.{Settled, IsSettled}
 use Rattle.scenario_file.specs.Scenario.{Plan as Scenario, IsScenario, hostile_at}
 use Rattle.task_duties.specs.declared.place.PagePlace.{PagePlace}
-use Rattle.task_duties.specs.declared.place.PagePlace.TheVariants.{Control, Payload}
+use Rattle.task_duties.specs.declared.place.PagePlace.TheVariants.{Control}
 use Rattle.task_duties.specs.declared.done.CallDone.{CallDone}
 use Rattle.task_duties.specs.declared.done.ServedDone.{ServedDone}
 use Rattle.task_duties.specs.declared.done.ControlEnd.{ControlEnd}

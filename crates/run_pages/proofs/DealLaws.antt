@@ -1,29 +1,28 @@
 -- Dealing one page more.
-use Rattle.std.proofs.Common.{◌≡◌, ◌≢◌, ◌⊎◌, inl, inr, ℕ, suc, ◌+◌, ◌-◌, ◌<◌, ◌≤◌, List, [], ◌∷◌, ◌++◌, length, map, set, refl, ap, sym, ◌∙◌, subst, arith, append_assoc, length-append, length-set, Option, Some, None}
+use Rattle.std.proofs.Common.{◌≡◌, ◌≢◌, ◌⊎◌, inl, inr, ℕ, ◌+◌, ◌-◌, ◌<◌, ◌≤◌, List, [], ◌∷◌, ◌++◌, length, map, set, refl, ap, sym, ◌∙◌, subst, arith, append_assoc, length-append, length-set, Some}
 use Rattle.std.specs.Prelude.{◌==◌, true, false, slice_get, if◌then◌else◌}
-use Rattle.std.proofs.lemmas.List.{append-nil, map-append}
+use Rattle.std.proofs.lemmas.List.{append-nil, map-append, length-map}
 use Rattle.std.proofs.lemmas.List.Elements.{filter_map-append}
 use Rattle.std.proofs.lemmas.Bool.{eq-eqb, ne_eqb}
 use Rattle.std.proofs.lemmas.Bool.Decides.{eqb_tells}
 use Rattle.std.proofs.lemmas.Option.{slice_get_within}
-use Rattle.std.specs.Prelude.{is_none, IsNone}
-use Rattle.end_view.specs.EndView.{EndView, view_of, state_at_first}
-use Rattle.vchan_protocol.specs.History.Core.{new_side}
-use Rattle.vchan_core.specs.OneMachine.Phases.{IsIdle}
-use Rattle.vchan_rule.specs.Seated.{SeatedEnd, SeatView, view}
+use Rattle.std.specs.List.{AllByRecursion as Each}
+use Rattle.list_laws.proofs.Each.{each-push}
+use Rattle.list_laws.proofs.Places.{get-set}
+use Rattle.end_view.specs.EndView.{EndView}
+use Rattle.vchan_rule.specs.Seated.{SeatedEnd, view}
 use Rattle.ring_words.specs.declared.page.Role.{Role}
 use Rattle.task_duties.specs.TaskOwes.{EndAt, all_ends, broker_ends}
 use Rattle.task_duties.specs.GivenEnds.{all_given, given_at}
 use Rattle.task_duties.specs.declared.ends.DataEnd.{DataEnd}
 use Rattle.task_duties.specs.declared.place.PagePlace.TheVariants.{Control, Payload}
 use Rattle.ring_words.specs.declared.page.Role.TheVariants.{Server, Client}
-use Rattle.run_laws.specs.Laid.{orders_of, server_of, client_of}
+use Rattle.run_laws.specs.Laid.{server_of, client_of}
 use Rattle.run_pages.specs.declared.deal.Hand.{Hand}
 use Rattle.scenario_file.specs.Scenario.{Plan as Scenario}
-use Rattle.run_pages.specs.Pages.{IsLaidFor, PageAt, new_end, end_on, new_ends}
-use Rattle.qrexec_frame.specs.Streams.{Each}
+use Rattle.run_pages.specs.Pages.{PageAt, new_end, end_on, new_ends}
 use Rattle.run_pages.specs.Dealt.{hand_ends, HandsDealt, ControlsDealt, AreDealt, AddsHand, FitsDomain, Gives, HasOrders, HaveOrders}
-use Rattle.run_pages.proofs.ListLaws.{each-more, get-more, get-set}
+use Rattle.run_pages.proofs.ListLaws.{get-more}
 
 same-test : (a b : ℕ) → a ≡ b → (a == b) ≡ true
 same-test a b e = eq-eqb a b e
@@ -66,7 +65,7 @@ orders-set s old number h h' end some at control payload fits ordered k hand is 
         subst (λ x. HasOrders s (k + 1) x) e.1 (record {
           of_control = ap (λ (c : SeatedEnd). c.side.orders) control ∙ has.of_control;
           of_payload = subst (Each (λ (e : DataEnd). FitsDomain s (k + 1) e.end)) (sym payload)
-              (each-more (λ (e : DataEnd). FitsDomain s (k + 1) e.end) h.payload.items end has.of_payload (subst (λ n. FitsDomain s n end.end) now fits));
+              (each-push (λ (e : DataEnd). FitsDomain s (k + 1) e.end) h.payload.items end has.of_payload (subst (λ n. FitsDomain s n end.end) now fits));
         })
 
 -- a hand that has a control end alone comes after the others
@@ -93,22 +92,6 @@ orders-more s old h control payload ordered k hand is = by (get-more old h hand 
 
 -- ---- the ends of a page on which nothing has happened
 
-none-true : {A : Type 0} (o : Option A) → IsNone o → is_none o ≡ true
-none-true None n = refl
-none-true (Some x) n = cc
-
--- an end that was attached to a seat
-pub attached-view : (e : SeatedEnd) (seat : SeatView) (p : PageAt) (role : Role) → seat ≡ record { page = p.page; role = role } → e.page ≡ p.page.table
-    → e.side ≡ new_side seat.role p.page.orders p.page.start (state_at_first seat.role) → IsIdle e.machine → view e ≡ (new_end p role).view
-attached-view e seat p role is page side idle =
-    ap (λ t. view_of t (is_none e.machine.phase) e.side) page
-    ∙ ap (λ b. view_of p.page.table b e.side) (none-true e.machine.phase idle)
-    ∙ ap (λ s. view_of p.page.table true s) (side ∙ ap (λ x. new_side x.role p.page.orders p.page.start (state_at_first x.role)) is)
-
--- it has the orders of its page
-pub attached-orders : (s : Scenario) (e : SeatedEnd) (seat : SeatView) (p : PageAt) → IsLaidFor s p → e.side ≡ new_side seat.role p.page.orders p.page.start (state_at_first seat.role) → e.side.orders ≡ orders_of s p.place
-attached-orders s e seat p laid side = ap (λ x. x.orders) side ∙ laid.orders
-
 -- ---- the ends of one page more
 
 pub ends-more : (pages : List PageAt) (p : PageAt) (number : ℕ) → new_ends (pages ++ p ∷ []) number ≡ new_ends pages number ++ new_ends (p ∷ []) number
@@ -123,10 +106,6 @@ ends-client p number n e = rw (ne_eqb (server_of p.place) number n) (rw (same-te
 
 pub ends-none : (p : PageAt) (number : ℕ) → server_of p.place ≢ number → client_of p.place ≢ number → new_ends (p ∷ []) number ≡ []
 ends-none p number n m = rw (ne_eqb (server_of p.place) number n) (rw (ne_eqb (client_of p.place) number m) refl)
-
-pub map-length : {A B : Type 0} (f : A → B) (xs : List A) → length (map f xs) ≡ length xs
-map-length f [] = refl
-map-length f (x ∷ xs) = ap suc (map-length f xs)
 
 -- ---- a control page
 
@@ -151,7 +130,7 @@ control-dealt pages controls hands hands' p domain server client dealt place nex
 
     client-end : record { place = Control (1 + length (map view controls)); view = view client } ≡ new_end p Client
     client-end =
-        ap (λ d. record { place = Control d; view = view client }) (omega (arith, next, dealt.as_many, map-length view controls))
+        ap (λ d. record { place = Control d; view = view client }) (omega (arith, next, dealt.as_many, length-map controls view))
         ∙ ap (λ place. record { place = place; view = view client }) (sym place) ∙ ap (λ v. record { place = p.place; view = v }) client-is
 
     controls-are : ControlsDealt (pages ++ p ∷ []) (controls ++ client ∷ [])

@@ -1,7 +1,7 @@
 -- What the hand of a hostile domain has.
 use Rattle.std.proofs.Common.{◌≡◌, ℕ, List, [], ◌∷◌, refl, sym, ◌∙◌}
 use Rattle.std.specs.Prelude.{true, false}
-use Rattle.qrexec_frame.specs.Streams.{Each}
+use Rattle.std.specs.List.{AllByRecursion as Each}
 use Rattle.scenario_file.specs.Scenario.{Plan as Scenario, hostile_at}
 use Rattle.task_duties.specs.declared.ends.DataEnd.{DataEnd}
 use Rattle.task_duties.specs.declared.ends.UnusedEnd.{UnusedEnd}

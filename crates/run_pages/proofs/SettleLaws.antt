@@ -1,28 +1,29 @@
 -- Taking the last ends of two tasks, and settling their page.
 use Rattle.std.proofs.Common.{◌≡◌, ◌≢◌, ◌⊎◌, inl, inr, ℕ, zero, suc, ◌≤◌, get_or, ◌+◌, ◌<◌, List, [], ◌∷◌, ◌++◌, length, map, set, refl, ap, sym, ◌∙◌, subst, arith, append_assoc, reverse, length-append, length-set, Some, None}
 use Rattle.std.specs.Prelude.{◌==◌, true, false, Contains, slice_get, option_map, if◌then◌else◌}
-use Rattle.std.proofs.lemmas.List.{append-nil, map-append, reverse-append}
+use Rattle.std.proofs.lemmas.List.{append-nil, map-append, reverse-append, length-map}
 use Rattle.std.proofs.lemmas.List.Elements.{Contains-append_left, Contains-append_right}
 use Rattle.std.proofs.lemmas.Option.{get_or_from_slice_get, slice_get-map, slice_get_cases, slice_get_within}
 use Rattle.std.proofs.lemmas.Bool.{eq-eqb, ne_eqb}
 use Rattle.task_duties.specs.TaskOwes.{EndAt}
 use Rattle.ring_words.specs.declared.page.Role.{Role}
-use Rattle.task_duties.specs.Pairwise.{EachPair}
 use Rattle.task_duties.specs.TaskOwes.{IsSameEnd}
 use Rattle.task_duties.specs.declared.place.PagePlace.{PagePlace}
 use Rattle.task_duties.specs.declared.place.PagePlace.TheVariants.{Control, Payload}
 use Rattle.ring_words.specs.declared.page.Role.TheVariants.{Server, Client}
 use Rattle.std.proofs.lemmas.Bool.Decides.{eqb_tells}
+use Rattle.std.specs.List.{AllZip as EachPair, AllByRecursion as Each}
+use Rattle.list_laws.proofs.Each.{each-push}
+use Rattle.list_laws.proofs.Places.{get-set}
+use Rattle.list_laws.proofs.Pairs.{last-pair}
 use Rattle.run_laws.specs.Laid.{orders_of, server_of, client_of}
 use Rattle.run_pages.specs.Pages.{AreLaid, IsLaidFor, PageAt, new_end, new_ends}
 use Rattle.run_pages.specs.Dealt.{Follows, controls_in}
 use Rattle.run_pages.specs.Settling.{AreSettledBy, GivesUp, GivesUpBoth, HandsBack, HasEnd, IsJoinedBy, IsSettledBy, IsSettling, hand_of}
-use Rattle.qrexec_frame.specs.Streams.{Each}
 use Rattle.vchan_rule.specs.Seated.{PageStart}
 use Rattle.scenario_file.specs.Scenario.{Plan as Scenario}
 use Rattle.run_laws.specs.Report.{SettledPage}
-use Rattle.run_pages.proofs.ListLaws.{each-more, get-set, last-pair}
-use Rattle.run_pages.proofs.DealLaws.{ends-client, ends-more, ends-none, ends-server, map-length}
+use Rattle.run_pages.proofs.DealLaws.{ends-client, ends-more, ends-none, ends-server}
 use Rattle.run_pages.proofs.FollowLaws.{controls-append, controls-laid, laid-follows}
 
 map-set : {A B : Type 0} (f : A → B) (xs : List A) (i : ℕ) (y : A) → map f (set xs i y) ≡ set (map f xs) i (f y)
@@ -33,7 +34,7 @@ map-set f (x ∷ xs) (suc i) y = ap (λ l. f x ∷ l) (map-set f xs i y)
 -- the last end of a task is taken from a list of its ends
 pub gives-up : {A : Type 0} (ends : A → List EndAt) (hands : List A) (number : ℕ) (hand hand' : A) (end : EndAt) → slice_get hands number ≡ Some hand
     → ends hand ≡ ends hand' ++ end ∷ [] → GivesUp number end (map ends hands) (map ends (set hands number hand'))
-gives-up ends hands number hand hand' end at last = record { count = map-length ends (set hands number hand') ∙ length-set hands number hand' ∙ sym (map-length ends hands); each = each }
+gives-up ends hands number hand hand' end at last = record { count = length-map (set hands number hand') ends ∙ length-set hands number hand' ∙ sym (length-map hands ends); each = each }
   where
     each : (k : ℕ) (h : List EndAt) → slice_get (map ends (set hands number hand')) k ≡ Some h → slice_get (map ends hands) k ≡ Some (h ++ (if k == number then end ∷ [] else []))
     each k h is = by (get-set (map ends hands) number k (ends hand') h (subst (λ l. slice_get l k ≡ Some h) (map-set ends hands number hand') is))
@@ -300,7 +301,7 @@ settles-on s left all before p server client page hands hands' first settled is 
           ∙ ap (λ place. map (λ p. p.place) before ++ place ∷ reverse (map (λ p. p.place) settled)) joined.place_is
           ∙ sym (append_assoc (map (λ p. p.place) before) (p.place ∷ []) (reverse (map (λ p. p.place) settled)))
           ∙ ap (λ l. l ++ reverse (map (λ p. p.place) settled)) (sym at) ∙ inv.places;
-      each = each-more (IsSettledBy s first) settled page inv.each (settled-by s p server client page hands gives.0 first laid.1 gave gives.1 inv.within joined);
+      each = each-push (IsSettledBy s first) settled page inv.each (settled-by s p server client page hands gives.0 first laid.1 gave gives.1 inv.within joined);
     }
 
 -- ---- the beginning, and the end
@@ -318,7 +319,7 @@ settles-first s pages hands laid count back = record {
 
 each-reverse : {A : Type 0} (P : A → Type 0) (xs : List A) → Each P xs → Each P (reverse xs)
 each-reverse P [] e = tt
-each-reverse P (x ∷ xs) e = subst (Each P) (sym (reverse-append (x ∷ []) xs)) (each-more P (reverse xs) x (each-reverse P xs e.1) e.0)
+each-reverse P (x ∷ xs) e = subst (Each P) (sym (reverse-append (x ∷ []) xs)) (each-push P (reverse xs) x (each-reverse P xs e.1) e.0)
 
 map-reverse : {A B : Type 0} (f : A → B) (xs : List A) → map f (reverse xs) ≡ reverse (map f xs)
 map-reverse f [] = refl

@@ -1,16 +1,15 @@
 -- The pages of a run, and their ends before anything has happened.
 -- Source: this project's own.
 use Rattle.std.specs.Prelude.{◌≡◌, ℕ, ◌==◌, ◌&&◌, not, Bool, true, false, List, map, filter_map, Option, Some, None, if◌then◌else◌}
+use Rattle.std.specs.List.{AllByRecursion as Each, AllZip as EachPair}
 use Rattle.ring_words.specs.declared.page.Role.{Role}
 use Rattle.ring_words.specs.declared.page.Role.TheVariants.{Server, Client}
 use Rattle.vchan_protocol.specs.History.Core.{new_side}
-use Rattle.qrexec_frame.specs.Streams.{Each}
 use Rattle.end_view.specs.EndView.{view_of, state_at_first}
 use Rattle.vchan_rule.specs.Seated.{PageView}
 use Rattle.scenario_file.specs.Scenario.{Plan as Scenario, hostile_at}
 use Rattle.task_duties.specs.declared.place.PagePlace.{PagePlace}
 use Rattle.task_duties.specs.declared.place.PagePlace.TheVariants.{Control, Payload}
-use Rattle.task_duties.specs.Pairwise.{EachPair}
 use Rattle.task_duties.specs.TaskOwes.{EndAt}
 use Rattle.run_laws.specs.Laid.{orders_of, laid, server_of, client_of}
 use Rattle.run_pages.specs.declared.lay.RunPage.{RunPage}

@@ -1,12 +1,11 @@
 -- What the tasks of a run give back, and the pages that are settled by it.
 -- Source: this project's own.
 use Rattle.std.specs.Prelude.{◌≡◌, ℕ, ◌<◌, ◌==◌, List, [], ◌∷◌, ◌++◌, length, map, reverse, slice_get, slice_index_or, Some, Contains, if◌then◌else◌}
+use Rattle.std.specs.List.{AllByRecursion as Each, AllZip as EachPair}
 use Rattle.end_view.specs.EndView.{EndView}
 use Rattle.end_view.specs.Settled.{IsSettled}
-use Rattle.qrexec_frame.specs.Streams.{Each}
 use Rattle.scenario_file.specs.Scenario.{Plan as Scenario}
 use Rattle.task_duties.specs.declared.place.PagePlace.{PagePlace}
-use Rattle.task_duties.specs.Pairwise.{EachPair}
 use Rattle.task_duties.specs.TaskOwes.{EndAt, IsSameEnd}
 use Rattle.vchan_rule.specs.Seated.{PageStart, began_with, words_of}
 use Rattle.run_laws.specs.Laid.{BeganAsSaid, server_of, client_of}

@@ -3,7 +3,8 @@
 use Rattle.std.specs.Prelude.{ℕ, List, [], ◌∷◌, ◌++◌, length, codes, decimal}
 use Rattle.std.specs.Fmt.{signed_decimal}
 use Rattle.std.specs.List.{flat_map}
-use Rattle.qrexec_frame.specs.Lines.{shown_bytes}
+use Rattle.script_words.specs.Text.{shown_bytes}
+pub use Rattle.script_words.specs.Text.{spaced}
 use Rattle.scenario_file.specs.declared.line.LineCause.{LineCause}
 use Rattle.scenario_file.specs.declared.line.LineCause.TheVariants as cause
 use Rattle.run_laws.specs.declared.report.CallLine.{CallLine}
@@ -13,11 +14,6 @@ use Rattle.run_laws.specs.declared.report.ServedLine.{ServedLine}
 use Rattle.run_laws.specs.declared.report.MixedOutcome.{MixedOutcome}
 use Rattle.run_laws.specs.declared.report.MixedOutcome.TheVariants.{Done, Refused, Fault, Closed, Gone}
 use Rattle.run_laws.specs.Report.{Report}
-
--- words, with a space before each
-abbrev pub spaced : List (List ℕ) → List ℕ
-spaced [] = []
-spaced (word ∷ words) = 32 ∷ (word ++ spaced words)
 
 -- how a session with a hostile domain ended
 abbrev pub outcome_word : MixedOutcome → List ℕ

@@ -6,16 +6,15 @@
 //! own.
 #![tactic(auto)]
 
-mod digits;
 mod lines;
 mod report;
 mod standing;
 mod summary;
 mod text;
 
-pub use lines::{push_bytes, push_number};
 pub use report::{Report, SettledPage};
 pub use run_laws::{CallLine, CallResult, MixedOutcome, ServedLine};
+pub use script_words::text::{push_bytes, push_number};
 pub use standing::Standing;
 pub use summary::summary_text;
 pub use text::report_text;

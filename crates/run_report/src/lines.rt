@@ -1,13 +1,12 @@
-//! Words and lines, each appended to the text that was printed before.
+//! Lines, each appended to the text that was printed before.
 ghost use Rattle.std.specs.Prelude.{◌≡◌, ◌++◌, ◌∷◌, [], OnOk};
-ghost use Rattle.run_report.specs.Lines.{call_line, cause_word, outcome_word, result_words, served_line, spaced, sum_line};
-ghost use Rattle.qrexec_frame.specs.Lines.{shown_bytes};
-ghost use Rattle.hex.specs.Hex.{encode_lower};
+ghost use Rattle.run_report.specs.Lines.{call_line, cause_word, outcome_word, result_words, served_line, sum_line};
+ghost use Rattle.script_words.specs.Text.{spaced};
 
-use crate::digits::encode_digits;
 use itoa::{Buffer, Integer};
 use run_laws::{CallLine, CallResult, MixedOutcome, ServedLine};
 use scenario_file::LineCause;
+use script_words::text::{push_bytes, push_number, push_word};
 use std::alloc::AllocError;
 
 /// Appends the line of a call.
@@ -98,44 +97,4 @@ fn push_outcome(out: &mut Vec<u8>, outcome: MixedOutcome) -> Result<(), AllocErr
         MixedOutcome::Closed => push_word(out, b"closed"),
         MixedOutcome::Gone => push_word(out, b"gone"),
     }
-}
-
-fn push_word(out: &mut Vec<u8>, word: &[u8]) -> Result<(), AllocError>
-    ensures { OnOk result (out.new.items ≡ out.old.items ++ spaced (word.now ∷ [])) }
-{
-    out.push(b' ')?;
-    out.extend_from_slice(word)
-}
-
-/// Appends a space and a decimal number. Returns the error if memory runs out; a part of the text may have
-/// been appended then.
-pub fn push_number<I: Integer>(out: &mut Vec<u8>, number: I) -> Result<(), AllocError>
-    ensures { OnOk result (out.new.items ≡ out.old.items ++ spaced (I.text number ∷ [])) }
-{
-    push_word(out, Buffer::new().format(number).as_bytes())
-}
-
-/// Appends a space and the bytes in lower case hexadecimal, or `-` if there are none. Returns the error if
-/// memory runs out; a part of the text may have been appended then.
-pub fn push_bytes(out: &mut Vec<u8>, bytes: &[u8]) -> Result<(), AllocError>
-    ensures { OnOk result (out.new.items ≡ out.old.items ++ spaced (shown_bytes bytes.now ∷ [])) }
-{
-    if bytes.is_empty() {
-        return push_word(out, b"-");
-    }
-    out.push(b' ')?;
-    push_hex(out, bytes)
-}
-
-fn push_hex(out: &mut Vec<u8>, bytes: &[u8]) -> Result<(), AllocError>
-    ensures { OnOk result (out.new.items ≡ out.old.items ++ encode_lower bytes.now) }
-{
-    let start = out.len();
-    let Some(room) = bytes.len().checked_mul(2) else {
-        return Err(AllocError);
-    };
-    out.reserve(room)?;
-    out.resize(start + room, 0)?;
-    encode_digits(bytes, &mut out[start..]);
-    Ok(())
 }

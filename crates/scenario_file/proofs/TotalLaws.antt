@@ -15,7 +15,7 @@ use Rattle.scenario_file.specs.Tables.{words_with}
 pub two_or_three : (n : ℕ) → 2 ≤ n → n ≤ 3 → (n ≡ 2) ⊎ (n ≡ 3)
 two_or_three n low high = grind arith
 
-within-kind : (hostile : Bool) (ports version : ℕ) → NumbersFit hostile ports version → ports ≤ 32
+pub within-kind : (hostile : Bool) (ports version : ℕ) → NumbersFit hostile ports version → ports ≤ 32
 within-kind false ports version fits = omega (arith, fits.0)
 within-kind true ports version fits = fits.0
 

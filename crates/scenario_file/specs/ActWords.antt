@@ -1,26 +1,22 @@
 -- Which texts are acts of a hostile domain.
 -- Source: this project's own; the fields of a page are those of struct vchan_interface in
 -- public/io/libxenvchan.h.
-use Rattle.std.specs.Prelude.{ℕ, ◌+◌, ◌-◌, ◌==◌, nat_le, List, [], ◌∷◌, length, take, drop, position, if◌then◌else◌, Option, None, Some, option_map, codes, bytes_eq}
+use Rattle.std.specs.Prelude.{ℕ, ◌+◌, ◌==◌, nat_le, List, [], ◌∷◌, take, drop, position, if◌then◌else◌, Option, None, Some, option_map, codes, bytes_eq}
 use Rattle.std.specs.Map.{lookup}
-use Rattle.std.specs.Option.{option_and_then}
 use Rattle.ring_words.specs.declared.page.Ring.{Ring}
 use Rattle.ring_words.specs.declared.page.Ring.TheVariants.{Left, Right}
 use Rattle.ring_words.specs.declared.page.WordName.{WordName}
-use Rattle.ring_words.specs.declared.page.WordName.TheVariants.{LeftCons, LeftProd, RightCons, RightProd, LeftOrder, RightOrder, CliLive, SrvLive, CliNotify, SrvNotify, RingByte}
+use Rattle.ring_words.specs.declared.page.WordName.TheVariants.{RingByte}
+use Rattle.ring_words.specs.Page.{fields}
 use Rattle.script_words.specs.Words.{words_of, only}
 use Rattle.script_words.specs.Numbers.{number_of}
-use Rattle.script_words.specs.ByteStrings.{byte_string}
+use Rattle.script_words.specs.ByteStrings.{byte_string, ◌>>=◌}
+use Rattle.script_words.specs.Places.{place_in}
 use Rattle.scenario_file.specs.Names.{is_name, is_service}
 use Rattle.scenario_file.specs.declared.acts.ActPage.{ActPage}
 use Rattle.scenario_file.specs.declared.acts.ActPage.TheVariants as page
 use Rattle.scenario_file.specs.declared.acts.Act.{Act}
 use Rattle.scenario_file.specs.declared.acts.Act.TheVariants.{Hello, Say, Trigger, Terminate, Poke, Scribble, Signal, Rest}
-
--- the second step, if the first gave a value
-infixl 10 ◌>>=◌
-abbrev pub ◌>>=◌ : {A B : Type 0} → Option A → (A → Option B) → Option B
-o >>= f = option_and_then f o
 
 -- this, if no word is left
 abbrev pub alone : Act → List (List ℕ) → Option Act
@@ -100,34 +96,6 @@ data_page word = do
 
 abbrev pub page_of : List ℕ → Option ActPage
 page_of word = if bytes_eq word (codes "control") then Some page.Control else data_page word
-
--- the header fields of a page
-abbrev pub fields : List (List ℕ × WordName)
-fields =
-    (codes "left_cons", LeftCons) ∷
-    (codes "left_prod", LeftProd) ∷
-    (codes "right_cons", RightCons) ∷
-    (codes "right_prod", RightProd) ∷
-    (codes "left_order", LeftOrder) ∷
-    (codes "right_order", RightOrder) ∷
-    (codes "cli_live", CliLive) ∷
-    (codes "srv_live", SrvLive) ∷
-    (codes "cli_notify", CliNotify) ∷
-    (codes "srv_notify", SrvNotify) ∷
-    []
-
--- what stands after these bytes, and before these
-abbrev pub without_front : List ℕ → List ℕ → Option (List ℕ)
-without_front front word =
-    if bytes_eq (take (length front) word) front then Some (drop (length front) word) else None
-
-abbrev pub without_end : List ℕ → List ℕ → Option (List ℕ)
-without_end end word =
-    if bytes_eq (drop (length word - length end) word) end then Some (take (length word - length end) word) else None
-
--- K of `NAME[K]`
-abbrev pub place_in : List ℕ → List ℕ → Option (List ℕ)
-place_in name word = option_and_then (without_end (codes "]")) (without_front name word)
 
 -- a byte of a ring; K is a number of 32 bits
 abbrev pub byte_at : Ring → List ℕ → Option WordName

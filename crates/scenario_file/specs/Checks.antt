@@ -2,6 +2,7 @@
 -- Source: this project's own; the values of a file are those of TOML.
 use Rattle.std.specs.Prelude.{ℕ, ℤ, pos, ◌&&◌, nat_le, Bool, List, [], ◌∷◌, ◌++◌, if◌then◌else◌, ok_or, Option, None, Some, Result, Ok, Err, codes, decimal, bytes_eq}
 use Rattle.std.specs.List.{list_any}
+use Rattle.list_laws.specs.Results.{◌>>=◌}
 use Rattle.toml.specs.Data.{Data, Items, no_items, item, Members, no_members, member, as_str, as_integer, as_array, as_table, get_member}
 use Rattle.scenario_file.specs.declared.error.ScenarioKind.{ScenarioKind}
 use Rattle.scenario_file.specs.declared.error.ScenarioKind.TheVariants.{UnknownKey, MissingKey, WrongType, BadNumber}
@@ -11,12 +12,6 @@ use Rattle.scenario_file.specs.declared.place.Section.TheVariants.{Top, Rings, D
 -- a failed check: its kind, and the path of what it looked at
 abbrev pub Fault : Type 0
 Fault = ScenarioKind × List ℕ
-
--- the second step, if the first gave a value
-infixl 10 ◌>>=◌
-abbrev pub ◌>>=◌ : {A B E : Type 0} → Result A E → (A → Result B E) → Result B E
-Ok x >>= f = f x
-Err e >>= f = Err e
 
 -- ---- paths
 

@@ -3,6 +3,7 @@
 use Rattle.std.specs.Prelude.{ℕ, ◌+◌, ◌^◌, ◌==◌, ◌&&◌, ◌||◌, not, nat_le, nat_lt, Bool, true, false, List, [], length, slice_get, is_some, if◌then◌else◌, ok_or, unwrap_or, Option, None, Some, Result, Ok, Err, codes}
 use Rattle.std.specs.Option.{option_map_or, option_and_then}
 use Rattle.std.specs.Str.{is_utf8}
+use Rattle.list_laws.specs.Results.{◌>>=◌}
 use Rattle.toml.specs.Data.{Data, Items, no_items, item, Members, get_member}
 use Rattle.toml.specs.Parse.{parse_document}
 use Rattle.script_words.specs.ByteStrings.{byte_string}
@@ -15,7 +16,7 @@ use Rattle.scenario_file.specs.Names.{is_name, is_service}
 use Rattle.scenario_file.specs.Scenario.{Written, is_hostile, place_named, words_laid, stdin_total}
 use Rattle.scenario_file.specs.Generator.{fill}
 use Rattle.scenario_file.specs.ActWords.{act_of}
-use Rattle.scenario_file.specs.Checks.{Fault, ◌>>=◌, path_of, item_path, key_list, known_keys, needed_text, optional, text_in, integer_in, list_in, table_in, list_at, natural, number_at, all_from}
+use Rattle.scenario_file.specs.Checks.{Fault, path_of, item_path, key_list, known_keys, needed_text, optional, text_in, integer_in, list_in, table_in, list_at, natural, number_at, all_from}
 
 -- ---- rings
 

@@ -1,18 +1,17 @@
 //! Reading the acts of a hostile domain.
-ghost use Rattle.std.specs.Prelude.{◌≡◌, ◌==◌, ◌<◌, ◌≤◌, length, position, option_copied, option_map, true, Some, None, IfOk, IfSome, bytes_eq};
-ghost use Rattle.std.specs.Map.{lookup};
+ghost use Rattle.std.specs.Prelude.{◌≡◌, ◌==◌, ◌<◌, ◌≤◌, length, position, option_map, true, Some, None, IfOk, IfSome};
 ghost use Rattle.script_words.specs.WordsLeft.{words_left};
 ghost use Rattle.scenario_file.specs.Acts.{ActFits, PageFits};
 ghost use Rattle.scenario_file.specs.Names.{is_name, is_service};
 ghost use Rattle.scenario_file.specs.ActReadings.{Spells};
-ghost use Rattle.scenario_file.specs.ActWords.{act_of, act_of_words, alone, any_number, byte_at, byte_named, colon_parts, data_page, fields, name_word, number_from, page_of, place_in, poke_from, poke_of, rest_of, say_of, scribble_of, service_word, terminate_of, trigger_from, trigger_of, word_named};
+ghost use Rattle.scenario_file.specs.ActWords.{act_of, act_of_words, alone, any_number, byte_at, byte_named, colon_parts, data_page, name_word, number_from, page_of, poke_from, poke_of, rest_of, say_of, scribble_of, service_word, terminate_of, trigger_from, trigger_of, word_named};
 
 use crate::acts::{Act, ActPage};
 use crate::names::{is_name, is_service};
 use crate::text::text_of;
 use qrexec_frame::{Bytes, Text};
-use ring_words::{Ring, WordName};
-use script_words::{ByteError, WordsOfLine, bytes_of, parse_number};
+use ring_words::{Ring, WordName, field_named};
+use script_words::{ByteError, WordsOfLine, bytes_of, parse_number, place_in};
 use std::alloc::Global;
 use vchan_io::Memory;
 
@@ -285,46 +284,10 @@ fn word_named(word: &[u8]) -> Option<WordName>
     }
 }
 
-/// Returns what stands between this front of a word and a `]` at its end.
-fn place_in<'a>(front: &[u8], word: &'a [u8]) -> Option<&'a [u8]>
-    ensures { option_copied result ≡ place_in front.now word.now }
-{
-    word.strip_prefix(front)?.strip_suffix(b"]")
-}
-
 /// Returns the byte of a ring at the place that this text gives.
 fn byte_at(ring: Ring, place: &[u8]) -> Option<WordName>
     ensures { result ≡ byte_at ring place.now }
 {
     let at = any_number(place)?;
     Some(WordName::RingByte { ring, at })
-}
-
-/// Returns the header field that this text names.
-fn field_named(word: &[u8]) -> Option<WordName>
-    ensures { result ≡ lookup (bytes_eq word.now) fields }
-{
-    if word == b"left_cons".as_slice() {
-        Some(WordName::LeftCons)
-    } else if word == b"left_prod".as_slice() {
-        Some(WordName::LeftProd)
-    } else if word == b"right_cons".as_slice() {
-        Some(WordName::RightCons)
-    } else if word == b"right_prod".as_slice() {
-        Some(WordName::RightProd)
-    } else if word == b"left_order".as_slice() {
-        Some(WordName::LeftOrder)
-    } else if word == b"right_order".as_slice() {
-        Some(WordName::RightOrder)
-    } else if word == b"cli_live".as_slice() {
-        Some(WordName::CliLive)
-    } else if word == b"srv_live".as_slice() {
-        Some(WordName::SrvLive)
-    } else if word == b"cli_notify".as_slice() {
-        Some(WordName::CliNotify)
-    } else if word == b"srv_notify".as_slice() {
-        Some(WordName::SrvNotify)
-    } else {
-        None
-    }
 }

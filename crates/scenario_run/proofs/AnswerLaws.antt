@@ -1,11 +1,12 @@
 -- What the tasks answer, with the pages that are settled by it, is the result of a run.
-use Rattle.std.proofs.Common.{◌≡◌, ℕ, zero, suc, ◌+◌, ◌<◌, ◌≤◌, List, [], ◌∷◌, map, length, refl, ap, sym, ◌∙◌, subst, arith, Some, None}
+use Rattle.std.proofs.Common.{◌≡◌, ℕ, zero, suc, ◌+◌, ◌<◌, ◌≤◌, List, [], ◌∷◌, map, length, refl, ap, sym, ◌∙◌, subst, arith, Some}
 use Rattle.std.specs.Prelude.{slice_get, Contains}
-use Rattle.std.specs.List.{AllZip}
+use Rattle.std.specs.List.{AllZip, AllByRecursion as Each, AllZip as EachPair}
+use Rattle.std.proofs.lemmas.List.{length-map}
+use Rattle.std.proofs.lemmas.Option.{none-some}
+use Rattle.list_laws.proofs.Places.{get-within}
 use Rattle.vchan_rule.specs.Seated.{SeatedEnd, view}
-use Rattle.qrexec_frame.specs.Streams.{Each}
 use Rattle.scenario_file.specs.Scenario.{Plan as Scenario, IsScenario}
-use Rattle.task_duties.specs.Pairwise.{EachPair}
 use Rattle.task_duties.specs.TaskOwes.{Agent, AgentDone, Broker, BrokerDone, EndAt, Hostile, HostileDone, IsReport, IsSameEnd, NoMemory, TaskDone as Answer, TaskGiven, TaskOwes, broker_given}
 use Rattle.domain_task.specs.declared.done.TaskDone.{TaskDone}
 use Rattle.domain_task.specs.Owes.{answer_of}
@@ -16,14 +17,10 @@ use Rattle.run_pages.specs.declared.deal.Hand.{Hand}
 use Rattle.run_pages.specs.Pages.{AreLaid, PageAt, new_ends}
 use Rattle.run_pages.specs.Dealt.{ControlsDealt, HandsDealt, hand_ends}
 use Rattle.run_pages.specs.Settling.{AreSettledBy, HandsBack, IsSettledBy, hand_of}
-use Rattle.run_pages.proofs.DealLaws.{map-length}
 use Rattle.scenario_run.specs.Tasks.{AreTasksOf, domain_given}
 use Rattle.scenario_run.specs.Owing.{Owes}
 use Rattle.scenario_run.specs.Answering.{Answers, AreAnswers, ends_given}
 use Rattle.scenario_run.proofs.DealtLaws.{broker-given, domain-given}
-
-none-some : {A : Type 0} (x : A) → None ≡ Some x → ⊥
-none-some x e = cc
 
 -- ---- what the pool answers
 
@@ -40,23 +37,18 @@ as-many [] (d ∷ dones) owes = absurd owes
 as-many (t ∷ tasks) [] owes = absurd owes
 as-many (t ∷ tasks) (d ∷ dones) owes = ap suc (as-many tasks dones owes.1)
 
-get-there : {A : Type 0} (xs : List A) (k : ℕ) → k < length xs → (x : A) × (slice_get xs k ≡ Some x)
-get-there [] k less = absurd (omega (arith, less))
-get-there (x ∷ xs) zero less = (x, refl)
-get-there (x ∷ xs) (suc k) less = get-there xs k (omega (arith, less))
-
 pub answers-are : (s : Scenario) (pages : List PageAt) (controls : List SeatedEnd) (hands : List Hand) (tasks : List TaskGiven) (dones : List TaskDone)
     → AreLaid s pages → ControlsDealt pages controls → HandsDealt pages hands → length controls ≡ length s.domains → length hands ≡ length s.domains
     → AreTasksOf s (map view controls) hands tasks → AllZip Owes tasks dones → AreAnswers s pages (map answer_of dones)
 answers-are s pages controls hands tasks dones are by_controls by_hands many all given owes = record {
-  count = map-length answer_of dones ∙ as-many tasks dones owes ∙ given.count ∙ ap (λ n. n + 1) all;
+  count = length-map dones answer_of ∙ as-many tasks dones owes ∙ given.count ∙ ap (λ n. n + 1) all;
   each = each;
 }
   where
     each : (number : ℕ) → number ≤ length s.domains → Answers s pages (map answer_of dones) number
     each zero within = (broker_given (hub_of s) (awaited_by s) (map view controls), broker-given s pages controls by_controls many, by_controls, owed-at tasks dones 0 (broker_given (hub_of s) (awaited_by s) (map view controls)) owes given.broker)
     each (suc k) within =
-        let h = get-there hands k (omega (arith, within, all)) in
+        let h = get-within hands k (omega (arith, within, all)) in
         let hand : Hand = h.0 in
         let next : suc k ≡ k + 1 = omega arith in
         let dealt : hand_ends (suc k) hand ≡ new_ends pages (suc k) = subst (λ d. hand_ends d hand ≡ new_ends pages d) (sym next) (by_hands k hand h.1) in

@@ -2,11 +2,13 @@
 use Rattle.std.proofs.Common.{◌≡◌, ◌≢◌, ◌⊎◌, inl, inr, ℕ, zero, suc, ◌+◌, ◌≤◌, List, [], ◌∷◌, map, length, refl, ap, sym, ◌∙◌, subst, arith, Some, None}
 use Rattle.std.specs.Prelude.{◌==◌, Bool, true, false, filter, is_some}
 use Rattle.std.proofs.lemmas.Bool.Decides.{nat_tests}
+use Rattle.std.specs.List.{AllByRecursion as Each}
+use Rattle.std.proofs.lemmas.List.{length-map}
+use Rattle.list_laws.specs.Lists.{AreDifferent}
 use Rattle.ring_words.specs.declared.page.Role.{Role}
 use Rattle.ring_words.specs.declared.page.Role.TheVariants.{Server, Client}
 use Rattle.vchan_rule.specs.Seated.{SeatedEnd, view}
 use Rattle.end_view.specs.EndView.{IsUnused}
-use Rattle.qrexec_frame.specs.Streams.{Each}
 use Rattle.scenario_file.specs.Scenario.{Plan as Scenario, domain_of, hostile_at}
 use Rattle.task_duties.specs.declared.place.PagePlace.{PagePlace}
 use Rattle.task_duties.specs.declared.place.PagePlace.TheVariants.{Control, Payload}
@@ -14,7 +16,7 @@ use Rattle.task_duties.specs.declared.ends.DataEnd.{DataEnd}
 use Rattle.task_duties.specs.Places.{numbers}
 use Rattle.task_duties.specs.TaskOwes.{Broker, EndAt, broker_ends, places_in}
 use Rattle.task_duties.specs.GivenEnds.{all_given, fresh_view}
-use Rattle.task_duties.proofs.Elements.{Differ, Has, each-of, has-filter_map, has-map-back}
+use Rattle.task_duties.proofs.Elements.{Has, each-of, has-filter_map, has-map-back}
 use Rattle.broker_task.specs.Given.{IsNewClient}
 use Rattle.data_slots.specs.Slots.{IsEndOf, IsGiven}
 use Rattle.run_laws.specs.Laid.{agent_plan, awaited_by, client_of, hostile_plan, hub_of, is_data, places_of, server_of}
@@ -26,7 +28,6 @@ use Rattle.run_laws.proofs.Reports.WholeReport.{laid-place}
 use Rattle.run_pages.specs.declared.deal.Hand.{Hand}
 use Rattle.run_pages.specs.Pages.{AreLaid, PageAt, end_on, new_end, new_ends}
 use Rattle.run_pages.specs.Dealt.{ControlsDealt, HandsDealt, HasOrders, HaveOrders, hand_ends}
-use Rattle.run_pages.proofs.DealLaws.{map-length}
 use Rattle.run_pages.proofs.PlaceLaws.{broker-places, places-dealt}
 use Rattle.scenario_run.specs.Tasks.{AreControlsOf, AreHandsOf, IsHandOf, domain_given}
 use Rattle.scenario_run.specs.Answering.{ends_given}
@@ -120,8 +121,8 @@ hand-fits s d hand new orders = record {
   orders = orders;
 }
   where
-    differ : Differ (places_in (all_given hand.payload.items))
-    differ = (subst (λ places. Differ places) (sym new.places) (places-differ s d)).1
+    differ : AreDifferent (places_in (all_given hand.payload.items))
+    differ = (subst (λ places. AreDifferent places) (sym new.places) (places-differ s d)).1
 
     by : ((d ≡ d) × ((view hand.control).role ≡ Server)) ⊎ ((d ≢ d) × (0 ≡ d) × ((view hand.control).role ≡ Client)) → (view hand.control).role ≡ Server
     by (inl server) = server.1
@@ -136,7 +137,7 @@ hands-fit s pages hands are dealt orders count =
 pub broker-given : (s : Scenario) (pages : List PageAt) (controls : List SeatedEnd) → ControlsDealt pages controls → length controls ≡ length s.domains
     → IsGivenTo s 0 (Broker (hub_of s) (awaited_by s) (broker_ends 1 (map view controls)))
 broker-given s pages controls dealt count =
-    (refl, refl, refl, broker-places 1 (map view controls) ∙ ap (λ n. map Control (numbers 1 1 n)) (map-length view controls ∙ count))
+    (refl, refl, refl, broker-places 1 (map view controls) ∙ ap (λ n. map Control (numbers 1 1 n)) (length-map controls view ∙ count))
 
 data-places : (payload : List DataEnd) → filter is_data (places_in (all_given payload)) ≡ places_in (all_given payload)
 data-places [] = refl

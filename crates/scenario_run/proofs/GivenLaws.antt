@@ -1,18 +1,20 @@
 -- What a scenario keeps is what its tasks may be given.
-use Rattle.std.proofs.Common.{◌≡◌, ◌≢◌, ℕ, zero, suc, ◌+◌, ◌-◌, ◌*◌, ◌^◌, ◌<◌, ◌≤◌, List, [], ◌∷◌, ◌++◌, map, length, refl, ap, sym, ◌∙◌, subst, arith, length-append, Some, None}
+use Rattle.std.proofs.Common.{◌≡◌, ◌≢◌, ℕ, zero, suc, ◌+◌, ◌-◌, ◌*◌, ◌^◌, ◌<◌, ◌≤◌, List, [], ◌∷◌, ◌++◌, map, length, refl, ap, sym, ◌∙◌, subst, arith, length-append}
 use Rattle.std.specs.Prelude.{◌==◌, Bool, true, false, slice_get, slice_index_or, if◌then◌else◌}
-use Rattle.std.specs.List.{All, flat_map}
+use Rattle.std.specs.List.{All, flat_map, AllByRecursion as Each}
 use Rattle.std.specs.Option.{option_map_or}
 use Rattle.std.proofs.lemmas.Bool.Decides.{nat_tests}
 use Rattle.std.proofs.lemmas.List.Sums.{count_by-le-length}
 use Rattle.std.proofs.lemmas.List.Elements.{All-from_recursion, recursion_from_All}
-use Rattle.qrexec_frame.specs.Streams.{Each}
+use Rattle.std.proofs.lemmas.List.{length-map}
+use Rattle.list_laws.specs.Lists.{AreDifferent}
 use Rattle.call_broker.specs.Domains.{Domains, first_port}
-use Rattle.call_queue.specs.Queue.{AreDifferent, FitsTrigger}
+use Rattle.call_queue.specs.Queue.{FitsTrigger}
 use Rattle.broker_task.specs.Replies.{HasShortNames}
-use Rattle.scenario_file.specs.Scenario.{Plan as Scenario, DomainFits, IsScenario, NumbersFit, hostile_at, is_hostile}
+use Rattle.scenario_file.specs.Scenario.{Plan as Scenario, DomainFits, IsScenario, hostile_at, is_hostile}
 use Rattle.scenario_file.specs.declared.scenario.CallPlan.{CallPlan}
 use Rattle.scenario_file.specs.declared.scenario.Domain.{Domain}
+use Rattle.scenario_file.proofs.TotalLaws.{within-kind}
 use Rattle.task_duties.specs.declared.ends.DataEnd.{DataEnd}
 use Rattle.task_duties.specs.declared.ends.UnusedEnd.{UnusedEnd}
 use Rattle.run_pages.specs.Dealt.{IsLaidWith}
@@ -21,7 +23,8 @@ use Rattle.task_duties.specs.Hostile.Stores.{role_at}
 use Rattle.task_duties.specs.Places.{numbers}
 use Rattle.task_duties.specs.GivenEnds.{all_given, fresh_view}
 use Rattle.task_duties.specs.Words.{ident_of}
-use Rattle.task_duties.proofs.Elements.{Differ, each-at, each-of, has-filter}
+use Rattle.task_duties.proofs.Elements.{each-at, each-of, has-filter}
+use Rattle.task_duties.proofs.Places.{length-numbers}
 use Rattle.data_slots.specs.Slots.{IsEndOf, IsGiven}
 use Rattle.hostile_task.specs.Plan.{AreDataOf}
 use Rattle.hostile_task.specs.declared.domain.HostileDomain.{HostileDomain}
@@ -30,11 +33,10 @@ use Rattle.ring_words.specs.declared.page.Role.TheVariants.{Server, Client}
 use Rattle.run_laws.specs.Laid.{all_domains, calls_between, calls_from, is_from_to, laid, laid_between, page_table, pages_between, ports_at, ports_between}
 use Rattle.run_laws.proofs.Scenarios.Calls.{calls-differ, idents}
 use Rattle.run_laws.proofs.Scenarios.Facts.{IsCall, IsDomain, clean-scenario}
-use Rattle.run_pages.proofs.DealLaws.{map-length}
 
 -- ---- an agent
 
-different : (calls : List CallPlan) → Differ (idents calls) → AreDifferent (map (λ c. c.number) calls)
+different : (calls : List CallPlan) → AreDifferent (idents calls) → AreDifferent (map (λ c. c.number) calls)
 different [] differ = tt
 different (c ∷ calls) differ = (others c calls differ.0, different calls differ.1)
   where
@@ -48,36 +50,23 @@ numbers-differ s is d = different (calls_from s d) (calls-differ s (clean-scenar
 pub calls-fit : (s : Scenario) → IsScenario s → (d : ℕ) → Each FitsTrigger (calls_from s d)
 calls-fit s is d = each-of FitsTrigger (calls_from s d) (λ c h. (let call = each-at (IsCall s) s.calls c (clean-scenario s is).calls (has-filter (λ c. c.from == d) s.calls c h).0 in (call.to.short, call.service_short)))
 
-get-domain : (domains : List Domain) (k : ℕ) (d : Domain) → Each IsDomain domains → slice_get domains k ≡ Some d → IsDomain d
-get-domain [] k d each is = absurd (let e : None ≡ Some d = is in cc)
-get-domain (x ∷ domains) zero d each is = subst IsDomain (let e : Some x ≡ Some d = is in cc) each.0
-get-domain (x ∷ domains) (suc k) d each is = get-domain domains k d each.1 is
-
 -- ---- the broker
 
 pub same-lengths : {A B C : Type 0} (f : A → C) (g : B → C) (xs : List A) (ys : List B) → map f xs ≡ map g ys → length xs ≡ length ys
-same-lengths f g xs ys same = sym (map-length f xs) ∙ ap length same ∙ map-length g ys
-
-numbers-length : (from by count : ℕ) → length (numbers from by count) ≡ count
-numbers-length from by zero = refl
-numbers-length from by (suc count) = ap suc (numbers-length (from + by) by count)
+same-lengths f g xs ys same = sym (length-map xs f) ∙ ap length same ∙ length-map ys g
 
 rows-length : {A : Type 0} (f : ℕ → ℕ → A) (columns rows : List ℕ) → length (flat_map (λ r. map (f r) columns) rows) ≡ length rows * length columns
 rows-length f columns [] = (let e : 0 * length columns ≡ 0 = omega arith in sym e)
 rows-length f columns (r ∷ rows) =
     length-append (map (f r) columns) (flat_map (λ r. map (f r) columns) rows)
-    ∙ (let a = map-length (f r) columns in let b = rows-length f columns rows in let e : suc (length rows) * length columns ≡ length columns + length rows * length columns = omega arith in omega (arith, a, b, e))
+    ∙ (let a = length-map columns (f r) in let b = rows-length f columns rows in let e : suc (length rows) * length columns ≡ length columns + length rows * length columns = omega arith in omega (arith, a, b, e))
 
 pub table-square : (s : Scenario) → length (page_table s) ≡ length s.domains * length s.domains
-table-square s = rows-length (pages_between s) (all_domains s) (all_domains s) ∙ ap (λ n. n * n) (numbers-length 1 1 (length s.domains))
-
-ports-most : (hostile : Bool) (ports version : ℕ) → NumbersFit hostile ports version → ports ≤ 32
-ports-most false ports version fits = omega (arith, fits.0)
-ports-most true ports version fits = fits.0
+table-square s = rows-length (pages_between s) (all_domains s) (all_domains s) ∙ ap (λ n. n * n) (length-numbers 1 1 (length s.domains))
 
 all-ports : (domains : List Domain) (k : ℕ) → Each DomainFits domains → option_map_or (λ domain. domain.ports) (slice_get domains k) 0 ≤ 32
 all-ports [] k each = omega arith
-all-ports (d ∷ domains) zero each = ports-most (is_hostile d) d.ports d.version each.0.numbers
+all-ports (d ∷ domains) zero each = within-kind (is_hostile d) d.ports d.version each.0.numbers
 all-ports (d ∷ domains) (suc k) each = all-ports domains k each.1
 
 ports-few : (s : Scenario) → IsScenario s → (d : ℕ) → ports_at s d ≤ 32
@@ -112,7 +101,7 @@ pub names-short : (s : Scenario) → IsScenario s → (hub : Domains) → hub.na
 names-short s is hub names d there = subst (λ ns. length (slice_index_or ns (d - 1) []) ≤ 31) (sym names) (name-short s.domains (d - 1) (clean-scenario s is).domains)
 
 pub awaited-length : {A : Type 0} (f : ℕ → A) (s : Scenario) → length (map f (all_domains s)) ≡ length s.domains
-awaited-length f s = map-length f (all_domains s) ∙ numbers-length 1 1 (length s.domains)
+awaited-length f s = length-map (all_domains s) f ∙ length-numbers 1 1 (length s.domains)
 
 -- ---- a hostile domain
 
@@ -147,8 +136,8 @@ flat-few g bound (x ∷ xs) less =
 
 between-few : (s : Scenario) → IsScenario s → (from to : ℕ) → length (laid_between s from to) ≤ 4096
 between-few s is from to =
-    let a = map-length (Payload from to) (ports_between s from to) in
-    let b = numbers-length (first_port from to) 2 (pages_between s from to) in
+    let a = length-map (ports_between s from to) (Payload from to) in
+    let b = length-numbers (first_port from to) 2 (pages_between s from to) in
     let c = pages-few s is from to in omega (arith, a, b, c)
 
 times-most : (n m b : ℕ) → n ≤ m → n * b ≤ m * b
@@ -160,12 +149,12 @@ times-most n m (suc b) less =
 
 pub laid-few : (s : Scenario) → IsScenario s → length (laid s) < 2 ^ 32
 laid-few s is =
-    let count = numbers-length 1 1 (length s.domains) in
+    let count = length-numbers 1 1 (length s.domains) in
     let few : length (all_domains s) ≤ 32 = (let n = is.few_domains in omega (arith, n, count)) in
     let inner : (from : ℕ) → length (flat_map (laid_between s from) (all_domains s)) ≤ 131072 =
     λ from. (let a = flat-few (laid_between s from) 4096 (all_domains s) (between-few s is from) in let b = times-most (length (all_domains s)) 32 4096 few in omega (arith, a, b)) in
     let data_pages = flat-few (λ from. flat_map (laid_between s from) (all_domains s)) 131072 (all_domains s) inner in
     let most = times-most (length (all_domains s)) 32 131072 few in
-    let controls = map-length Control (all_domains s) in
+    let controls = length-map (all_domains s) Control in
     let all = length-append (map Control (all_domains s)) (flat_map (λ from. flat_map (laid_between s from) (all_domains s)) (all_domains s)) in
     omega (arith, data_pages, most, controls, all, few)

@@ -2,7 +2,8 @@
 use Rattle.std.proofs.Common.{◌≡◌, ℕ, zero, suc, ◌<◌, List, [], ◌∷◌, ◌++◌, length, refl, ap, sym, ◌∙◌, arith, Some, None}
 use Rattle.std.specs.Prelude.{true, false, Bool, ◌==◌, ◌&&◌, cond}
 use Rattle.std.specs.HashMap.{get}
-use Rattle.std.proofs.lemmas.Bool.Decides.{nat_tests}
+use Rattle.std.proofs.lemmas.Bool.{and_parts}
+use Rattle.list_laws.proofs.Tests.{same-number, equal-either-way}
 use Rattle.task_duties.specs.declared.place.PagePlace.{PagePlace}
 use Rattle.task_duties.specs.declared.place.PagePlace.TheVariants.{Control, Payload}
 use Rattle.task_duties.specs.Places.{is_place}
@@ -51,25 +52,14 @@ found-on x y (p ∷ xs) less = by (is_place x p) refl (λ e. found-on x y xs e)
 
 -- ---- keys and places
 
-flip : (a b : ℕ) → (a == b) ≡ (b == a)
-flip a b = grind (arith, nat_tests)
-
 agree : (a b c f t p : ℕ) → is_place (Payload a b c) (Payload f t p) ≡ same_key (f, t, p) (a, b, c)
-agree a b c f t p = rw (flip a f, flip b t, flip c p) refl
-
-both : (a b : Bool) → (a && b) ≡ true → (a ≡ true) × (b ≡ true)
-both true true h = (refl, refl)
-both true false h = cc
-both false b h = cc
-
-same-number : (a b : ℕ) → (a == b) ≡ true → a ≡ b
-same-number a b h = grind (arith, nat_tests, h)
+agree a b c f t p = rw (equal-either-way a f, equal-either-way b t, equal-either-way c p) refl
 
 -- what is noted at a key is noted at one that is the same
 moved : (index : PlaceIndex) (f t p a b c : ℕ) → same_key (f, t, p) (a, b, c) ≡ true → end_at index f t p ≡ None → end_at index a b c ≡ None
 moved index f t p a b c same free =
-    let one = both (f == a && t == b) (p == c) same in
-    let two = both (f == a) (t == b) one.0 in
+    let one = and_parts (f == a && t == b) (p == c) same in
+    let two = and_parts (f == a) (t == b) one.0 in
     let x : f ≡ a = same-number f a two.0 in
     let y : t ≡ b = same-number t b two.1 in
     let z : p ≡ c = same-number p c one.1 in

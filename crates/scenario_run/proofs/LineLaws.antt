@@ -1,17 +1,17 @@
 -- The lines of the calls, one more at a time.
-use Rattle.std.proofs.Common.{◌≡◌, ◌⊎◌, inl, inr, ℕ, zero, suc, ◌+◌, ◌<◌, ◌≤◌, List, [], ◌∷◌, ◌++◌, map, length, set, drop, take, get_or, refl, ap, sym, ◌∙◌, subst, arith, Some, None}
+use Rattle.std.proofs.Common.{◌≡◌, ◌⊎◌, inl, inr, ℕ, zero, suc, ◌+◌, ◌<◌, ◌≤◌, List, [], ◌∷◌, length, set, drop, take, get_or, refl, ap, sym, ◌∙◌, subst, arith, Some, None}
 use Rattle.std.specs.Prelude.{◌==◌, Bool, true, false, filter, slice_get}
 use Rattle.std.proofs.lemmas.Bool.Decides.{nat_tests}
 use Rattle.std.proofs.lemmas.Option.{slice_get_read}
+use Rattle.std.specs.List.{AllZip as EachPair}
+use Rattle.list_laws.proofs.Places.{get-set}
 use Rattle.scenario_file.specs.Scenario.{Plan as Scenario, IsScenario}
 use Rattle.scenario_file.specs.declared.scenario.CallPlan.{CallPlan}
 use Rattle.task_duties.specs.declared.done.CallDone.{CallDone}
-use Rattle.task_duties.specs.Pairwise.{EachPair}
 use Rattle.task_duties.proofs.Elements.{Has, each-at}
 use Rattle.run_laws.specs.Run.{Run}
 use Rattle.run_laws.proofs.Scenarios.Facts.{IsCall, clean-scenario}
 use Rattle.run_laws.proofs.Scenarios.Numbers.{domain-is}
-use Rattle.run_pages.proofs.ListLaws.{get-set}
 use Rattle.scenario_run.specs.Parts.{ReportPart}
 use Rattle.scenario_run.specs.Lines.{HasReports, IsEndOf}
 
@@ -22,21 +22,11 @@ drop-at [] k x is = absurd (let e : None ≡ Some x = is in cc)
 drop-at (y ∷ xs) zero x is = ap (λ z. z ∷ xs) (let e : Some y ≡ Some x = is in cc)
 drop-at (y ∷ xs) (suc k) x is = (let e : suc k + 1 ≡ suc (k + 1) = omega arith in subst (λ n. drop k xs ≡ x ∷ drop n (y ∷ xs)) (sym e) (drop-at xs k x is))
 
-pub take-at : {A : Type 0} (xs : List A) (k : ℕ) (x : A) → slice_get xs k ≡ Some x → take (k + 1) xs ≡ take k xs ++ x ∷ []
-take-at [] k x is = absurd (let e : None ≡ Some x = is in cc)
-take-at (y ∷ xs) zero x is = ap (λ z. z ∷ []) (let e : Some y ≡ Some x = is in cc)
-take-at (y ∷ xs) (suc k) x is = (let e : suc k + 1 ≡ suc (k + 1) = omega arith in subst (λ n. take n (y ∷ xs) ≡ y ∷ (take k xs ++ x ∷ [])) (sym e) (ap (λ l. y ∷ l) (take-at xs k x is)))
-
 pub take-over : {A : Type 0} (xs : List A) (k : ℕ) → length xs ≤ k → take k xs ≡ xs
 take-over [] zero over = refl
 take-over [] (suc k) over = refl
 take-over (x ∷ xs) zero over = absurd (omega (arith, over))
 take-over (x ∷ xs) (suc k) over = ap (λ l. x ∷ l) (take-over xs k (omega (arith, over)))
-
-pub map-set : {A B : Type 0} (f : A → B) (xs : List A) (k : ℕ) (x y : A) → slice_get xs k ≡ Some x → f y ≡ f x → map f (set xs k y) ≡ map f xs
-map-set f [] k x y at same = absurd (let e : None ≡ Some x = at in cc)
-map-set f (z ∷ xs) zero x y at same = ap (λ b. b ∷ map f xs) (same ∙ ap f (sym (let e : Some z ≡ Some x = at in cc)))
-map-set f (z ∷ xs) (suc k) x y at same = ap (λ l. f z ∷ l) (map-set f xs k x y at same)
 
 pub one-there : {A : Type 0} (xs : List A) (k : ℕ) (x y : A) → slice_get xs k ≡ Some x → slice_get xs k ≡ Some y → x ≡ y
 one-there xs k x y a b = let e : Some x ≡ Some y = sym a ∙ b in cc

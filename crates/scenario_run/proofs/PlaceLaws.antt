@@ -1,13 +1,14 @@
 -- No two pages of a scenario lie at one place.
-use Rattle.std.proofs.Common.{◌≡◌, ◌≢◌, ◌⊎◌, inl, inr, ℕ, zero, suc, ◌+◌, ◌<◌, List, [], ◌∷◌, ◌++◌, map, refl, ap, sym, ◌∙◌, subst, arith, Some, None}
+use Rattle.std.proofs.Common.{◌≡◌, ◌≢◌, ◌⊎◌, inl, inr, ℕ, zero, suc, ◌+◌, ◌<◌, List, [], ◌∷◌, ◌++◌, map, refl, ap, sym, ◌∙◌, subst, arith, Some}
 use Rattle.std.specs.Prelude.{Bool, true, false, filter, slice_get}
-use Rattle.std.specs.List.{flat_map}
-use Rattle.qrexec_frame.specs.Streams.{Each}
+use Rattle.std.specs.List.{flat_map, AllByRecursion as Each}
+use Rattle.std.proofs.lemmas.Option.{none-some}
+use Rattle.list_laws.specs.Lists.{AreDifferent}
 use Rattle.scenario_file.specs.Scenario.{Plan as Scenario}
 use Rattle.task_duties.specs.declared.place.PagePlace.{PagePlace}
 use Rattle.task_duties.specs.declared.place.PagePlace.TheVariants.{Control, Payload}
 use Rattle.task_duties.specs.Places.{is_place, numbers}
-use Rattle.task_duties.proofs.Elements.{Differ, Has, differ-numbers, each-at, each-of, has-append, has-filter, has-flat_map, has-map}
+use Rattle.task_duties.proofs.Elements.{Has, differ-numbers, each-at, each-of, has-append, has-filter, has-flat_map, has-map}
 use Rattle.task_duties.proofs.ServedLaw.{same-place}
 use Rattle.data_slots.specs.Slots.{AreApart}
 use Rattle.hostile_task.specs.Plan.{AreApart as AreAllApart}
@@ -15,7 +16,7 @@ use Rattle.run_laws.specs.Laid.{all_domains, is_end_of, laid, laid_between, plac
 
 -- ---- lists without repetition
 
-differ-append : {A : Type 0} (xs ys : List A) → Differ xs → Differ ys → ((x y : A) → Has xs x → Has ys y → x ≢ y) → Differ (xs ++ ys)
+differ-append : {A : Type 0} (xs ys : List A) → AreDifferent xs → AreDifferent ys → ((x y : A) → Has xs x → Has ys y → x ≢ y) → AreDifferent (xs ++ ys)
 differ-append [] ys first second apart = second
 differ-append {A} (x ∷ xs) ys first second apart = (
   each-of (λ (y : A). x ≢ y) (xs ++ ys) (λ y h. by_part y (has-append xs ys y h)),
@@ -26,7 +27,7 @@ differ-append {A} (x ∷ xs) ys first second apart = (
     by_part y (inl h) = each-at (λ (z : A). x ≢ z) xs y first.0 h
     by_part y (inr h) = apart x y (inl refl) h
 
-differ-map : {A B : Type 0} (f : A → B) (xs : List A) → ((x y : A) → f x ≡ f y → x ≡ y) → Differ xs → Differ (map f xs)
+differ-map : {A B : Type 0} (f : A → B) (xs : List A) → ((x y : A) → f x ≡ f y → x ≡ y) → AreDifferent xs → AreDifferent (map f xs)
 differ-map f [] injective differ = tt
 differ-map {A} {B} f (x ∷ xs) injective differ = (
   each-of (λ (y : B). f x ≢ y) (map f xs) (λ y h e. (let c = has-map f xs y h in each-at (λ (z : A). x ≢ z) xs c.one differ.0 c.there (injective x c.one (e ∙ sym c.is)))),
@@ -34,18 +35,18 @@ differ-map {A} {B} f (x ∷ xs) injective differ = (
 )
 
 -- the lists of different elements have no element in common, since a key tells which list it is of
-differ-flat : {A B : Type 0} (g : A → List B) (key : B → A) (xs : List A) → ((x : A) (y : B) → Has (g x) y → key y ≡ x) → ((x : A) → Differ (g x)) → Differ xs → Differ (flat_map g xs)
+differ-flat : {A B : Type 0} (g : A → List B) (key : B → A) (xs : List A) → ((x : A) (y : B) → Has (g x) y → key y ≡ x) → ((x : A) → AreDifferent (g x)) → AreDifferent xs → AreDifferent (flat_map g xs)
 differ-flat g key [] tells each differ = tt
 differ-flat {A} {B} g key (x ∷ xs) tells each differ =
     differ-append (g x) (flat_map g xs) (each x) (differ-flat g key xs tells each differ.1) (λ a b h k e.
     (let c = has-flat_map g xs b k in
     each-at (λ (z : A). x ≢ z) xs c.one differ.0 c.there (sym (tells x a h) ∙ ap key e ∙ tells c.one b c.is)))
 
-differ-filter : {A : Type 0} (p : A → Bool) (xs : List A) → Differ xs → Differ (filter p xs)
+differ-filter : {A : Type 0} (p : A → Bool) (xs : List A) → AreDifferent xs → AreDifferent (filter p xs)
 differ-filter p [] differ = tt
 differ-filter {A} p (x ∷ xs) differ = by (p x) refl (differ-filter p xs differ.1)
   where
-    by : (b : Bool) → p x ≡ b → Differ (filter p xs) → Differ (filter p (x ∷ xs))
+    by : (b : Bool) → p x ≡ b → AreDifferent (filter p xs) → AreDifferent (filter p (x ∷ xs))
     by true is rest = rw is (each-of (λ (y : A). x ≢ y) (filter p xs) (λ y h. each-at (λ (z : A). x ≢ z) xs y differ.0 (has-filter p xs y h).0), rest)
     by false is rest = rw is rest
 
@@ -53,7 +54,7 @@ above : (low from count : ℕ) → low < from → Each (λ (y : ℕ). low ≢ y)
 above low from zero less = tt
 above low from (suc count) less = ((λ e. absurd (omega (arith, e, less))), above low (from + 1) count (omega (arith, less)))
 
-differ-domains : (from count : ℕ) → Differ (numbers from 1 count)
+differ-domains : (from count : ℕ) → AreDifferent (numbers from 1 count)
 differ-domains from zero = tt
 differ-domains from (suc count) = (above from (from + 1) count (omega arith), differ-domains (from + 1) count)
 
@@ -93,7 +94,7 @@ no-control s d place h e =
     let c = has-map (Payload a.one b.one) (ports_between s a.one b.one) place b.is in
     let both : Payload a.one b.one c.one ≡ Control d = c.is ∙ sym e in cc
 
-pub laid-differ : (s : Scenario) → Differ (laid s)
+pub laid-differ : (s : Scenario) → AreDifferent (laid s)
 laid-differ s =
     differ-append (map Control (all_domains s)) (flat_map (laid-from s) (all_domains s))
     (differ-map Control (all_domains s) control-same domains)
@@ -102,17 +103,14 @@ laid-differ s =
     differ-map (Payload from to) (ports_between s from to) (payload-same from to) (differ-numbers _ _)) domains) domains)
     (λ x y h k. (let c = has-map Control (all_domains s) x h in subst (λ z. z ≢ y) c.is (no-control s c.one y k)))
   where
-    domains : Differ (all_domains s)
+    domains : AreDifferent (all_domains s)
     domains = differ-domains 1 _
 
 -- no two pages of one domain lie at one place
-pub places-differ : (s : Scenario) (d : ℕ) → Differ (places_of s d)
+pub places-differ : (s : Scenario) (d : ℕ) → AreDifferent (places_of s d)
 places-differ s d = differ-filter (is_end_of d) (laid s) (laid-differ s)
 
 -- ---- the same in other crates' forms
-
-none-some : {A : Type 0} (x : A) → None ≡ Some x → ⊥
-none-some x e = cc
 
 has-place : (places : List PagePlace) (k : ℕ) (p : PagePlace) → slice_get places k ≡ Some p → Has places p
 has-place [] k p is = absurd (none-some p is)
@@ -122,7 +120,7 @@ has-place (q ∷ places) (suc k) p is = inr (has-place places k p is)
 first-is : (q p : PagePlace) → Some q ≡ Some p → q ≡ p
 first-is q p e = cc
 
-pub apart-by-index : (places : List PagePlace) → Differ places → AreApart places
+pub apart-by-index : (places : List PagePlace) → AreDifferent places → AreApart places
 apart-by-index [] differ i j p at at' = absurd (none-some p at)
 apart-by-index (q ∷ places) differ zero zero p at at' = refl
 apart-by-index (q ∷ places) differ zero (suc j) p at at' = absurd (each-at (λ (x : PagePlace). q ≢ x) places p differ.0 (has-place places j p at') (first-is q p at))
@@ -136,7 +134,7 @@ not-same p q apart = by (is_place p q) refl
     by true is = absurd (apart (same-place p q is))
     by false is = is
 
-pub all-apart : (places : List PagePlace) → Differ places → AreAllApart places
+pub all-apart : (places : List PagePlace) → AreDifferent places → AreAllApart places
 all-apart [] differ = tt
 all-apart (p ∷ places) differ = (
   each-of (λ (q : PagePlace). is_place p q ≡ false) places (λ q h. not-same p q (each-at (λ (x : PagePlace). p ≢ x) places q differ.0 h)),

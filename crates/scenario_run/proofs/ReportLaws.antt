@@ -1,10 +1,12 @@
 -- What the tasks report of the calls and of what was served, in the form that the lines of a report need.
-use Rattle.std.proofs.Common.{◌≡◌, ◌≢◌, inl, inr, ℕ, zero, suc, ◌+◌, ◌<◌, ◌≤◌, List, [], ◌∷◌, map, length, refl, ap, sym, ◌∙◌, subst, arith, Some, None}
+use Rattle.std.proofs.Common.{◌≡◌, ◌≢◌, inl, inr, ℕ, zero, suc, ◌+◌, ◌<◌, ◌≤◌, List, [], ◌∷◌, map, length, refl, ap, sym, ◌∙◌, subst, arith, Some}
 use Rattle.std.specs.Prelude.{◌==◌, Bool, true, false, filter, is_some, slice_get}
 use Rattle.std.proofs.lemmas.Bool.{false≢true}
 use Rattle.std.proofs.lemmas.Bool.Decides.{nat_tests}
+use Rattle.std.specs.List.{AllByRecursion as Each, AllZip as EachPair}
+use Rattle.std.proofs.lemmas.Option.{none-some}
+use Rattle.list_laws.specs.Lists.{AreDifferent}
 use Rattle.end_view.specs.EndView.{EndView}
-use Rattle.qrexec_frame.specs.Streams.{Each}
 use Rattle.qrexec_frame.specs.declared.message.Message.{Message}
 use Rattle.scenario_file.specs.Scenario.{Plan as Scenario, domain_of, hostile_at}
 use Rattle.scenario_file.specs.declared.scenario.CallPlan.{CallPlan}
@@ -13,10 +15,9 @@ use Rattle.task_duties.specs.declared.done.CallDone.{CallDone}
 use Rattle.task_duties.specs.Agent.Answers.{Asked}
 use Rattle.task_duties.specs.Agent.Given.{AgentPlan}
 use Rattle.task_duties.specs.Agent.Owes.{ReportsCall}
-use Rattle.task_duties.specs.Pairwise.{EachPair}
 use Rattle.task_duties.specs.TaskOwes.{Agent, AgentDone, Broker, BrokerDone, Hostile, HostileDone, NoMemory, TaskDone, TaskGiven, TaskOwes}
 use Rattle.task_duties.specs.Words.{ident_of}
-use Rattle.task_duties.proofs.Elements.{Differ, Has, each-at, has-filter, has-map-back}
+use Rattle.task_duties.proofs.Elements.{Has, each-at, has-filter, has-map-back}
 use Rattle.run_laws.specs.Laid.{agent_plan, calls_from}
 use Rattle.run_laws.specs.Laws.{agent_heard}
 use Rattle.run_laws.specs.ReadOff.{end_in}
@@ -57,7 +58,7 @@ pair-map P Q [] (y ∷ ys) go each = absurd each
 pair-map P Q (x ∷ xs) [] go each = absurd each
 pair-map P Q (x ∷ xs) (y ∷ ys) go each = (go x y (inl refl) each.0, pair-map P Q xs ys (λ a b h. go a b (inr h)) each.1)
 
-all-found : (calls : List CallPlan) (done : List CallDone) → Differ (idents calls) → EachPair IsNumbered calls done → EachPair (IsFound done) calls done
+all-found : (calls : List CallPlan) (done : List CallDone) → AreDifferent (idents calls) → EachPair IsNumbered calls done → EachPair (IsFound done) calls done
 all-found [] [] differ each = tt
 all-found [] (d ∷ done) differ each = absurd each
 all-found (c ∷ calls) [] differ each = absurd each
@@ -111,11 +112,8 @@ no-report s d (Hostile plan ends) (AgentDone report) other is owes = absurd owes
 
 -- ---- the reports
 
-nothing-left : {A : Type 0} (x : A) → None ≡ Some x → ⊥
-nothing-left x e = cc
-
 get-part : (dones : List TaskDone) (d : ℕ) (part : ReportPart) → slice_get (map report_of dones) d ≡ Some part → (d < length dones) × (part ≡ report_of (answer_at dones d))
-get-part [] d part is = absurd (nothing-left part is)
+get-part [] d part is = absurd (none-some part is)
 get-part (x ∷ dones) zero part is = (omega arith, sym (let e : Some (report_of x) ≡ Some part = is in cc))
 get-part (x ∷ dones) (suc d) part is = let more = get-part dones d part is in (omega (arith, more.0), more.1)
 

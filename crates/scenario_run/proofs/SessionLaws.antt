@@ -11,6 +11,7 @@ use Rattle.std.specs.Ordering.{is_lt, nat_cmp, ordering_then}
 use Rattle.std.specs.declared.cmp.Ordering.{Ordering}
 use Rattle.std.proofs.lemmas.Bool.{false≢true}
 use Rattle.std.proofs.lemmas.Bool.Decides.{nat_tests}
+use Rattle.std.proofs.lemmas.List.{length-map}
 use Rattle.scenario_file.specs.Scenario.{Plan as Scenario, hostile_at}
 use Rattle.task_duties.specs.declared.done.ServedDone.{ServedDone}
 use Rattle.task_duties.specs.Places.{numbers}
@@ -43,17 +44,13 @@ none-of s d = by (hostile_at s d)
     by true = refl
     by false = refl
 
-length-map : {A B : Type 0} (f : A → B) (xs : List A) → length (map f xs) ≡ length xs
-length-map f [] = refl
-length-map f (x ∷ xs) = ap suc (length-map f xs)
-
 pub all-sessions : (s : Scenario) (run : Run) (reports : List ReportPart) → length reports ≡ length s.domains + 1 → HaveServed run reports → sessions_from s 0 (map (λ r. r.served) reports) ≡ hostile_sessions s run
 all-sessions s run [] count have = absurd (omega (arith, count))
 all-sessions s run (r ∷ reports) count have =
     ap (λ x. sessions_of s 0 x ++ sessions_from s 1 (map (λ r. r.served) reports)) (have.each 0 r refl ∙ have.broker)
     ∙ ap (λ l. l ++ sessions_from s 1 (map (λ r. r.served) reports)) (none-of s 0)
     ∙ from-numbers s run 1 (map (λ r. r.served) reports) (served-from run 1 reports (λ k part is. have.each (suc k) part is ∙ ap (λ n. run.served n) (let e : suc k ≡ k + 1 = omega arith in e)))
-    ∙ ap (λ n. flat_map (sessions_at s run) (numbers 1 1 n)) (length-map (λ r. r.served) reports ∙ (let e : length reports ≡ length s.domains = omega (arith, count) in e))
+    ∙ ap (λ n. flat_map (sessions_at s run) (numbers 1 1 n)) (length-map reports (λ r. r.served) ∙ (let e : length reports ≡ length s.domains = omega (arith, count) in e))
 
 -- ---- their lines
 
@@ -72,7 +69,7 @@ first-of (x ∷ xs) k within = x
 
 pub pairs-seen : (xs : List Session) → AllPairs (λ a b. stands_before (seen b) (seen a) ≡ false) xs → AllPairs (λ a b. stands_before b a ≡ false) (map seen xs)
 pairs-seen xs pairs i j d less within =
-    let inside : j < length xs = (let n = length-map seen xs in omega (arith, within, n)) in
+    let inside : j < length xs = (let n = length-map xs seen in omega (arith, within, n)) in
     let e : Session = first-of xs j inside in
     subst (λ b. stands_before b (slice_index_or (map seen xs) i d) ≡ false) (sym (index-map seen xs j d e inside))
     (subst (λ a. stands_before (seen (slice_index_or xs j e)) a ≡ false) (sym (index-map seen xs i d e (omega (arith, less, inside))))

@@ -4,8 +4,8 @@ use Rattle.std.specs.Prelude.{slice_get}
 use Rattle.std.specs.Global.{Global}
 use Rattle.std.specs.declared.vec.IntoIter.{IntoIter}
 use Rattle.std.specs.Vec.Iter.{into_iter_items, into_iter_len}
-use Rattle.std.proofs.lemmas.Grind.{common_steps}
 use Rattle.std.proofs.lemmas.List.{append-nil}
+use Rattle.list_laws.proofs.Results.{no-items}
 use Rattle.end_view.specs.EndView.{EndView}
 use Rattle.scenario_file.specs.Scenario.{Plan as Scenario}
 use Rattle.task_duties.specs.TaskOwes.{TaskGiven, broker_given}
@@ -75,9 +75,6 @@ left-on s controls hands given now number left rest hand is more are = record {
   each = λ k h at. subst (λ n. IsHandOf s n h) (let e : suc k + number ≡ k + (number + 1) = omega arith in e) (are.each (suc k) h (ap (λ l. slice_get l (suc k)) is ∙ at));
 }
 
-none_left : {X Z : Type 0} (it : IntoIter X Z) → into_iter_len it ≡ 0 → length (into_iter_items it) ≡ 0
-none_left it none = grind (arith, common_steps, none)
-
 no-more : (s : Scenario) (controls : List EndView) (hands : List Hand) (given : List TaskGiven) (number : ℕ) (left : List Hand)
     → length left ≡ 0 → AreLeft s controls hands given number left → given ≡ broker_given (hub_of s) (awaited_by s) controls ∷ given_from s 1 hands
 no-more s controls hands given number [] none are = sym (append-nil given) ∙ are.so_far
@@ -86,4 +83,4 @@ no-more s controls hands given number (hand ∷ left) none are = absurd (omega (
 -- all tasks were given
 pub left-none : (s : Scenario) (controls : List EndView) (hands : List Hand) (given : List TaskGiven) (number : ℕ) (it : IntoIter Hand Global)
     → into_iter_len it ≡ 0 → AreLeft s controls hands given number (into_iter_items it) → AreTasksOf s controls hands given
-left-none s controls hands given number it none are = are-tasks s controls hands given (no-more s controls hands given number (into_iter_items it) (none_left it none) are)
+left-none s controls hands given number it none are = are-tasks s controls hands given (no-more s controls hands given number (into_iter_items it) (no-items it none) are)

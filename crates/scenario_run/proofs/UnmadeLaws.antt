@@ -1,18 +1,12 @@
 -- The ends of a task that wasn't made are given back one after the other.
-use Rattle.std.proofs.Common.{◌≡◌, ℕ, Bool, true, false, List, [], ◌∷◌, ◌++◌, ap, sym, ◌∙◌, subst, append_assoc}
+use Rattle.std.proofs.Common.{◌≡◌, ℕ, true, false, List, [], ◌∷◌, ◌++◌, ap, sym, ◌∙◌, subst, append_assoc}
 use Rattle.std.proofs.lemmas.List.{append-nil, map-append}
-use Rattle.std.specs.Prelude.{if◌then◌else◌}
-use Rattle.qrexec_frame.specs.Streams.{Each}
-use Rattle.scenario_file.specs.Scenario.{Plan as Scenario, hostile_at}
+use Rattle.std.specs.List.{AllByRecursion as Each}
 use Rattle.task_duties.specs.declared.ends.DataEnd.{DataEnd}
 use Rattle.task_duties.specs.declared.ends.RetiredEnd.{RetiredEnd}
-use Rattle.task_duties.specs.TaskOwes.{Agent, AreGivenBack, EndAt, Hostile, IsSameEnd, NoMemory, TaskOwes, places_in}
+use Rattle.task_duties.specs.TaskOwes.{AreGivenBack, EndAt, IsSameEnd}
 use Rattle.task_duties.specs.GivenEnds.{all_given, all_retired, fresh_view, retired_at}
 use Rattle.data_slots.specs.Slots.{IsGiven, held_at}
-use Rattle.run_laws.specs.Laid.{agent_plan, hostile_plan}
-use Rattle.run_pages.specs.declared.deal.Hand.{Hand}
-use Rattle.run_pages.specs.Dealt.{hand_ends}
-use Rattle.scenario_run.specs.Tasks.{domain_given}
 
 -- whatever is given back of the ends that are left, with those that are retired already all are given back
 pub record IsGivingBack (given left : List EndAt) (made : List RetiredEnd) : Type 0 where
@@ -42,14 +36,3 @@ all-idle domain (x ∷ ends) given = (given.0.unused.idle, all-idle domain ends 
 -- an end with the same place, page and role
 pub same-end : (given retired : EndAt) → held_at retired ≡ held_at given → IsSameEnd given retired
 same-end given retired held = record { place = ap (λ h. h.place) held; page = ap (λ h. h.page) held; role = ap (λ h. h.role) held }
-
--- a domain's ends that retired before its task was made are what that task owes if memory runs out
-pub unmade-owes : (s : Scenario) (d : ℕ) (hand : Hand) (ends : List EndAt) → AreGivenBack false (hand_ends d hand) ends → TaskOwes (domain_given s d hand) (NoMemory ends)
-unmade-owes s d hand ends back = by (hostile_at s d)
-  where
-    by : (b : Bool) → TaskOwes
-        (if b
-        then Hostile (record (hostile_plan s d) { places = places_in (hand_ends d hand) }) (hand_ends d hand)
-        else Agent (record (agent_plan s d) { places = places_in (all_given hand.payload.items) }) (hand_ends d hand)) (NoMemory ends)
-    by true = (false, back)
-    by false = back

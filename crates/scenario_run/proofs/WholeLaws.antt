@@ -2,7 +2,8 @@
 use Rattle.std.proofs.Common.{◌≡◌, ℕ, zero, suc, ◌+◌, List, [], ◌∷◌, ◌++◌, Vec, map, length, take, refl, ap, sym, ◌∙◌, subst, arith, Some, None}
 use Rattle.std.specs.Prelude.{false, slice_get, AllPairs, IsPermutation}
 use Rattle.std.specs.Global.{Global}
-use Rattle.qrexec_frame.specs.Streams.{Each}
+use Rattle.std.specs.List.{AllByRecursion as Each}
+use Rattle.list_laws.proofs.Each.{each-through}
 use Rattle.scenario_file.specs.Scenario.{Plan as Scenario, IsScenario}
 use Rattle.task_duties.specs.declared.ends.RetiredEnd.{RetiredEnd}
 use Rattle.task_duties.specs.declared.done.ServedDone.{ServedDone}
@@ -21,7 +22,6 @@ use Rattle.run_laws.specs.Run.{Run}
 use Rattle.run_laws.proofs.Runs.ResultLaws.{results_are_lawful}
 use Rattle.run_pages.specs.Pages.{AreLaid, PageAt}
 use Rattle.run_pages.specs.Settling.{AreSettledBy, HandsBack}
-use Rattle.run_pages.proofs.DealLaws.{map-length}
 use Rattle.scenario_run.specs.Answering.{AreAnswers}
 use Rattle.scenario_run.specs.Lines.{HasReports}
 use Rattle.scenario_run.specs.Parts.{ReportPart, report_of}
@@ -32,10 +32,6 @@ use Rattle.scenario_run.proofs.ReportLaws.{has-reports, have-served}
 map-twice : {A B C : Type 0} (f : B → C) (g : A → B) (xs : List A) → map (λ x. f (g x)) xs ≡ map f (map g xs)
 map-twice f g [] = refl
 map-twice f g (x ∷ xs) = ap (λ l. f (g x) ∷ l) (map-twice f g xs)
-
-each-map : {A B : Type 0} (P : B → Type 0) (g : A → B) (xs : List A) → Each (λ x. P (g x)) xs → Each P (map g xs)
-each-map P g [] each = tt
-each-map P g (x ∷ xs) each = (each.0, each-map P g xs each.1)
 
 abbrev pub Ends : Type 0
 Ends = List (Vec RetiredEnd Global)
@@ -54,7 +50,7 @@ back s pages dones ends reports are apart =
 pub results : (s : Scenario) (pages : List PageAt) (dones : List TaskDone) (ends : Ends) (reports : List ReportPart) (settled : List SettledPage) → IsScenario s → AreLaid s pages
     → AreAnswers s pages (map answer_of dones) → AreApart dones ends reports → AreSettledBy s pages (map (λ h. all_retired h.items) ends) settled → AreResults s (map answer_of dones) settled
 results s pages dones ends reports settled scenario laid are apart by =
-    are-results s pages (map answer_of dones) settled scenario laid are (each-map IsReport answer_of dones apart.done)
+    are-results s pages (map answer_of dones) settled scenario laid are (each-through IsReport answer_of dones apart.done)
     (subst (λ hands. AreSettledBy s pages hands settled) (apart.ends_are ∙ map-twice ends_of answer_of dones) by)
 
 pub reported : (s : Scenario) (pages : List PageAt) (dones : List TaskDone) (ends : Ends) (reports : List ReportPart) (settled : List SettledPage) → AreAnswers s pages (map answer_of dones) → AreApart dones ends reports
@@ -85,10 +81,6 @@ pub all-served : (s : Scenario) (dones : List TaskDone) (ends : Ends) (reports n
 all-served s dones ends reports new settled apart is same =
     served-same (run_of s (map answer_of dones)) reports new same
     (subst (HaveServed (run_of s (map answer_of dones))) (sym (apart.reports_are ∙ map-twice report_of answer_of dones)) (have-served s (map answer_of dones) settled is))
-
-pub reports-length : (s : Scenario) (pages : List PageAt) (dones : List TaskDone) (ends : Ends) (reports : List ReportPart) → AreAnswers s pages (map answer_of dones) → AreApart dones ends reports → length reports ≡ length s.domains + 1
-reports-length s pages dones ends reports are apart =
-    ap length apart.reports_are ∙ map-length (λ done. report_of (answer_of done)) dones ∙ sym (map-length answer_of dones) ∙ are.count
 
 -- ---- a list that was changed in place
 

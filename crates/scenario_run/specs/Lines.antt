@@ -1,6 +1,7 @@
 -- The lines of the calls of a run, by what the tasks report.
 -- Source: this project's own.
 use Rattle.std.specs.Prelude.{◌≡◌, ℕ, ◌==◌, List, [], filter, slice_get, Some}
+use Rattle.std.specs.List.{AllZip as EachPair}
 use Rattle.call_broker.specs.declared.decision.Entry.{Entry}
 use Rattle.qrexec_data.specs.declared.outcome.Outcome.{Outcome}
 use Rattle.qrexec_data.specs.declared.outcome.Outcome.TheVariants as outcome
@@ -11,7 +12,6 @@ use Rattle.task_duties.specs.declared.done.CallEnd.{CallEnd}
 use Rattle.task_duties.specs.declared.done.CallEnd.TheVariants.{Session, Refused, Unanswered}
 use Rattle.task_duties.specs.declared.place.PagePlace.{PagePlace}
 use Rattle.task_duties.specs.declared.place.PagePlace.TheVariants.{Payload}
-use Rattle.task_duties.specs.Pairwise.{EachPair}
 use Rattle.task_duties.specs.Words.{ident_of}
 use Rattle.run_laws.specs.declared.report.CallResult.{CallResult}
 use Rattle.run_laws.specs.declared.report.CallResult.TheVariants.{Done, Mixed}

@@ -1,10 +1,10 @@
 -- The tasks of a run, by the ends that are dealt to them.
 -- Source: this project's own.
 use Rattle.std.specs.Prelude.{◌≡◌, ℕ, ◌+◌, List, length, slice_get, Some, if◌then◌else◌}
+use Rattle.std.specs.List.{AllByRecursion as Each}
 use Rattle.ring_words.specs.declared.page.Role.TheVariants.{Server}
 use Rattle.vchan_rule.specs.Seated.{SeatedEnd, view}
 use Rattle.end_view.specs.EndView.{EndView, IsUnused}
-use Rattle.qrexec_frame.specs.Streams.{Each}
 use Rattle.scenario_file.specs.Scenario.{Plan as Scenario, hostile_at}
 use Rattle.task_duties.specs.TaskOwes.{TaskGiven, Agent, Hostile, broker_given, places_in}
 use Rattle.task_duties.specs.declared.ends.UnmadeEnds.{UnmadeEnds}

@@ -1,6 +1,6 @@
 //! What the tasks of a run answered, taken apart.
 ghost use Rattle.std.specs.Prelude.{◌≡◌, ◌∷◌, map, IfOk, OnOk};
-ghost use Rattle.qrexec_frame.specs.Streams.{Each};
+ghost use Rattle.std.specs.List.{AllByRecursion as Each};
 ghost use Rattle.task_duties.specs.TaskOwes.{IsReport};
 ghost use Rattle.task_duties.specs.GivenEnds.{all_retired};
 ghost use Rattle.domain_task.specs.Owes.{answer_of};

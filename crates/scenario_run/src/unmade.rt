@@ -1,6 +1,6 @@
 //! The ends of a task that wasn't made. They retire, so that no other task waits for them.
 ghost use Rattle.std.specs.Prelude.{◌≡◌, ◌≤◌, ◌<◌, ◌+◌, ◌^◌, [], true, false, length, map, vec_capacity};
-ghost use Rattle.qrexec_frame.specs.Streams.{Each};
+ghost use Rattle.std.specs.List.{AllByRecursion as Each};
 ghost use Rattle.end_view.specs.EndView.{IsUnused};
 ghost use Rattle.vchan_rule.specs.Seated.{view};
 ghost use Rattle.task_duties.specs.TaskOwes.{AreGivenBack, IsSameEnd, all_ends, broker_ends};

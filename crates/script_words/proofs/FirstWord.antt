@@ -1,9 +1,9 @@
 -- The word that a line begins with.
-use Rattle.std.proofs.Common.{◌≡◌, ℕ, Bool, true, false, cond, ◌||◌, ◌⊎◌, inl, inr, Some, List, [], ◌∷◌, ◌++◌, length, take, drop, refl, ap, sym, subst, ◌∙◌, arith, append-nil, length-drop}
+use Rattle.std.proofs.Common.{◌≡◌, ℕ, Bool, true, false, cond, ◌⊎◌, inl, inr, Some, List, [], ◌∷◌, ◌++◌, length, take, drop, refl, ap, sym, subst, ◌∙◌, arith, append-nil, length-drop}
 use Rattle.std.specs.Prelude.{bytes_eq}
 use Rattle.std.specs.List.{slice_split, onto_first, list_any}
 use Rattle.std.proofs.Math.Seq.{take-length, take-append_seam, drop-append_seam}
-use Rattle.std.proofs.lemmas.Bool.{false≢true}
+use Rattle.std.proofs.lemmas.Bool.{false≢true, false_from_ne_true, or_parts}
 use Rattle.std.proofs.lemmas.List.{take-append-drop}
 use Rattle.std.proofs.lemmas.List.Splits.{length-slice_split}
 use Rattle.std.proofs.lemmas.Slice.Eq.{bytes_eq-Decides}
@@ -11,25 +11,20 @@ use denote.Ref.{Bor}
 use Rattle.script_words.specs.declared.words.WordsOfLine.{WordsOfLine}
 use Rattle.script_words.specs.Words.{words_of}
 use Rattle.script_words.specs.WordsLeft.{IsNotFirst, left_of, words_left}
-use Rattle.script_words.proofs.WordLaws.{not_true}
-
-neither : (a b : Bool) → (a || b) ≡ false → (a ≡ false) × (b ≡ false)
-neither true b is = absurd (false≢true (sym is))
-neither false b is = (refl, is)
 
 -- a word is a piece of its own before a separator
 word_before : (p : ℕ → Bool) (word : List ℕ) (separator : ℕ) (rest : List ℕ) → list_any p word ≡ false → p separator ≡ true → slice_split p (word ++ separator ∷ rest) ≡ word ∷ slice_split p rest
 word_before p [] separator rest none is = ap (λ b. cond b ([] ∷ slice_split p rest) (onto_first separator (slice_split p rest))) is
 word_before p (x ∷ word) separator rest none is =
     let parts : List (List ℕ) = slice_split p (word ++ separator ∷ rest) in
-    let both = neither (p x) (list_any p word) none in
+    let both = or_parts (p x) (list_any p word) none in
     ap (λ b. cond b ([] ∷ parts) (onto_first x parts)) both.0 ∙ ap (onto_first x) (word_before p word separator rest both.1 is)
 
 -- and at the end
 word_alone : (p : ℕ → Bool) (word : List ℕ) → list_any p word ≡ false → slice_split p word ≡ word ∷ []
 word_alone p [] none = refl
 word_alone p (x ∷ word) none =
-    let both = neither (p x) (list_any p word) none in
+    let both = or_parts (p x) (list_any p word) none in
     ap (λ b. cond b ([] ∷ slice_split p word) (onto_first x (slice_split p word))) both.0 ∙ ap (onto_first x) (word_alone p word both.1)
 
 -- the bytes are this word, or it stands before a separator
@@ -67,7 +62,7 @@ begins p (x ∷ bytes) word more is =
 not_first : (p : ℕ → Bool) (bytes word : List ℕ) → ¬ Begins p word bytes → (parts : List (List ℕ)) → slice_split p bytes ≡ parts → IsNotFirst word parts
 not_first p bytes word other [] is = tt
 not_first p bytes word other (first ∷ more) is =
-    not_true (bytes_eq first word) (λ yes. other (begins p bytes word more (is ∙ ap (λ (w : List ℕ). w ∷ more) ((bytes_eq-Decides first word).0 yes))))
+    false_from_ne_true (bytes_eq first word) (λ yes. other (begins p bytes word more (is ∙ ap (λ (w : List ℕ). w ∷ more) ((bytes_eq-Decides first word).0 yes))))
 
 fronted : (p : ℕ → Bool) (bytes word : List ℕ) → Begins p word bytes → take (length word) bytes ≡ word
 fronted p bytes word (inl is) = ap (take (length word)) is ∙ take-length word

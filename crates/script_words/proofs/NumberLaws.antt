@@ -7,41 +7,23 @@ use Rattle.std.proofs.lemmas.Int.Digits.{digits_value_more}
 use Rattle.std.proofs.lemmas.Bool.Decides.{nat_tests}
 use Rattle.script_words.specs.Numbers.{number_of, is_number}
 use Rattle.std.specs.Char.{is_ascii_digit, digit_value}
-
-both : (a b : Bool) → a ≡ true → b ≡ true → (a && b) ≡ true
-both true b p q = q
-both false b p q = absurd (cc)
-
-first_of_both : (a b : Bool) → (a && b) ≡ true → a ≡ true
-first_of_both true b p = refl
-first_of_both false b p = p
-
-second_of_both : (a b : Bool) → (a && b) ≡ true → b ≡ true
-second_of_both true b p = p
-second_of_both false b p = absurd (cc)
-
-not_first : (a b : Bool) → a ≡ false → (a && b) ≡ false
-not_first true b p = absurd (cc)
-not_first false b p = refl
-
-not_second : (a b : Bool) → b ≡ false → (a && b) ≡ false
-not_second true b p = p
-not_second false b p = refl
+use Rattle.std.proofs.lemmas.Bool.{and_right, and_left, and_from}
+use Rattle.list_laws.proofs.Tests.{and-first, and-second}
 
 -- one more digit
 pub all_ascii_digits-more : (bs : List ℕ) (i : ℕ) → i < length bs → all_ascii_digits (take i bs) ≡ true → is_ascii_digit (get_or bs i 0) ≡ true → all_ascii_digits (take (suc i) bs) ≡ true
 all_ascii_digits-more [] i within all digit = absurd (omega arith)
-all_ascii_digits-more (b ∷ bs) zero within all digit = both (is_ascii_digit b) true digit refl
+all_ascii_digits-more (b ∷ bs) zero within all digit = and_from (is_ascii_digit b) true digit refl
 all_ascii_digits-more (b ∷ bs) (suc i) within all digit =
-    both (is_ascii_digit b) (all_ascii_digits (take (suc i) bs)) (first_of_both (is_ascii_digit b) (all_ascii_digits (take i bs)) all)
-    (all_ascii_digits-more bs i (omega arith) (second_of_both (is_ascii_digit b) (all_ascii_digits (take i bs)) all) digit)
+    and_from (is_ascii_digit b) (all_ascii_digits (take (suc i) bs)) (and-first (is_ascii_digit b) (all_ascii_digits (take i bs)) all)
+    (all_ascii_digits-more bs i (omega arith) (and-second (is_ascii_digit b) (all_ascii_digits (take i bs)) all) digit)
 
 -- one byte that isn't a digit
 pub all_ascii_digits-not : (bs : List ℕ) (i : ℕ) → i < length bs → is_ascii_digit (get_or bs i 0) ≡ false → all_ascii_digits bs ≡ false
 all_ascii_digits-not [] i within digit = absurd (omega arith)
-all_ascii_digits-not (b ∷ bs) zero within digit = not_first (is_ascii_digit b) (all_ascii_digits bs) digit
+all_ascii_digits-not (b ∷ bs) zero within digit = and_left (is_ascii_digit b) (all_ascii_digits bs) digit
 all_ascii_digits-not (b ∷ bs) (suc i) within digit =
-    not_second (is_ascii_digit b) (all_ascii_digits bs) (all_ascii_digits-not bs i (omega arith) digit)
+    and_right (is_ascii_digit b) (all_ascii_digits bs) (all_ascii_digits-not bs i (omega arith) digit)
 
 -- a word with a byte that isn't a digit isn't a number
 pub number_of-not_digit : (most : ℕ) (word : List ℕ) (i : ℕ) → i < length word → is_ascii_digit (get_or word i 0) ≡ false → None ≡ number_of most word

@@ -5,22 +5,19 @@ use Rattle.std.specs.List.{slice_split, onto_first, position_or_len, position}
 use Rattle.std.proofs.lemmas.List.Splits.{slice_split_first, length-slice_split}
 use Rattle.std.proofs.lemmas.Bool.Decides.{nat_tests}
 use Rattle.std.proofs.lemmas.List.Sums.{position_or_len_is}
+use Rattle.std.proofs.lemmas.Bool.{false_from_ne_true}
 use Rattle.memchr.specs.Find.{IsFirstByte, is_byte}
 use Rattle.script_words.specs.Words.{lines_of, only, without_empty_end}
-
-pub not_true : (b : Bool) → ¬ (b ≡ true) → b ≡ false
-not_true true not = absurd (not refl)
-not_true false not = refl
 
 -- the place that a search finds is that of the first byte that is wanted
 pub first_place : (wanted : ℕ) (bytes : List ℕ) (found : Option ℕ) → IsFirstByte (is_byte wanted) bytes found → found ≡ position (λ b. eqb b wanted) bytes
 first_place wanted bytes None nowhere =
     let at : position_or_len (λ b. eqb b wanted) bytes ≡ length bytes =
-    position_or_len_is (λ b. eqb b wanted) bytes (length bytes) 0 (omega arith) (λ k below. not_true (eqb (get_or bytes k 0) wanted) (nowhere k (omega arith) below)) (λ below. absurd (omega (arith, below))) in
+    position_or_len_is (λ b. eqb b wanted) bytes (length bytes) 0 (omega arith) (λ k below. false_from_ne_true (eqb (get_or bytes k 0) wanted) (nowhere k (omega arith) below)) (λ below. absurd (omega (arith, below))) in
     rw at (grind (arith, nat_tests))
 first_place wanted bytes (Some i) first =
     let at : position_or_len (λ b. eqb b wanted) bytes ≡ i =
-    position_or_len_is (λ b. eqb b wanted) bytes i 0 (omega (arith, first.0.high)) (λ k below. not_true (eqb (get_or bytes k 0) wanted) (first.0.before k (omega arith) below)) (λ below. first.1) in
+    position_or_len_is (λ b. eqb b wanted) bytes i 0 (omega (arith, first.0.high)) (λ k below. false_from_ne_true (eqb (get_or bytes k 0) wanted) (first.0.before k (omega arith) below)) (λ below. first.1) in
     rw at (grind (arith, nat_tests, first.0.high))
 
 -- a list with no separator is one piece

@@ -5,6 +5,7 @@ use Rattle.std.specs.List.{count_by, list_any}
 use Rattle.std.proofs.lemmas.List.Sums.{sum_by-append, sum_by-cons}
 use Rattle.std.proofs.lemmas.List.Sorted.{sum_by-IsPermutation}
 use Rattle.std.proofs.lemmas.Bool.Decides.{nat_tests}
+use Rattle.std.proofs.lemmas.Bool.{or_parts}
 use Rattle.qrexec_frame.specs.declared.message.Message.{Message}
 use Rattle.qrexec_frame.specs.declared.message.Message.TheVariants as message
 use Rattle.call_broker.specs.declared.event.Event.{Event}
@@ -15,11 +16,12 @@ use Rattle.call_broker.specs.declared.decision.Decision.{Decision}
 use Rattle.call_broker.specs.declared.decision.Decision.TheVariants.{Accepted, Refused, Ended, PassedOver}
 use Rattle.call_broker.specs.declared.decision.Entry.{Entry}
 use Rattle.call_broker.specs.Domains.{Domains, target_of, is_service, pages_of, port_after}
-use Rattle.call_broker.specs.Pair.{PairState, Ordered, Alone, has, is_of, towards, state_after, takes_call, answers, decision}
+use Rattle.call_broker.specs.Pair.{PairState, has, towards, state_after, takes_call, answers, decision}
 use Rattle.call_broker.specs.Journal.{drops, is_dropped, IsDecidedOn}
 use Rattle.call_broker.proofs.DroppedLaws.{dropped-is, dropped-more}
 use Rattle.qrexec_frame.specs.Names.{cleaned_service}
 use Rattle.call_broker.specs.Domains.{name_of}
+use Rattle.call_broker.proofs.AnswerLaws.{of-towards}
 use Rattle.task_duties.specs.Words.{exec_line}
 use Rattle.task_duties.specs.Hearing.{Heard, hears, to_broker}
 use Rattle.task_duties.specs.Broker.Outbox.{only_if, puts, outbox, event_of, is_from, read_from}
@@ -89,17 +91,6 @@ takes hub s from to =
 answered : (hub : Domains) (s : PairState) (from : ℕ) (service : List ℕ) (o : Option ℕ) → IsAnswered (answers hub s from service o)
 answered hub s from service None = refused NoDomain
 answered hub s from service (Some to) = either (to == from) (Refused SameDomain) _ (refused SameDomain) (either (not (is_service service)) (Refused NoService) _ (refused NoService) (takes hub s from to))
-
-of-towards : (from : ℕ) (o : Option ℕ) → is_of from (towards from o) ≡ true
-of-towards from None = grind (arith, nat_tests)
-of-towards from (Some to) = by_test (to == from)
-  where
-    self : (from == from) ≡ true
-    self = grind (arith, nat_tests)
-
-    by_test : (b : Bool) → is_of from (if b then Alone from else Ordered from to) ≡ true
-    by_test true = self
-    by_test false = rw self refl
 
 pub trigger-answered : (hub : Domains) (before : List Event) (from : ℕ) (target service ident : List ℕ) → list_any (drops from) before ≡ false → IsAnswered (decision hub before (event.Trigger from target service ident))
 trigger-answered hub before from target service ident up =
@@ -180,14 +171,10 @@ entry-counts w hub before d (event.Dropped domain) decided is up = refl
 
 -- ---- the whole journal
 
-pub either-none : (a b : Bool) → (a || b) ≡ false → (a ≡ false) × (b ≡ false)
-either-none true b is = cc
-either-none false b is = (refl, is)
-
 counted : (w : List ℕ) (hub : Domains) (d : ℕ) (before : List Event) (journal : List Entry) → IsDecidedOn hub before journal → list_any (drops d) before ≡ false → is_dropped journal d ≡ false → count_by (is_answer w) (outbox hub journal d) ≡ count_by (asks w) (read_from journal d)
 counted w hub d before [] decided none up = refl
 counted w hub d before (x ∷ journal) decided none up =
-    let both = either-none (drops d x.event) (is_dropped journal d) up in
+    let both = or_parts (drops d x.event) (is_dropped journal d) up in
     let next : list_any (drops d) (before ++ x.event ∷ []) ≡ false = dropped-more d before x.event ∙ ap (λ (b : Bool). b || list_any (drops d) before) both.0 ∙ none in
     let rest = counted w hub d (before ++ x.event ∷ []) journal decided.1 next both.1 in
     count-append (is_answer w) (puts hub d x.event x.decision) (outbox hub journal d)

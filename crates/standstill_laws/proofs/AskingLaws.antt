@@ -1,31 +1,29 @@
 -- An agent none of whose sessions is open has asked for all its calls, and has reported all ends.
 use Rattle.std.proofs.Common.{◌≡◌, ℕ, ◌<◌, ◌≤◌, zero, suc, List, [], ◌∷◌, ◌++◌, length, take, get_or, map, refl, ap, sym, ◌∙◌, subst, inl, inr, arith, Some, None, Option}
 use Rattle.std.specs.Prelude.{◌⊎◌, Bool, true, false, ◌&&◌, bytes_eq, filter_map, slice_get, MatchOption, IsSomeAnd, IsPermutation, if◌then◌else◌}
-use Rattle.std.specs.List.{count_by, cons_option}
+use Rattle.std.specs.List.{count_by, cons_option, AllByRecursion as Each}
 use Rattle.std.proofs.lemmas.List.{append-nil, length-map}
-use Rattle.std.proofs.lemmas.Option.{slice_get_cases}
+use Rattle.std.proofs.lemmas.Option.{slice_get_cases, slice_get_within}
 use Rattle.std.proofs.lemmas.Slice.Eq.{bytes_eq-Decides}
+use Rattle.std.proofs.lemmas.Bool.{and_parts}
+use Rattle.list_laws.specs.Lists.{SomeOf}
+use Rattle.list_laws.proofs.Places.{get-map, get-map-back}
+use Rattle.list_laws.proofs.Each.{each-get}
+use Rattle.list_laws.proofs.Tests.{same-bytes}
 use Rattle.qrexec_frame.specs.declared.message.Message.{Message}
 use Rattle.qrexec_frame.specs.declared.message.Message.TheVariants as message
-use Rattle.qrexec_frame.specs.Streams.{Each}
-use Rattle.task_duties.specs.Pairwise.{SomeOf}
 use Rattle.task_duties.specs.Words.{ident_of}
 use Rattle.task_duties.specs.Agent.Answers.{Answer, Waits, IsRefused, At, Asked, waits, waits_as, nothing_heard}
 use Rattle.task_duties.specs.Agent.Saying.{Asking, asking, asking_of}
 use Rattle.task_duties.proofs.AnsweredLaw.{IsIdle, AnswersTo, answers-each}
 use Rattle.call_queue.specs.Queue.{Queued, asked_as, asked_by, is_open_to, open_idents, open_count, IsHeld}
-use Rattle.task_duties.proofs.ServedLaw.{and-parts}
-use Rattle.call_queue.proofs.Places.{map-get, map-got, within-get, each-at}
 use Rattle.agent_control.specs.declared.control.AgentControl.{AgentControl}
-use Rattle.agent_task.specs.Ends.{session_told, session_unsaid}
+use Rattle.agent_task.specs.Ends.{session_told, session_of_end}
 use Rattle.agent_task.specs.State.{AgentState, IsChannelOf, IsOpenFor, answers_so_far}
 use Rattle.agent_task.specs.Telling.{owed_on}
 use Rattle.standstill_laws.specs.Answers.{is_trigger, is_answer}
 use Rattle.standstill_laws.specs.Asking.{heard_so_far, HearsInOrder, AgentsHaveAskedAll}
 use Rattle.standstill_laws.proofs.AnswerLaws.{count-more, count-same}
-
-same-bytes : (w : List ℕ) → bytes_eq w w ≡ true
-same-bytes w = (bytes_eq-Decides w w).1 refl
 
 -- ---- a call that was asked for was answered
 
@@ -107,12 +105,12 @@ not-waiting task said c channel hears place q there less = by_waits (waits q.ans
     w = ident_of q.call.number
 
     call-there : slice_get task.plan.calls place ≡ Some q.call
-    call-there = ap (λ l. slice_get l place) (sym channel.calls) ∙ map-get (λ (a : Asked). a.call) (asked_by c.queue) place (asked_as q) (map-get asked_as c.queue.calls place q there)
+    call-there = ap (λ l. slice_get l place) (sym channel.calls) ∙ get-map (λ (a : Asked). a.call) (asked_by c.queue) place (asked_as q) (get-map asked_as c.queue.calls place q there)
 
     triggered : SomeOf (IsAskingBy w) (filter_map asking said)
     triggered =
         subst (λ l. SomeOf (IsAskingBy w) l) (sym channel.asks)
-        (some-taken (IsAskingBy w) (map asking_of task.plan.calls) c.queue.next place (asking_of q.call) (map-get asking_of task.plan.calls place q.call call-there) less (same-bytes w))
+        (some-taken (IsAskingBy w) (map asking_of task.plan.calls) c.queue.next place (asking_of q.call) (get-map asking_of task.plan.calls place q.call call-there) less (same-bytes w))
 
     came : SomeOf (AnswersTo w) (heard_so_far task)
     came = answer-came w (heard_so_far task) (subst (λ (n : ℕ). 0 < n) (sym (hears.answered w)) (asked-counts w said triggered))
@@ -121,10 +119,10 @@ not-waiting task said c channel hears place q there less = by_waits (waits q.ans
     idle = answers-each task.plan.domain w (nothing_heard task.plan) (heard_so_far task) hears.apart hears.given came
 
     asked-there : slice_get (answers_so_far task).asked place ≡ Some (asked_as q)
-    asked-there = ap (λ l. slice_get l place) (sym channel.answered) ∙ map-get asked_as c.queue.calls place q there
+    asked-there = ap (λ l. slice_get l place) (sym channel.answered) ∙ get-map asked_as c.queue.calls place q there
 
     still : waits_as w (asked_as q) ≡ false
-    still = each-at (λ (a : Asked). waits_as w a ≡ false) (answers_so_far task).asked place (asked_as q) idle asked-there
+    still = each-get (λ (a : Asked). waits_as w a ≡ false) (answers_so_far task).asked place (asked_as q) idle asked-there
 
     by_waits : (b : Bool) → waits q.answer ≡ b → b ≡ false
     by_waits true is =
@@ -140,7 +138,7 @@ is-open target (q ∷ calls) some = by_test (is_open_to target q) refl some (is-
   where
     by_test : (b : Bool) → is_open_to target q ≡ b → 0 < length (open_idents target calls ++ (if b then ident_of q.call.number ∷ [] else []))
         → (0 < open_count target calls → (place : ℕ) × (x : Queued) × (slice_get calls place ≡ Some x) × (x.is_open ≡ true)) → (place : ℕ) × (x : Queued) × (slice_get (q ∷ calls) place ≡ Some x) × (x.is_open ≡ true)
-    by_test true is h rest = (0, q, refl, (and-parts q.is_open (bytes_eq q.call.to target) is).0)
+    by_test true is h rest = (0, q, refl, (and_parts q.is_open (bytes_eq q.call.to target) is).0)
     by_test false is h rest = let r = rest (subst (λ l. 0 < length l) (append-nil (open_idents target calls)) h) in (suc r.0, r.1, r.2, r.3)
 
 none-open : (task : AgentState) (said : List Message) (c : AgentControl) → IsChannelOf task said c → HearsInOrder task said → task.over ≡ None → task.opened ≡ [] → c.unsaid.items ≡ [] → (place : ℕ) (q : Queued) → slice_get c.queue.calls place ≡ Some q
@@ -151,13 +149,13 @@ none-open task said c channel hears up shut none place q there is_open = by_answ
     for = channel.opened up place q there is_open
 
     held : task.waiting ++ task.opened ≡ []
-    held = ap (λ l. l ++ task.opened) (channel.waiting ∙ ap (map session_unsaid) none) ∙ shut
+    held = ap (λ l. l ++ task.opened) (channel.waiting ∙ ap (map session_of_end) none) ∙ shut
 
     by_answer : (x : Answer) → q.answer ≡ x → IsOpenFor [] said place x → ⊥
     by_answer Waits is h = let still : false ≡ true = sym (not-waiting task said c channel hears place q there for.0) ∙ ap waits is in cc
     by_answer IsRefused is h = h
     by_answer (At to port) is (inl h) = h
-    by_answer (At to port) is (inr h) = hears.none_early place to port (asked_as q) (ap (λ l. slice_get l place) (sym channel.answered) ∙ map-get asked_as c.queue.calls place q there) is h
+    by_answer (At to port) is (inr h) = hears.none_early place to port (asked_as q) (ap (λ l. slice_get l place) (sym channel.answered) ∙ get-map asked_as c.queue.calls place q there) is h
 
 all-next : (task : AgentState) (said : List Message) (c : AgentControl) → IsChannelOf task said c → HearsInOrder task said → task.over ≡ None → task.opened ≡ [] → c.unsaid.items ≡ [] → IsHeld c.queue → length c.queue.calls ≤ c.queue.next
 all-next task said c channel hears up shut none held = by_next (slice_get c.queue.calls c.queue.next) (slice_get_cases c.queue.calls c.queue.next).1 refl held
@@ -187,7 +185,7 @@ agents-have-asked-all task t c is up shut none held differ hears = record {
   asked = channel.asks ∙ take-past c.queue.next (map asking_of task.plan.calls) few;
   answered = subst (λ l. Each (λ a. waits a.answer ≡ false) l) channel.answered (each-from (λ a. waits a.answer ≡ false) (asked_by c.queue) each-answered);
   told = subst (λ l. IsPermutation l (owed_on task.plan task.control)) (append-nil (filter_map session_told t.once.said))
-      (subst (λ l. IsPermutation (filter_map session_told t.once.said ++ l) (owed_on task.plan task.control)) (ap (λ l. l ++ task.opened) (channel.waiting ∙ ap (map session_unsaid) none) ∙ shut) (t.waits up));
+      (subst (λ l. IsPermutation (filter_map session_told t.once.said ++ l) (owed_on task.plan task.control)) (ap (λ l. l ++ task.opened) (channel.waiting ∙ ap (map session_of_end) none) ∙ shut) (t.waits up));
 }
   where
     channel : IsChannelOf task t.once.said c
@@ -203,6 +201,6 @@ agents-have-asked-all task t c is up shut none held differ hears = record {
 
     each-answered : (place : ℕ) (a : Asked) → slice_get (asked_by c.queue) place ≡ Some a → waits a.answer ≡ false
     each-answered place a there =
-        let got = map-got asked_as c.queue.calls place a there in
-        let less = within-get c.queue.calls place got.0 got.1 in
+        let got = get-map-back asked_as c.queue.calls place a there in
+        let less = slice_get_within c.queue.calls place got.0 got.1 in
         ap (λ (x : Asked). waits x.answer) (sym got.2) ∙ not-waiting task t.once.said c channel hears place got.0 got.1 (omega (arith, less, next))

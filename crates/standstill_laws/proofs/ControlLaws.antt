@@ -1,7 +1,7 @@
 -- At a standstill of a control page each side has heard all that the other said.
 use Rattle.std.proofs.Common.{◌≡◌, ℕ, List, [], ◌∷◌, map, Some, None, Bool, true, false, refl, subst, sym, ap, ◌∙◌, arith}
 use Rattle.std.specs.Prelude.{min, nat_lt}
-use Rattle.std.specs.List.{flat_map}
+use Rattle.std.specs.List.{flat_map, AllByRecursion as Each}
 use Rattle.std.proofs.lemmas.Bool.Decides.{nat_tests}
 use Rattle.vchan_protocol.specs.declared.side.Side.{Side}
 use Rattle.qrexec_frame.specs.declared.channel.Channel.TheVariants.{Control}
@@ -11,11 +11,10 @@ use Rattle.qrexec_frame.specs.Messages.{written, IsSpellable, GoesOn}
 use Rattle.qrexec_frame.specs.Grammar.{Fault}
 use Rattle.qrexec_frame.specs.Fronts.{front, reading}
 use Rattle.qrexec_frame.specs.Laws.{IsGood}
-use Rattle.qrexec_frame.specs.Streams.{Placed, Ending, Rest, Each, messages}
+use Rattle.qrexec_frame.specs.Streams.{Placed, Ending, Rest, messages}
 use Rattle.qrexec_frame.proofs.StreamLaws.{reads-all}
 use Rattle.qrexec_frame.proofs.GrammarLaws.{is_prefix_code}
 use Rattle.qrexec_frame.proofs.WrittenLaws.{is_read_again}
-use Rattle.qrexec_data.specs.Laws.{IsVersion}
 use Rattle.task_duties.specs.Hearing.{Heard, hears, hears_on, allowed, first_fault, to_agent, to_broker}
 use Rattle.control_port.specs.Port.{PortState, SentWhole}
 use Rattle.control_port.specs.Talking.{may_say, may_hear}
@@ -24,6 +23,7 @@ use Rattle.control_port.specs.declared.talk.Talker.TheVariants.{Agent, Broker}
 use Rattle.standstill_laws.specs.Page.{StandsStill}
 use Rattle.standstill_laws.specs.Control.{Hears, AllIsHeard}
 use Rattle.standstill_laws.proofs.PageLaws.{stands-still}
+use Rattle.qrexec_data.specs.Laws.{IsVersion}
 
 -- ---- a stream of messages that may be said
 

@@ -2,17 +2,18 @@
 use Rattle.std.proofs.Common.{◌≡◌, ◌≢◌, ◌⊎◌, ℕ, ◌+◌, ◌*◌, ◌<◌, ◌≤◌, ◌==◌, zero, suc, Bool, true, false, List, [], ◌∷◌, ◌++◌, length, length-append, append_assoc, if◌then◌else◌, refl, sym, ap, ◌∙◌, subst, arith, inl, inr}
 use Rattle.std.proofs.lemmas.Bool.Decides.{eqb_tells}
 use Rattle.std.proofs.lemmas.Nat.{mul-le}
-use Rattle.qrexec_frame.specs.Streams.{Each}
+use Rattle.std.specs.List.{AllByRecursion as Each}
+use Rattle.list_laws.proofs.Each.{each-push}
 use Rattle.domain_task.specs.declared.task.Task.{Task}
 use Rattle.domain_task.specs.Working.{work_done, DoesNothing}
 use Rattle.standstill_laws.specs.Counting.{TurnMade, tasks_after, AreMade, NoneIsMade, OneIsMade, work_of_all, NoStretchRests, TurnsAreBounded}
 
 -- ---- what all tasks have done, after a turn of one
 
-chosen : (a b : Task) (test : Bool) → test ≡ true → (if test then a else b) ≡ a
+pub chosen : (a b : Task) (test : Bool) → test ≡ true → (if test then a else b) ≡ a
 chosen a b test is = ap (λ (t : Bool). if t then a else b) is
 
-passed_over : (a b : Task) (test : Bool) → test ≡ false → (if test then a else b) ≡ b
+pub passed_over : (a b : Task) (test : Bool) → test ≡ false → (if test then a else b) ≡ b
 passed_over a b test is = ap (λ (t : Bool). if t then a else b) is
 
 same-below : (n : ℕ) (tasks : ℕ → Task) (made : TurnMade) → n ≤ made.place → work_of_all n (tasks_after tasks made) ≡ work_of_all n tasks
@@ -40,18 +41,14 @@ one-works (suc n) tasks made below = by (one-works n tasks made) (eqb_tells n ma
 
 -- ---- all turns, behind some that did nothing
 
-abbrev Rests : TurnMade → Type 0
-Rests made = DoesNothing made.before made.now
-
-each-more : (xs : List TurnMade) (x : TurnMade) → Each Rests xs → Rests x → Each Rests (xs ++ x ∷ [])
-each-more [] x each rests = (rests, tt)
-each-more (y ∷ xs) x each rests = (each.0, each-more xs x each.1 rests)
+abbrev DidNothing : TurnMade → Type 0
+DidNothing made = DoesNothing made.before made.now
 
 behind-more : (resting : List TurnMade) (made : TurnMade) (turns before rest : List TurnMade) → turns ≡ before ++ rest → resting ++ made ∷ turns ≡ (resting ++ made ∷ before) ++ rest
 behind-more [] made turns before rest parts = ap (λ (l : List TurnMade). made ∷ l) parts
 behind-more (x ∷ resting) made turns before rest parts = ap (λ (l : List TurnMade). x ∷ l) (behind-more resting made turns before rest parts)
 
-bounded-behind : (many stretch : ℕ) (first last : ℕ → Task) (resting turns : List TurnMade) → AreMade many first turns last → NoStretchRests stretch (resting ++ turns) → Each Rests resting → length resting < stretch
+bounded-behind : (many stretch : ℕ) (first last : ℕ → Task) (resting turns : List TurnMade) → AreMade many first turns last → NoStretchRests stretch (resting ++ turns) → Each DidNothing resting → length resting < stretch
     → length resting + length turns + work_of_all many first * stretch < (work_of_all many last + 1) * stretch
 bounded-behind many stretch first last resting [] (NoneIsMade tasks) none each short = omega (arith, short)
 bounded-behind many stretch first last resting (made ∷ turns) (OneIsMade tasks last' made' turns' placed is rest) none each short = by (λ rested. bounded-behind many stretch (tasks_after first made) last rested turns rest) made.works.1
@@ -59,7 +56,7 @@ bounded-behind many stretch first last resting (made ∷ turns) (OneIsMade tasks
     work : work_of_all many (tasks_after first made) + work_done made.before ≡ work_of_all many first + work_done made.now
     work = ap (λ (t : Task). work_of_all many (tasks_after first made) + work_done t) (sym is) ∙ one-works many first made placed
 
-    by : ((rested : List TurnMade) → NoStretchRests stretch (rested ++ turns) → Each Rests rested → length rested < stretch → length rested + length turns + work_of_all many (tasks_after first made) * stretch < (work_of_all many last + 1) * stretch)
+    by : ((rested : List TurnMade) → NoStretchRests stretch (rested ++ turns) → Each DidNothing rested → length rested < stretch → length rested + length turns + work_of_all many (tasks_after first made) * stretch < (work_of_all many last + 1) * stretch)
         → (work_done made.before < work_done made.now) ⊎ DoesNothing made.before made.now → length resting + suc (length turns) + work_of_all many first * stretch < (work_of_all many last + 1) * stretch
     by go_on (inl more) =
         let later : NoStretchRests stretch turns = λ before stretched behind parts long. none (resting ++ made ∷ before) stretched behind (behind-more resting made turns (before ++ stretched) behind parts ∙ ap (λ (l : List TurnMade). l ++ behind) (behind-more resting made (before ++ stretched) before stretched refl)) long in
@@ -69,7 +66,7 @@ bounded-behind many stretch first last resting (made ∷ turns) (OneIsMade tasks
     by go_on (inr nothing) =
         let rested : List TurnMade = resting ++ made ∷ [] in
         let long : length rested ≡ suc (length resting) = omega (arith, length-append resting (made ∷ [])) in
-        let all : Each Rests rested = each-more resting made each nothing in
+        let all : Each DidNothing rested = each-push DidNothing resting made each nothing in
         let same : resting ++ made ∷ turns ≡ rested ++ turns = sym (append_assoc resting (made ∷ []) turns) in
         let shorter : length rested < stretch = omega (arith, short, long, λ (full : length rested ≡ stretch). none [] rested turns same full all) in
         let next = go_on rested (subst (NoStretchRests stretch) same none) all shorter in

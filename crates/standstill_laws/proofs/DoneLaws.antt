@@ -1,15 +1,16 @@
 -- Where each domain is done, all are settled.
 use Rattle.std.proofs.Common.{◌≡◌, ◌≢◌, ℕ, ◌+◌, ◌≤◌, zero, suc, List, [], ◌∷◌, ◌++◌, length, map, refl, ap, sym, ◌∙◌, subst, arith, Some, None, Option}
 use Rattle.std.specs.Prelude.{Bool, true, false, ◌==◌, ◌&&◌, ◌||◌, nat_le, sum, filter, filter_map, if◌then◌else◌}
-use Rattle.std.specs.List.{list_any, cons_option}
+use Rattle.std.specs.List.{list_any, cons_option, AllByRecursion as Each}
 use Rattle.std.proofs.lemmas.Bool.Decides.{nat_tests}
 use Rattle.std.proofs.lemmas.List.{length-map}
 use Rattle.std.proofs.lemmas.List.Sums.{sum_by-cons}
 use Rattle.std.proofs.lemmas.List.Sorted.{list_any-IsPermutation}
+use Rattle.std.proofs.lemmas.Bool.{and_parts, or_parts, or_right}
+use Rattle.list_laws.proofs.Tests.{equal-self}
 use Rattle.qrexec_frame.specs.declared.message.Message.{Message}
 use Rattle.qrexec_frame.specs.declared.message.Message.TheVariants as message
 use Rattle.qrexec_frame.specs.Names.{cleaned_service}
-use Rattle.qrexec_frame.specs.Streams.{Each}
 use Rattle.call_broker.specs.declared.event.Event.{Event}
 use Rattle.call_broker.specs.declared.event.Event.TheVariants.{Trigger, Terminated, Dropped}
 use Rattle.call_broker.specs.declared.decision.Decision.{Decision}
@@ -21,7 +22,6 @@ use Rattle.call_broker.specs.Journal.{IsDecidedOn, events, drops, is_dropped, po
 use Rattle.call_broker.specs.Laws.{AcceptsWell}
 use Rattle.call_broker.proofs.Decided.{accepts-well}
 use Rattle.call_broker.proofs.DroppedLaws.{any-append, dropped-more}
-use Rattle.call_broker.proofs.OpenLaws.{both}
 use Rattle.call_broker.proofs.PortLaws.{port-names-pair}
 use Rattle.task_duties.specs.Words.{exec_line}
 use Rattle.task_duties.specs.Places.{numbers}
@@ -31,12 +31,8 @@ use Rattle.task_duties.proofs.LimitLaw.{asking_event}
 use Rattle.task_duties.proofs.JournalLaw.{asked_event, asked_in, asked-read, asked-said}
 use Rattle.agent_task.specs.Ends.{session_of_answer, session_asked, session_told, sessions_owed}
 use Rattle.standstill_laws.specs.Settling.{ended_port, ended_ports, EndsInOrder, IsDone, AllAreSettled}
-use Rattle.standstill_laws.proofs.AnswerLaws.{IsAnswered, by-answer, trigger-answered, either-none, count-more, count-same}
+use Rattle.standstill_laws.proofs.AnswerLaws.{IsAnswered, by-answer, trigger-answered, count-more, count-same}
 use Rattle.standstill_laws.proofs.SettleLaws.{no-call-is-live}
-
-pub or-right : (a b : Bool) → b ≡ true → (a || b) ≡ true
-or-right true b is = refl
-or-right false b is = is
 
 -- ---- each trigger of a domain was answered
 
@@ -55,7 +51,7 @@ counts d x = is_answer d x.event x.decision
 answered-asked : (hub : Domains) (d : ℕ) (before : List Event) (journal : List Entry) → IsDecidedOn hub before journal → list_any (drops d) before ≡ false → is_dropped journal d ≡ false → answered journal d ≡ length (asked_in journal d)
 answered-asked hub d before [] decided none up = refl
 answered-asked hub d before (x ∷ journal) decided none up =
-    let parts = either-none (drops d x.event) (is_dropped journal d) up in
+    let parts = or_parts (drops d x.event) (is_dropped journal d) up in
     let next : list_any (drops d) (before ++ x.event ∷ []) ≡ false = dropped-more d before x.event ∙ ap (λ (b : Bool). b || list_any (drops d) before) parts.0 ∙ none in
     by_event x.event refl (answered-asked hub d (before ++ x.event ∷ []) journal decided.1 next parts.1)
   where
@@ -98,7 +94,7 @@ named-any f d p (m ∷ ms) some = by_name (f m) some (named-any f d p ms)
     by_head : (s : ℕ × ℕ) (b : Bool) → is_session d p s ≡ b → (b || list_any (λ m. is_its d p (f m)) ms) ≡ true → (list_any (λ m. is_its d p (f m)) ms ≡ true → list_any (is_session d p) (filter_map f ms) ≡ true)
         → (is_session d p s || list_any (is_session d p) (filter_map f ms)) ≡ true
     by_head s true is h rest = ap (λ (b : Bool). b || list_any (is_session d p) (filter_map f ms)) is
-    by_head s false is h rest = or-right (is_session d p s) (list_any (is_session d p) (filter_map f ms)) (rest h)
+    by_head s false is h rest = or_right (is_session d p s) (list_any (is_session d p) (filter_map f ms)) (rest h)
 
     by_name : (o : Option (ℕ × ℕ)) → (is_its d p o || list_any (λ m. is_its d p (f m)) ms) ≡ true → (list_any (λ m. is_its d p (f m)) ms ≡ true → list_any (is_session d p) (filter_map f ms) ≡ true)
         → list_any (is_session d p) (cons_option o (filter_map f ms)) ≡ true
@@ -119,12 +115,12 @@ exec-here hub d to p q (Trigger from target service ident) (Accepted other port)
     by_test false names h = cc
     by_test true names h =
         let port_is : port ≡ q = cc in
-        let parts = both (from == d) (other == to) names in
+        let parts = and_parts (from == d) (other == to) names in
         let here : (to == other) ≡ true = grind (arith, nat_tests, parts.1) in
         let its : (from == d && port == p) ≡ true = rw (parts.0, port_is) same in
         let put : list_any (λ m. is_its d p (session_asked m)) (only_if (to == other) exec) ≡ true = rw (here, its) refl in
         any-append (λ m. is_its d p (session_asked m)) (only_if (to == from) connect) (only_if (to == other) exec)
-        ∙ or-right (list_any (λ m. is_its d p (session_asked m)) (only_if (to == from) connect)) (list_any (λ m. is_its d p (session_asked m)) (only_if (to == other) exec)) put
+        ∙ or_right (list_any (λ m. is_its d p (session_asked m)) (only_if (to == from) connect)) (list_any (λ m. is_its d p (session_asked m)) (only_if (to == other) exec)) put
 exec-here hub d to p q (Trigger from target service ident) (Refused cause) is same = cc
 exec-here hub d to p q (Trigger from target service ident) (Ended a b port) is same = cc
 exec-here hub d to p q (Trigger from target service ident) PassedOver is same = cc
@@ -143,10 +139,10 @@ exec-put hub d to p (x ∷ journal) some = any-append (λ m. is_its d p (session
 
     by_head : (q : ℕ) → port_in d to x.event x.decision ≡ Some q → (b : Bool) → (q == p) ≡ b → (b || has p (accepted_ports journal d to)) ≡ true → (has p (accepted_ports journal d to) ≡ true → rest ≡ true) → (first || rest) ≡ true
     by_head q is true same h more = ap (λ (b : Bool). b || rest) (exec-here hub d to p q x.event x.decision is same)
-    by_head q is false same h more = or-right first rest (more h)
+    by_head q is false same h more = or_right first rest (more h)
 
     by_found : (o : Option ℕ) → port_in d to x.event x.decision ≡ o → has p (cons_option o (accepted_ports journal d to)) ≡ true → (has p (accepted_ports journal d to) ≡ true → rest ≡ true) → (first || rest) ≡ true
-    by_found None is h more = or-right first rest (more h)
+    by_found None is h more = or_right first rest (more h)
     by_found (Some q) is h more = by_head q is (q == p) refl h more
 
 -- the end of a session that a domain told is read
@@ -168,9 +164,6 @@ told-event t (message.Stdout b) s is = cc
 told-event t (message.Stderr b) s is = cc
 told-event t (message.ExitCode c) s is = cc
 
-pub self-number : (t : ℕ) → (t == t) ≡ true
-self-number t = grind (arith, nat_tests)
-
 told-read : (t d p : ℕ) (sent : List Message) → list_any (is_session d p) (filter_map session_told sent) ≡ true → list_any (is_end t d p) (filter_map (event_of t) sent) ≡ true
 told-read t d p [] some = some
 told-read t d p (m ∷ sent) some = by_told (session_told m) refl some (told-read t d p sent)
@@ -180,12 +173,12 @@ told-read t d p (m ∷ sent) some = by_told (session_told m) refl some (told-rea
 
     skip : (o : Option Event) → rest ≡ true → list_any (is_end t d p) (cons_option o (filter_map (event_of t) sent)) ≡ true
     skip None more = more
-    skip (Some e) more = or-right (is_end t d p e) rest more
+    skip (Some e) more = or_right (is_end t d p e) rest more
 
     by_head : (s : ℕ × ℕ) → session_told m ≡ Some s → (b : Bool) → is_session d p s ≡ b → (b || list_any (is_session d p) (filter_map session_told sent)) ≡ true → (list_any (is_session d p) (filter_map session_told sent) ≡ true → rest ≡ true)
         → list_any (is_end t d p) (filter_map (event_of t) (m ∷ sent)) ≡ true
     by_head s is true its h more =
-        let here : is_end t d p (Terminated t s.0 s.1) ≡ true = rw (self-number t) its in
+        let here : is_end t d p (Terminated t s.0 s.1) ≡ true = rw (equal-self t) its in
         subst (λ (o : Option Event). list_any (is_end t d p) (cons_option o (filter_map (event_of t) sent)) ≡ true) (sym (told-event t m s is)) (ap (λ (b : Bool). b || rest) here)
     by_head s is false its h more = skip (event_of t m) (more h)
 
@@ -200,16 +193,16 @@ filtered-any p q (x ∷ xs) some = by_kept (q x) some (filtered-any p q xs)
   where
     by_head : (b : Bool) → p x ≡ b → (b || list_any p (filter q xs)) ≡ true → (list_any p (filter q xs) ≡ true → list_any p xs ≡ true) → (p x || list_any p xs) ≡ true
     by_head true is h more = ap (λ (b : Bool). b || list_any p xs) is
-    by_head false is h more = or-right (p x) (list_any p xs) (more h)
+    by_head false is h more = or_right (p x) (list_any p xs) (more h)
 
     by_kept : (b : Bool) → list_any p (if b then x ∷ filter q xs else filter q xs) ≡ true → (list_any p (filter q xs) ≡ true → list_any p xs ≡ true) → (p x || list_any p xs) ≡ true
     by_kept true h more = by_head (p x) refl h more
-    by_kept false h more = or-right (p x) (list_any p xs) (more h)
+    by_kept false h more = or_right (p x) (list_any p xs) (more h)
 
 end-is : (t d p : ℕ) (e : Event) → is_end t d p e ≡ true → e ≡ Terminated t d p
 end-is t d p (Terminated from other port) is =
-    let one = both (from == t) (other == d && port == p) is in
-    let two = both (other == d) (port == p) one.1 in
+    let one = and_parts (from == t) (other == d && port == p) is in
+    let two = and_parts (other == d) (port == p) one.1 in
     let a : from ≡ t = grind (arith, nat_tests, one.0) in
     let b : other ≡ d = grind (arith, nat_tests, two.0) in
     let c : port ≡ p = grind (arith, nat_tests, two.1) in
@@ -223,58 +216,58 @@ read-ended hub d t p (x ∷ journal) own some = by_head (is_end t d p x.event) r
   where
     skip : (o : Option ℕ) → has p (ended_ports hub journal d t) ≡ true → has p (cons_option o (ended_ports hub journal d t)) ≡ true
     skip None more = more
-    skip (Some q) more = or-right (q == p) (has p (ended_ports hub journal d t)) more
+    skip (Some q) more = or_right (q == p) (has p (ended_ports hub journal d t)) more
 
     by_head : (b : Bool) → is_end t d p x.event ≡ b → (b || list_any (is_end t d p) (events journal)) ≡ true → (list_any (is_end t d p) (events journal) ≡ true → has p (ended_ports hub journal d t) ≡ true)
         → has p (ended_ports hub (x ∷ journal) d t) ≡ true
     by_head true is h more =
         let told : ended_port hub d t x.event ≡ Some p = ap (ended_port hub d t) (end-is t d p x.event is) ∙ ap (λ (b : Bool). if b then Some p else None) own in
-        subst (λ (o : Option ℕ). has p (cons_option o (ended_ports hub journal d t)) ≡ true) (sym told) (ap (λ (b : Bool). b || has p (ended_ports hub journal d t)) (self-number p))
+        subst (λ (o : Option ℕ). has p (cons_option o (ended_ports hub journal d t)) ≡ true) (sym told) (ap (λ (b : Bool). b || has p (ended_ports hub journal d t)) (equal-self p))
     by_head false is h more = skip (ended_port hub d t x.event) (more h)
 
 -- ---- a port that was given out names its pair
 
-pub record IsPortOf (f t port : ℕ) : Type 0 where
+pub record IsPortOfPair (f t port : ℕ) : Type 0 where
   pub apart : f ≢ t
   pub call : ℕ
   pub port_is : port ≡ port_after f t call
 
-port-here : (hub : Domains) (f t p q : ℕ) (e : Event) (decided : Decision) → AcceptsWell hub e decided → port_in f t e decided ≡ Some q → (q == p) ≡ true → IsPortOf f t p
+port-here : (hub : Domains) (f t p q : ℕ) (e : Event) (decided : Decision) → AcceptsWell hub e decided → port_in f t e decided ≡ Some q → (q == p) ≡ true → IsPortOfPair f t p
 port-here hub f t p q (Trigger from target service ident) (Accepted other port) well is same = by_test (from == f && other == t) refl is
   where
-    by_test : (b : Bool) → (from == f && other == t) ≡ b → (if b then Some port else None) ≡ Some q → IsPortOf f t p
+    by_test : (b : Bool) → (from == f && other == t) ≡ b → (if b then Some port else None) ≡ Some q → IsPortOfPair f t p
     by_test false names h = cc
     by_test true names h =
         let port_is : port ≡ q = cc in
-        let parts = both (from == f) (other == t) names in
+        let parts = and_parts (from == f) (other == t) names in
         let a : from ≡ f = grind (arith, nat_tests, parts.0) in
         let b : other ≡ t = grind (arith, nat_tests, parts.1) in
         let c : q ≡ p = grind (arith, nat_tests, same) in
-        subst (λ (x : ℕ). IsPortOf f t x) (port_is ∙ c) (subst (λ (x : ℕ). IsPortOf f x port) b (subst (λ (x : ℕ). IsPortOf x other port) a (record { apart = well.apart; call = well.call; port_is = well.port_is })))
+        subst (λ (x : ℕ). IsPortOfPair f t x) (port_is ∙ c) (subst (λ (x : ℕ). IsPortOfPair f x port) b (subst (λ (x : ℕ). IsPortOfPair x other port) a (record { apart = well.apart; call = well.call; port_is = well.port_is })))
 port-here hub f t p q (Trigger from target service ident) (Refused cause) well is same = cc
 port-here hub f t p q (Trigger from target service ident) (Ended a b port) well is same = cc
 port-here hub f t p q (Trigger from target service ident) PassedOver well is same = cc
 port-here hub f t p q (Terminated from other port) decided well is same = cc
 port-here hub f t p q (Dropped domain) decided well is same = cc
 
-pub port-of : (hub : Domains) (f t p : ℕ) (journal : List Entry) → Each (λ x. AcceptsWell hub x.event x.decision) journal → has p (accepted_ports journal f t) ≡ true → IsPortOf f t p
+pub port-of : (hub : Domains) (f t p : ℕ) (journal : List Entry) → Each (λ x. AcceptsWell hub x.event x.decision) journal → has p (accepted_ports journal f t) ≡ true → IsPortOfPair f t p
 port-of hub f t p [] well some = cc
 port-of hub f t p (x ∷ journal) well some = by_found (port_in f t x.event x.decision) refl some (port-of hub f t p journal well.1)
   where
-    by_head : (q : ℕ) → port_in f t x.event x.decision ≡ Some q → (b : Bool) → (q == p) ≡ b → (b || has p (accepted_ports journal f t)) ≡ true → (has p (accepted_ports journal f t) ≡ true → IsPortOf f t p) → IsPortOf f t p
+    by_head : (q : ℕ) → port_in f t x.event x.decision ≡ Some q → (b : Bool) → (q == p) ≡ b → (b || has p (accepted_ports journal f t)) ≡ true → (has p (accepted_ports journal f t) ≡ true → IsPortOfPair f t p) → IsPortOfPair f t p
     by_head q is true same h more = port-here hub f t p q x.event x.decision well.0 is same
     by_head q is false same h more = more h
 
-    by_found : (o : Option ℕ) → port_in f t x.event x.decision ≡ o → has p (cons_option o (accepted_ports journal f t)) ≡ true → (has p (accepted_ports journal f t) ≡ true → IsPortOf f t p) → IsPortOf f t p
+    by_found : (o : Option ℕ) → port_in f t x.event x.decision ≡ o → has p (cons_option o (accepted_ports journal f t)) ≡ true → (has p (accepted_ports journal f t) ≡ true → IsPortOfPair f t p) → IsPortOfPair f t p
     by_found None is h more = more h
     by_found (Some q) is h more = by_head q is (q == p) refl h more
 
 -- the end that the target tells is one of the pair
-own-end : (hub : Domains) (d t p : ℕ) → is_domain hub d ≡ true → IsPortOf d t p → belongs hub (Ordered d t) (Terminated t d p) ≡ true
+own-end : (hub : Domains) (d t p : ℕ) → is_domain hub d ≡ true → IsPortOfPair d t p → belongs hub (Ordered d t) (Terminated t d p) ≡ true
 own-end hub d t p there port =
     let other : (d == t) ≡ false = let apart = port.apart in grind (arith, nat_tests) in
     let named : by_port t d p ≡ Ordered d t = ap (by_port t d) port.port_is ∙ (port-names-pair d t port.call port.apart).1 in
-    rw (there, other, named, self-number d, self-number t) refl
+    rw (there, other, named, equal-self d, equal-self t) refl
 
 -- ---- the law
 
@@ -285,7 +278,7 @@ ended-all hub awaited journal said d t p well there done some =
     list_any-IsPermutation (λ m. is_its d p (session_asked m)) done.heard (outbox hub journal t) done.hears ∙ exec-put hub d t p journal some in
     let owed : list_any (is_session d p) (sessions_owed done.asked done.heard) ≡ true =
     any-append (is_session d p) (filter_map (λ a. session_of_answer a.answer) done.asked) (filter_map session_asked done.heard)
-    ∙ or-right (list_any (is_session d p) (filter_map (λ a. session_of_answer a.answer) done.asked)) (list_any (is_session d p) (filter_map session_asked done.heard)) (named-any session_asked d p done.heard heard) in
+    ∙ or_right (list_any (is_session d p) (filter_map (λ a. session_of_answer a.answer) done.asked)) (list_any (is_session d p) (filter_map session_asked done.heard)) (named-any session_asked d p done.heard heard) in
     let told : list_any (is_session d p) (filter_map session_told done.sent) ≡ true = list_any-IsPermutation (is_session d p) (filter_map session_told done.sent) (sessions_owed done.asked done.heard) done.told ∙ owed in
     let read : list_any (is_end t d p) (read_from journal t) ≡ true = ap (list_any (is_end t d p)) done.reads ∙ told-read t d p done.sent told in
     read-ended hub d t p journal (own-end hub d t p there (port-of hub d t p journal well some)) (filtered-any (is_end t d p) (is_from t) (events journal) read)

@@ -4,9 +4,13 @@ use Rattle.std.specs.Prelude.{Bool, true, false, ◌==◌, ◌||◌, filter_map,
 use Rattle.std.proofs.lemmas.Bool.Decides.{nat_tests}
 use Rattle.std.proofs.lemmas.List.{append-nil}
 use Rattle.std.proofs.lemmas.List.Elements.{filter_map-append}
+use Rattle.std.specs.List.{AllByRecursion as Each}
+use Rattle.list_laws.specs.Lists.{SomeOf, IsPartOf, AreDifferent}
+use Rattle.list_laws.proofs.Places.{get-map, get-map-back, get-front}
+use Rattle.list_laws.proofs.Tests.{equal-self}
+use Rattle.list_laws.proofs.Each.{each-front}
 use Rattle.qrexec_frame.specs.declared.message.Message.{Message}
 use Rattle.qrexec_frame.specs.declared.message.Message.TheVariants as message
-use Rattle.qrexec_frame.specs.Streams.{Each}
 use Rattle.call_broker.specs.declared.event.Event.{Event}
 use Rattle.call_broker.specs.declared.event.Event.TheVariants.{Trigger}
 use Rattle.call_broker.specs.declared.decision.Decision.{Decision}
@@ -18,7 +22,6 @@ use Rattle.call_broker.specs.Laws.{AcceptsWell}
 use Rattle.call_broker.proofs.Decided.{accepts-well}
 use Rattle.call_broker.proofs.PortLaws.{ports-apart, port-names-pair}
 use Rattle.scenario_file.specs.declared.scenario.CallPlan.{CallPlan}
-use Rattle.task_duties.specs.Pairwise.{SomeOf, IsPartOf}
 use Rattle.task_duties.specs.Words.{ident_of}
 use Rattle.task_duties.specs.Agent.Answers.{Asked}
 use Rattle.task_duties.specs.Agent.Saying.{Asking, asking, asking_of}
@@ -26,13 +29,12 @@ use Rattle.task_duties.specs.Broker.Outbox.{outbox}
 use Rattle.task_duties.proofs.Elements.{Has, Comes, each-at, each-of, has-left, has-part, has-filter_map, has-filter_map-back, one-of}
 use Rattle.task_duties.proofs.JournalLaw.{asked_event, asked_in}
 use Rattle.task_duties.proofs.OutboxLaw.{IsConnect, put-by-entry, outbox-once, part-once, apart-from}
-use Rattle.call_queue.specs.Queue.{AreDifferent, asked_by}
-use Rattle.call_queue.proofs.Places.{map-get, map-got}
+use Rattle.call_queue.specs.Queue.{asked_by}
 use Rattle.agent_control.specs.declared.control.AgentControl.{AgentControl}
 use Rattle.agent_task.specs.State.{IsChannelOf, answers_so_far}
 use Rattle.standstill_laws.specs.Asking.{heard_so_far}
 use Rattle.standstill_laws.specs.Order.{IsSentAfter, NoneIsEarly, AgentsHearInOrder}
-use Rattle.standstill_laws.proofs.DoneLaws.{IsPortOf, port-of, self-number}
+use Rattle.standstill_laws.proofs.DoneLaws.{IsPortOfPair, port-of}
 use Rattle.standstill_laws.proofs.OrderLaws.{WasTold, was-told, IsLetThrough, let-through, differ-from, accepted-has, same-ordered}
 
 -- ---- places
@@ -57,11 +59,6 @@ has-place : (a : Asking) (xs : List Asking) → Has xs a → HasPlace a xs
 has-place a [] some = absurd some
 has-place a (x ∷ xs) (inl here) = record { at = 0; is = ap (λ (y : Asking). Some y) here; less = omega arith }
 has-place a (x ∷ xs) (inr there) = let h = has-place a xs there in record { at = suc h.at; is = h.is; less = omega (arith, h.less) }
-
-get-left : {A : Type 0} (xs ys : List A) (i : ℕ) (x : A) → slice_get xs i ≡ Some x → slice_get (xs ++ ys) i ≡ Some x
-get-left [] ys i x there = cc
-get-left (z ∷ xs) ys zero x there = there
-get-left (z ∷ xs) ys (suc i) x there = get-left xs ys i x there
 
 get-taken : {A : Type 0} (n : ℕ) (xs : List A) (i : ℕ) (x : A) → slice_get (take n xs) i ≡ Some x → slice_get xs i ≡ Some x
 get-taken zero xs i x there = cc
@@ -103,15 +100,11 @@ has-accepted f t p journal some = has-filter_map (λ (y : Entry). port_in f t y.
 one-way : (hub : Domains) (one two : List Entry) (d t port : ℕ) → Each (λ x. AcceptsWell hub x.event x.decision) one → Each (λ x. AcceptsWell hub x.event x.decision) two → has port (accepted_ports one d t) ≡ true
     → has port (accepted_ports two t d) ≡ true → ⊥
 one-way hub one two d t port well well' some some' =
-    let p : IsPortOf d t port = port-of hub d t port one well some in
-    let q : IsPortOf t d port = port-of hub t d port two well' some' in
+    let p : IsPortOfPair d t port = port-of hub d t port one well some in
+    let q : IsPortOfPair t d port = port-of hub t d port two well' some' in
     let first : by_port d t port ≡ Ordered d t = ap (by_port d t) p.port_is ∙ (port-names-pair d t p.call p.apart).0 in
     let second : by_port d t port ≡ Ordered t d = ap (by_port d t) q.port_is ∙ (port-names-pair t d q.call q.apart).1 in
     p.apart (same-ordered d t t d (sym first ∙ second)).0
-
-each-front : (P : Entry → Type 0) (xs ys : List Entry) → Each P (xs ++ ys) → Each P xs
-each-front P [] ys each = tt
-each-front P (x ∷ xs) ys each = (each.0, each-front P xs ys each.1)
 
 -- ---- the law
 
@@ -161,7 +154,7 @@ none-is-early hub journal task t c there decided differ put order place to port 
     given : port_in d to entry.one.event entry.one.decision ≡ Some port
     given =
         ap (λ (e : Event). port_in d to e entry.one.decision) entry.is.event
-        ∙ (ap (λ (x : Decision). port_in d to (Trigger d entry.is.target entry.is.service w) x) entry.is.accepted ∙ rw (self-number d, self-number to) refl)
+        ∙ (ap (λ (x : Decision). port_in d to (Trigger d entry.is.target entry.is.service w) x) entry.is.accepted ∙ rw (equal-self d, equal-self to) refl)
 
     -- it stood in the journal when the end was sent
     stood : IsLetThrough moment.then d to port → Has moment.then entry.one
@@ -183,7 +176,7 @@ none-is-early hub journal task t c there decided differ put order place to port 
     triggered =
         each-at (λ b. Has (filter_map asking first.before) b) (asked_in moment.then d) asks moment.read
         (has-filter_map-back (λ (y : Entry). asked_event d y.event) moment.then entry.one asks (stood (let-through hub moment.then d to port moment.report))
-        (ap (asked_event d) entry.is.event ∙ rw (self-number d) refl))
+        (ap (asked_event d) entry.is.event ∙ rw (equal-self d) refl))
 
     -- as the one of its place
     spot : HasPlace asks (filter_map asking first.before)
@@ -192,21 +185,21 @@ none-is-early hub journal task t c there decided differ put order place to port 
     in_said : slice_get (filter_map asking said) spot.at ≡ Some asks
     in_said =
         ap (λ l. slice_get l spot.at) (ap (filter_map asking) whole ∙ filter_map-append asking first.before (message.Terminated to port ∷ (first.after ++ early.after)))
-        ∙ get-left (filter_map asking first.before) (filter_map asking (message.Terminated to port ∷ (first.after ++ early.after))) spot.at asks spot.is
+        ∙ get-front (filter_map asking first.before) (filter_map asking (message.Terminated to port ∷ (first.after ++ early.after))) spot.at asks spot.is
 
     in_calls : slice_get (map asking_of task.plan.calls) spot.at ≡ Some asks
     in_calls = get-taken c.queue.next (map asking_of task.plan.calls) spot.at asks (ap (λ l. slice_get l spot.at) (sym channel.asks) ∙ in_said)
 
     named_there : slice_get (map (λ call. ident_of call.number) task.plan.calls) spot.at ≡ Some w
     named_there =
-        let call = map-got asking_of task.plan.calls spot.at asks in_calls in
-        map-get (λ (x : CallPlan). ident_of x.number) task.plan.calls spot.at call.0 call.1 ∙ ap (λ (x : Asking). Some x.ident) call.2
+        let call = get-map-back asking_of task.plan.calls spot.at asks in_calls in
+        get-map (λ (x : CallPlan). ident_of x.number) task.plan.calls spot.at call.0 call.1 ∙ ap (λ (x : Asking). Some x.ident) call.2
 
     call_here : slice_get task.plan.calls place ≡ Some a.call
-    call_here = ap (λ l. slice_get l place) (sym channel.calls) ∙ map-get (λ (x : Asked). x.call) (asked_by c.queue) place a (ap (λ l. slice_get l place) channel.answered ∙ at)
+    call_here = ap (λ l. slice_get l place) (sym channel.calls) ∙ get-map (λ (x : Asked). x.call) (asked_by c.queue) place a (ap (λ l. slice_get l place) channel.answered ∙ at)
 
     named_here : slice_get (map (λ call. ident_of call.number) task.plan.calls) place ≡ Some w
-    named_here = map-get (λ (x : CallPlan). ident_of x.number) task.plan.calls place a.call call_here
+    named_here = get-map (λ (x : CallPlan). ident_of x.number) task.plan.calls place a.call call_here
 
     more : place < length (filter_map asking first.before)
     more = let same = same-place (map (λ call. ident_of call.number) task.plan.calls) spot.at place w differ named_there named_here in omega (arith, spot.less, same)

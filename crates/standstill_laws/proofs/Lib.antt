@@ -15,3 +15,4 @@ mod EarlyLaws
 mod StandstillLaws
 mod CountingLaws
 mod KeepingLaws
+mod StretchLaws

@@ -1,13 +1,16 @@
 -- Ends of sessions are read after their calls were let through.
 use Rattle.std.proofs.Common.{◌≡◌, ◌≢◌, ℕ, ◌<◌, suc, List, [], ◌∷◌, ◌++◌, length, map, refl, ap, sym, ◌∙◌, subst, inl, inr, arith, append_assoc, Some, None, Option}
 use Rattle.std.specs.Prelude.{◌⊎◌, Bool, true, false, ◌==◌, ◌&&◌, ◌||◌, not, slice_index_or, filter_map, if◌then◌else◌}
-use Rattle.std.specs.List.{list_any, cons_option}
+use Rattle.std.specs.List.{list_any, cons_option, AllByRecursion as Each}
 use Rattle.std.proofs.lemmas.Bool.Decides.{nat_tests}
 use Rattle.std.proofs.lemmas.Slice.Eq.{bytes_eq-Decides}
 use Rattle.std.proofs.lemmas.List.Elements.{filter_map-append}
+use Rattle.std.proofs.lemmas.Bool.{and_parts, or_right}
+use Rattle.list_laws.specs.Lists.{AreDifferent}
+use Rattle.list_laws.proofs.Tests.{equal-self}
+use Rattle.list_laws.proofs.Each.{each-front, each-back}
 use Rattle.qrexec_frame.specs.declared.message.Message.{Message}
 use Rattle.qrexec_frame.specs.declared.message.Message.TheVariants as message
-use Rattle.qrexec_frame.specs.Streams.{Each}
 use Rattle.call_broker.specs.declared.event.Event.{Event}
 use Rattle.call_broker.specs.declared.event.Event.TheVariants.{Trigger, Terminated, Dropped}
 use Rattle.call_broker.specs.declared.decision.Decision.{Decision}
@@ -20,6 +23,7 @@ use Rattle.call_broker.specs.Laws.{AcceptsWell}
 use Rattle.call_broker.proofs.Decided.{accepts-well}
 use Rattle.call_broker.proofs.DroppedLaws.{any-append}
 use Rattle.call_broker.proofs.PortLaws.{ports-apart, port-names-pair}
+use Rattle.call_broker.proofs.TabledLaws.{own-pair}
 use Rattle.task_duties.specs.declared.place.PagePlace.TheVariants.{Payload}
 use Rattle.scenario_file.specs.declared.scenario.CallPlan.{CallPlan}
 use Rattle.task_duties.specs.Places.{has_place, without}
@@ -27,14 +31,12 @@ use Rattle.task_duties.specs.Words.{ident_of, service_of_line}
 use Rattle.task_duties.specs.Agent.Given.{AgentPlan}
 use Rattle.task_duties.specs.Agent.Answers.{Answer, Waits, IsRefused, At, Asked, Answers, waits_as, answered, serves, takes, takes_all, answers, nothing_heard}
 use Rattle.task_duties.specs.Broker.Outbox.{outbox}
-use Rattle.task_duties.proofs.Elements.{Has, Differ, each-at, has-append, has-filter_map}
+use Rattle.task_duties.proofs.Elements.{Has, each-at, has-append, has-filter_map}
 use Rattle.task_duties.proofs.OutboxLaw.{IsConnect, IsExec, put-by-entry}
-use Rattle.task_duties.proofs.ServedLaw.{and-parts}
 use Rattle.agent_task.specs.Ends.{session_of_answer, session_asked}
 use Rattle.standstill_laws.specs.Settling.{ended_port, EndsInOrder}
 use Rattle.standstill_laws.specs.Order.{IsReportOf, HasGrown, IsEmpty, HasMore, EndsComeInOrder}
-use Rattle.standstill_laws.proofs.SettleLaws.{same-pair}
-use Rattle.standstill_laws.proofs.DoneLaws.{IsPortOf, or-right, self-number, port-of}
+use Rattle.standstill_laws.proofs.DoneLaws.{IsPortOfPair, port-of}
 
 -- ---- a call that was let through was told so
 
@@ -49,7 +51,7 @@ told-answered heard ident answer (a ∷ asked) told each = (by_wait (waits_as id
   where
     by_wait : (b : Bool) → waits_as ident a ≡ b → WasTold heard (if b then record { call = a.call; answer = answer } else a)
     by_wait true waits =
-        let named : ident_of a.call.number ≡ ident = (bytes_eq-Decides (ident_of a.call.number) ident).0 (and-parts _ _ waits).0 in
+        let named : ident_of a.call.number ≡ ident = (bytes_eq-Decides (ident_of a.call.number) ident).0 (and_parts _ _ waits).0 in
         λ to port is. subst (λ (w : List ℕ). Has heard (message.Connect to port w)) (sym named) (told to port is)
     by_wait false waits = each.0
 
@@ -109,15 +111,15 @@ was-told plan heard = told-all heard plan.domain (nothing_heard plan) heard (λ 
 pub accepted-has : (f t p : ℕ) (journal : List Entry) (y : Entry) → Has journal y → port_in f t y.event y.decision ≡ Some p → has p (accepted_ports journal f t) ≡ true
 accepted-has f t p [] y there is = absurd there
 accepted-has f t p (x ∷ journal) y (inl here) is =
-    subst (λ (o : Option ℕ). has p (cons_option o (accepted_ports journal f t)) ≡ true) (sym (ap (λ (z : Entry). port_in f t z.event z.decision) here ∙ is)) (ap (λ (b : Bool). b || has p (accepted_ports journal f t)) (self-number p))
+    subst (λ (o : Option ℕ). has p (cons_option o (accepted_ports journal f t)) ≡ true) (sym (ap (λ (z : Entry). port_in f t z.event z.decision) here ∙ is)) (ap (λ (b : Bool). b || has p (accepted_ports journal f t)) (equal-self p))
 accepted-has f t p (x ∷ journal) y (inr there) is = skip (port_in f t x.event x.decision) (accepted-has f t p journal y there is)
   where
     skip : (o : Option ℕ) → has p (accepted_ports journal f t) ≡ true → has p (cons_option o (accepted_ports journal f t)) ≡ true
     skip None more = more
-    skip (Some q) more = or-right (q == p) (has p (accepted_ports journal f t)) more
+    skip (Some q) more = or_right (q == p) (has p (accepted_ports journal f t)) more
 
 own-port-in : (f t p : ℕ) (target service ident : List ℕ) → port_in f t (Trigger f target service ident) (Accepted t p) ≡ Some p
-own-port-in f t p target service ident = rw (self-number f, self-number t) refl
+own-port-in f t p target service ident = rw (equal-self f, equal-self t) refl
 
 connect-accepted : (hub : Domains) (journal : List Entry) (d other port : ℕ) (ident : List ℕ) → Has (outbox hub journal d) (message.Connect other port ident) → has port (accepted_ports journal d other) ≡ true
 connect-accepted hub journal d other port ident there =
@@ -189,18 +191,18 @@ named-pair : (hub : Domains) (f t d other port : ℕ) → belongs hub (Ordered f
 named-pair hub f t d other port own = by_domain (is_domain hub other && not (other == d)) own
   where
     by_domain : (b : Bool) → is_pair (if b then by_port d other port else Alone d) (Ordered f t) ≡ true → by_port d other port ≡ Ordered f t
-    by_domain true is = same-pair (by_port d other port) f t is
+    by_domain true is = own-pair (by_port d other port) f t is
     by_domain false is = cc
 
 of-pair : (hub : Domains) (journal : List Entry) (f t d other port : ℕ) → Each (λ x. AcceptsWell hub x.event x.decision) journal → belongs hub (Ordered f t) (Terminated d other port) ≡ true → IsLetThrough journal d other port
     → has port (accepted_ports journal f t) ≡ true
 of-pair hub journal f t d other port well own (inl some) =
-    let p : IsPortOf d other port = port-of hub d other port journal well some in
+    let p : IsPortOfPair d other port = port-of hub d other port journal well some in
     let pair : Ordered d other ≡ Ordered f t = sym (ap (by_port d other) p.port_is ∙ (port-names-pair d other p.call p.apart).0) ∙ named-pair hub f t d other port own in
     let same = same-ordered d other f t pair in
     subst (λ (x : ℕ). has port (accepted_ports journal x t) ≡ true) same.0 (subst (λ (x : ℕ). has port (accepted_ports journal d x) ≡ true) same.1 some)
 of-pair hub journal f t d other port well own (inr some) =
-    let p : IsPortOf other d port = port-of hub other d port journal well some in
+    let p : IsPortOfPair other d port = port-of hub other d port journal well some in
     let pair : Ordered other d ≡ Ordered f t = sym (ap (by_port d other) p.port_is ∙ (port-names-pair other d p.call p.apart).1) ∙ named-pair hub f t d other port own in
     let same = same-ordered other d f t pair in
     subst (λ (x : ℕ). has port (accepted_ports journal x t) ≡ true) same.0 (subst (λ (x : ℕ). has port (accepted_ports journal other x) ≡ true) same.1 some)
@@ -211,7 +213,7 @@ each-index : (P : ℕ → Type 0) (xs : List ℕ) → ((k : ℕ) → k < length 
 each-index P [] go = tt
 each-index P (x ∷ xs) go = (go 0 (omega arith), each-index P xs (λ k less. go (suc k) (omega (arith, less))))
 
-pub differ-from : (xs : List ℕ) → ((i j : ℕ) → i < j → j < length xs → slice_index_or xs i 0 ≢ slice_index_or xs j 0) → Differ xs
+pub differ-from : (xs : List ℕ) → ((i j : ℕ) → i < j → j < length xs → slice_index_or xs i 0 ≢ slice_index_or xs j 0) → AreDifferent xs
 differ-from [] apart = tt
 differ-from (x ∷ xs) apart = (each-index (λ y. x ≢ y) xs (λ k less. apart 0 (suc k) (omega arith) (omega (arith, less))), differ-from xs (λ i j before less. apart (suc i) (suc j) (omega (arith, before)) (omega (arith, less))))
 
@@ -221,16 +223,12 @@ none-again p x (y ∷ ys) same each =
     let other : (y == p) ≡ false = let apart = each.0 in grind (arith, nat_tests, same) in
     rw other (none-again p x ys same each.1)
 
-each-second : (P : ℕ → Type 0) (xs ys : List ℕ) → Each P (xs ++ ys) → Each P ys
-each-second P [] ys each = each
-each-second P (x ∷ xs) ys each = each-second P xs ys each.1
-
-only-first : (p : ℕ) (xs ys : List ℕ) → Differ (xs ++ ys) → has p xs ≡ true → has p ys ≡ false
+only-first : (p : ℕ) (xs ys : List ℕ) → AreDifferent (xs ++ ys) → has p xs ≡ true → has p ys ≡ false
 only-first p [] ys differ some = cc
 only-first p (x ∷ xs) ys differ some = by_head (x == p) refl some (only-first p xs ys differ.1)
   where
     by_head : (b : Bool) → (x == p) ≡ b → (b || has p xs) ≡ true → (has p xs ≡ true → has p ys ≡ false) → has p ys ≡ false
-    by_head true is h rest = none-again p x ys (grind (arith, nat_tests, is)) (each-second (λ y. x ≢ y) xs ys differ.0)
+    by_head true is h rest = none-again p x ys (grind (arith, nat_tests, is)) (each-back (λ y. x ≢ y) xs ys differ.0)
     by_head false is h rest = rest h
 
 -- ---- the law
@@ -282,11 +280,7 @@ was-reported hub journal a x b d other port (HasMore before new grown read) is e
     by_part (inl h) earlier = earlier h.rest h.is
     by_part (inr h) earlier = record { before = before; between = h.between; is = h.is; report = read x d other port h.there event }
 
-each-front : (P : Entry → Type 0) (xs ys : List Entry) → Each P (xs ++ ys) → Each P xs
-each-front P [] ys each = tt
-each-front P (x ∷ xs) ys each = (each.0, each-front P xs ys each.1)
-
-in-order : (hub : Domains) (journal : List Entry) (f t : ℕ) → Each (λ x. AcceptsWell hub x.event x.decision) journal → Differ (accepted_ports journal f t) → HasGrown hub journal → (done rest : List Entry) → journal ≡ done ++ rest
+in-order : (hub : Domains) (journal : List Entry) (f t : ℕ) → Each (λ x. AcceptsWell hub x.event x.decision) journal → AreDifferent (accepted_ports journal f t) → HasGrown hub journal → (done rest : List Entry) → journal ≡ done ++ rest
     → EndsInOrder hub f t rest
 in-order hub journal f t well differ grown done [] is = tt
 in-order hub journal f t well differ grown done (x ∷ rest) is = (
@@ -309,7 +303,7 @@ in-order hub journal f t well differ grown done (x ∷ rest) is = (
         let first : has port (accepted_ports was.before f t ++ accepted_ports (was.between ++ x ∷ []) f t) ≡ true =
         any-append (λ m. m == port) (accepted_ports was.before f t) (accepted_ports (was.between ++ x ∷ []) f t)
         ∙ ap (λ (b : Bool). b || has port (accepted_ports (was.between ++ x ∷ []) f t)) some in
-        only-first port (accepted_ports was.before f t ++ accepted_ports (was.between ++ x ∷ []) f t) (accepted_ports rest f t) (subst (λ l. Differ l) split differ) first
+        only-first port (accepted_ports was.before f t ++ accepted_ports (was.between ++ x ∷ []) f t) (accepted_ports rest f t) (subst (λ l. AreDifferent l) split differ) first
 
     by_own : (d other port : ℕ) → x.event ≡ Terminated d other port → (b : Bool) → belongs hub (Ordered f t) (Terminated d other port) ≡ b → (p : ℕ) → (if b then Some port else None) ≡ Some p → has p (accepted_ports rest f t) ≡ false
     by_own d other port event true own p ended =

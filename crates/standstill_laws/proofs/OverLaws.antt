@@ -11,12 +11,12 @@ use Rattle.vchan_protocol.specs.Answering.Causes.{DrainCause, FoundHere, drain_g
 use Rattle.vchan_protocol.specs.History.Core.{Core, side_of, standing_of}
 use Rattle.vchan_protocol.specs.Honest.Lawful.{Lawful}
 use Rattle.vchan_protocol.specs.Honest.RingLaw.{word_at}
-use Rattle.qrexec_data.specs.Laws.{IsVersion}
+use Rattle.vchan_protocol.specs.History.Peer.{peer}
 use Rattle.vchan_rule.specs.Seated.{SeatedEnd}
 use Rattle.vchan_lifecycle.specs.Lifecycle.{FindsNotYet}
-use Rattle.standstill_laws.specs.Page.{peer_of}
 use Rattle.standstill_laws.specs.Sessions.{IsGoneStill, CallIsQuiet, CallIsOver, ServingIsQuiet, ServingIsOver, NoSessionIsOpen, PeerIsThere}
 use Rattle.standstill_laws.proofs.TurnLaws.{no-session-stands-still}
+use Rattle.qrexec_data.specs.Laws.{IsVersion}
 
 -- a drain that finds nothing yet has found the peer here
 here-by : (e : Standing) (n : ℕ) (loads : Loads) (prod cons : ℕ) → DrainCause e n loads (NotYet prod cons) → FoundHere loads
@@ -25,12 +25,12 @@ here-by e n loads prod cons (drain_all_read all is) = cc
 here-by e n loads prod cons (drain_not_yet last last_is none unread here is) = here
 here-by e n loads prod cons (drain_peer_gone last last_is none unread gone is) = cc
 
-gone-told : (core : Core) → Lawful core → (who : Role) → word_at core.orders core.words (peer_gone who) ≡ (if (side_of core (peer_of who)).retired then 1 else 0)
+gone-told : (core : Core) → Lawful core → (who : Role) → word_at core.orders core.words (peer_gone who) ≡ (if (side_of core (peer who)).retired then 1 else 0)
 gone-told core l Server = l.lives.client_words.gone.word
 gone-told core l Client = l.lives.server_words.gone.word
 
 -- so if what it found is still so, its peer isn't retired
-not-retired : (core : Core) (who : Role) (before now : SeatedEnd) → Lawful core → (f : FindsNotYet before now) → IsGoneStill core who (loads_of (standing_of before.side) now.side.trail) → (side_of core (peer_of who)).retired ≡ true → ⊥
+not-retired : (core : Core) (who : Role) (before now : SeatedEnd) → Lawful core → (f : FindsNotYet before now) → IsGoneStill core who (loads_of (standing_of before.side) now.side.trail) → (side_of core (peer who)).retired ≡ true → ⊥
 not-retired core who before now lawful f still retired =
     let here : FoundHere (loads_of (standing_of before.side) now.side.trail) = here-by (standing_of before.side) f.most (loads_of (standing_of before.side) now.side.trail) f.prod f.cons f.cause in
     let same : Some 0 ≡ Some (word_at core.orders core.words (peer_gone who)) = sym here ∙ still in
@@ -62,8 +62,8 @@ no-session-is-open core calling serving c s lawful calling_is serving_is (CallIs
     }))
 
 pub peer-is-there : PeerIsThere
-peer-is-there core who before now lawful f still = by_flag (side_of core (peer_of who)).retired refl
+peer-is-there core who before now lawful f still = by_flag (side_of core (peer who)).retired refl
   where
-    by_flag : (b : Bool) → (side_of core (peer_of who)).retired ≡ b → b ≡ false
+    by_flag : (b : Bool) → (side_of core (peer who)).retired ≡ b → b ≡ false
     by_flag true is = absurd (not-retired core who before now lawful f still is)
     by_flag false is = refl

@@ -1,8 +1,8 @@
 -- A page at a standstill has nothing in its rings.
-use Rattle.std.proofs.Common.{◌≡◌, ℕ, ◌+◌, ◌-◌, ◌<◌, ◌≤◌, List, [], ◌∷◌, ◌++◌, length, Option, Some, None, refl, subst, sym, ap, ◌∙◌, arith, append-nil}
+use Rattle.std.proofs.Common.{◌≡◌, ℕ, ◌+◌, ◌-◌, ◌<◌, ◌≤◌, List, [], ◌∷◌, length, Option, Some, None, refl, subst, sym, ap, ◌∙◌, arith}
 use Rattle.std.specs.Prelude.{IsSomeAnd}
-use Rattle.std.proofs.lemmas.List.{length-append}
 use Rattle.std.proofs.lemmas.Bool.Decides.{nat_tests}
+use Rattle.list_laws.proofs.Prefixes.{prefix-length, prefix-all}
 use Rattle.ring_words.specs.declared.order.Order.{Order}
 use Rattle.ring_words.specs.declared.order.Orders.{Orders}
 use Rattle.ring_words.specs.declared.page.Role.{Role}
@@ -21,10 +21,10 @@ use Rattle.vchan_protocol.specs.Answering.Causes.{DrainCause, WriteCause, SendCa
 use Rattle.vchan_protocol.specs.History.Core.{Core, opened, side_of, writer_of, reader_of, standing_of}
 use Rattle.vchan_protocol.specs.History.Page.{live_word}
 use Rattle.vchan_protocol.specs.Honest.Lawful.{Lawful}
-use Rattle.vchan_protocol.specs.Honest.RingLaw.{IsLawful, IsPrefixOf, channel_of, index_at, word_at}
-use Rattle.vchan_protocol.proofs.Honest.ChannelLaws.{prefix_within}
+use Rattle.vchan_protocol.specs.Honest.RingLaw.{IsLawful, channel_of, index_at, word_at}
 use Rattle.vchan_protocol.proofs.Honest.LawfulSteps.{lawful_opened}
-use Rattle.standstill_laws.specs.Page.{peer_of, FoundNothing, RoomLacks, IsFull, HasNoRoom, HasLess, FoundNoRoom, FoundPeerShut, PageStandsStill, StillPagesAreThere}
+use Rattle.vchan_protocol.specs.History.Peer.{peer}
+use Rattle.standstill_laws.specs.Page.{FoundNothing, RoomLacks, IsFull, HasNoRoom, HasLess, FoundNoRoom, FoundPeerShut, PageStandsStill, StillPagesAreThere}
 
 -- ---- the numbers of a ring
 
@@ -41,14 +41,6 @@ room-is start got sent order past fits =
     let s = size-within order in
     let d = diff_counts start sent got past (omega (arith, s.0, s.1)) in
     grind (arith, nat_tests)
-
--- a prefix that is no shorter is the whole
-whole-prefix : (xs ys : List ℕ) → IsPrefixOf xs ys → length ys ≤ length xs → xs ≡ ys
-whole-prefix xs ys h long = go h.0 h.1
-  where
-    go : (rest : List ℕ) → xs ++ rest ≡ ys → xs ≡ ys
-    go [] e = sym (append-nil xs) ∙ e
-    go (x ∷ rest) e = absurd (omega (arith, long, ap (λ (l : List ℕ). length l) e, length-append xs (x ∷ rest)))
 
 -- ---- what a call found
 
@@ -125,9 +117,9 @@ all-got core who l f =
     ap (λ (n : ℕ). ready n (index_at core.start (length got)) (order_of core.orders (read_ring who))) (sym (f.still.0 ∙ r.prod))
     ∙ ap (λ (n : ℕ). ready f.prod n (order_of core.orders (read_ring who))) (sym (f.still.1 ∙ r.cons))
     ∙ ap (λ (o : Order). ready f.prod f.cons o) (sym (order-is core who f.begun f.stood)) ∙ none in
-    let past = prefix_within got sent r.prefix in
+    let past = prefix-length got sent r.prefix in
     let is = ready-is core.start (length got) (length sent) (order_of core.orders (read_ring who)) past r.fits in
-    whole-prefix got sent r.prefix (omega (arith, here, is))
+    prefix-all got sent r.prefix (omega (arith, here, is))
 
 -- then its writer lacks no room
 no-lack : (core : Core) (who : Role) → Lawful core → (reader_of core (written_ring who)).got ≡ (writer_of core (written_ring who)).sent → ¬ FoundNoRoom core who
@@ -147,7 +139,7 @@ no-lack core who l all f =
 
 -- ---- lives
 
-live-told : (core : Core) → Lawful core → (who : Role) → word_at core.orders core.words (peer_live who) ≡ live_word (side_of core (peer_of who)).state
+live-told : (core : Core) → Lawful core → (who : Role) → word_at core.orders core.words (peer_live who) ≡ live_word (side_of core (peer who)).state
 live-told core l Server = l.lives.client_words.live
 live-told core l Client = l.lives.server_words.live
 
@@ -156,11 +148,11 @@ zero-is-shut Fresh is = cc
 zero-is-shut Open is = cc
 zero-is-shut Shut is = refl
 
-found-shut : (core : Core) → Lawful core → (who : Role) → FoundPeerShut core who → (side_of core (peer_of who)).state ≡ Shut
+found-shut : (core : Core) → Lawful core → (who : Role) → FoundPeerShut core who → (side_of core (peer who)).state ≡ Shut
 found-shut core l who f =
     let same : Some (low8 (word_at core.orders core.words (peer_live who))) ≡ Some 0 = sym f.still ∙ f.shut in
     let low : low8 (word_at core.orders core.words (peer_live who)) ≡ 0 = cc in
-    zero-is-shut (side_of core (peer_of who)).state (ap low8 (sym (live-told core l who)) ∙ low)
+    zero-is-shut (side_of core (peer who)).state (ap low8 (sym (live-told core l who)) ∙ low)
 
 -- ---- the law
 

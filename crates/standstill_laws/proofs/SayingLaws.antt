@@ -10,20 +10,22 @@ use Rattle.vchan_protocol.specs.Table.Ends.{Standing, write_order}
 use Rattle.vchan_protocol.specs.Answering.Loads.{Loads, loads_of}
 use Rattle.vchan_protocol.specs.Answering.Causes.{SendCause, FoundShut, send_closed, send_no_room, sent_all}
 use Rattle.vchan_protocol.specs.History.Core.{Core, side_of, standing_of}
+use Rattle.vchan_protocol.specs.History.Peer.{peer}
 use Rattle.vchan_rule.specs.Seated.{SeatedEnd}
-use Rattle.vchan_packet.specs.Packet.{FailsToSend, send_told, most_asked}
+use Rattle.vchan_rule.specs.Called.{most_asked}
+use Rattle.vchan_packet.specs.Packet.{FailsToSend, send_told}
 use Rattle.vchan_packet.specs.declared.SendAnswer.{SendAnswer}
 use Rattle.vchan_packet.specs.declared.SendAnswer.TheVariants.{Sent, NoRoom, PeerClosed}
 use Rattle.agent_control.specs.Stopping.{FindsLess, AtAnEnd, AtTheLimit, AtATrigger, NothingIsDue, HasLessRoom, DidNotGo}
 use Rattle.broker_task.specs.Moving.{has_not_greeted, all_held, greeting_waits, letter_waits}
-use Rattle.standstill_laws.specs.Page.{peer_of, IsStanding, IsStillPage, HasNoRoom, HasLess, StandsStill}
+use Rattle.standstill_laws.specs.Page.{IsStanding, IsStillPage, HasNoRoom, HasLess, StandsStill}
 use Rattle.standstill_laws.specs.Saying.{Fits, AnswerStill, FailsStill, LessStill, AgentsHaveSaidAll, BrokerHasSaidAll}
 use Rattle.standstill_laws.proofs.PageLaws.{stands-still, write-order-is}
 
 page-of : (core : Core) → IsStillPage core → StandsStill core
 page-of core p = stands-still core p.lawful p.server_found p.client_found
 
-there : (core : Core) → IsStillPage core → (who : Role) → (side_of core (peer_of who)).state ≢ Shut
+there : (core : Core) → IsStillPage core → (who : Role) → (side_of core (peer who)).state ≢ Shut
 there core p Server = p.client_opened
 there core p Client = p.server_opened
 

@@ -1,9 +1,10 @@
 -- A session that nothing has decided, and all of whose bytes were got, has something to send.
 use Rattle.std.proofs.Common.{◌≡◌, ℕ, ◌+◌, ◌-◌, ◌<◌, ◌≤◌, ◌^◌, suc, List, [], ◌∷◌, ◌++◌, length, map, Option, Some, None, Bool, true, false, inl, inr, refl, subst, sym, ap, ◌∙◌, arith, append-nil}
-use Rattle.std.specs.Prelude.{◌&&◌, min, nat_lt, is_some, IsSome, if◌then◌else◌}
-use Rattle.std.specs.List.{flat_map}
+use Rattle.std.specs.Prelude.{◌&&◌, min, nat_lt, is_some, if◌then◌else◌}
+use Rattle.std.specs.List.{flat_map, AllByRecursion as Each}
 use Rattle.std.proofs.lemmas.Bool.{or_right}
 use Rattle.std.proofs.lemmas.Bool.Decides.{nat_tests}
+use Rattle.list_laws.proofs.Results.{none-is}
 use Rattle.service_gate.specs.Triple.{Triple}
 use Rattle.qrexec_frame.specs.declared.channel.Channel.TheVariants.{Data}
 use Rattle.qrexec_frame.specs.declared.message.Message.{Message}
@@ -12,21 +13,20 @@ use Rattle.qrexec_frame.specs.Messages.{written}
 use Rattle.qrexec_frame.specs.Grammar.{Fault}
 use Rattle.qrexec_frame.specs.Fronts.{front, reading}
 use Rattle.qrexec_frame.specs.Laws.{IsGood}
-use Rattle.qrexec_frame.specs.Streams.{Front, Whole, Placed, Ending, Rest, Each, read_on, with_front, messages}
+use Rattle.qrexec_frame.specs.Streams.{Front, Whole, Placed, Ending, Rest, read_on, with_front, messages}
 use Rattle.qrexec_frame.proofs.StreamLaws.{reads-all}
 use Rattle.qrexec_frame.proofs.GrammarLaws.{is_prefix_code}
 use Rattle.qrexec_frame.proofs.WrittenLaws.{is_read_again}
-use Rattle.qrexec_data.specs.Laws.{IsVersion}
 use Rattle.qrexec_data.specs.Pieces.{Stream, In, Out, Err as Errors, Piece, message_of, end_of, has_ended, ArePieces, is_input, is_stream, no_bytes}
 use Rattle.qrexec_data.specs.Seeing.{Carries, sees_on, sees_all, seen_by, serving_use}
 use Rattle.qrexec_data.specs.Sending.{agreed_by, most}
 use Rattle.qrexec_data.specs.Requests.{SendsRequests, SendsInput, end_if}
 use Rattle.qrexec_data.specs.CallerSide as caller
-use Rattle.qrexec_data.specs.CallerSide.{CallerState}
 use Rattle.qrexec_data.specs.ServingSide as serving
-use Rattle.qrexec_data.specs.ServingSide.{ServingState, SendsAnswers, HasGivenAll}
+use Rattle.qrexec_data.specs.ServingSide.{SendsAnswers}
 use Rattle.qrexec_data.specs.Answering.{AnsweringState}
 use Rattle.qrexec_data.proofs.PieceLaws.{the_messages, NoneEnded, none-more, serving-carries}
+use Rattle.qrexec_data.specs.Laws.{IsVersion}
 use Rattle.standstill_laws.specs.Session.{SessionsGoOn}
 
 -- ---- a greeting that was got is read
@@ -99,10 +99,6 @@ sees-end own limit pieces version least each got is =
         rw (hello, big) (input-ends limit pieces each [] (λ s. refl) placed e more)
 
 -- ---- the law
-
-none-is : {A : Type 0} (o : Option A) → o ≡ None → IsSome o → ⊥
-none-is None is some = cc
-none-is (Some x) is some = cc
 
 most-fits : (chunk version : ℕ) → min chunk (most version) ≤ 65536
 most-fits chunk version = by_test (nat_lt version 3)

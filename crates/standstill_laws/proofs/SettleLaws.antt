@@ -10,11 +10,12 @@ use Rattle.call_broker.specs.declared.decision.Decision.{Decision}
 use Rattle.call_broker.specs.declared.decision.Decision.TheVariants.{Accepted, Refused, Ended, PassedOver}
 use Rattle.call_broker.specs.declared.decision.Entry.{Entry}
 use Rattle.call_broker.specs.Domains.{Domains}
-use Rattle.call_broker.specs.Pair.{Pair, PairState, Ordered, Alone, has, is_pair, pair_of, belongs, decides, settles, step, state_after, decision}
+use Rattle.call_broker.specs.Pair.{Pair, PairState, Ordered, has, is_pair, pair_of, belongs, decides, settles, step, state_after, decision}
 use Rattle.call_broker.specs.Journal.{IsDecidedOn, events, drops, port_in, accepted_ports}
-use Rattle.call_broker.proofs.OpenLaws.{both, taken-view, taken-pair, terminated-takes-none}
+use Rattle.call_broker.proofs.OpenLaws.{taken-view, taken-pair, terminated-takes-none}
 use Rattle.call_broker.proofs.PortLaws.{state-after}
 use Rattle.call_broker.proofs.StateLaws.{still-up, dropped-events, none-before}
+use Rattle.call_broker.proofs.TabledLaws.{own-pair}
 use Rattle.standstill_laws.specs.Settling.{ended_port, ended_ports, EndsInOrder, NoCallIsLive}
 
 -- ---- numbers in lists
@@ -45,14 +46,6 @@ none-has (x ∷ xs) none = absurd (first (none x))
     first is = let self : (x == x) ≡ true = grind (arith, nat_tests) in let bad : (true || has x xs) ≡ false = ap (λ (b : Bool). b || has x xs) (sym self) ∙ is in cc
 
 -- ---- one event
-
-pub same-pair : (pair : Pair) (f t : ℕ) → is_pair pair (Ordered f t) ≡ true → pair ≡ Ordered f t
-same-pair (Ordered a b) f t is =
-    let parts = both (a == f) (b == t) is in
-    let first : a ≡ f = grind (arith, nat_tests, parts.0) in
-    let second : b ≡ t = grind (arith, nat_tests, parts.1) in
-    ap (λ x. Ordered x b) first ∙ ap (λ x. Ordered f x) second
-same-pair (Alone d) f t is = cc
 
 -- a port that isn't live comes to be so only if a call is let through there
 settles-none : (s : PairState) (e : Event) (x : Decision) (p : ℕ) → has p s.live ≡ false → ((to port : ℕ) → x ≡ Accepted to port → (port == p) ≡ false) → has p (settles s e x).live ≡ false
@@ -91,7 +84,7 @@ step-own : (hub : Domains) (before : List Event) (f t : ℕ) (e : Event) (p : �
     → (b : Bool) → is_pair (pair_of hub e) (Ordered f t) ≡ b → has p (if b then settles (state_after hub before (Ordered f t)) e (decides hub (Ordered f t) (state_after hub before (Ordered f t)) e) else state_after hub before (Ordered f t)).live ≡ false
 step-own hub before f t e p none apart false is = none
 step-own hub before f t e p none apart true is =
-    let pair = same-pair (pair_of hub e) f t is in
+    let pair = own-pair (pair_of hub e) f t is in
     let same : decides hub (Ordered f t) (state_after hub before (Ordered f t)) e ≡ decision hub before e = ap (λ (q : Pair). decides hub q (state_after hub before q) e) (sym pair) in
     settles-none (state_after hub before (Ordered f t)) e (decides hub (Ordered f t) (state_after hub before (Ordered f t)) e) p none (λ to port accepted. other pair to port (sym same ∙ accepted))
   where

@@ -2,15 +2,14 @@
 use Rattle.std.proofs.Common.{◌≡◌, ℕ, ◌+◌, ◌-◌, ◌<◌, ◌≤◌, true, false, List, [], ◌∷◌, refl, ap, sym, ◌∙◌, subst, inl, inr, arith, Option}
 use Rattle.std.specs.Prelude.{◌⊎◌, nat_le, filter_map, IsSomeAnd, IsPermutation}
 use Rattle.std.proofs.lemmas.Bool.Decides.{nat_tests}
+use Rattle.std.specs.List.{AllByRecursion as Each}
+use Rattle.std.proofs.lemmas.Bool.{and_parts}
 use Rattle.ring_words.specs.declared.page.Role.TheVariants.{Server}
 use Rattle.vchan_protocol.specs.History.Core.{Core}
 use Rattle.qrexec_frame.specs.declared.message.Message.{Message}
-use Rattle.qrexec_frame.specs.Streams.{Each}
-use Rattle.qrexec_data.specs.Laws.{IsVersion}
 use Rattle.call_broker.specs.declared.decision.Entry.{Entry}
 use Rattle.call_broker.specs.Domains.{Domains, is_domain, count_of}
 use Rattle.call_broker.specs.Journal.{IsJournal, is_dropped}
-use Rattle.call_broker.proofs.OpenLaws.{both}
 use Rattle.task_duties.specs.Broker.Outbox.{outbox, event_of}
 use Rattle.control_port.specs.declared.talk.Talker.TheVariants.{Agent}
 use Rattle.call_queue.specs.Queue.{IsHeld}
@@ -23,7 +22,7 @@ use Rattle.standstill_laws.specs.Control.{Talks}
 use Rattle.standstill_laws.specs.Letters.{AreAtRest}
 use Rattle.standstill_laws.specs.Asking.{heard_so_far, HearsInOrder, HasAskedAll}
 use Rattle.standstill_laws.specs.Settling.{IsDone}
-use Rattle.standstill_laws.specs.Standstill.{SessionRests, IsShut, AsCaller, AsServing, AgentRests, DomainRests, RunsDoNotStandStill, NoAgentIsLeft}
+use Rattle.standstill_laws.specs.Standstill.{SessionStandsStill, IsShut, AsCaller, AsServing, AgentStandsStill, DomainStandsStill, RunsDoNotStandStill, NoAgentIsLeft}
 use Rattle.standstill_laws.proofs.SayingLaws.{agents-have-said-all}
 use Rattle.standstill_laws.proofs.LetterLaws.{all-answers-are-said, all-answers-are-heard}
 use Rattle.standstill_laws.proofs.AnswerLaws.{all-calls-are-answered, broker-reads}
@@ -32,6 +31,7 @@ use Rattle.standstill_laws.proofs.AskingLaws.{agents-have-asked-all}
 use Rattle.standstill_laws.proofs.OrderLaws.{ends-come-in-order}
 use Rattle.standstill_laws.proofs.EarlyLaws.{agents-hear-in-order}
 use Rattle.standstill_laws.proofs.DoneLaws.{all-are-settled}
+use Rattle.qrexec_data.specs.Laws.{IsVersion}
 
 -- ---- sessions
 
@@ -42,7 +42,7 @@ ended-shut AwaitsPage is = cc
 ended-shut (ServesWith at) is = cc
 ended-shut (EndedWith end) is = refl
 
-rests-shut : (version : ℕ) (s : Session) → IsVersion version → SessionRests version s → is_open s ≡ false
+rests-shut : (version : ℕ) (s : Session) → IsVersion version → SessionStandsStill version s → is_open s ≡ false
 rests-shut version s own (IsShut is) = is
 rests-shut version s own (AsCaller core other peer lawful theirs mine yours) = ended-shut s (no-session-is-open core version other s peer lawful own theirs mine yours).0
 rests-shut version s own (AsServing core other peer lawful theirs yours mine) = ended-shut s (no-session-is-open core other version peer s lawful theirs own yours mine).1
@@ -54,7 +54,7 @@ none-opened task (s ∷ opened) each shut = let bad : true ≡ false = sym each.
 -- ---- one domain
 
 done : (hub : Domains) (awaited : List ℕ) (journal : List Entry) (said : ℕ → List Message) (lines : List BrokerLine) → IsJournal hub journal → ((d : ℕ) → is_dropped journal d ≡ false) → HoldsForExecs lines → NoneIsLost hub journal said lines
-    → (rest : AreAtRest lines) (place : ℕ) → DomainRests hub awaited journal said lines rest place → IsDone hub awaited journal said (place + 1)
+    → (rest : AreAtRest lines) (place : ℕ) → DomainStandsStill hub awaited journal said lines rest place → IsDone hub awaited journal said (place + 1)
 done hub awaited journal said lines decided up holds kept rest place r = record {
   calls = r.task.plan.calls;
   count = r.count;
@@ -71,7 +71,7 @@ done hub awaited journal said lines decided up holds kept rest place r = record 
     core : Core
     core = (rest place r.line r.there r.up).core
 
-    a : AgentRests hub journal core r.task
+    a : AgentStandsStill hub journal core r.task
     a = r.agent
 
     sent : List Message
@@ -115,7 +115,7 @@ runs-do-not-stand-still hub awaited journal said lines decided grown up holds ke
   where
     each : (d : ℕ) → is_domain hub d ≡ true → IsDone hub awaited journal said d
     each d there =
-        let parts = both (nat_le 1 d) (nat_le d (count_of hub)) there in
+        let parts = and_parts (nat_le 1 d) (nat_le d (count_of hub)) there in
         let least : 1 ≤ d = grind (arith, nat_tests, parts.0) in
         let most : d ≤ count_of hub = grind (arith, nat_tests, parts.1) in
         let number : (d - 1) + 1 ≡ d = omega (arith, least) in

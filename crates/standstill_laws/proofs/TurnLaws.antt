@@ -12,13 +12,14 @@ use Rattle.vchan_protocol.specs.Answering.Loads.{Loads, loads_of}
 use Rattle.vchan_protocol.specs.Answering.Causes.{WriteCause, FoundShut, write_closed, wrote_none, write_full, wrote_some}
 use Rattle.vchan_protocol.specs.History.Core.{Core, side_of, standing_of}
 use Rattle.vchan_protocol.specs.Honest.Lawful.{Lawful, IsEnd}
+use Rattle.vchan_protocol.specs.History.Peer.{peer}
 use Rattle.vchan_rule.specs.Seated.{SeatedEnd}
 use Rattle.vchan_rule.specs.Ends.{IsSameEnd}
-use Rattle.vchan_stream.specs.Stream.{most_asked}
+use Rattle.vchan_rule.specs.Called.{most_asked}
 use Rattle.channel_session.specs.Turning.{IsQuiet, SendsNone, NothingWaits, WasShut, RingIsFull, PeerIsShut}
 use Rattle.qrexec_data.specs.CallerSide.{CallerStandsFor}
 use Rattle.qrexec_data.specs.ServingSide.{ServingStandsFor}
-use Rattle.standstill_laws.specs.Page.{peer_of, IsStanding, FoundNothing, IsFull, StandsStill}
+use Rattle.standstill_laws.specs.Page.{IsStanding, FoundNothing, IsFull, StandsStill}
 use Rattle.standstill_laws.specs.Turns.{SendsStill, IsQuietStill, NoSessionStandsStill}
 use Rattle.standstill_laws.proofs.PageLaws.{stands-still}
 use Rattle.standstill_laws.proofs.SessionLaws.{sessions-go-on}
@@ -42,7 +43,7 @@ stood core who before now lawful same is =
     (sym same.1 ∙ ap (λ (x : Side). x.role) is ∙ end.role_is, sym same.2 ∙ ap (λ (x : Side). x.orders) is ∙ end.orders_are)
 
 -- an end that has seen its peer's end has a peer that is shut
-peer-is-shut : (core : Core) (who : Role) → Lawful core → (side_of core who).saw ≡ true → (side_of core (peer_of who)).state ≡ Shut
+peer-is-shut : (core : Core) (who : Role) → Lawful core → (side_of core who).saw ≡ true → (side_of core (peer who)).state ≡ Shut
 peer-is-shut core Server lawful saw = lawful.lives.server_sight.saw saw
 peer-is-shut core Client lawful saw = lawful.lives.client_sight.saw saw
 
@@ -61,7 +62,7 @@ found-nothing core who still waiting was_shut before now q lawful h = record {
 }
 
 -- where the page stands still and the peer is open, nothing went since there was nothing to send
-nothing-waits : (core : Core) (who : Role) (still : Type 0) (waiting : List ℕ) (was_shut : Bool) (before now : SeatedEnd) → Lawful core → StandsStill core → (side_of core (peer_of who)).state ≢ Shut
+nothing-waits : (core : Core) (who : Role) (still : Type 0) (waiting : List ℕ) (was_shut : Bool) (before now : SeatedEnd) → Lawful core → StandsStill core → (side_of core (peer who)).state ≢ Shut
     → IsSameEnd before now → now.side ≡ side_of core who → (sends : SendsNone still waiting was_shut before now) → SendsStill core who still waiting was_shut before now sends → still
 nothing-waits core who still waiting was_shut before now lawful page there same is (NothingWaits none kept) h = none
 nothing-waits core who still waiting was_shut before now lawful page there same is (WasShut was saw kept) h =

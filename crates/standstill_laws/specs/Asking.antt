@@ -1,14 +1,14 @@
 -- An agent none of whose sessions is open, where its control page stands still.
 -- Source: the messages are those of the qrexec protocol; the statement is this project's own.
 use Rattle.std.specs.Prelude.{◌≡◌, ℕ, false, List, [], length, map, filter_map, slice_get, Some, None, IsPermutation}
-use Rattle.std.specs.List.{count_by}
+use Rattle.std.specs.List.{count_by, AllByRecursion as Each}
+use Rattle.list_laws.specs.Lists.{AreDifferent}
 use Rattle.qrexec_frame.specs.declared.message.Message.{Message}
-use Rattle.qrexec_frame.specs.Streams.{Each}
 use Rattle.task_duties.specs.Words.{ident_of}
 use Rattle.task_duties.specs.Agent.Answers.{At, Asked, waits}
 use Rattle.task_duties.specs.Agent.Saying.{asking, asking_of}
 use Rattle.task_duties.proofs.ServedLaw.{AreApart, IsUnusedBy}
-use Rattle.call_queue.specs.Queue.{IsHeld, AreDifferent}
+use Rattle.call_queue.specs.Queue.{IsHeld}
 use Rattle.data_slots.specs.Sessions.{NotBegun, session_at}
 use Rattle.agent_control.specs.declared.control.AgentControl.{AgentControl}
 use Rattle.agent_task.specs.Ends.{session_told}

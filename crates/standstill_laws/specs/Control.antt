@@ -6,11 +6,11 @@ use Rattle.ring_words.specs.declared.page.Role.TheVariants.{Server, Client}
 use Rattle.vchan_protocol.specs.History.Core.{Core, side_of}
 use Rattle.vchan_protocol.specs.Honest.Lawful.{Lawful}
 use Rattle.qrexec_frame.specs.declared.message.Message.{Message}
-use Rattle.qrexec_data.specs.Laws.{IsVersion}
 use Rattle.control_port.specs.Port.{PortState, HasSaid, HasHeardAll}
 use Rattle.control_port.specs.declared.talk.Talker.{Talker}
 use Rattle.control_port.specs.declared.talk.Talker.TheVariants.{Agent, Broker}
 use Rattle.standstill_laws.specs.Page.{FoundNothing}
+use Rattle.qrexec_data.specs.Laws.{IsVersion}
 
 -- the port of one side, which has said these messages behind its greeting, and has handed out those that it heard
 pub record Talks (core : Core) (who : Role) (talker : Talker) (p : PortState) (said heard : List Message) : Type 0 where

@@ -1,9 +1,9 @@
 -- How many turns the tasks of a run make.
 -- Source: this project's own.
 use Rattle.std.specs.Prelude.{◌≡◌, ℕ, ◌+◌, ◌*◌, ◌<◌, ◌==◌, zero, suc, List, [], ◌∷◌, ◌++◌, length, if◌then◌else◌}
+use Rattle.std.specs.List.{AllByRecursion as Each}
 use Rattle.task_pool.specs.declared.task.Turn.TheVariants.{Again}
 use Rattle.domain_task.specs.declared.task.Task.{Task}
-use Rattle.qrexec_frame.specs.Streams.{Each}
 use Rattle.domain_task.specs.Working.{work_done, DoesNothing, Works}
 
 -- a turn after which its task goes on: of which task it is, and what that was and is

@@ -12,3 +12,4 @@ pub mod Order
 pub mod Standstill
 pub mod Counting
 pub mod Keeping
+pub mod Stretch

@@ -1,22 +1,20 @@
 -- In which order the broker reads the ends of sessions.
 -- Source: this project's own.
 use Rattle.std.specs.Prelude.{◌≡◌, ℕ, List, [], ◌∷◌, ◌++◌, map, filter_map, slice_get, Some, IsPermutation}
-use Rattle.std.specs.List.{count_by}
+use Rattle.std.specs.List.{count_by, AllByRecursion as Each}
+use Rattle.list_laws.specs.Lists.{SomeOf, AreDifferent}
 use Rattle.qrexec_frame.specs.declared.message.Message.{Message}
 use Rattle.qrexec_frame.specs.declared.message.Message.TheVariants.{Terminated}
-use Rattle.qrexec_frame.specs.Streams.{Each}
 use Rattle.call_broker.specs.declared.event.Event.TheVariants as event
 use Rattle.call_broker.specs.declared.decision.Entry.{Entry}
 use Rattle.call_broker.specs.Domains.{Domains}
 use Rattle.call_broker.specs.Journal.{IsJournal}
-use Rattle.task_duties.specs.Pairwise.{SomeOf}
 use Rattle.task_duties.specs.Agent.Given.{AgentPlan}
 use Rattle.task_duties.specs.Words.{ident_of}
 use Rattle.task_duties.specs.Agent.Answers.{At, Asked, answers}
 use Rattle.task_duties.specs.Agent.Saying.{asking}
 use Rattle.task_duties.proofs.JournalLaw.{asked_in}
 use Rattle.task_duties.proofs.ServedLaw.{IsUnusedBy}
-use Rattle.call_queue.specs.Queue.{AreDifferent}
 use Rattle.agent_control.specs.declared.control.AgentControl.{AgentControl}
 use Rattle.agent_task.specs.Asking.{IsReportedEarly}
 use Rattle.agent_task.specs.State.{AgentState, TellsSoFar, answers_so_far}

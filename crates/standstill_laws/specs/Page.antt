@@ -15,10 +15,7 @@ use Rattle.vchan_protocol.specs.Answering.Causes.{Cause, DrainCause, WriteCause,
 use Rattle.vchan_protocol.specs.History.Core.{Core, side_of}
 use Rattle.vchan_protocol.specs.Honest.Lawful.{Lawful}
 use Rattle.vchan_protocol.specs.Honest.RingLaw.{word_at}
-
-abbrev pub peer_of : Role → Role
-peer_of Server = Client
-peer_of Client = Server
+use Rattle.vchan_protocol.specs.History.Peer.{peer}
 
 -- these are the indices that the page has of a ring
 abbrev pub AreIndices : Core → Ring → ℕ → ℕ → Type 0
@@ -70,7 +67,7 @@ pub record StandsStill (core : Core) : Type 0 where
   pub server_got : core.server.got ≡ core.client.sent
   pub client_got : core.client.got ≡ core.server.sent
   pub has_room : (who : Role) → ¬ FoundNoRoom core who
-  pub is_shut : (who : Role) → FoundPeerShut core who → (side_of core (peer_of who)).state ≡ Shut
+  pub is_shut : (who : Role) → FoundPeerShut core who → (side_of core (peer who)).state ≡ Shut
 
 abbrev pub PageStandsStill : Type 0
 PageStandsStill = (core : Core) → Lawful core → FoundNothing core Server → FoundNothing core Client → StandsStill core

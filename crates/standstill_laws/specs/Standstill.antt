@@ -1,6 +1,8 @@
 -- A run of honest domains that stands still.
 -- Source: this project's own.
 use Rattle.std.specs.Prelude.{◌≡◌, ◌≢◌, ◌⊎◌, ℕ, ◌+◌, ◌<◌, true, false, List, [], length, map, Some, None}
+use Rattle.std.specs.List.{AllByRecursion as Each}
+use Rattle.list_laws.specs.Lists.{AreDifferent}
 use Rattle.ring_words.specs.declared.page.Role.TheVariants.{Server, Client}
 use Rattle.vchan_protocol.specs.Answering.Loads.{loads_of}
 use Rattle.vchan_protocol.specs.History.Core.{Core, side_of, standing_of}
@@ -8,8 +10,6 @@ use Rattle.vchan_protocol.specs.Honest.Lawful.{Lawful}
 use Rattle.vchan_rule.specs.Seated.{SeatedEnd, view}
 use Rattle.vchan_lifecycle.specs.Lifecycle.{FindsNotYet}
 use Rattle.qrexec_frame.specs.declared.message.Message.{Message}
-use Rattle.qrexec_frame.specs.Streams.{Each}
-use Rattle.qrexec_data.specs.Laws.{IsVersion}
 use Rattle.call_broker.specs.declared.decision.Entry.{Entry}
 use Rattle.call_broker.specs.Domains.{Domains, count_of}
 use Rattle.call_broker.specs.Journal.{IsJournal, is_dropped}
@@ -18,7 +18,6 @@ use Rattle.task_duties.specs.Broker.Owes.{broker_version, awaited_of}
 use Rattle.task_duties.proofs.ServedLaw.{IsUnusedBy}
 use Rattle.control_port.specs.Port.{PortState}
 use Rattle.control_port.specs.declared.talk.Talker.TheVariants.{Broker}
-use Rattle.call_queue.specs.Queue.{AreDifferent}
 use Rattle.data_slots.specs.Sessions.{Session, is_open, session_at}
 use Rattle.agent_control.specs.declared.control.AgentControl.{AgentControl}
 use Rattle.agent_control.specs.Stopping.{Stops}
@@ -32,17 +31,18 @@ use Rattle.standstill_laws.specs.Control.{Talks}
 use Rattle.standstill_laws.specs.Saying.{StopsStill}
 use Rattle.standstill_laws.specs.Letters.{AreAtRest, IsPortOf}
 use Rattle.standstill_laws.specs.Asking.{heard_so_far}
-use Rattle.standstill_laws.specs.Sessions.{IsGoneStill, CallerRests, ServingRests}
+use Rattle.standstill_laws.specs.Sessions.{IsGoneStill, CallerStandsStill, ServingStandsStill}
 use Rattle.standstill_laws.specs.Order.{HasGrown, AreSentInOrder}
+use Rattle.qrexec_data.specs.Laws.{IsVersion}
 
--- a session isn't open; or its page stands still, and the other side of it rests too
-pub data SessionRests (version : ℕ) (s : Session) : Type 0 where
-  IsShut : is_open s ≡ false → SessionRests version s
-  AsCaller : (core : Core) (other : ℕ) (peer : Session) → Lawful core → IsVersion other → CallerRests core version s → ServingRests core other peer → SessionRests version s
-  AsServing : (core : Core) (other : ℕ) (peer : Session) → Lawful core → IsVersion other → CallerRests core other peer → ServingRests core version s → SessionRests version s
+-- a session isn't open; or its page stands still, and so does the other side of it
+pub data SessionStandsStill (version : ℕ) (s : Session) : Type 0 where
+  IsShut : is_open s ≡ false → SessionStandsStill version s
+  AsCaller : (core : Core) (other : ℕ) (peer : Session) → Lawful core → IsVersion other → CallerStandsStill core version s → ServingStandsStill core other peer → SessionStandsStill version s
+  AsServing : (core : Core) (other : ℕ) (peer : Session) → Lawful core → IsVersion other → CallerStandsStill core other peer → ServingStandsStill core version s → SessionStandsStill version s
 
--- an agent whose channel is up, on the control page of its domain: its turn said no more, for a reason that is still so, and its sessions rest
-pub record AgentRests (hub : Domains) (journal : List Entry) (core : Core) (task : AgentState) : Type 0 where
+-- an agent whose channel is up, on the control page of its domain: its turn said no more, for a reason that is still so, and its sessions stand still
+pub record AgentStandsStill (hub : Domains) (journal : List Entry) (core : Core) (task : AgentState) : Type 0 where
   pub tells : TellsSoFar task
   pub channel : AgentControl
   pub channel_is : task.channel ≡ Some channel
@@ -58,10 +58,10 @@ pub record AgentRests (hub : Domains) (journal : List Entry) (core : Core) (task
   pub stops : Stops calls before channel
   pub still : StopsStill core calls before channel stops
   pub none_asked : channel.queue.next ≡ before.queue.next
-  pub sessions : (i : ℕ) → SessionRests task.plan.version (session_at task.sessions i)
+  pub sessions : (i : ℕ) → SessionStandsStill task.plan.version (session_at task.sessions i)
 
 -- the domain behind this place: what the broker keeps of it, and its agent
-pub record DomainRests (hub : Domains) (awaited : List ℕ) (journal : List Entry) (said : ℕ → List Message) (lines : List BrokerLine) (rest : AreAtRest lines) (place : ℕ) : Type 0 where
+pub record DomainStandsStill (hub : Domains) (awaited : List ℕ) (journal : List Entry) (said : ℕ → List Message) (lines : List BrokerLine) (rest : AreAtRest lines) (place : ℕ) : Type 0 where
   pub line : BrokerLine
   pub there : IsAt lines place line
   pub up : is_shut (view line.end).state ≡ false
@@ -74,16 +74,16 @@ pub record DomainRests (hub : Domains) (awaited : List ℕ) (journal : List Entr
   pub task : AgentState
   pub domain : task.plan.domain ≡ place + 1
   pub count : length task.plan.calls ≡ awaited_of awaited (place + 1)
-  pub agent : AgentRests hub journal (rest place line there up).core task
+  pub agent : AgentStandsStill hub journal (rest place line there up).core task
 
 -- where all that is so of each domain and none was dropped, all are settled: so the broker is done, since its task goes on only while they aren't
 abbrev pub RunsDoNotStandStill : Type 0
 RunsDoNotStandStill = (hub : Domains) (awaited : List ℕ) (journal : List Entry) (said : ℕ → List Message) (lines : List BrokerLine) → IsJournal hub journal → HasGrown hub journal → ((d : ℕ) → is_dropped journal d ≡ false) → HoldsForExecs lines
-    → NoneIsLost hub journal said lines → (rest : AreAtRest lines) → ((place : ℕ) → place < count_of hub → DomainRests hub awaited journal said lines rest place) → AreSettled hub awaited journal said
+    → NoneIsLost hub journal said lines → (rest : AreAtRest lines) → ((place : ℕ) → place < count_of hub → DomainStandsStill hub awaited journal said lines rest place) → AreSettled hub awaited journal said
 
 -- ---- once the broker is done
 
--- the broker's end of the control page is retired; while the agent's channel is up its drain found nothing yet, which is still so; and its sessions rest
+-- the broker's end of the control page is retired; while the agent's channel is up its drain found nothing yet, which is still so; and its sessions stand still
 pub record AgentIsLeft (core : Core) (task : AgentState) : Type 0 where
   pub lawful : Lawful core
   pub retired : core.client.retired ≡ true
@@ -92,7 +92,7 @@ pub record AgentIsLeft (core : Core) (task : AgentState) : Type 0 where
   pub now : SeatedEnd
   pub waits : task.over ≡ None → FindsNotYet before now
   pub still : IsGoneStill core Server (loads_of (standing_of before.side) now.side.trail)
-  pub sessions : (i : ℕ) → SessionRests task.plan.version (session_at task.sessions i)
+  pub sessions : (i : ℕ) → SessionStandsStill task.plan.version (session_at task.sessions i)
 
 -- such an agent is done, since its task goes on only while its channel is up or a session is open
 abbrev pub NoAgentIsLeft : Type 0

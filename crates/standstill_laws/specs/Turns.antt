@@ -10,12 +10,12 @@ use Rattle.vchan_protocol.specs.Answering.Loads.{loads_of}
 use Rattle.vchan_protocol.specs.History.Core.{Core, side_of, standing_of}
 use Rattle.vchan_protocol.specs.Honest.Lawful.{Lawful}
 use Rattle.vchan_rule.specs.Seated.{SeatedEnd}
-use Rattle.qrexec_data.specs.Laws.{IsVersion}
 use Rattle.channel_session.specs.declared.turned.Turned.TheVariants.{Quiet}
 use Rattle.channel_session.specs.Turning.{IsQuiet, SendsNone, NothingWaits, WasShut, RingIsFull, PeerIsShut}
 use Rattle.channel_session.specs.Calling.{CallerAt, CallerTurns, IsCalling}
 use Rattle.channel_session.specs.Answering.{ServingAt, ServingTurns, IsAnswering}
 use Rattle.standstill_laws.specs.Page.{AreIndices, IsLiveStill}
+use Rattle.qrexec_data.specs.Laws.{IsVersion}
 
 -- why nothing went is still so: the indices that the write answered with, or the live byte that it loaded, are those of the page
 abbrev pub SendsStill : Core → Role → (still : Type 0) → (waiting : List ℕ) → (was_shut : Bool) → (before now : SeatedEnd) → SendsNone still waiting was_shut before now → Type 0

@@ -13,6 +13,7 @@ ghost use Rattle.standstill_laws.specs.Settling.{NoCallIsLive, AllAreSettled};
 ghost use Rattle.standstill_laws.specs.Standstill.{RunsDoNotStandStill, NoAgentIsLeft};
 ghost use Rattle.standstill_laws.specs.Keeping.{FindingsStay};
 ghost use Rattle.standstill_laws.specs.Counting.{TurnsAreBounded};
+ghost use Rattle.standstill_laws.specs.Stretch.{ControlPagesRest, DataPagesRest, StretchesRest};
 ghost use Rattle.standstill_laws.specs.Order.{EndsComeInOrder, NoneIsEarly, AgentsHearInOrder};
 
 /// If both ends of a page between honest ends drained it and found nothing, and no index changed since, then
@@ -144,7 +145,7 @@ pub fn runs_do_not_stand_still()
     ensures { RunsDoNotStandStill }
 {}
 
-/// Once the broker is done no agent is left: one whose sessions rest is done, or its next drain finds that its
+/// Once the broker is done no agent is left: one whose sessions stand still is done, or its next drain finds that its
 /// channel is over.
 pub fn no_agent_is_left()
     ensures { NoAgentIsLeft }
@@ -154,6 +155,23 @@ pub fn no_agent_is_left()
 /// whatever else its ends did.
 pub fn findings_stay()
     ensures { FindingsStay }
+{}
+
+/// In a stretch of turns of all tasks that did nothing, each task rests: none of its own turns did anything.
+pub fn stretches_rest()
+    ensures { StretchesRest }
+{}
+
+/// While the agents at both ends of an open session rest, nothing comes or goes on its page, and no end is opened,
+/// shut or retired: what was found there is still so, by `findings_stay`.
+pub fn data_pages_rest()
+    ensures { DataPagesRest }
+{}
+
+/// While an agent whose channel is up and the broker rest, so does the control page between them, if its ends were
+/// open at both moments.
+pub fn control_pages_rest()
+    ensures { ControlPagesRest }
 {}
 
 /// If there aren't so many turns in a row that all did nothing, all turns are fewer than that number times one more

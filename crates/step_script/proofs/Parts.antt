@@ -1,5 +1,4 @@
 -- The parts of the reader and of the player.
-pub mod HexLaws
 pub mod SpacedLaws
 pub mod EndPlayerLaws
 pub mod DoesLaws

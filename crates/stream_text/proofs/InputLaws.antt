@@ -3,6 +3,7 @@ use Rattle.std.proofs.Common.{◌≡◌, ◌⊎◌, inl, inr, ℕ, ◌+◌, ◌-
 use Rattle.std.specs.Result.{IsOk}
 use Rattle.std.proofs.lemmas.Bool.{false≢true}
 use Rattle.std.proofs.lemmas.List.{append_assoc, append-nil}
+use Rattle.list_laws.specs.Results.{◌>>=◌}
 use Rattle.qrexec_frame.specs.declared.channel.Channel.{Channel}
 use Rattle.qrexec_frame.specs.Fronts.{reading}
 use Rattle.stream_text.specs.Texts.{decoded, text_of}
@@ -16,7 +17,7 @@ use Rattle.script_words.specs.KeptLines.{Lines, stops, line}
 use Rattle.script_words.specs.LinesLeft.{IsNext}
 use Rattle.script_words.specs.declared.lines.TooManyLines.{TooManyLines}
 use Rattle.stream_text.specs.declared.error.DecodeKind.TheVariants as kind
-use Rattle.stream_text.specs.Input.{FirstIsGood, IsLineRefusal, IsRefusal, in_line, input_lines, piece_at, refused_at, stream_from, stream_of, ◌>>=◌}
+use Rattle.stream_text.specs.Input.{FirstIsGood, IsLineRefusal, IsRefusal, in_line, input_lines, piece_at, refused_at, stream_from, stream_of}
 
 -- bytes before a stream
 abbrev pub before : List ℕ → Result (List ℕ) (ℕ × DecodeKind) → Result (List ℕ) (ℕ × DecodeKind)

@@ -1,6 +1,7 @@
 -- The input of decode: the pieces of a stream as byte strings, one to a line.
 -- Source: this project's own.
 use Rattle.std.specs.Prelude.{◌≡◌, ℕ, ◌+◌, ◌-◌, List, [], ◌++◌, length, Result, Ok, Err, IsOk}
+use Rattle.list_laws.specs.Results.{◌>>=◌}
 use Rattle.script_words.specs.Words.{lines_of}
 use Rattle.script_words.specs.KeptLines.{Lines, stops, refused, line, kept_lines}
 use Rattle.script_words.specs.ByteStrings.{at_most, byte_string, ByteFault}
@@ -11,12 +12,6 @@ use Rattle.stream_text.specs.declared.error.DecodeKind.{DecodeKind}
 use Rattle.stream_text.specs.declared.error.DecodeKind.TheVariants.{BadHex, TooManyLines, TooManyBytes}
 use Rattle.stream_text.specs.declared.error.DecodeError.{DecodeError}
 use Rattle.stream_text.specs.declared.error.DecodeError.TheVariants as error
-
--- the second step, if the first gave a value
-infixl 10 ◌>>=◌
-abbrev pub ◌>>=◌ : {A B E : Type 0} → Result A E → (A → Result B E) → Result B E
-Ok x >>= f = f x
-Err e >>= f = Err e
 
 -- what is wrong with a line, by what is wrong with its byte string
 abbrev pub fault_kind : ByteFault → DecodeKind

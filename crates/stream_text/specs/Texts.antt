@@ -2,6 +2,7 @@
 -- Source: this project's own; a message's line is that of qrexec_frame.
 use Rattle.std.specs.Prelude.{ℕ, List, ◌++◌, codes, decimal, Result, Ok}
 use Rattle.std.specs.List.{flat_map}
+use Rattle.list_laws.specs.Results.{◌>>=◌}
 use Rattle.qrexec_frame.specs.declared.channel.Channel.{Channel}
 use Rattle.qrexec_frame.specs.declared.fault.FrameFault.{FrameFault}
 use Rattle.qrexec_frame.specs.declared.fault.FrameFault.TheVariants.{UnknownType, TooLong, BadLength, NoNul}
@@ -11,7 +12,7 @@ use Rattle.qrexec_frame.specs.Fronts.{reading, fault_at}
 use Rattle.qrexec_frame.specs.Lines.{line_of}
 use Rattle.qrexec_frame.specs.Streams.{Ending, Rest, FaultAt, Placed, Reading}
 use Rattle.stream_text.specs.declared.error.DecodeKind.{DecodeKind}
-use Rattle.stream_text.specs.Input.{stream_of, ◌>>=◌}
+use Rattle.stream_text.specs.Input.{stream_of}
 
 -- the line of a message, with its line feed
 abbrev pub printed : Placed Message → List ℕ

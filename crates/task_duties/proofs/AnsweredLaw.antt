@@ -1,13 +1,13 @@
 -- If no two messages name one end, and each names an end that is unused, a call with a Connect or a Refused waits no more.
 use Rattle.std.proofs.Common.{◌≡◌, ℕ, List, [], ◌∷◌, refl, inl, inr, Option, Some, None, subst}
 use Rattle.std.specs.Prelude.{true, false, Bool, ◌&&◌, ◌||◌, bytes_eq, if◌then◌else◌}
-use Rattle.std.specs.List.{list_any}
+use Rattle.std.specs.List.{list_any, AllByRecursion as Each}
+use Rattle.std.proofs.Math.Bool.{and-false}
+use Rattle.list_laws.specs.Lists.{SomeOf}
 use Rattle.qrexec_frame.specs.declared.message.Message.{Message}
 use Rattle.qrexec_frame.specs.declared.message.Message.TheVariants.{Exec, Connect, Refused}
-use Rattle.qrexec_frame.specs.Streams.{Each}
 use Rattle.task_duties.specs.declared.place.PagePlace.TheVariants.{Payload}
 use Rattle.task_duties.specs.Words.{ident_of, service_of_line}
-use Rattle.task_duties.specs.Pairwise.{SomeOf}
 use Rattle.task_duties.specs.Agent.Answers.{Answers, Answer, At, IsRefused, Asked, waits, waits_as, answered, serves, takes, takes_all}
 use Rattle.task_duties.specs.Places.{has_place}
 use Rattle.task_duties.proofs.ServedLaw.{AreApart, IsUnusedBy, unused-after}
@@ -16,16 +16,12 @@ use Rattle.task_duties.proofs.ServedLaw.{AreApart, IsUnusedBy, unused-after}
 abbrev pub IsIdle : List ℕ → List Asked → Type 0
 IsIdle ident asked = Each (λ a. waits_as ident a ≡ false) asked
 
-none-and : (b : Bool) → (b && false) ≡ false
-none-and true = refl
-none-and false = refl
-
 still-idle : (ident other : List ℕ) (answer : Answer) → waits answer ≡ false → (asked : List Asked) → IsIdle ident asked → IsIdle ident (answered other answer asked)
 still-idle ident other answer done [] idle = tt
 still-idle ident other answer done (a ∷ asked) idle = (by_test (waits_as other a), still-idle ident other answer done asked idle.1)
   where
     by_test : (b : Bool) → waits_as ident (if b then record { call = a.call; answer = answer } else a) ≡ false
-    by_test true = rw done (none-and (bytes_eq (ident_of a.call.number) ident))
+    by_test true = rw done (and-false (bytes_eq (ident_of a.call.number) ident))
     by_test false = idle.0
 
 now-idle : (ident : List ℕ) (answer : Answer) → waits answer ≡ false → (asked : List Asked) → IsIdle ident (answered ident answer asked)
@@ -33,7 +29,7 @@ now-idle ident answer done [] = tt
 now-idle ident answer done (a ∷ asked) = (by_test (waits_as ident a) refl, now-idle ident answer done asked)
   where
     by_test : (b : Bool) → waits_as ident a ≡ b → waits_as ident (if b then record { call = a.call; answer = answer } else a) ≡ false
-    by_test true is = rw done (none-and (bytes_eq (ident_of a.call.number) ident))
+    by_test true is = rw done (and-false (bytes_eq (ident_of a.call.number) ident))
     by_test false is = is
 
 none-waits : (ident : List ℕ) (asked : List Asked) → list_any (waits_as ident) asked ≡ false → IsIdle ident asked

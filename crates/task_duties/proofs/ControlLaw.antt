@@ -1,15 +1,16 @@
 -- Control-bytes: what a side got of a beginning of what the other has sent has no fault, and is the first few of those messages.
 use Rattle.std.proofs.Common.{◌≡◌, ℕ, ◌<◌, ◌≤◌, ◌^◌, suc, zero, List, [], ◌∷◌, ◌++◌, length, take, map, refl, ap, ◌∙◌, arith, ◌⊎◌, inl, inr, None}
 use Rattle.std.specs.Prelude.{true, false, Bool, nat_lt}
-use Rattle.std.specs.List.{flat_map}
+use Rattle.std.specs.List.{flat_map, AllByRecursion as Each}
 use Rattle.std.proofs.lemmas.Bool.Decides.{nat_tests}
+use Rattle.list_laws.specs.Lists.{IsPrefixOf}
 use Rattle.qrexec_frame.specs.declared.channel.Channel.TheVariants.{Control}
 use Rattle.qrexec_frame.specs.declared.message.Message.{Message}
 use Rattle.qrexec_frame.specs.declared.message.Message.TheVariants.{Hello, Exec, JustExec, Connect, Refused, Terminated, Trigger3, Trigger, Stdin, Stdout, Stderr, ExitCode}
 use Rattle.qrexec_frame.specs.Messages.{written, IsSpellable, GoesOn}
 use Rattle.qrexec_frame.specs.Grammar.{Fault}
 use Rattle.qrexec_frame.specs.Fronts.{front, reading}
-use Rattle.qrexec_frame.specs.Streams.{Placed, Ending, Rest, Each, IsPrefixOf}
+use Rattle.qrexec_frame.specs.Streams.{Placed, Ending, Rest}
 use Rattle.qrexec_frame.proofs.StreamLaws.{begins, reads-all}
 use Rattle.qrexec_frame.proofs.GrammarLaws.{is_prefix_code}
 use Rattle.qrexec_frame.proofs.WrittenLaws.{is_read_again}

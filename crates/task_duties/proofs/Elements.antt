@@ -1,13 +1,13 @@
 -- What is in a list, lists without repetition, and counts, each by recursion on the list.
 use Rattle.std.proofs.Common.{◌≡◌, ◌≢◌, ℕ, ◌+◌, ◌<◌, ◌≤◌, suc, zero, List, [], ◌∷◌, ◌++◌, length, map, refl, ap, sym, ◌∙◌, arith, ◌⊎◌, inl, inr, Option, Some, None, subst}
 use Rattle.std.specs.Prelude.{true, false, Bool, filter, filter_map, Contains, slice_index_or, IsPermutation, if◌then◌else◌}
-use Rattle.std.specs.List.{flat_map, sum_by}
+use Rattle.std.specs.List.{flat_map, sum_by, AllByRecursion as Each, AllZip as EachPair}
 use Rattle.std.proofs.lemmas.List.Sums.{sum_by-cons}
 use Rattle.std.proofs.lemmas.List.Sorted.{sum_by-IsPermutation, Contains-permutation}
 use Rattle.std.proofs.lemmas.List.Elements.{Contains-append_left}
-use Rattle.qrexec_frame.specs.Streams.{Each, IsPrefixOf}
+use Rattle.list_laws.specs.Lists.{IsPrefixOf, SomeOf, IsPartOf, AreDifferent}
+use Rattle.list_laws.proofs.Each.{each-front}
 use Rattle.task_duties.specs.Places.{numbers}
-use Rattle.task_duties.specs.Pairwise.{SomeOf, IsPartOf, EachPair}
 
 -- ---- what is in a list
 
@@ -143,43 +143,35 @@ pair-of R (z ∷ xs) (y ∷ ys) x each (inr h) = let c = pair-of R xs ys x each.
 
 -- ---- lists without repetition
 
-abbrev pub Differ : {A : Type 0} → List A → Type 0
-Differ [] = Unit {0}
-Differ {A} (x ∷ xs) = Each (λ (y : A). x ≢ y) xs × Differ xs
-
-each-left : {A : Type 0} (P : A → Type 0) (xs ys : List A) → Each P (xs ++ ys) → Each P xs
-each-left P [] ys each = tt
-each-left P (x ∷ xs) ys each = (each.0, each-left P xs ys each.1)
-
-differ-left : {A : Type 0} (xs ys : List A) → Differ (xs ++ ys) → Differ xs
+differ-left : {A : Type 0} (xs ys : List A) → AreDifferent (xs ++ ys) → AreDifferent xs
 differ-left [] ys d = tt
-differ-left {A} (x ∷ xs) ys d = (each-left (λ (y : A). x ≢ y) xs ys d.0, differ-left xs ys d.1)
+differ-left {A} (x ∷ xs) ys d = (each-front (λ (y : A). x ≢ y) xs ys d.0, differ-left xs ys d.1)
 
-pub differ-prefix : {A : Type 0} (xs ys : List A) → IsPrefixOf xs ys → Differ ys → Differ xs
-differ-prefix xs ys p d = differ-left xs p.0 (subst (λ l. Differ l) (sym p.1) d)
+pub differ-prefix : {A : Type 0} (xs ys : List A) → IsPrefixOf xs ys → AreDifferent ys → AreDifferent xs
+differ-prefix xs ys p d = differ-left xs p.0 (subst (λ l. AreDifferent l) (sym p.1) d)
 
 -- two elements with one key are the same
-pub one-of : {A B : Type 0} (g : A → Option B) (xs : List A) → Differ (filter_map g xs) → (x y : A) (b : B) → Has xs x → Has xs y → g x ≡ Some b → g y ≡ Some b → x ≡ y
+pub one-of : {A B : Type 0} (g : A → Option B) (xs : List A) → AreDifferent (filter_map g xs) → (x y : A) (b : B) → Has xs x → Has xs y → g x ≡ Some b → g y ≡ Some b → x ≡ y
 one-of g [] d x y b hx hy gx gy = absurd hx
 one-of {A} {B} g (z ∷ xs) d x y b hx hy gx gy = by_places (λ d' a c. one-of g xs d' x y b a c gx gy) hx hy
   where
-    rest : Differ (filter_map g xs)
+    rest : AreDifferent (filter_map g xs)
     rest = by_option (g z) refl d
       where
-        by_option : (o : Option B) → g z ≡ o → Differ (filter_map g (z ∷ xs)) → Differ (filter_map g xs)
+        by_option : (o : Option B) → g z ≡ o → AreDifferent (filter_map g (z ∷ xs)) → AreDifferent (filter_map g xs)
         by_option None is k = let k' = rw is at k in k'
         by_option (Some c) is k = let k' = rw is at k in k'.1
 
     never : (w : A) → g z ≡ Some b → Has xs w → g w ≡ Some b → ⊥
     never w here h is = let k = rw here at d in each-at (λ (c : B). b ≢ c) (filter_map g xs) b k.0 (has-filter_map-back g xs w b h is) refl
 
-    by_places : (Differ (filter_map g xs) → Has xs x → Has xs y → x ≡ y) → (z ≡ x) ⊎ Has xs x → (z ≡ y) ⊎ Has xs y → x ≡ y
+    by_places : (AreDifferent (filter_map g xs) → Has xs x → Has xs y → x ≡ y) → (z ≡ x) ⊎ Has xs x → (z ≡ y) ⊎ Has xs y → x ≡ y
     by_places more (inl a) (inl c) = sym a ∙ c
     by_places more (inl a) (inr c) = absurd (never y (ap g a ∙ gx) c gy)
     by_places more (inr a) (inl c) = absurd (never x (ap g c ∙ gy) a gx)
     by_places more (inr a) (inr c) = more rest a c
 
-pub one-key : {A B : Type 0} (key : A → B) (xs : List A) → Differ (map key xs) → (x y : A) → Has xs x → Has xs y → key x ≡ key y → x ≡ y
+pub one-key : {A B : Type 0} (key : A → B) (xs : List A) → AreDifferent (map key xs) → (x y : A) → Has xs x → Has xs y → key x ≡ key y → x ≡ y
 one-key key [] d x y hx hy same = absurd hx
 one-key {A} {B} key (z ∷ xs) d x y hx hy same = by_places (λ a c. one-key key xs d.1 x y a c same) hx hy
   where
@@ -196,7 +188,7 @@ above-numbers : (low from count : ℕ) → low < from → Each (λ (y : ℕ). lo
 above-numbers low from zero less = tt
 above-numbers low from (suc count) less = ((λ e. absurd (omega (arith, e, less))), above-numbers low (from + 2) count (omega (arith, less)))
 
-pub differ-numbers : (from count : ℕ) → Differ (numbers from 2 count)
+pub differ-numbers : (from count : ℕ) → AreDifferent (numbers from 2 count)
 differ-numbers from zero = tt
 differ-numbers from (suc count) = (above-numbers from (from + 2) count (omega arith), differ-numbers (from + 2) count)
 

@@ -1,10 +1,10 @@
 -- The triggers of a domain: in its journal, in what the broker read, and in what it sent.
-use Rattle.std.proofs.Common.{◌≡◌, ℕ, ◌≤◌, suc, zero, List, [], ◌∷◌, ◌++◌, length, take, map, refl, ap, sym, ◌∙◌, arith, append_assoc, Option, Some, None}
+use Rattle.std.proofs.Common.{◌≡◌, ℕ, suc, zero, List, [], ◌∷◌, ◌++◌, take, map, refl, ap, sym, ◌∙◌, Option, Some, None}
 use Rattle.std.specs.Prelude.{true, false, Bool, ◌==◌, filter_map, option_map, if◌then◌else◌}
 use Rattle.std.proofs.lemmas.List.Elements.{filter_map-append}
+use Rattle.list_laws.specs.Lists.{IsPrefixOf}
 use Rattle.qrexec_frame.specs.declared.message.Message.{Message}
 use Rattle.qrexec_frame.specs.declared.message.Message.TheVariants as m
-use Rattle.qrexec_frame.specs.Streams.{IsPrefixOf}
 use Rattle.call_broker.specs.declared.decision.Entry.{Entry}
 use Rattle.call_broker.specs.declared.event.Event.{Event}
 use Rattle.call_broker.specs.declared.event.Event.TheVariants.{Trigger, Terminated, Dropped}
@@ -54,27 +54,12 @@ take-prefix (suc k) (x ∷ xs) = let p = take-prefix k xs in (p.0, ap (λ r. x �
 pub asked-first : (k : ℕ) (said : List Message) → IsPrefixOf (filter_map asking (take k said)) (filter_map asking said)
 asked-first k said = let p = take-prefix k said in (filter_map asking p.0, sym (filter_map-append asking (take k said) p.0) ∙ ap (filter_map asking) p.1)
 
-pub prefix-trans : {A : Type 0} (xs ys zs : List A) → IsPrefixOf xs ys → IsPrefixOf ys zs → IsPrefixOf xs zs
-prefix-trans xs ys zs p q = (p.0 ++ q.0, sym (append_assoc xs p.0 q.0) ∙ ap (λ r. r ++ q.0) p.1 ∙ q.1)
-
 map-both : {A B : Type 0} (f : A → B) (xs ys : List A) → map f (xs ++ ys) ≡ map f xs ++ map f ys
 map-both f [] ys = refl
 map-both f (x ∷ xs) ys = ap (λ r. f x ∷ r) (map-both f xs ys)
 
 pub prefix-map : {A B : Type 0} (f : A → B) (xs ys : List A) → IsPrefixOf xs ys → IsPrefixOf (map f xs) (map f ys)
 prefix-map f xs ys p = (map f p.0, sym (map-both f xs p.0) ∙ ap (map f) p.1)
-
--- a prefix that is as long is all
-pub prefix-all : {A : Type 0} (xs ys : List A) → IsPrefixOf xs ys → length ys ≤ length xs → xs ≡ ys
-prefix-all [] [] p less = refl
-prefix-all [] (y ∷ ys) p less = absurd (omega (arith, less))
-prefix-all (x ∷ xs) [] p less = let e = p.1 in cc
-prefix-all (x ∷ xs) (y ∷ ys) p less =
-    let e = p.1 in
-    let head : x ≡ y = cc in
-    let tail : xs ++ p.0 ≡ ys = cc in
-    let same = prefix-all xs ys (p.0, tail) (omega (arith, less)) in
-    cc
 
 pub filter_map-map : {A B C : Type 0} (f : B → C) (g : A → Option B) (xs : List A) → filter_map (λ x. option_map f (g x)) xs ≡ map f (filter_map g xs)
 filter_map-map f g [] = refl

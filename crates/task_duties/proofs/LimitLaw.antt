@@ -3,9 +3,10 @@ use Rattle.std.proofs.Common.{◌≡◌, ◌≢◌, ℕ, ◌+◌, ◌<◌, List,
 use Rattle.std.specs.Prelude.{true, false, Bool, not, nat_le, ◌==◌, ◌&&◌, bytes_eq, filter, filter_map, if◌then◌else◌}
 use Rattle.std.proofs.lemmas.Bool.Decides.{nat_tests}
 use Rattle.std.proofs.lemmas.List.{length-map}
+use Rattle.std.specs.List.{AllByRecursion as Each}
+use Rattle.list_laws.proofs.Each.{each-weaker, each-filter}
 use Rattle.qrexec_frame.specs.declared.message.Message.{Message}
 use Rattle.qrexec_frame.specs.declared.message.Message.TheVariants as m
-use Rattle.qrexec_frame.specs.Streams.{Each}
 use Rattle.call_broker.specs.declared.decision.Entry.{Entry}
 use Rattle.call_broker.specs.declared.event.Event.{Event}
 use Rattle.call_broker.specs.declared.event.Event.TheVariants.{Trigger, Terminated, Dropped}
@@ -19,7 +20,7 @@ use Rattle.call_broker.proofs.PortLaws.{rest_of, state-after}
 use Rattle.task_duties.specs.Agent.Answers.{Answer, Waits, IsRefused, At}
 use Rattle.task_duties.specs.Agent.Saying.{Asking, opened, open_after, asks_for, is_at, is_refusal, KeepsTo}
 use Rattle.task_duties.specs.Broker.Outbox.{event_of, is_from}
-use Rattle.task_duties.proofs.SubLists.{Sub, length-sub, sub-if, sub-filter, sub-all, sub-kept, each-map, each-filter, without-map, without-none}
+use Rattle.task_duties.proofs.SubLists.{Sub, length-sub, sub-if, sub-filter, sub-all, sub-kept, without-map, without-none}
 
 -- ---- the limit, on the events that the broker read
 
@@ -130,7 +131,7 @@ own-end hub f t target answer port s acc calls other q rest h keeps b is = by_te
 
     sub : Sub left (filter (λ ident. not (is_at other q (answer ident))) calls)
     sub = sub-filter (λ x. not (port x == q)) (λ ident. not (is_at other q (answer ident))) acc calls h.sub
-        (each-map (λ i. FitsAt t (port i) (answer i) × IsOwn hub f t (port i)) _ (λ i fits e. other-port t other q (port i) (answer i) fits.0 e) acc h.fits)
+        (each-weaker (λ i. FitsAt t (port i) (answer i) × IsOwn hub f t (port i)) _ (λ i fits e. other-port t other q (port i) (answer i) fits.0 e) acc h.fits)
 
     taken : filter (λ p. not (p == q)) s.live ≡ map port left
     taken = rw h.live (without-map port q acc)
@@ -166,7 +167,7 @@ on-terminated hub f t target answer port s acc calls from other q rest h true sa
     let is : from ≡ f = grind (arith, nat_tests, same) in
     let none' : belongs hub (Ordered f t) (Terminated f other q) ≡ false = rw is at none in
     let kept = sub-kept (λ ident. not (is_at other q (answer ident))) acc calls h.sub
-    (each-map (λ i. FitsAt t (port i) (answer i) × IsOwn hub f t (port i)) _ (λ i fits. other-pair hub f t other q (port i) (answer i) fits.0 fits.1 none') acc h.fits) in
+    (each-weaker (λ i. FitsAt t (port i) (answer i) × IsOwn hub f t (port i)) _ (λ i fits. other-pair hub f t other q (port i) (answer i) fits.0 fits.1 none') acc h.fits) in
     stays hub f t target answer port s acc calls _ rest h kept keeps.1
 
 on-dropped : (hub : Domains) (f t : ℕ) (target : List ℕ) (answer : List ℕ → Answer) (port : List ℕ → ℕ) (s : PairState) (acc calls : List (List ℕ)) (domain : ℕ) (rest : List Event)

@@ -1,8 +1,7 @@
 -- The line that the broker writes names its service.
 use Rattle.std.proofs.Common.{◌≡◌, ℕ, ◌+◌, suc, List, [], ◌∷◌, ◌++◌, length, take, drop, refl, ap, arith, Some}
 use Rattle.std.specs.Prelude.{true, false, is_some}
-use Rattle.std.specs.List.{position_or_len, before_first, after_first}
-use Rattle.qrexec_frame.specs.Streams.{Each}
+use Rattle.std.specs.List.{position_or_len, before_first, after_first, AllByRecursion as Each}
 use Rattle.service_gate.specs.ServiceResult.{service}
 use Rattle.task_duties.specs.Words.{exec_line, is_space, is_word, service_of_line}
 

@@ -2,10 +2,12 @@
 use Rattle.std.proofs.Common.{◌≡◌, ◌≢◌, ℕ, ◌+◌, ◌≤◌, List, [], ◌∷◌, ◌++◌, refl, ap, sym, ◌∙◌, arith, ◌⊎◌, inl, inr, Option, Some, None, subst}
 use Rattle.std.specs.Prelude.{true, false, Bool, ◌==◌, ◌&&◌, if◌then◌else◌}
 use Rattle.std.proofs.lemmas.Bool.Decides.{nat_tests}
+use Rattle.std.specs.List.{AllByRecursion as Each}
+use Rattle.std.proofs.lemmas.Bool.{and_parts}
+use Rattle.list_laws.specs.Lists.{IsPartOf, AreDifferent}
 use Rattle.qrexec_frame.specs.Names.{cleaned_service}
 use Rattle.qrexec_frame.specs.declared.message.Message.{Message}
 use Rattle.qrexec_frame.specs.declared.message.Message.TheVariants as m
-use Rattle.qrexec_frame.specs.Streams.{Each}
 use Rattle.call_broker.specs.declared.decision.Entry.{Entry}
 use Rattle.call_broker.specs.declared.event.Event.{Event}
 use Rattle.call_broker.specs.declared.event.Event.TheVariants.{Trigger, Terminated, Dropped}
@@ -20,9 +22,9 @@ use Rattle.task_duties.specs.declared.place.PagePlace.TheVariants.{Control, Payl
 use Rattle.task_duties.specs.Words.{exec_line}
 use Rattle.task_duties.specs.Places.{is_place}
 use Rattle.task_duties.specs.Broker.Outbox.{only_if, puts, outbox}
-use Rattle.task_duties.specs.Pairwise.{IsPartOf}
-use Rattle.task_duties.proofs.Elements.{Has, Comes, has-append, has-flat_map, Differ, tally, tally-append, tally-part, tally-none, tally-zero}
-use Rattle.task_duties.proofs.ServedLaw.{names, AreApart, and-parts}
+use Rattle.task_duties.proofs.Elements.{Has, Comes, has-append, has-flat_map, tally, tally-append, tally-part, tally-none, tally-zero}
+use Rattle.task_duties.proofs.ServedLaw.{names, AreApart}
+use Rattle.task_duties.proofs.Places.{same-self}
 
 -- ---- the entry of a message
 
@@ -112,8 +114,8 @@ one-name from to port a b p = by_test (a == from && b == to && p == port) refl
     by_test : (c : Bool) → (a == from && b == to && p == port) ≡ c → (if c then 1 else 0) ≤ port_count p (if from == a && to == b then Some port else None)
     by_test false is = omega arith
     by_test true is =
-        let first = and-parts (a == from && b == to) (p == port) is in
-        let second = and-parts (a == from) (b == to) first.0 in
+        let first = and_parts (a == from && b == to) (p == port) is in
+        let second = and_parts (a == from) (b == to) first.0 in
         let x : (from == a) ≡ true = grind (arith, nat_tests, second.0) in
         let y : (to == b) ≡ true = grind (arith, nat_tests, second.1) in
         let z : (port == p) ≡ true = grind (arith, nat_tests, first.1) in
@@ -173,7 +175,7 @@ others : (x p : ℕ) → (x == p) ≡ true → (xs : List ℕ) → Each (λ (y :
 others x p is [] each = tt
 others x p is (y ∷ xs) each = (is-other p y (λ e. each.0 (let same : x ≡ p = grind (arith, nat_tests, is) in same ∙ sym e)), others x p is xs each.1)
 
-once : (p : ℕ) (xs : List ℕ) → Differ xs → tally (is_port p) xs ≤ 1
+once : (p : ℕ) (xs : List ℕ) → AreDifferent xs → tally (is_port p) xs ≤ 1
 once p [] d = omega arith
 once p (x ∷ xs) d = by_test (x == p) refl (once p xs d.1)
   where
@@ -196,18 +198,12 @@ abbrev pub NameOnce : ℕ → List Message → Type 0
 NameOnce d xs = (place : PagePlace) → tally (names_at d place) xs ≤ 1
 
 pub outbox-once : (hub : Domains) (d : ℕ) (journal : List Entry) → Each (λ x. AcceptsWell hub x.event x.decision) journal
-    → ((a b : ℕ) → Differ (accepted_ports journal a b)) → NameOnce d (outbox hub journal d)
+    → ((a b : ℕ) → AreDifferent (accepted_ports journal a b)) → NameOnce d (outbox hub journal d)
 outbox-once hub d journal well differ (Control c) = omega (arith, control-none d c (outbox hub journal d))
 outbox-once hub d journal well differ (Payload a b p) = omega (arith, outbox-names hub d a b p journal well, once p (accepted_ports journal a b) (differ a b))
 
 pub part-once : (d : ℕ) (some all : List Message) → IsPartOf some all → NameOnce d all → NameOnce d some
 part-once d some all part o place = omega (arith, tally-part (names_at d place) some all part, o place)
-
-pub same-self : (place : PagePlace) → is_place place place ≡ true
-same-self (Control d) = grind (arith, nat_tests)
-same-self (Payload f t p) =
-    let a : (f == f) ≡ true = grind (arith, nat_tests) in let b : (t == t) ≡ true = grind (arith, nat_tests) in let c : (p == p) ≡ true = grind (arith, nat_tests) in
-    rw (a, b, c) refl
 
 is-at : (d : ℕ) (place : PagePlace) (x : Message) → names d x ≡ Some place → names_at d place x ≡ 1
 is-at d place x named = let s = same-self place in rw (named, s) refl

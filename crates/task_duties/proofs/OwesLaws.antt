@@ -1,10 +1,10 @@
 -- What an agent and the broker owe depends on their own ends alone.
 use Rattle.std.proofs.Common.{◌≡◌, ℕ, List, [], ◌∷◌, ◌++◌, refl, Option, Some, None, subst}
 use Rattle.std.specs.Prelude.{true, false, Bool, ◌&&◌, ◌||◌, filter_map, IsSome, ◌⊎◌, if◌then◌else◌}
-use Rattle.std.specs.List.{list_any}
+use Rattle.std.specs.List.{list_any, AllByRecursion as Each, AllZip as EachPair}
+use Rattle.list_laws.proofs.Tests.{and-second}
 use Rattle.qrexec_frame.specs.declared.message.Message.{Message}
 use Rattle.qrexec_frame.specs.declared.message.Message.TheVariants.{Hello, Exec, JustExec, Connect, Refused, Terminated, Trigger3, Trigger, Stdin, Stdout, Stderr, ExitCode}
-use Rattle.qrexec_frame.specs.Streams.{Each}
 use Rattle.call_broker.specs.declared.decision.Entry.{Entry}
 use Rattle.call_broker.specs.Domains.{Domains, is_domain}
 use Rattle.end_view.specs.EndView.{EndView}
@@ -17,7 +17,6 @@ use Rattle.task_duties.specs.declared.done.CallEnd.TheVariants.{Session, Refused
 use Rattle.task_duties.specs.declared.done.ServedDone.{ServedDone}
 use Rattle.task_duties.specs.declared.done.ControlEnd.{ControlEnd}
 use Rattle.task_duties.specs.Places.{is_place, has_place, without}
-use Rattle.task_duties.specs.Pairwise.{EachPair}
 use Rattle.task_duties.specs.Hearing.{to_agent, to_broker, IsSaid, hears}
 use Rattle.task_duties.specs.Words.{service_of_line}
 use Rattle.task_duties.specs.Agent.Given.{AgentPlan}
@@ -63,10 +62,6 @@ each-push : (d : ℕ) (places : List PagePlace) (served : List Served) (x : Serv
 each-push d places [] x each there = (there, tt)
 each-push d places (y ∷ served) x each there = (each.0, each-push d places served x each.1 there)
 
-and-right : (a b : Bool) → (a && b) ≡ true → b ≡ true
-and-right true b h = h
-and-right false b h = cc
-
 message-given : (d : ℕ) (places : List PagePlace) (a : Answers) (m : Message) → AreGiven d places a → AreGiven d places (takes d a m)
 message-given d places a (Refused ident) h = record { unused = h.unused; asked = answers-given d places ident IsRefused tt a.asked h.asked; served = h.served }
 message-given d places a (Connect to port ident) h = by_test (list_any (waits_as ident) a.asked && has_place (Payload d to port) a.unused) refl
@@ -74,7 +69,7 @@ message-given d places a (Connect to port ident) h = by_test (list_any (waits_as
     by_test : (b : Bool) → (list_any (waits_as ident) a.asked && has_place (Payload d to port) a.unused) ≡ b → AreGiven d places (takes d a (Connect to port ident))
     by_test false is = rw is h
     by_test true is =
-        let free = and-right (list_any (waits_as ident) a.asked) (has_place (Payload d to port) a.unused) is in
+        let free = and-second (list_any (waits_as ident) a.asked) (has_place (Payload d to port) a.unused) is in
         rw is (record {
           unused = λ place there. h.unused place (there-before (Payload d to port) place a.unused there);
           asked = answers-given d places ident (At to port) (h.unused (Payload d to port) free) a.asked h.asked;

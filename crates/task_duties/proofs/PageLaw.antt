@@ -1,12 +1,13 @@
 -- Outcome-done and result-equal, on the data page of a call between two honest domains.
-use Rattle.std.proofs.Common.{◌≡◌, ℕ, ◌<◌, ◌≤◌, ◌^◌, min, List, [], ◌∷◌, ◌++◌, refl, ap, sym, ◌∙◌, arith, append_assoc, ◌⊎◌, inl, inr, Option, Some, None}
+use Rattle.std.proofs.Common.{◌≡◌, ℕ, ◌≤◌, min, List, [], ◌∷◌, ◌++◌, refl, ap, ◌∙◌, arith, ◌⊎◌, inl, inr, Option, Some, None}
 use Rattle.std.specs.Prelude.{true, false, Bool, IsSome, MatchBool, MatchOption, ℤ}
 use Rattle.std.specs.Int.{w32}
 use Rattle.std.specs.Int.RustNames.{FitsSigned}
 use Rattle.std.specs.List.{flat_map}
+use Rattle.list_laws.specs.Lists.{IsPrefixOf}
+use Rattle.list_laws.proofs.Prefixes.{prefix-trans}
 use Rattle.qrexec_frame.specs.declared.message.Message.TheVariants.{Hello}
 use Rattle.qrexec_frame.specs.Messages.{written}
-use Rattle.qrexec_frame.specs.Streams.{IsPrefixOf}
 use Rattle.service_gate.specs.Triple.{Triple}
 use Rattle.end_view.specs.EndView.{EndView}
 use Rattle.end_view.specs.Settled.{IsHonestPage}
@@ -16,11 +17,8 @@ use Rattle.qrexec_data.specs.Seeing.{Verdict, Undecided, Exited, CallerSeen, Ser
 use Rattle.qrexec_data.specs.Sending.{agreed, most, Begins, IsCallerStream, IsServingStream, IsServingBegun, ServingMaySend}
 use Rattle.qrexec_data.specs.Fitting.{FitsCaller, FitsServing}
 use Rattle.qrexec_data.proofs.SessionLaws.{caller-fits, caller-done, caller-undecided, serving-reads, serving-waits}
-use Rattle.qrexec_data.specs.Laws.{FitsTriple, ReadsInput}
+use Rattle.qrexec_data.specs.Laws.{FitsTriple, ReadsInput, IsVersion}
 use Rattle.task_duties.specs.Agent.Sessions.{chunk, IsClosed, CallerDone, CallerOwes, CallerEnded, ServingOwes, ServingEnded}
-
-prefix-trans : (a b c : List ℕ) → IsPrefixOf a b → IsPrefixOf b c → IsPrefixOf a c
-prefix-trans a b c h k = (h.0 ++ k.0, sym (append_assoc a h.0 k.0) ∙ ap (λ r. r ++ k.0) h.1 ∙ k.1)
 
 is-empty : (a b : List ℕ) → a ++ b ≡ [] → a ≡ []
 is-empty [] b h = refl
@@ -28,11 +26,6 @@ is-empty (x ∷ a) b h = cc
 
 limit-fits : (v : ℕ) → min chunk (most v) ≤ 65536
 limit-fits v = omega arith
-
--- an honest version
-pub record IsVersion (own : ℕ) : Type 0 where
-  pub least : 2 ≤ own
-  pub small : own < 2 ^ 32
 
 -- the serving side's reading of what an honest caller sent
 reads : (own : ℕ) (input sent got : List ℕ) (version : Option ℕ) → IsVersion own

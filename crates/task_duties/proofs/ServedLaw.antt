@@ -1,16 +1,16 @@
 -- If no two messages name one end, and each names an end that is unused, each Exec of a service is served.
 use Rattle.std.proofs.Common.{◌≡◌, ◌≢◌, ℕ, List, [], ◌∷◌, refl, ap, sym, ◌∙◌, arith, inl, inr, Option, Some, None}
 use Rattle.std.specs.Prelude.{true, false, Bool, ◌==◌, ◌&&◌, ◌||◌, Contains}
-use Rattle.std.specs.List.{list_any}
+use Rattle.std.specs.List.{list_any, AllByRecursion as Each}
 use Rattle.std.proofs.lemmas.Bool.Decides.{nat_tests}
 use Rattle.std.proofs.lemmas.List.Elements.{Contains-append_left, Contains-push}
+use Rattle.std.proofs.lemmas.Bool.{and_parts}
+use Rattle.list_laws.specs.Lists.{SomeOf}
 use Rattle.qrexec_frame.specs.declared.message.Message.{Message}
 use Rattle.qrexec_frame.specs.declared.message.Message.TheVariants.{Hello, Exec, JustExec, Connect, Refused, Terminated, Trigger3, Trigger, Stdin, Stdout, Stderr, ExitCode}
-use Rattle.qrexec_frame.specs.Streams.{Each}
 use Rattle.task_duties.specs.declared.place.PagePlace.{PagePlace}
 use Rattle.task_duties.specs.declared.place.PagePlace.TheVariants.{Control, Payload}
 use Rattle.task_duties.specs.Words.{service_of_line}
-use Rattle.task_duties.specs.Pairwise.{SomeOf}
 use Rattle.task_duties.specs.Agent.Answers.{Answers, Served, waits_as, serves, takes, takes_all}
 use Rattle.task_duties.specs.Places.{is_place, has_place, without}
 
@@ -27,16 +27,11 @@ AreApart d (m ∷ ms) = ((place : PagePlace) → names d m ≡ Some place → Ea
 abbrev pub IsUnusedBy : ℕ → List PagePlace → Message → Type 0
 IsUnusedBy d unused m = (place : PagePlace) → names d m ≡ Some place → has_place place unused ≡ true
 
-pub and-parts : (a b : Bool) → (a && b) ≡ true → (a ≡ true) × (b ≡ true)
-and-parts true true h = (refl, refl)
-and-parts true false h = cc
-and-parts false b h = cc
-
 pub same-place : (p q : PagePlace) → is_place p q ≡ true → p ≡ q
 same-place (Control d) (Control e) h = let same : d ≡ e = grind (arith, nat_tests, h) in ap Control same
 same-place (Payload f t p) (Payload g u q) h =
-    let first = and-parts (f == g && t == u) (p == q) h in
-    let second = and-parts (f == g) (t == u) first.0 in
+    let first = and_parts (f == g && t == u) (p == q) h in
+    let second = and_parts (f == g) (t == u) first.0 in
     let a : f ≡ g = grind (arith, nat_tests, second.0) in
     let b : t ≡ u = grind (arith, nat_tests, second.1) in
     let c : p ≡ q = grind (arith, nat_tests, first.1) in

@@ -1,5 +1,4 @@
 pub mod Places
-pub mod Pairwise
 pub mod Hearing
 pub mod Words
 pub mod Agent

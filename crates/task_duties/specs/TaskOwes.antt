@@ -1,8 +1,8 @@
 -- What each task owes: what it reports, and that each end that it was given is retired, in the order in which they were given.
 -- Source: this project's own.
 use Rattle.std.specs.Prelude.{◌≡◌, ℕ, ◌+◌, Bool, true, false, List, [], ◌∷◌, map}
+use Rattle.std.specs.List.{AllByRecursion as Each, AllZip as EachPair}
 use Rattle.end_view.specs.EndView.{EndView}
-use Rattle.qrexec_frame.specs.Streams.{Each}
 use Rattle.call_broker.specs.Brokered.{Brokered}
 use Rattle.call_broker.specs.Domains.{Domains}
 use Rattle.scenario_file.specs.declared.scenario.CallPlan.{CallPlan}
@@ -11,7 +11,6 @@ use Rattle.task_duties.specs.declared.place.PagePlace.TheVariants.{Control}
 use Rattle.task_duties.specs.declared.done.CallDone.{CallDone}
 use Rattle.task_duties.specs.declared.done.ServedDone.{ServedDone}
 use Rattle.task_duties.specs.declared.done.ControlEnd.{ControlEnd}
-use Rattle.task_duties.specs.Pairwise.{EachPair}
 use Rattle.task_duties.specs.Agent.Given.{AgentPlan}
 use Rattle.task_duties.specs.Agent.Owes.{AgentOwes}
 use Rattle.task_duties.specs.Broker.Owes.{BrokerOwes}

@@ -1,6 +1,17 @@
-//! What an agent reports after it is done.
+//! What an agent reports: of a session when that is over, and of all when it is done.
 use qrexec_data::{Outcome, SessionFault};
 use qrexec_frame::Bytes;
+
+/// The end of a session, as MSG_CONNECTION_TERMINATED reports it to the broker.
+#[derive(Clone, Copy, Debug, PartialEq, Eq)]
+pub struct SessionEnd {
+    /// The domain at the other end.
+    pub domain: u32,
+    /// The port of the session.
+    pub port: u32,
+    /// Which of the agent's own calls it is, counted from 0, or `None` if the agent served it.
+    pub call: Option<usize>,
+}
 
 /// What came of a call of an agent's own.
 #[derive(Debug, Drop)]

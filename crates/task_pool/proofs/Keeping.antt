@@ -2,15 +2,10 @@
 use Rattle.std.proofs.Common.{◌≡◌, ◌<◌, List, [], ◌∷◌, ◌++◌, length, sym, ap, ◌∙◌, subst, arith}
 use Rattle.std.specs.List.{AllZip}
 use Rattle.std.proofs.lemmas.Slice.Zip.{AllZip-long}
+use Rattle.list_laws.proofs.Pairs.{pairs-append}
 use Rattle.task_pool.specs.declared.hand.Hand.{Hand}
 use Rattle.task_pool.specs.declared.waiting.Finished.{Finished}
 use Rattle.task_pool.specs.Results.{IsPaid, Ends, Keeps}
-
-pub all_zip-append : {A B : Type 0} (R : A → B → Type 0) (xs us : List A) (ys vs : List B) → AllZip R xs ys → AllZip R us vs → AllZip R (xs ++ us) (ys ++ vs)
-all_zip-append R [] us [] vs h k = k
-all_zip-append R [] us (y ∷ ys) vs h k = absurd h
-all_zip-append R (x ∷ xs) us [] vs h k = absurd h
-all_zip-append R (x ∷ xs) us (y ∷ ys) vs h k = (h.0, all_zip-append R xs us ys vs h.1 k)
 
 module _ {T D : Type 0} (owes : T → D → Type 0) where
   pub keeps_more : (laid : List T) (finished : List (Finished D)) (f : Finished D) (v w : Hand T) → Keeps owes laid finished v → Ends owes v f w → Keeps owes laid (finished ++ f ∷ []) w
@@ -18,7 +13,7 @@ module _ {T D : Type 0} (owes : T → D → Type 0) where
     part = ap (λ (y : Hand T). y.parts) ends.keeps ∙ keeps.part;
     knows = ap (λ (y : Hand T). y.laid) ends.keeps ∙ keeps.knows;
     paid = subst (λ l. AllZip (IsPaid owes laid) l (finished ++ f ∷ [])) (sym (ap (λ (y : Hand T). y.kept) ends.keeps))
-        (all_zip-append (IsPaid owes laid) v.kept ((f.place, ends.first) ∷ []) finished (f ∷ []) keeps.paid (subst (λ l. IsPaid owes l (f.place, ends.first) f) keeps.knows ends.paid, tt));
+        (pairs-append (IsPaid owes laid) v.kept ((f.place, ends.first) ∷ []) finished (f ∷ []) keeps.paid (subst (λ l. IsPaid owes l (f.place, ends.first) f) keeps.knows ends.paid, tt));
   }
 
   pub keeps_room : (laid : List T) (finished : List (Finished D)) (f : Finished D) (v w : Hand T) → Keeps owes laid finished v → Ends owes v f w → length finished < length laid

@@ -2,6 +2,8 @@
 use Rattle.std.proofs.Common.{◌≡◌, ◌≢◌, ℕ, zero, suc, ◌+◌, ◌-◌, ◌<◌, List, [], ◌∷◌, ◌++◌, length, set, take, slice_get, Some, refl, sym, ap, ◌∙◌, subst, ⊎_elim, arith, length-append, add-one}
 use Rattle.std.proofs.Math.Seq.{take-append_seam}
 use Rattle.std.specs.List.{AllByRecursion}
+use Rattle.list_laws.proofs.Each.{each-append, each-front, each-back, each-weaker}
+use Rattle.list_laws.proofs.Places.{get-front}
 use mathlib.Core.Option.{some, some-injective, some-ne-none}
 use lib.ListN.{get_elem?}
 use Rattle.crossbeam_queue.specs.Fifo.{Pushes, Pops, Forks, Merges, Learns}
@@ -11,29 +13,6 @@ use Rattle.task_pool.specs.declared.waiting.Waiting.{Waiting}
 use Rattle.task_pool.specs.Hand.{hand, all_parts}
 use Rattle.task_pool.specs.Rule.{below, kept_weight, IsLaid, Fits, Owing, Holds, Takes, Lays, Gives, Counts}
 use Rattle.task_pool.proofs.Totals.{total-append, total-set, term_le, two_terms_le, total-alone, total-ones, below-ones}
-
--- facts of each element
-pub all-append : {X : Type 0} (P : X → Type 0) (xs ys : List X) → AllByRecursion P xs → AllByRecursion P ys → AllByRecursion P (xs ++ ys)
-all-append P [] ys h k = k
-all-append P (x ∷ xs) ys h k = (h.0, all-append P xs ys h.1 k)
-
-pub all-front : {X : Type 0} (P : X → Type 0) (xs ys : List X) → AllByRecursion P (xs ++ ys) → AllByRecursion P xs
-all-front P [] ys h = tt
-all-front P (x ∷ xs) ys h = (h.0, all-front P xs ys h.1)
-
-pub all-back : {X : Type 0} (P : X → Type 0) (xs ys : List X) → AllByRecursion P (xs ++ ys) → AllByRecursion P ys
-all-back P [] ys h = h
-all-back P (x ∷ xs) ys h = all-back P xs ys h.1
-
-pub all-map : {X : Type 0} (P Q : X → Type 0) → ((x : X) → P x → Q x) → (xs : List X) → AllByRecursion P xs → AllByRecursion Q xs
-all-map P Q go [] h = tt
-all-map P Q go (x ∷ xs) h = (go x h.0, all-map P Q go xs h.1)
-
--- what was laid stays at its place
-laid_longer : {T : Type 0} (laid more : List T) (i : ℕ) (t : T) → slice_get laid i ≡ Some t → slice_get (laid ++ more) i ≡ Some t
-laid_longer [] more i t at = cc
-laid_longer (x ∷ laid) more zero t at = at
-laid_longer (x ∷ laid) more (suc i) t at = laid_longer laid more i t at
 
 laid_last : {T : Type 0} (laid : List T) (t : T) (i : ℕ) → i ≡ length laid → slice_get (laid ++ t ∷ []) i ≡ Some t
 laid_last [] t zero e = refl
@@ -79,7 +58,7 @@ module _ {T D : Type 0} (owes : T → D → Type 0) where
               omega (arith, total-append (λ (e : ℕ × T). weight e.0) v.kept ((x.place, first.first) ∷ []));
           waiting = h.waiting.1;
           hands = hands_set h.laid views port w
-              (record { knows = mine.knows; idle = λ none. absurd (omega arith); placed = all-append (IsLaid h.laid) v.kept ((x.place, first.first) ∷ []) mine.placed (first.at, tt) })
+              (record { knows = mine.knows; idle = λ none. absurd (omega arith); placed = each-append (IsLaid h.laid) v.kept ((x.place, first.first) ∷ []) mine.placed (first.at, tt) })
               (λ j u other there. h.hands j u there);
         },
         record { first = first.first; keeps = refl; at = ap (λ l. slice_get l x.place) (mine.knows some_part) ∙ first.at; pays = first.pays; room = room v x items views port some_part at h },
@@ -105,13 +84,13 @@ module _ {T D : Type 0} (owes : T → D → Type 0) where
               ap (kept_weight weight) is ∙ (total-append (λ (e : ℕ × T). weight e.0) rest ((x.place, first) ∷ []) ∙ ap (λ k. kept_weight weight rest + k) (omega arith)) in
               let after : kept_weight weight w.kept ≡ kept_weight weight rest = ap (kept_weight weight) front in
               omega (arith, total-append (λ (y : Waiting T). weight y.place) items (x ∷ []));
-          waiting = all-append (Owing owes h.laid) items (x ∷ []) h.waiting
-              (record { first = first; at = (all-back (IsLaid h.laid) rest ((x.place, first) ∷ []) placed).0; pays = pays }, tt);
+          waiting = each-append (Owing owes h.laid) items (x ∷ []) h.waiting
+              (record { first = first; at = (each-back (IsLaid h.laid) rest ((x.place, first) ∷ []) placed).0; pays = pays }, tt);
           hands = hands_set h.laid views port w
               (record {
                 knows = mine.knows;
                 idle = λ none. absurd (omega arith);
-                placed = subst (AllByRecursion (IsLaid h.laid)) (sym front) (all-front (IsLaid h.laid) rest ((x.place, first) ∷ []) placed);
+                placed = subst (AllByRecursion (IsLaid h.laid)) (sym front) (each-front (IsLaid h.laid) rest ((x.place, first) ∷ []) placed);
               })
               (λ j u other there. h.hands j u there);
         },
@@ -123,7 +102,7 @@ module _ {T D : Type 0} (owes : T → D → Type 0) where
       let mine = h.hands port v at in
       let same : v.laid ≡ h.laid = mine.knows (omega arith) in
       let longer : List T = v.laid ++ x.task ∷ [] in
-      let stays : (i : ℕ) (t : T) → slice_get h.laid i ≡ Some t → slice_get longer i ≡ Some t = λ i t there. laid_longer v.laid (x.task ∷ []) i t (ap (λ l. slice_get l i) same ∙ there) in
+      let stays : (i : ℕ) (t : T) → slice_get h.laid i ≡ Some t → slice_get longer i ≡ Some t = λ i t there. get-front v.laid (x.task ∷ []) i t (ap (λ l. slice_get l i) same ∙ there) in
       let w : Hand T = hand v.parts longer v.kept in (
         w,
         record {
@@ -135,11 +114,11 @@ module _ {T D : Type 0} (owes : T → D → Type 0) where
               let size : below weight (length longer) ≡ below weight (length h.laid) + weight x.place =
               ap (below weight) (length-append v.laid (x.task ∷ []) ∙ add-one (length v.laid)) ∙ (ap (λ k. below weight k + weight (length v.laid)) (ap length same) ∙ ap (λ k. below weight (length h.laid) + weight k) (sym next)) in
               omega (arith, total-append (λ (y : Waiting T). weight y.place) items (x ∷ []));
-          waiting = all-append (Owing owes longer) items (x ∷ [])
-              (all-map (Owing owes h.laid) (Owing owes longer) (λ y owing. record { first = owing.first; at = stays y.place owing.first owing.at; pays = owing.pays }) items h.waiting)
+          waiting = each-append (Owing owes longer) items (x ∷ [])
+              (each-weaker (Owing owes h.laid) (Owing owes longer) (λ y owing. record { first = owing.first; at = stays y.place owing.first owing.at; pays = owing.pays }) items h.waiting)
               (record { first = x.task; at = laid_last v.laid x.task x.place next; pays = λ done owed. owed }, tt);
           hands = hands_set longer views port w
-              (record { knows = λ _. refl; idle = λ none. absurd (omega arith); placed = all-map (IsLaid h.laid) (IsLaid longer) (λ e there. stays e.0 e.1 there) v.kept mine.placed })
+              (record { knows = λ _. refl; idle = λ none. absurd (omega arith); placed = each-weaker (IsLaid h.laid) (IsLaid longer) (λ e there. stays e.0 e.1 there) v.kept mine.placed })
               (λ j u other there.
               let le = two_terms_le (λ (u : Hand T). u.parts) views port j v u at there other in
               let p = h.parts in
@@ -191,7 +170,7 @@ module _ {T D : Type 0} (owes : T → D → Type 0) where
         waiting = h.waiting;
         hands = hands_set h.laid (set views port both) other spent (record { knows = λ part. absurd (omega arith); idle = λ _. refl; placed = tt })
             (λ j y _ there. hands_set h.laid views port both
-            (record { knows = λ _. mine.knows some_part; idle = λ none. absurd (omega arith); placed = all-append (IsLaid h.laid) v.kept u.kept mine.placed theirs.placed })
+            (record { knows = λ _. mine.knows some_part; idle = λ none. absurd (omega arith); placed = each-append (IsLaid h.laid) v.kept u.kept mine.placed theirs.placed })
             (λ i x _ at. h.hands i x at) j y there);
       }
 

@@ -2,9 +2,9 @@
 use Rattle.std.proofs.Common.{◌≡◌, ◌≢◌, ◌⊎◌, ℕ, zero, suc, ◌<◌, List, [], ◌∷◌, ◌++◌, length, set, replicate, slice_get, Option, Some, None, refl, sym, ap, ◌∙◌, subst, inl, inr, ⊎_elim, arith, length-set, append_assoc, append-nil}
 use Rattle.std.specs.List.{AllZip}
 use Rattle.std.proofs.lemmas.Option.{slice_get_within}
+use Rattle.list_laws.proofs.Each.{each-append, each-weaker}
 use Rattle.task_pool.specs.declared.waiting.Finished.{Finished}
 use Rattle.task_pool.specs.Results.{IsPaid, Settled}
-use Rattle.task_pool.proofs.Rules.{all-append, all-map}
 
 -- what is read after a write
 pub set_cases : {A : Type 0} (xs : List A) (p k : ℕ) (v : A) → p < length xs
@@ -44,8 +44,8 @@ module _ {T D : Type 0} (owes : T → D → Type 0) where
             (e.1, ap (slice_get laid) (here.0 ∙ paid.0) ∙ paid.1, subst (owes e.1) same paid.2))
             (λ (there : (k ≢ f.place) × (slice_get (set answers f.place (Some f.done)) k ≡ slice_get answers k)). settled.owed k done (sym there.1 ∙ at))
             (set_cases answers f.place k (Some f.done) lt);
-        filled = all-append _ kept (e ∷ [])
-            (all-map _ _ (λ o was. ⊎_elim
+        filled = each-append _ kept (e ∷ [])
+            (each-weaker _ _ (λ o was. ⊎_elim
             (λ (here : (o.0 ≡ f.place) × (slice_get (set answers f.place (Some f.done)) o.0 ≡ Some (Some f.done))). (f.done, here.1))
             (λ (there : (o.0 ≢ f.place) × (slice_get (set answers f.place (Some f.done)) o.0 ≡ slice_get answers o.0)). (was.0, there.1 ∙ was.1))
             (set_cases answers f.place o.0 (Some f.done) lt)) kept settled.filled) (

@@ -1,9 +1,10 @@
 -- The services and the names alone give the sums that `load` prints, whatever the order of all steps.
 use Rattle.std.proofs.Common.{◌≡◌, ℕ, zero, suc, ◌≤◌, false, List, [], ◌∷◌, length, map, Option, Some, None, refl, ap, sym, subst, ◌∙◌}
 use Rattle.std.specs.Prelude.{filter_map}
-use Rattle.std.specs.List.{cons_option, zip}
+use Rattle.std.specs.List.{cons_option, zip, AllZip as EachPair}
 use Rattle.std.specs.Option.{option_map_or}
 use Rattle.std.proofs.lemmas.Bool.{false≢true}
+use Rattle.std.proofs.lemmas.Slice.Zip.{AllZip-long}
 use Rattle.ring_words.specs.declared.order.Orders.{Orders}
 use Rattle.scenario_file.specs.declared.scenario.Domain.{Domain}
 use Rattle.scenario_file.specs.declared.scenario.CallPlan.{CallPlan}
@@ -12,7 +13,6 @@ use Rattle.scenario_file.specs.Lines.{calls_left, honest, lines_among}
 use Rattle.scenario_file.specs.Scenario.{Plan as Scenario, Written, written, order_numbers, hostile_among, is_mixed, number_named, targets_hostile}
 use Rattle.scenario_file.proofs.GeneratedLaws.{generated_is_scenario}
 use Rattle.scenario_file.proofs.KeptLaws.{lines_stay}
-use Rattle.task_duties.specs.Pairwise.{EachPair}
 use Rattle.run_laws.specs.declared.report.CallLine.{CallLine}
 use Rattle.run_laws.specs.declared.report.CallResult.{CallResult}
 use Rattle.run_laws.specs.declared.report.CallResult.TheVariants.{Done, Refused, Mixed}
@@ -74,12 +74,6 @@ same_dones s r ports (call ∷ calls) [] none stand = absurd stand
 same_dones s r ports (call ∷ calls) (l ∷ rows) none stand =
     row_on call l l.result calls rows (stand.0.0 ∙ none call) (same_dones s r ports calls rows none stand.1)
 
-same_length : {A B : Type 0} (R : A → B → Type 0) (xs : List A) (ys : List B) → EachPair R xs ys → length ys ≡ length xs
-same_length R [] [] each = refl
-same_length R [] (y ∷ ys) each = absurd each
-same_length R (x ∷ xs) [] each = absurd each
-same_length R (x ∷ xs) (y ∷ ys) each = ap suc (same_length R xs ys each.1)
-
 -- ---- the whole
 
 sums_alone : (number calls : ℕ) (s : Scenario) (r : Report) → calls ≤ 2000 → written s ≡ generated number calls → IsLawful s r → summary_of s.calls r ≡ sums_of (generated number calls)
@@ -87,7 +81,7 @@ sums_alone number calls s r few made lawful =
     let domains : s.domains ≡ made_domains = ap (λ (w : Written). w.domain_list) made in
     let rows = same_dones s r lawful.ports s.calls r.calls (unmixed s domains) lawful.stand in
     let plain = lawful.results ∙ lines_are_all number calls s few made in
-    ap (λ (count : ℕ). sums_text count (totals (done_calls s.calls r.calls))) (same_length _ s.calls r.calls lawful.calls)
+    ap (λ (count : ℕ). sums_text count (totals (done_calls s.calls r.calls))) (AllZip-long _ s.calls r.calls lawful.calls)
     ∙ ap (λ (dones : List DoneCall). sums_text (length s.calls) (totals dones)) (rows ∙ ap (λ ls. filter_map done_beside (zip s.calls ls)) plain)
     ∙ ap sums_of made
 

@@ -1,11 +1,7 @@
 -- A text that is written piece by piece.
-use Rattle.std.proofs.Common.{ℕ, List, ◌++◌, Option, Result, Ok, Err, OnOk}
+use Rattle.std.proofs.Common.{ℕ, List, ◌++◌, Option}
 use Rattle.vchan_io.specs.Streams.{Appends}
 use Rattle.vchan_io.proofs.Streaming.{Appends-both}
-
-pub OnOk-map : {T E : Type 0} (r : Result T E) (P Q : Type 0) → (P → Q) → OnOk r P → OnOk r Q
-OnOk-map (Ok x) P Q f p = f p
-OnOk-map (Err e) P Q f p = p
 
 -- five pieces, one after the other
 pub Appends-five : (a b c d e f : Option (List ℕ)) (v w x y z : List ℕ) → Appends a b v → Appends b c w → Appends c d x → Appends d e y → Appends e f z → Appends a f (v ++ w ++ x ++ y ++ z)

@@ -1,11 +1,11 @@
 -- The text of a run of relays, through each of whose pages the same bytes went.
 use Rattle.std.proofs.Common.{◌≡◌, ℕ, suc, ◌+◌, List, [], ◌∷◌, ◌++◌, length, codes, refl, ap, sym, ◌∙◌, append_assoc, arith}
 use Rattle.std.proofs.lemmas.List.{append-nil}
+use Rattle.std.specs.List.{AllByRecursion as Each}
 use Rattle.ring_words.specs.Rings.{number_of}
 use Rattle.ring_words.specs.declared.order.Orders.{Orders}
 use Rattle.end_view.specs.Settled.{Settled}
 use Rattle.qrexec_frame.specs.Lines.{shown_bytes}
-use Rattle.qrexec_frame.specs.Streams.{Each}
 use Rattle.run_report.specs.Lines.{spaced}
 use Rattle.vchan_rule.specs.Seated.{PageStart}
 use Rattle.vchan_relay.specs.Joints.{JoinedEnds}

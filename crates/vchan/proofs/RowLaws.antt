@@ -1,14 +1,13 @@
 -- A run of a scenario has the rings that its file says on each page.
-use Rattle.std.proofs.Common.{◌≡◌, ℕ, List, [], ◌∷◌, Option, Some, None, Ok, refl, ap, sym, subst, ◌∙◌}
-use Rattle.qrexec_frame.specs.Streams.{Each}
+use Rattle.std.proofs.Common.{◌≡◌, ℕ, List, [], ◌∷◌, Option, Some, None, Ok, ap, subst, ◌∙◌}
+use Rattle.std.specs.List.{AllByRecursion as Each}
 use Rattle.vchan_io.proofs.Streaming.{Takes-all}
 use Rattle.end_view.specs.Settled.{Settled}
-use Rattle.scenario_file.specs.Scenario.{Plan as Scenario, Written, written, order_numbers}
+use Rattle.scenario_file.specs.Scenario.{Plan as Scenario, written, order_numbers}
 use Rattle.scenario_file.specs.Tables.{scenario_of}
 use Rattle.task_duties.specs.declared.place.PagePlace.{PagePlace}
 use Rattle.task_duties.specs.declared.place.PagePlace.TheVariants.{Control, Payload}
 use Rattle.run_laws.specs.Laid.{BeganAsSaid, orders_of}
-use Rattle.run_laws.specs.Lawful.{IsLawful}
 use Rattle.run_laws.specs.Report.{Report, SettledPage}
 use Rattle.vchan.specs.declared.command.Command.{Command}
 use Rattle.vchan.specs.declared.command.Command.TheVariants.{Run}

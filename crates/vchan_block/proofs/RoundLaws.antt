@@ -6,7 +6,8 @@ use Rattle.vchan_protocol.specs.Table.Calls.{Trace}
 use Rattle.vchan_protocol.specs.History.Core.{standing_of}
 use Rattle.end_view.specs.EndView.{EndView}
 use Rattle.vchan_rule.specs.Seated.{SeatedEnd, view}
-use Rattle.vchan_stream.specs.Stream.{most_asked, wrote_to, write_told}
+use Rattle.vchan_rule.specs.Called.{most_asked}
+use Rattle.vchan_stream.specs.Stream.{wrote_to, write_told}
 use Rattle.vchan_stream.specs.declared.WriteAnswer.{WriteAnswer}
 use Rattle.vchan_block.specs.declared.writing.BlockWrite.TheVariants as wrote
 use Rattle.vchan_block.specs.Rounds.{IsWriteRound}

@@ -18,7 +18,7 @@ use Rattle.vchan_protocol.specs.Table.Plan.{Plan, does, answers, Leads}
 use Rattle.vchan_protocol.specs.Table.Ends.{Standing, written_ring, read_ring, prod_word, cons_word, own_pending, peer_live, free_at, ready_at, low8, low32}
 use Rattle.vchan_protocol.specs.Table.Calls.{Trace, put_bytes, take_bytes, put, take, notify, ask, look_read, look_write, write, write_open, write_looked, read, read_live, read_looked, send, send_open, send_looked, recv, recv_live, recv_looked}
 use Rattle.vchan_protocol.specs.History.Core.{Core, side_of, standing_of, noted, noted_load, index_seen, asks, begins, made}
-use Rattle.vchan_protocol.specs.History.Peer.{peer, held}
+use Rattle.vchan_protocol.specs.History.Peer.{held, peer}
 use Rattle.vchan_protocol.specs.OneEnd.OneCall.{side_along, side_called}
 use Rattle.vchan_protocol.specs.Signals.SignalLaw.{NoLostSignal, asked_of}
 use Rattle.vchan_protocol.proofs.Signals.SignalLaws as signals

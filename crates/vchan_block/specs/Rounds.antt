@@ -10,6 +10,7 @@ use Rattle.vchan_protocol.specs.Table.Calls.{Trace}
 use Rattle.vchan_protocol.specs.History.Core.{standing_of}
 use Rattle.end_view.specs.EndView.{EndView}
 use Rattle.vchan_rule.specs.Seated.{SeatedEnd, view}
+use Rattle.vchan_rule.specs.Called.{most_asked}
 use Rattle.vchan_stream.specs.Stream as stream
 use Rattle.vchan_stream.specs.declared.WriteAnswer.{WriteAnswer}
 use Rattle.vchan_stream.specs.declared.WriteAnswer.TheVariants as write
@@ -50,7 +51,7 @@ pub data Waits : SeatedEnd → SeatedEnd → Type 0 where
 -- one round on these bytes
 pub record IsWriteRound (bytes : List ℕ) (answer : WriteAnswer) (old new : SeatedEnd) : Type 0 where
   pub view_is : view new ≡ stream.wrote_to (view old) answer bytes
-  pub trail : Trace (standing_of old.side) (Write (stream.most_asked bytes)) new.side.trail (stream.write_told answer)
+  pub trail : Trace (standing_of old.side) (Write (most_asked bytes)) new.side.trail (stream.write_told answer)
 
 -- after this many bytes: a round moved `count` more, and all are moved; a round found the peer closed; or it waits and goes on
 pub data Writes (bytes : List ℕ) : ℕ → SeatedEnd → SeatedEnd → BlockWrite → Type 0 where
@@ -66,8 +67,8 @@ wrote_to e (wrote.PeerClosed before) bytes = record e { sent = e.sent ++ take be
 
 -- its last round was a write of the bytes that were left then
 abbrev pub EndsInWrite : SeatedEnd → BlockWrite → List ℕ → Type 0
-EndsInWrite e (wrote.Wrote before last) bytes = EndsIn e (Write (stream.most_asked (drop before bytes))) (stream.write_told (write.Wrote last))
-EndsInWrite e (wrote.PeerClosed before) bytes = EndsIn e (Write (stream.most_asked (drop before bytes))) (stream.write_told write.PeerClosed)
+EndsInWrite e (wrote.Wrote before last) bytes = EndsIn e (Write (most_asked (drop before bytes))) (stream.write_told (write.Wrote last))
+EndsInWrite e (wrote.PeerClosed before) bytes = EndsIn e (Write (most_asked (drop before bytes))) (stream.write_told write.PeerClosed)
 
 -- ---- a read
 
@@ -91,7 +92,7 @@ pub data Reads (most : ℕ) (buffer : List ℕ) : SeatedEnd → SeatedEnd → Bl
 -- one round on this packet
 pub record IsSendRound (bytes : List ℕ) (answer : SendAnswer) (old new : SeatedEnd) : Type 0 where
   pub view_is : view new ≡ packet.sent_to (view old) answer bytes
-  pub trail : Trace (standing_of old.side) (Send (packet.most_asked bytes)) new.side.trail (packet.send_told (packet.most_asked bytes) answer)
+  pub trail : Trace (standing_of old.side) (Send (most_asked bytes)) new.side.trail (packet.send_told (most_asked bytes) answer)
 
 -- rounds that found no room, and the last one, which gave this answer
 pub data Sends (bytes : List ℕ) (answer : SendAnswer) : SeatedEnd → SeatedEnd → Type 0 where
@@ -112,8 +113,8 @@ sent_to e (sent.TooLarge len size) bytes = e
 
 -- its last round, if it made one
 abbrev pub EndsInSend : SeatedEnd → BlockSend → List ℕ → Type 0
-EndsInSend e sent.Sent bytes = EndsIn e (Send (packet.most_asked bytes)) (packet.send_told (packet.most_asked bytes) send.Sent)
-EndsInSend e sent.PeerClosed bytes = EndsIn e (Send (packet.most_asked bytes)) (packet.send_told (packet.most_asked bytes) send.PeerClosed)
+EndsInSend e sent.Sent bytes = EndsIn e (Send (most_asked bytes)) (packet.send_told (most_asked bytes) send.Sent)
+EndsInSend e sent.PeerClosed bytes = EndsIn e (Send (most_asked bytes)) (packet.send_told (most_asked bytes) send.PeerClosed)
 EndsInSend e (sent.TooLarge len size) bytes = Unit {0}
 
 -- the packet is larger than the ring that the end writes, by these two numbers
@@ -134,8 +135,8 @@ pub data Receives (most : ℕ) (answer : RecvAnswer) (buffer : List ℕ) : Seate
 
 -- rounds, or no event at all if the buffer is larger than the ring: it stays as it was then
 abbrev pub HasReceived : List ℕ → List ℕ → SeatedEnd → SeatedEnd → BlockRecv → Type 0
-HasReceived was buffer old new received.Got = Receives (packet.most_asked was) recv.Got buffer old new
-HasReceived was buffer old new received.PeerClosed = Receives (packet.most_asked was) recv.PeerClosed buffer old new
+HasReceived was buffer old new received.Got = Receives (most_asked was) recv.Got buffer old new
+HasReceived was buffer old new received.PeerClosed = Receives (most_asked was) recv.PeerClosed buffer old new
 HasReceived was buffer old new (received.TooLarge len size) = (new ≡ old) × (buffer ≡ was)
 
 -- the view after it: the whole buffer was got, or nothing
@@ -146,8 +147,8 @@ received_from e (received.TooLarge len size) buffer = e
 
 -- its last round, if it made one
 abbrev pub EndsInRecv : SeatedEnd → BlockRecv → List ℕ → Type 0
-EndsInRecv e received.Got buffer = EndsIn e (Recv (packet.most_asked buffer)) (packet.recv_told (packet.most_asked buffer) recv.Got)
-EndsInRecv e received.PeerClosed buffer = EndsIn e (Recv (packet.most_asked buffer)) (packet.recv_told (packet.most_asked buffer) recv.PeerClosed)
+EndsInRecv e received.Got buffer = EndsIn e (Recv (most_asked buffer)) (packet.recv_told (most_asked buffer) recv.Got)
+EndsInRecv e received.PeerClosed buffer = EndsIn e (Recv (most_asked buffer)) (packet.recv_told (most_asked buffer) recv.PeerClosed)
 EndsInRecv e (received.TooLarge len size) buffer = Unit {0}
 
 -- the buffer is larger than the ring that the end reads, by these two numbers

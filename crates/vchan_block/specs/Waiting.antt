@@ -13,7 +13,7 @@ use Rattle.vchan_protocol.specs.declared.side.Side.{Side}
 use Rattle.vchan_protocol.specs.Table.Ends.{Standing, ask_word, own_pending, peer_live, mask, free_at, low8, low32}
 use Rattle.vchan_protocol.specs.Table.Calls.{Trace}
 use Rattle.vchan_protocol.specs.History.Core.{Core, side_of, standing_of}
-use Rattle.vchan_protocol.specs.History.Peer.{peer, held}
+use Rattle.vchan_protocol.specs.History.Peer.{held, peer}
 use Rattle.vchan_protocol.specs.OneEnd.OneCall.{side_called}
 use Rattle.vchan_protocol.specs.Signals.SignalLaw.{NoLostSignal, peer_index}
 

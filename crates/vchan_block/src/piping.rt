@@ -3,7 +3,8 @@ ghost use Rattle.std.specs.Prelude.{◌≡◌, ◌≤◌, ◌<◌, ◌+◌, ◌^
 ghost use Rattle.ring_words.specs.declared.page.Role.TheVariants.{Server, Client};
 ghost use Rattle.vchan_rule.specs.Seated.{view, last_view, IsOpen};
 ghost use Rattle.vchan_rule.specs.Ends.{IsSameEnd};
-ghost use Rattle.vchan_block.specs.Pipe.{GetsAll, HasEnded, HasPiped, IsEndOf, MayHaveEnded, SendsAll, drained_count};
+ghost use Rattle.vchan_lifecycle.specs.Ended.{GetsAll, HasEnded, IsEndOf, MayHaveEnded, SendsAll, drained_count};
+ghost use Rattle.vchan_block.specs.Pipe.{HasPiped};
 
 use crate::wait::wait_waking;
 use crate::waking::{Sleepers, Waking};

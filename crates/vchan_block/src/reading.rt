@@ -4,7 +4,8 @@ ghost use Rattle.vchan_protocol.specs.declared.call.Call.TheVariants.{Read};
 ghost use Rattle.vchan_protocol.specs.Table.Apply.{filled};
 ghost use Rattle.vchan_protocol.specs.History.Core.{bytes_loaded};
 ghost use Rattle.vchan_protocol.specs.OneEnd.OneCall.{bytes_in};
-ghost use Rattle.vchan_stream.specs.Stream.{most_asked, read_from, read_told};
+ghost use Rattle.vchan_rule.specs.Called.{most_asked};
+ghost use Rattle.vchan_stream.specs.Stream.{read_from, read_told};
 ghost use Rattle.vchan_rule.specs.Seated.{view, IsOpen};
 ghost use Rattle.vchan_rule.specs.Ends.{IsSameEnd};
 

@@ -19,14 +19,13 @@ use Rattle.vchan_protocol.specs.declared.op.Op.TheVariants.{Load, LoadByte, Stor
 use Rattle.vchan_protocol.specs.declared.op.PastEvent.{PastEvent}
 use Rattle.vchan_protocol.specs.declared.call.Answer.{Answer}
 use Rattle.vchan_protocol.specs.Table.Plan.{Plan, answers, does, Leads, past, next_op}
-use Rattle.vchan_protocol.specs.declared.call.EndState.{EndState}
-use Rattle.vchan_protocol.specs.Table.Ends.{Standing, standing_after, state_after, prod_after, cons_after, peer_pending, mask, written_ring, read_ring, write_order, read_order}
+use Rattle.vchan_protocol.specs.Table.Ends.{Standing, standing_after, prod_after, cons_after, peer_pending, mask, written_ring, read_ring, write_order, read_order}
 use Rattle.vchan_core.specs.declared.machine.Machine.{Machine}
 use Rattle.vchan_core.specs.declared.machine.ahead.Span.{Span}
-use Rattle.vchan_core.specs.declared.machine.ahead.LastNotify.{LastNotify}
 use Rattle.vchan_protocol.specs.Table.Calls.{signal}
+use Rattle.vchan_protocol.proofs.Honest.LifeTrails.{shut_signal}
 use Rattle.vchan_core.specs.OneMachine.Phases.{standing, rest, rest_or_answer, IsIdle}
-use Rattle.vchan_core.specs.OneMachine.Ahead.{IsPut, IsTake, IsOnByte, IsLastNotify, put_at, take_at}
+use Rattle.vchan_core.specs.OneMachine.Ahead.{IsPut, IsTake, IsOnByte, put_at, take_at}
 use Rattle.vchan_core.proofs.WholeCall.PieceLaws.{at_put, at_take, put_plan, take_plan, put_place, take_place}
 use Rattle.vchan_c.specs.declared.stretch.Bytes.{Bytes}
 use Rattle.vchan_c.specs.declared.stretch.Moves.{Moves}
@@ -127,11 +126,6 @@ Leads-join p [] ys q r one two = subst (λ (x : Plan). Leads x ys r) (sym one) t
 Leads-join (answers answer) (x ∷ xs) ys q r one two = absurd one
 Leads-join (does op next) (x ∷ xs) ys q r one two = (one.0, Leads-join (next x.taken) xs ys q r one.1 two)
 
--- a signal leaves an end's standing
-signal_state : (role : Role) (state : EndState) → state_after (Store (peer_pending role) 1) role state ≡ state
-signal_state Server state = refl
-signal_state Client state = refl
-
 signal_prod : (role : Role) (count : ℕ) → prod_after (Store (peer_pending role) 1) role count ≡ count
 signal_prod Server count = refl
 signal_prod Client count = refl
@@ -142,7 +136,7 @@ signal_cons Client count = refl
 
 pub signal_stands : (e : Standing) → standing_after e (Store (peer_pending e.role) 1) ≡ e
 unfolding standing_after
-signal_stands e = rw (signal_state e.role e.state) (rw (signal_prod e.role e.prod) (rw (signal_cons e.role e.cons) refl))
+signal_stands e = rw (shut_signal e.role e.state) (rw (signal_prod e.role e.prod) (rw (signal_cons e.role e.cons) refl))
 
 -- what a store leaves of an end's standing
 stored_role : (store : Option Stored) (e : Standing) → (standing_stored store e).role ≡ e.role
@@ -275,18 +269,6 @@ signal_answers m mid late now moves store signals told answer moves_lead moves_s
   where
     answered_further : Answered answer ≡ Further → ⊥
     answered_further is = cc
-
--- the notify with which a call ends
-pub notify_leads : (m now : Machine) (last : LastNotify) → IsLastNotify m last → (value : ℕ) → Leads (rest m) (notified (standing m) (Notify last) value) (left (Notify last) now)
-notify_leads m now last is value = subst (λ (p : Plan). Leads p (notified (standing m) (Notify last) value) (answers last.answer)) (sym is.plan) (ap (λ (word : WordName). And word (18446744073709551615 - mask last.bit)) is.word, go (bit_and value (mask last.bit) == 0))
-  where
-    go : (b : Bool) → Leads (if b then answers last.answer else signal (standing m) (answers last.answer)) (if b then [] else past (Store (peer_pending m.role) 1) 0 ∷ []) (answers last.answer)
-    go true = refl
-    go false = (refl, refl)
-
--- what comes after a stretch, by the answer that its last event gave
-pub left_answer : (answer : Answer) (told : Option Answer) (p : Plan) (events : List PastEvent) (now : Machine) → told ≡ Some answer → Leads p events (rest_or_answer told now) → Leads p events (answers answer)
-left_answer answer told p events now is leads = subst (λ (o : Option Answer). Leads p events (rest_or_answer o now)) is leads
 
 pub left_rest : (told : Option Answer) (p : Plan) (events : List PastEvent) (now : Machine) → told ≡ None → Leads p events (rest_or_answer told now) → Leads p events (rest now)
 left_rest told p events now is leads = subst (λ (o : Option Answer). Leads p events (rest_or_answer o now)) is leads

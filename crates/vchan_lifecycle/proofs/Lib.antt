@@ -1,1 +1,2 @@
 pub mod LifecycleLaws
+pub mod DrainLaws

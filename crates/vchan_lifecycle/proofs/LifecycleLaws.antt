@@ -1,5 +1,6 @@
 -- The answers of a connect and of a drain, and the events of a close and of a retire.
 use Rattle.std.proofs.Common.{◌≡◌, ◌↔◌, ℕ, suc, zero, ◌+◌, ◌≤◌, ◌==◌, ◌||◌, bit_and, if◌then◌else◌, Bool, true, false, not, Result, Ok, Err, List, [], ◌∷◌, ◌++◌, refl, sym, ap, ◌∙◌, subst, arith, append-nil}
+use Rattle.std.proofs.Math.Bool.{or-false, or-true}
 use Rattle.vchan_protocol.specs.declared.op.Op.{Op}
 use Rattle.vchan_protocol.specs.declared.op.Op.TheVariants.{Store, Or}
 use Rattle.vchan_protocol.specs.declared.op.PastEvent.{PastEvent}
@@ -19,7 +20,7 @@ use Rattle.vchan_protocol.specs.OneEnd.EndingLaw.{tells_end}
 use Rattle.vchan_core.specs.OneMachine.Phases.{IsIdle}
 use Rattle.end_view.specs.EndView.{EndView, view_of}
 use Rattle.end_view.specs.AfterCall.{answered_view, state_told, retires, SeesAsTold}
-use Rattle.end_view.proofs.QuietLaws.{or_no, or_yes, ended_no}
+use Rattle.end_view.proofs.QuietLaws.{ended_no}
 use Rattle.vchan_rule.specs.Seated.{SeatedEnd, SeatedSide, view, last_view}
 use Rattle.vchan_protocol.proofs.Answering.AnswerLaws.{has_cause, each_cause}
 use Rattle.vchan_lifecycle.specs.declared.BadOrders.{BadOrders}
@@ -209,10 +210,10 @@ closed_view e call payload buffer answer saw gone done shuts goes sees =
       idle = e.idle;
       sent = append-nil e.sent i;
       got = append-nil e.got i;
-      saw = (sees ∙ ap (λ (a : Answer). e.saw || tells_end a) done ∙ or_no e.saw) i;
+      saw = (sees ∙ ap (λ (a : Answer). e.saw || tells_end a) done ∙ or-false e.saw) i;
       ended = ended_no e.ended i;
-      drained = or_no e.drained i;
-      misled = or_no e.misled i;
+      drained = or-false e.drained i;
+      misled = or-false e.misled i;
       retired = goes i;
       turned = e.turned;
       consumed = e.consumed;
@@ -220,10 +221,10 @@ closed_view e call payload buffer answer saw gone done shuts goes sees =
     })
 
 pub close_view : (e : EndView) (payload buffer : List ℕ) (answer : Answer) (saw : Bool) → answer ≡ Done → SeesAsTold Close answer e.saw saw → answered_view e Close payload buffer answer saw ≡ shut e
-close_view e payload buffer answer saw done told = closed_view e Close payload buffer answer saw e.retired done refl (or_no e.retired) told
+close_view e payload buffer answer saw done told = closed_view e Close payload buffer answer saw e.retired done refl (or-false e.retired) told
 
 pub retire_view : (e : EndView) (payload buffer : List ℕ) (answer : Answer) (saw : Bool) → answer ≡ Done → SeesAsTold Retire answer e.saw saw → answered_view e Retire payload buffer answer saw ≡ retired_view e
-retire_view e payload buffer answer saw done told = closed_view e Retire payload buffer answer saw true done refl (or_yes e.retired) told
+retire_view e payload buffer answer saw done told = closed_view e Retire payload buffer answer saw true done refl (or-true e.retired) told
 
 -- an end that is done is seen as it was between two calls
 pub rest_view : (before : SeatedEnd) (after_rest : SeatedSide) → after_rest.page ≡ before.page → after_rest.side ≡ before.side → IsIdle before.machine → last_view after_rest ≡ view before

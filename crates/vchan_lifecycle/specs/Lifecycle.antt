@@ -1,6 +1,6 @@
 -- What a connect, a close, a retire and a drain make of the view of their end, and which signals they store and ask for.
 -- Source: libxenvchan's init.c for a connect and io.c for a close. The drain, the retire and the gone words are this project's own.
-use Rattle.std.specs.Prelude.{ℕ, ◌<◌, min, Some, Result, Ok, Err, Bool, true, false, ◌==◌, ◌||◌, List, [], ◌∷◌, ◌++◌, length, take}
+use Rattle.std.specs.Prelude.{ℕ, ◌<◌, Some, Result, Ok, Err, Bool, true, false, ◌==◌, ◌||◌, List, [], ◌∷◌, ◌++◌, take}
 use Rattle.ring_words.specs.declared.page.Role.{Role}
 use Rattle.vchan_protocol.specs.declared.op.Op.{Op}
 use Rattle.vchan_protocol.specs.declared.op.Op.TheVariants.{Store, Or}
@@ -23,10 +23,6 @@ use Rattle.vchan_lifecycle.specs.declared.DrainAnswer.{DrainAnswer}
 use Rattle.vchan_lifecycle.specs.declared.DrainAnswer.TheVariants.{More, NotYet as IsNotYet, AllRead as IsAllRead, PeerGone as IsPeerGone}
 
 -- ---- the answers
-
--- what one call asks for at most: as many bytes as are given, within 32 bits
-abbrev pub most_asked : List ℕ → ℕ
-most_asked bytes = min (length bytes) 4294967295
 
 -- the answers of a drain, and those of a connect
 abbrev pub AnswersDrain : Answer → Type 0

@@ -21,7 +21,8 @@ ghost use Rattle.vchan_protocol.specs.OneEnd.EndingLaw.{has_noticed};
 ghost use Rattle.end_view.specs.AfterCall.{DrainSees};
 ghost use Rattle.vchan_rule.specs.Seated.{view, last_view, IsOpen};
 ghost use Rattle.vchan_rule.specs.Ends.{IsSameEnd};
-ghost use Rattle.vchan_lifecycle.specs.Lifecycle.{most_asked, AnswersDrain, AnswersConnect, drain_told, connect_told, drained_to, connected_to, shut, retired_view, ops, close_ops, retire_ops, has_asked, found_none_first};
+ghost use Rattle.vchan_rule.specs.Called.{most_asked};
+ghost use Rattle.vchan_lifecycle.specs.Lifecycle.{AnswersDrain, AnswersConnect, drain_told, connect_told, drained_to, connected_to, shut, retired_view, ops, close_ops, retire_ops, has_asked, found_none_first};
 
 use vchan_core::{Answer, Call};
 use vchan_rule::{End, Retired};

@@ -72,7 +72,7 @@ pub fn data_ready(end: &mut End<'_>) -> u32
     ready_count(end.do_call(Call::DataReady, &[], &mut []))
 }
 
-/// Asks for a signal at the next room, and returns how many bytes there is room for now.
+/// Asks for a signal at the next room, and returns for how many bytes there is room.
 pub fn buffer_space(end: &mut End<'_>) -> u32
     requires open { IsOpen end.old }
     ensures same { IsSameEnd end.old end.new }

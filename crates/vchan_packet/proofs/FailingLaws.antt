@@ -7,9 +7,10 @@ use Rattle.vchan_protocol.specs.Answering.Loads.{loads_of}
 use Rattle.vchan_protocol.specs.History.Core.{standing_of}
 use Rattle.end_view.specs.EndView.{EndView}
 use Rattle.vchan_rule.specs.Seated.{SeatedEnd, view}
+use Rattle.vchan_rule.specs.Called.{most_asked}
 use Rattle.vchan_packet.specs.declared.SendAnswer.{SendAnswer}
 use Rattle.vchan_packet.specs.declared.SendAnswer.TheVariants.{Sent, NoRoom, PeerClosed}
-use Rattle.vchan_packet.specs.Packet.{most_asked, send_told, sent_to, FailsToSend}
+use Rattle.vchan_packet.specs.Packet.{send_told, sent_to, FailsToSend}
 
 -- by the clauses of a send that didn't answer Sent
 pub fails-to-send : (old new : SeatedEnd) (bytes : List ℕ) (answer : SendAnswer) → answer ≢ Sent → view new ≡ sent_to (view old) answer bytes

@@ -1,6 +1,7 @@
 -- A send and a recv: their answers, and what they make of the view of their end.
 use Rattle.std.proofs.Common.{◌≡◌, ◌↔◌, ℕ, ◌≤◌, ◌++◌, ◌||◌, Bool, true, min, List, length, take, refl, sym, ap, ◌∙◌, subst, arith, append-nil}
 use Rattle.std.proofs.lemmas.List.{take-take, take_all}
+use Rattle.std.proofs.Math.Bool.{or-false, or-true}
 use Rattle.ring_words.specs.Rings.{size}
 use Rattle.ring_words.proofs.RingLaws.{room_within, ready_within, size-within}
 use Rattle.ring_words.specs.declared.order.Order.{Order}
@@ -16,12 +17,13 @@ use Rattle.vchan_protocol.proofs.Answering.AnswerLaws.{has_cause, each_cause}
 use Rattle.vchan_protocol.specs.OneEnd.EndingLaw.{tells_end}
 use Rattle.end_view.specs.EndView.{EndView}
 use Rattle.end_view.specs.AfterCall.{answered_view}
-use Rattle.end_view.proofs.QuietLaws.{quiet_view, or_no, or_yes}
+use Rattle.end_view.proofs.QuietLaws.{quiet_view}
 use Rattle.vchan_packet.specs.declared.SendAnswer.{SendAnswer}
 use Rattle.vchan_packet.specs.declared.SendAnswer.TheVariants.{Sent as HasSent, NoRoom as HasNoRoom, PeerClosed as SendClosed}
 use Rattle.vchan_packet.specs.declared.RecvAnswer.{RecvAnswer}
 use Rattle.vchan_packet.specs.declared.RecvAnswer.TheVariants.{Got as HasGot, Short as IsShort, PeerClosed as RecvClosed}
-use Rattle.vchan_packet.specs.Packet.{most_asked, AnswersSend, AnswersRecv, send_told, recv_told, told_send, told_recv, sent_to, received_from}
+use Rattle.vchan_packet.specs.Packet.{AnswersSend, AnswersRecv, send_told, recv_told, told_send, told_recv, sent_to, received_from}
+use Rattle.vchan_rule.specs.Called.{most_asked}
 
 -- if all that was asked for fits a ring, all was asked for
 all_asked : (order : Order) (n : ℕ) (xs : List ℕ) → min (length xs) 4294967295 ≤ n → n ≤ size order → min (length xs) 4294967295 ≡ length xs
@@ -93,22 +95,27 @@ pub send_view : (e : EndView) (n : ℕ) (xs buffer : List ℕ) (saw : Bool) (res
     answered_view e (Send n) (take n xs) buffer (send_told n result) saw ≡ sent_to e result xs
 send_view e n xs buffer saw HasSent all sees =
     quiet_view e (Send n) (take n xs) buffer (Sent n) saw e.saw (e.sent ++ xs) e.got (record { state = refl; stays = refl; ends = refl; drained = refl; misled = refl })
-    (ap (λ (zs : List ℕ). e.sent ++ zs) (take_whole n xs (all refl))) (append-nil e.got) (sees ∙ or_no e.saw)
+    (ap (λ (zs : List ℕ). e.sent ++ zs) (take_whole n xs (all refl))) (append-nil e.got) (sees ∙ or-false e.saw)
 send_view e n xs buffer saw (HasNoRoom p c) all sees =
     quiet_view e (Send n) (take n xs) buffer (NoRoom p c) saw e.saw e.sent e.got (record { state = refl; stays = refl; ends = refl; drained = refl; misled = refl })
-    (append-nil e.sent) (append-nil e.got) (sees ∙ or_no e.saw)
+    (append-nil e.sent) (append-nil e.got) (sees ∙ or-false e.saw)
 send_view e n xs buffer saw SendClosed all sees =
     quiet_view e (Send n) (take n xs) buffer PeerClosed saw true e.sent e.got (record { state = refl; stays = refl; ends = refl; drained = refl; misled = refl })
-    (append-nil e.sent) (append-nil e.got) (sees ∙ or_yes e.saw)
+    (append-nil e.sent) (append-nil e.got) (sees ∙ or-true e.saw)
 
 pub recv_view : (e : EndView) (n : ℕ) (payload buffer : List ℕ) (saw : Bool) (result : RecvAnswer) → (result ≡ HasGot → n ≡ length buffer) → saw ≡ (e.saw || tells_end (recv_told n result)) →
     answered_view e (Recv n) payload buffer (recv_told n result) saw ≡ received_from e result buffer
 recv_view e n payload buffer saw HasGot all sees =
     quiet_view e (Recv n) payload buffer (Got n) saw e.saw e.sent (e.got ++ buffer) (record { state = refl; stays = refl; ends = refl; drained = refl; misled = refl })
-    (append-nil e.sent) (ap (λ (zs : List ℕ). e.got ++ zs) (take_all n buffer (let whole = all refl in omega (arith, whole)))) (sees ∙ or_no e.saw)
+    (append-nil e.sent) (ap (λ (zs : List ℕ). e.got ++ zs) (take_all n buffer (let whole = all refl in omega (arith, whole)))) (sees ∙ or-false e.saw)
 recv_view e n payload buffer saw (IsShort p c) all sees =
     quiet_view e (Recv n) payload buffer (Short p c) saw e.saw e.sent e.got (record { state = refl; stays = refl; ends = refl; drained = refl; misled = refl })
-    (append-nil e.sent) (append-nil e.got) (sees ∙ or_no e.saw)
+    (append-nil e.sent) (append-nil e.got) (sees ∙ or-false e.saw)
 recv_view e n payload buffer saw RecvClosed all sees =
     quiet_view e (Recv n) payload buffer PeerClosed saw true e.sent e.got (record { state = refl; stays = refl; ends = refl; drained = refl; misled = refl })
-    (append-nil e.sent) (append-nil e.got) (sees ∙ or_yes e.saw)
+    (append-nil e.sent) (append-nil e.got) (sees ∙ or-true e.saw)
+
+pub sent-got : (e : EndView) (answer : SendAnswer) (payload : List ℕ) → (sent_to e answer payload).got ≡ e.got
+sent-got e HasSent payload = refl
+sent-got e (HasNoRoom prod cons) payload = refl
+sent-got e SendClosed payload = refl

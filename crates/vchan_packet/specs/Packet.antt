@@ -1,6 +1,6 @@
 -- What a send and a recv of a packet make of the view of their end: all of its bytes, or none.
 -- Source: libxenvchan's io.c, non-blocking mode, for libxenvchan_send and libxenvchan_recv; that an answer names its two indices is this project's own.
-use Rattle.std.specs.Prelude.{◌≡◌, ◌≢◌, ℕ, min, ◌++◌, List, length, true}
+use Rattle.std.specs.Prelude.{◌≡◌, ◌≢◌, ℕ, ◌++◌, List, true}
 use Rattle.vchan_protocol.specs.declared.call.Call.TheVariants.{Send}
 use Rattle.vchan_protocol.specs.declared.call.Answer.{Answer}
 use Rattle.vchan_protocol.specs.declared.call.Answer.TheVariants.{Sent, NoRoom, Got, Short, PeerClosed}
@@ -10,14 +10,11 @@ use Rattle.vchan_protocol.specs.Answering.Loads.{loads_of}
 use Rattle.vchan_protocol.specs.History.Core.{standing_of}
 use Rattle.end_view.specs.EndView.{EndView}
 use Rattle.vchan_rule.specs.Seated.{SeatedEnd, view}
+use Rattle.vchan_rule.specs.Called.{most_asked}
 use Rattle.vchan_packet.specs.declared.SendAnswer.{SendAnswer}
 use Rattle.vchan_packet.specs.declared.SendAnswer.TheVariants.{Sent as HasSent, NoRoom as HasNoRoom, PeerClosed as SendClosed}
 use Rattle.vchan_packet.specs.declared.RecvAnswer.{RecvAnswer}
 use Rattle.vchan_packet.specs.declared.RecvAnswer.TheVariants.{Got as HasGot, Short as IsShort, PeerClosed as RecvClosed}
-
--- what one call asks for: as many bytes as are given, within 32 bits
-abbrev pub most_asked : List ℕ → ℕ
-most_asked bytes = min (length bytes) 4294967295
 
 -- the answers that a send gives, and those of a recv
 abbrev pub AnswersSend : Answer → Type 0

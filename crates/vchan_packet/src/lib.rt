@@ -15,7 +15,8 @@ ghost use Rattle.vchan_protocol.specs.Answering.Loads.{loads_of};
 ghost use Rattle.vchan_protocol.specs.OneEnd.OneCall.{bytes_in};
 ghost use Rattle.vchan_rule.specs.Seated.{view, IsOpen};
 ghost use Rattle.vchan_rule.specs.Ends.{IsSameEnd};
-ghost use Rattle.vchan_packet.specs.Packet.{most_asked, AnswersSend, AnswersRecv, send_told, recv_told, told_send, told_recv, sent_to, received_from};
+ghost use Rattle.vchan_rule.specs.Called.{most_asked};
+ghost use Rattle.vchan_packet.specs.Packet.{AnswersSend, AnswersRecv, send_told, recv_told, told_send, told_recv, sent_to, received_from};
 
 use vchan_core::{Answer, Call};
 use vchan_rule::End;

@@ -7,7 +7,7 @@ use Rattle.std.specs.List.{AllZip}
 use Rattle.std.proofs.lemmas.List.{append-nil}
 use Rattle.std.proofs.lemmas.Int.{fits_signed_from_abs}
 use Rattle.atomic_table.specs.Seated.{TableId}
-use Rattle.vchan_rule.specs.Seated.{PageStart, PageView, last_view, words_of}
+use Rattle.vchan_rule.specs.Seated.{PageStart, PageView, last_view, words_of, IsSettledBy}
 use Rattle.end_view.specs.EndView.{EndView}
 use Rattle.end_view.specs.Settled.{Settled, IsHonestPage}
 use Rattle.service_gate.specs.Triple.{Triple}
@@ -34,7 +34,7 @@ use Rattle.vchan_persist.specs.declared.task.SideDone.{SideDone}
 use Rattle.vchan_persist.specs.declared.task.SideDone.TheVariants.{Called}
 use Rattle.vchan_persist.specs.Epochs.{AreAnsweredAlike, AreEpochs, EpochsApart, IsAnswered, IsEpoch, answer_of, answered}
 use Rattle.vchan_persist.specs.Owes.{AreHandedBack, AreSides, CallerHands, ClientHands, ScribblerHands, ServerHands, HasCalled, HasServed, epoch_owes}
-use Rattle.vchan_persist.specs.Settling.{ComesTo, IsSettledBy}
+use Rattle.vchan_persist.specs.Settling.{ComesTo}
 
 -- ---- two tasks, and what they hand back
 

@@ -1,9 +1,10 @@
 -- A list of clients, read line by line.
-use Rattle.std.proofs.Common.{◌≡◌, ℕ, ◌+◌, ◌-◌, ◌≤◌, length, List, [], ◌∷◌, ◌++◌, Bool, true, false, Option, Some, None, Result, Ok, Err, refl, sym, ap, subst, ◌∙◌, arith}
+use Rattle.std.proofs.Common.{◌≡◌, ℕ, ◌+◌, ◌-◌, ◌≤◌, length, List, [], ◌∷◌, ◌++◌, Bool, true, false, None, Result, Ok, Err, refl, sym, ap, subst, ◌∙◌, arith}
 use Rattle.std.proofs.lemmas.Bool.Decides.{nat_tests}
 use Rattle.std.proofs.lemmas.List.{length_push}
 use Rattle.std.specs.Prelude.{◌||◌, nat_lt, IsOk, MatchBool, if◌then◌else◌}
-use Rattle.qrexec_frame.specs.Streams.{Each}
+use Rattle.std.specs.List.{AllByRecursion as Each}
+use Rattle.list_laws.specs.Results.{◌>>=◌}
 use Rattle.script_words.specs.KeptLines.{is_passed_over}
 use Rattle.script_words.specs.Words.{words_of}
 use Rattle.vchan_persist.specs.declared.client.Client.{Client}
@@ -11,10 +12,9 @@ use Rattle.vchan_persist.specs.declared.error.ClientsKind.{ClientsKind}
 use Rattle.vchan_persist.specs.declared.error.ClientsKind.TheVariants.{TooMany}
 use Rattle.vchan_persist.specs.declared.error.ClientsError.{ClientsError}
 use Rattle.vchan_persist.specs.declared.error.ClientsError.TheVariants as list
-use Rattle.vchan_persist.specs.declared.error.LineError.{LineError}
 use Rattle.vchan_persist.specs.declared.error.LineError.TheVariants as line
-use Rattle.vchan_persist.specs.Clients.{AreServable, IsServable, BeginsWell, added, at_number, client_of, clients_from, entry_of, has_too_many, some_client, stdin_len, stdin_total, too_many, with_line, ◌>>=◌}
-use Rattle.vchan_persist.specs.Reading.{GivesEntry, HasClient, IsAddRefusal, IsLineRefusal, IsRefusal, error_at}
+use Rattle.vchan_persist.specs.Clients.{AreServable, IsServable, BeginsWell, added, at_number, client_of, clients_from, has_too_many, some_client, stdin_len, stdin_total, too_many, with_line}
+use Rattle.vchan_persist.specs.Reading.{IsLineRefusal, IsRefusal}
 
 -- ---- one client more
 
@@ -62,50 +62,6 @@ room-left clients client bytes len count total small few counted less long =
     let sum : bytes + len ≡ stdin_total (clients ++ client ∷ []) = omega (arith, total-push clients client, total, long) in
     room-by-numbers (length (clients ++ client ∷ [])) bytes len count_is small ∙ ap (λ (n : ℕ). nat_lt 4096 (length (clients ++ client ∷ [])) || nat_lt 8388608 n) sum
 
--- ---- one line more
-
--- a line whose entry has room
-pub line-taken : (number : ℕ) (clients now : List Client) (text : List ℕ) (entry : Option Client) → entry_of text ≡ Ok entry → too_many number (added clients entry) ≡ false → now ≡ added clients entry → with_line number clients text ≡ Ok now
-line-taken number clients now text entry is room same =
-    ap (λ (due : Result (Option Client) ClientsKind). due >>= (λ e. if too_many number (added clients e) then Err TooMany else Ok (added clients e))) is
-    ∙ ap (λ (full : Bool). if full then Err TooMany else Ok (added clients entry)) room
-    ∙ ap Ok (sym same)
-
--- a line with a client
-pub has-client : (text : List ℕ) (client : Client) → entry_of text ≡ Ok (Some client) → HasClient text
-has-client text client is = by_passed (is_passed_over text) refl
-  where
-    by_client : (due : Result Client ClientsKind) → some_client due ≡ Ok (Some client) → IsOk due
-    by_client (Ok c) same = refl
-    by_client (Err kind) same = cc
-
-    entry_by : Bool → Result (Option Client) ClientsKind
-    entry_by b = if b then Ok None else some_client (client_of (words_of text))
-
-    by_passed : (b : Bool) → is_passed_over text ≡ b → HasClient text
-    by_passed true passed = let none : entry_by true ≡ Ok (Some client) = ap entry_by (sym passed) ∙ is in cc
-    by_passed false passed = (passed, by_client (client_of (words_of text)) (ap entry_by (sym passed) ∙ is))
-
--- a line whose entry has no room, or no memory
-pub add-refused : (number : ℕ) (clients : List Client) (text : List ℕ) (entry : Option Client) (e : ClientsError) → entry_of text ≡ Ok entry → IsAddRefusal number entry e (too_many number (added clients entry))
-    → IsLineRefusal number e text (with_line number clients text)
-add-refused number clients text entry (list.Bad at kind) is refused = (
-  refused.0,
-  ap (λ (due : Result (Option Client) ClientsKind). due >>= (λ e. if too_many number (added clients e) then Err TooMany else Ok (added clients e))) is
-      ∙ ap (λ (full : Bool). if full then Err TooMany else Ok (added clients entry)) refused.2
-      ∙ ap Err (sym refused.1),
-)
-add-refused number clients text (Some client) list.Memory is refused = has-client text client is
-add-refused number clients text None list.Memory is refused = cc
-
--- a line without an entry
-pub entry-refused : (number : ℕ) (clients : List Client) (text : List ℕ) (e : LineError) → GivesEntry (Err e) text → IsLineRefusal number (error_at e number) text (with_line number clients text)
-entry-refused number clients text (line.Bad kind) is = (
-  refl,
-  ap (λ (due : Result (Option Client) ClientsKind). due >>= (λ e. if too_many number (added clients e) then Err TooMany else Ok (added clients e))) is,
-)
-entry-refused number clients text line.Memory is = is
-
 -- ---- all lines
 
 pub read-line : (number : ℕ) (clients now : List Client) (text : List ℕ) (lines more : List (List ℕ)) → lines ≡ text ∷ more → with_line number clients text ≡ Ok now → clients_from number clients lines ≡ clients_from (number + 1) now more
@@ -126,10 +82,6 @@ unfolding clients_from
 read-all number clients lines all none is = is ∙ ap (clients_from number clients) none
 
 -- ---- the first client
-
--- a list begins well if its first line has a client
-pub begins-here : (text : List ℕ) (lines more : List (List ℕ)) → lines ≡ text ∷ more → HasClient text → BeginsWell lines
-begins-here text lines more cut has = subst BeginsWell (sym cut) (subst (λ (b : Bool). MatchBool b (BeginsWell more) (IsOk (client_of (words_of text)))) (sym has.0) has.1)
 
 -- likewise if what comes after a good line begins well
 pub begins-later : (number : ℕ) (clients now : List Client) (text : List ℕ) (lines more : List (List ℕ)) → lines ≡ text ∷ more → with_line number clients text ≡ Ok now → BeginsWell more → BeginsWell lines

@@ -1,6 +1,5 @@
 -- The stores of a hostile client, and the end that they leave.
-use Rattle.std.proofs.Common.{◌≡◌, ℕ, suc, List, [], ◌∷◌, ◌++◌, true, refl, sym, ap, ◌∙◌, append_assoc}
-use Rattle.std.proofs.lemmas.List.{append-nil}
+use Rattle.std.proofs.Common.{◌≡◌, ℕ, suc, List, [], ◌∷◌, ◌++◌, true, refl, ap, ◌∙◌}
 use Rattle.ring_words.specs.declared.page.Role.TheVariants.{Client}
 use Rattle.ring_words.specs.declared.page.WordName.{WordName}
 use Rattle.vchan_protocol.specs.declared.op.Op.TheVariants.{Store}
@@ -9,20 +8,13 @@ use Rattle.vchan_protocol.specs.declared.side.Side.{Side}
 use Rattle.vchan_protocol.specs.Hostile.Turned.{strays, turns}
 use Rattle.vchan_protocol.specs.Table.Ends.{own_gone, peer_pending}
 use Rattle.hostile_seat.specs.Hostile.{strays_along}
+use Rattle.hostile_seat.proofs.ByteLaws.{along_role, along_trail, along_turned}
 use Rattle.scenario_file.specs.Generator.{next_number}
 use Rattle.task_duties.specs.Hostile.Stores.{field_of}
 use Rattle.task_duties.specs.Hostile.Trail.{retiring}
 use Rattle.vchan_persist.specs.Epochs.{scribbled}
 
 -- ---- an end along some events
-
-along_trail : (s : Side) (events : List PastEvent) → (strays_along s events).trail ≡ s.trail ++ events
-along_trail s [] = sym (append-nil s.trail)
-along_trail s (event ∷ events) = along_trail (strays s event.op event.taken) events ∙ append_assoc s.trail (event ∷ []) events
-
-along_turned : (s : Side) (events : List PastEvent) → (strays_along s events).turned ≡ s.turned
-along_turned s [] = refl
-along_turned s (event ∷ events) = along_turned (strays s event.op event.taken) events
 
 along_sent : (s : Side) (events : List PastEvent) → (strays_along s events).sent ≡ s.sent
 along_sent s [] = refl
@@ -31,10 +23,6 @@ along_sent s (event ∷ events) = along_sent (strays s event.op event.taken) eve
 along_got : (s : Side) (events : List PastEvent) → (strays_along s events).got ≡ s.got
 along_got s [] = refl
 along_got s (event ∷ events) = along_got (strays s event.op event.taken) events
-
-along_role : (s : Side) (events : List PastEvent) → (strays_along s events).role ≡ s.role
-along_role s [] = refl
-along_role s (event ∷ events) = along_role (strays s event.op event.taken) events
 
 -- ---- one store more
 

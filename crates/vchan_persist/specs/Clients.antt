@@ -1,7 +1,8 @@
 -- A list of clients: which bytes are one, and which clients it has.
 -- Source: this project's own.
 use Rattle.std.specs.Prelude.{ℕ, ◌+◌, ◌==◌, ◌||◌, ◌≤◌, nat_lt, Bool, List, [], ◌∷◌, ◌++◌, length, if◌then◌else◌, ok_or, Option, None, Some, Result, Ok, Err, IsOk, MatchBool, codes, bytes_eq}
-use Rattle.qrexec_frame.specs.Streams.{Each}
+use Rattle.std.specs.List.{AllByRecursion as Each}
+use Rattle.list_laws.specs.Results.{◌>>=◌}
 use Rattle.script_words.specs.ByteStrings.{byte_string}
 use Rattle.script_words.specs.KeptLines.{is_passed_over}
 use Rattle.script_words.specs.Numbers.{number_of}
@@ -10,12 +11,6 @@ use Rattle.vchan_persist.specs.declared.client.Client.{Client}
 use Rattle.vchan_persist.specs.declared.client.Client.TheVariants.{Call, Hostile}
 use Rattle.vchan_persist.specs.declared.error.ClientsKind.{ClientsKind}
 use Rattle.vchan_persist.specs.declared.error.ClientsKind.TheVariants.{BadLine, BadNumber, BadHex, TooMany}
-
--- the second step, if the first gave a value
-infixl 10 ◌>>=◌
-abbrev pub ◌>>=◌ : {A B E : Type 0} → Result A E → (A → Result B E) → Result B E
-Ok x >>= f = f x
-Err e >>= f = Err e
 
 -- ---- a line
 

@@ -2,7 +2,7 @@
 -- Source: this project's own.
 use Rattle.std.specs.Prelude.{◌≡◌, ℕ, false, List, Some}
 use Rattle.end_view.specs.Settled.{Settled, IsSettled}
-use Rattle.vchan_rule.specs.Seated.{PageStart, PageView, SeatedSide, began_with, last_view, words_of}
+use Rattle.vchan_rule.specs.Seated.{PageStart, began_with}
 use Rattle.service_gate.specs.Owing.{builtin_owes}
 use Rattle.service_gate.specs.declared.builtin.Builtin.{Builtin}
 use Rattle.task_duties.specs.Agent.Sessions.{IsService}
@@ -17,10 +17,3 @@ pub record ComesTo (words : PageStart) (client : Client) (service : Builtin) (re
   pub server_honest : page.server.turned ≡ false
   pub result_is : (name : List ℕ) → IsService name (builtin_owes service) → answer_of name client ≡ Some result
   pub page_is : (name : List ℕ) → IsService name (builtin_owes service) → IsPageOf name client page
-
--- a page settled by these two ends
-pub record IsSettledBy (page : PageView) (server client : SeatedSide) (s : Settled) : Type 0 where
-  pub settled : IsSettled s
-  pub words_are : began_with s ≡ words_of page
-  pub server_is : s.server ≡ last_view server
-  pub client_is : s.client ≡ last_view client

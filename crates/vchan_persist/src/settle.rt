@@ -9,7 +9,8 @@ ghost use Rattle.vchan_rule.specs.Seated.{words_of};
 ghost use Rattle.vchan_persist.specs.declared.client.Client.{Client as Guest};
 ghost use Rattle.vchan_persist.specs.declared.client.Client.TheVariants.{Call};
 ghost use Rattle.vchan_persist.specs.Owes.{AreHandedBack, ClientHands, ServerHands, HasCalled, HasServed, IsEndOf};
-ghost use Rattle.vchan_persist.specs.Settling.{ComesTo, IsSettledBy};
+ghost use Rattle.vchan_persist.specs.Settling.{ComesTo};
+ghost use Rattle.vchan_rule.specs.Seated.{IsSettledBy};
 
 use crate::epoch::EpochResult;
 use crate::task::SideDone;

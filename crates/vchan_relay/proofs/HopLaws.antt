@@ -1,17 +1,15 @@
 -- Relays in a row.
-use Rattle.std.proofs.Common.{◌≡◌, List, [], ◌∷◌, ◌++◌, ℕ, sym, ap, ◌∙◌, append_assoc, append-nil}
-use Rattle.vchan_protocol.specs.Honest.RingLaw.{IsPrefixOf}
+use Rattle.std.proofs.Common.{◌≡◌, List, [], ◌∷◌, ◌++◌, ℕ, sym, ap, ◌∙◌, append-nil}
+use Rattle.list_laws.specs.Lists.{IsPrefixOf}
+use Rattle.list_laws.proofs.Prefixes.{prefix-trans}
 use Rattle.vchan_relay.specs.Hops.{RelaysKeepOrder, RelaysPassAll}
-
-prefix_through : (xs ys zs : List ℕ) → IsPrefixOf xs ys → IsPrefixOf ys zs → IsPrefixOf xs zs
-prefix_through xs ys zs one two = (one.0 ++ two.0, sym (append_assoc xs one.0 two.0) ∙ ap (λ (bytes : List ℕ). bytes ++ two.0) one.1 ∙ two.1)
 
 pub keep_order : RelaysKeepOrder
 keep_order page [] relayed here honest = here.in_order
 keep_order page (hop ∷ hops) relayed here honest =
     let sent : IsPrefixOf hop.page.client.sent page.server.got = (hop.held, sym relayed.0) in
     let later = keep_order hop.page hops relayed.1 honest.0 honest.1 in
-    prefix_through _ _ _ later (prefix_through _ _ _ sent here.in_order)
+    prefix-trans _ _ _ later (prefix-trans _ _ _ sent here.in_order)
 
 pub pass_all : RelaysPassAll
 pass_all page [] relayed here honest drained all = here.whole drained

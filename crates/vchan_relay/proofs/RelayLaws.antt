@@ -7,10 +7,11 @@ use Rattle.vchan_protocol.specs.Table.Calls.{Trace}
 use Rattle.vchan_protocol.specs.History.Core.{standing_of}
 use Rattle.end_view.specs.AfterCall.{DrainSees}
 use Rattle.vchan_rule.specs.Seated.{SeatedEnd, view}
+use Rattle.vchan_rule.specs.Called.{most_asked}
 use Rattle.vchan_lifecycle.specs.Lifecycle.{drained_to, drain_told}
 use Rattle.vchan_lifecycle.specs.declared.DrainAnswer.{DrainAnswer}
 use Rattle.vchan_lifecycle.specs.declared.DrainAnswer.TheVariants.{PeerGone}
-use Rattle.vchan_stream.specs.Stream.{most_asked, write_told, wrote_to}
+use Rattle.vchan_stream.specs.Stream.{write_told, wrote_to}
 use Rattle.vchan_stream.specs.declared.WriteAnswer.{WriteAnswer}
 use Rattle.vchan_relay.specs.declared.turn.RelayTurn.{RelayTurn}
 use Rattle.vchan_relay.specs.declared.turn.RelayTurn.TheVariants.{Ended, NearGone}

@@ -3,20 +3,20 @@ use Rattle.std.proofs.Common.{◌≡◌, ◌+◌, ◌<◌, ℕ, suc, List, [], �
 use Rattle.std.proofs.lemmas.List.{length-drop}
 use Rattle.std.proofs.Math.Seq.{drop-cons}
 use Rattle.end_view.specs.Settled.{Settled}
-use Rattle.vchan_relay.specs.Settling.{IsSettledBy, AreSettledBy, AreAllSettledBy}
+use Rattle.vchan_relay.specs.Settling.{AreSettledBy, AreAllSettledBy}
 use Rattle.atomic_table.specs.Seated.{TableId}
 use Rattle.ring_words.specs.declared.page.Role.TheVariants.{Server}
-use Rattle.vchan_rule.specs.Seated.{PageStart, PageView, SeatedSide}
+use Rattle.vchan_rule.specs.Seated.{PageStart, PageView, SeatedSide, IsSettledBy}
 use Rattle.vchan_relay.specs.declared.lay.PageSeats.{PageSeats}
 use Rattle.vchan_relay.specs.declared.task.HopDone.{HopDone}
 use Rattle.vchan_relay.specs.declared.task.HopDone.TheVariants.{Wrote, Passed, Read}
 use Rattle.vchan_relay.specs.declared.task.HopTask.{HopTask}
 use Rattle.vchan_relay.specs.declared.task.HopTask.TheVariants.{Reads}
 use Rattle.vchan_relay.specs.Joints.{JoinedEnds}
-use Rattle.vchan_relay.specs.Ended.{IsEndOf}
 use Rattle.vchan_relay.specs.Given.{ReaderGiven}
 use Rattle.vchan_relay.specs.Laying.{IsLaid, AreLaid}
 use Rattle.vchan_relay.specs.Owes.{Owes, WriterHands, RelayHands, ReaderHands, FollowOn, AreTasks, AreLeft}
+use Rattle.vchan_lifecycle.specs.Ended.{IsEndOf}
 
 -- ---- making pages
 

@@ -1,24 +1,24 @@
 -- What a run of relays comes to, by what its tasks returned.
-use Rattle.std.proofs.Common.{◌≡◌, ◌≤◌, ◌<◌, ◌+◌, ℕ, List, [], ◌∷◌, length, Bool, true, false, Option, Some, ◌++◌, option_to_list, refl, sym, subst, ap, ◌∙◌, arith}
-use Rattle.std.proofs.lemmas.List.{length-append}
-use Rattle.std.specs.List.{AllZip}
+use Rattle.std.proofs.Common.{◌≡◌, ◌≤◌, ◌<◌, ◌+◌, ℕ, List, [], ◌∷◌, length, false, Option, ◌++◌, option_to_list, refl, sym, subst, ap, ◌∙◌, arith}
+use Rattle.std.specs.List.{AllZip, AllByRecursion as Each}
+use Rattle.std.proofs.lemmas.Bool.{false_from_ne_true}
+use Rattle.list_laws.proofs.Prefixes.{prefix-length}
 use Rattle.atomic_table.specs.Seated.{TableId}
 use Rattle.ring_words.specs.declared.page.Role.TheVariants.{Server, Client}
-use Rattle.qrexec_frame.specs.Streams.{Each}
-use Rattle.vchan_protocol.specs.Honest.RingLaw.{IsPrefixOf}
 use Rattle.end_view.specs.EndView.{EndView}
 use Rattle.end_view.specs.Settled.{Settled, IsHonestPage}
-use Rattle.vchan_rule.specs.Seated.{PageStart, PageView, SeatedSide, last_view, words_of}
+use Rattle.vchan_rule.specs.Seated.{PageStart, PageView, SeatedSide, last_view, words_of, IsSettledBy}
 use Rattle.vchan_relay.specs.declared.lay.PageSeats.{PageSeats}
 use Rattle.vchan_relay.specs.declared.task.HopDone.{HopDone}
 use Rattle.vchan_relay.specs.declared.task.HopDone.TheVariants.{Wrote, Passed, Read}
 use Rattle.vchan_relay.specs.declared.task.HopTask.{HopTask}
-use Rattle.vchan_relay.specs.Ended.{IsEndOf, SendsAll, PassesAll, GetsAll, HasEnded}
+use Rattle.vchan_relay.specs.Ended.{PassesAll}
 use Rattle.vchan_relay.specs.Laying.{AreLaid}
 use Rattle.vchan_relay.specs.Owes.{hop_owes, FollowOn, AreTasks, FollowBack, AreHandedBack}
 use Rattle.vchan_relay.specs.Joints.{JoinedEnds, AreJoined}
 use Rattle.vchan_relay.specs.Runs.{RelayedPages, IsHonestly, HasCarried, HasRelayed, AreBehind, IsThrough}
-use Rattle.vchan_relay.specs.Settling.{IsSettledBy, AreSettledBy, AreAllSettledBy}
+use Rattle.vchan_relay.specs.Settling.{AreSettledBy, AreAllSettledBy}
+use Rattle.vchan_lifecycle.specs.Ended.{IsEndOf, SendsAll, GetsAll, HasEnded}
 
 -- ---- from the tasks to what they returned
 
@@ -101,26 +101,16 @@ begins words room page (next ∷ pages) client (Passed near far joint) (done ∷
 
 -- ---- what went through them
 
-unseen_by : (b : Bool) → (b ≡ true → ⊥) → b ≡ false
-unseen_by true never = absurd (never refl)
-unseen_by false never = refl
-
-no_longer : (xs ys : List ℕ) → IsPrefixOf xs ys → length xs ≤ length ys
-no_longer xs ys begins =
-    let same = ap length begins.1 in
-    let both = length-append xs begins.0 in
-    omega (arith, same, both)
-
 -- the reader got no more than the first client sent
 no_more : (words : PageStart) (room : ℕ) (got : List ℕ) (page : Settled) (pages : List Settled) → IsHonestly words page → AreBehind words room got page.server pages → length got ≤ length page.client.sent
 no_more words room got page [] honest behind =
-    let here = no_longer page.server.got page.client.sent (both_honest words page honest).left.in_order in
+    let here = prefix-length page.server.got page.client.sent (both_honest words page honest).left.in_order in
     let same = ap length behind.got in
     omega (arith, here, same)
 no_more words room got page (next ∷ pages) honest behind =
     let later = no_more words room got next pages behind.1 behind.2 in
-    let between = no_longer next.client.sent page.server.got behind.0.order in
-    let here = no_longer page.server.got page.client.sent (both_honest words page honest).left.in_order in
+    let between = prefix-length next.client.sent page.server.got behind.0.order in
+    let here = prefix-length page.server.got page.client.sent (both_honest words page honest).left.in_order in
     omega (arith, later, between, here)
 
 -- if the server of a page found the end of its stream, it has all that the client sent
@@ -131,7 +121,7 @@ ended_through words got page pages honest is ended each =
     let whole : page.server.got ≡ page.client.sent = both.left.whole drained in
     record {
       found = both.client_found;
-      unseen = unseen_by page.client.saw (λ saw. both.not_both ended.saw saw);
+      unseen = false_from_ne_true page.client.saw (λ saw. both.not_both ended.saw saw);
       carried = record { honest = honest; sent = sym whole ∙ is; got = is; drained = drained };
       each = each;
     }

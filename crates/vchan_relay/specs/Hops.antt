@@ -1,9 +1,9 @@
 -- Relays in a row, each of which reads the left ring of one page and writes that of the next: what the last reader has of what the first writer sent.
 -- Source: this project's own.
 use Rattle.std.specs.Prelude.{◌≡◌, true, List, [], ◌∷◌, ℕ}
-use Rattle.qrexec_frame.specs.Streams.{Each}
+use Rattle.std.specs.List.{AllByRecursion as Each}
+use Rattle.list_laws.specs.Lists.{IsPrefixOf}
 use Rattle.end_view.specs.Settled.{Settled, IsHonestRing}
-use Rattle.vchan_protocol.specs.Honest.RingLaw.{IsPrefixOf}
 use Rattle.vchan_relay.specs.Relay.{IsLawful}
 
 -- a relay: what it holds in the end, and the page that it writes

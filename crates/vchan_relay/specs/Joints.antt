@@ -1,7 +1,7 @@
 -- Which two ends a relay had, and which pages a row of relays joined.
 -- Source: this project's own.
 use Rattle.std.specs.Prelude.{◌≡◌, false, List, [], ◌∷◌}
-use Rattle.vchan_protocol.specs.Honest.RingLaw.{IsPrefixOf}
+use Rattle.list_laws.specs.Lists.{IsPrefixOf}
 use Rattle.end_view.specs.EndView.{EndView}
 use Rattle.end_view.specs.Settled.{Settled}
 

@@ -10,7 +10,8 @@ use Rattle.vchan_relay.specs.declared.task.HopDone.TheVariants.{Wrote, Passed, R
 use Rattle.vchan_relay.specs.declared.task.HopTask.{HopTask}
 use Rattle.vchan_relay.specs.declared.task.HopTask.TheVariants.{Writes, Passes, Reads, Over}
 use Rattle.vchan_relay.specs.Joints.{JoinedEnds}
-use Rattle.vchan_relay.specs.Ended.{IsEndOf, SendsAll, PassesAll, GetsAll}
+use Rattle.vchan_relay.specs.Ended.{PassesAll}
+use Rattle.vchan_lifecycle.specs.Ended.{IsEndOf, SendsAll, GetsAll}
 
 -- ---- what is returned
 

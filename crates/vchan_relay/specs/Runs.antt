@@ -1,12 +1,13 @@
 -- What holds of a run of relays when it is over.
 -- Source: this project's own.
 use Rattle.std.specs.Prelude.{◌≡◌, ◌+◌, ℕ, List, [], ◌∷◌, length, true, false}
-use Rattle.qrexec_frame.specs.Streams.{Each}
+use Rattle.std.specs.List.{AllByRecursion as Each}
 use Rattle.end_view.specs.EndView.{EndView}
 use Rattle.end_view.specs.Settled.{Settled, IsSettled}
 use Rattle.vchan_rule.specs.Seated.{PageStart, began_with}
 use Rattle.vchan_relay.specs.Joints.{JoinedEnds, AreJoined}
-use Rattle.vchan_relay.specs.Ended.{GetsAll, PassesAll}
+use Rattle.vchan_relay.specs.Ended.{PassesAll}
+use Rattle.vchan_lifecycle.specs.Ended.{GetsAll}
 
 -- what the last reader got, and the pages and the relays between them from near to far
 pub record RelayedPages : Type 0 where

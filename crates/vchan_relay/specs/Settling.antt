@@ -1,18 +1,11 @@
 -- How the pages of a run of relays are settled by the ends that the tasks returned.
 -- Source: this project's own.
 use Rattle.std.specs.Prelude.{◌≡◌, ℕ, List, [], ◌∷◌, ◌++◌, option_to_list}
-use Rattle.end_view.specs.Settled.{Settled, IsSettled}
-use Rattle.vchan_rule.specs.Seated.{PageView, SeatedSide, began_with, last_view, words_of}
+use Rattle.end_view.specs.Settled.{Settled}
+use Rattle.vchan_rule.specs.Seated.{PageView, SeatedSide, IsSettledBy}
 use Rattle.vchan_relay.specs.Joints.{JoinedEnds}
 use Rattle.vchan_relay.specs.declared.task.HopDone.{HopDone}
 use Rattle.vchan_relay.specs.declared.task.HopDone.TheVariants.{Wrote, Passed, Read}
-
--- a page settled by these two ends
-pub record IsSettledBy (page : PageView) (server client : SeatedSide) (s : Settled) : Type 0 where
-  pub settled : IsSettled s
-  pub words_are : began_with s ≡ words_of page
-  pub server_is : s.server ≡ last_view server
-  pub client_is : s.client ≡ last_view client
 
 -- pages, the first of which has this client, settled by what was returned after it, with the relays between them, and what the reader of the last one got
 abbrev pub AreSettledBy : List PageView → SeatedSide → List HopDone → List Settled → List JoinedEnds → List ℕ → Type 0

@@ -2,7 +2,7 @@
 ghost use Rattle.std.specs.Prelude.{◌≡◌, ◌≤◌, ◌<◌, ◌+◌, ◌^◌, [], IfOk, IfErr, true, length, vec_len};
 ghost use Rattle.ring_words.specs.declared.page.Role.TheVariants.{Server, Client};
 ghost use Rattle.vchan_rule.specs.Seated.{PageStart, view, last_view, IsOpen};
-ghost use Rattle.vchan_relay.specs.Ended.{IsEndOf};
+ghost use Rattle.vchan_lifecycle.specs.Ended.{IsEndOf};
 ghost use Rattle.vchan_relay.specs.Laying.{AreLaid};
 ghost use Rattle.vchan_relay.specs.Owes.{AreTasks, Owes, RelayHands, WriterHands};
 

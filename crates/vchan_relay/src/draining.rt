@@ -3,7 +3,7 @@ ghost use Rattle.std.specs.Prelude.{◌≡◌, ◌≤◌, ◌<◌, ◌+◌, ℕ,
 ghost use Rattle.ring_words.specs.declared.page.Role.TheVariants.{Server};
 ghost use Rattle.vchan_rule.specs.Seated.{view, IsOpen};
 ghost use Rattle.vchan_rule.specs.Ends.{IsSameEnd};
-ghost use Rattle.vchan_relay.specs.Ended.{HasEnded, MayHaveEnded, drained_count};
+ghost use Rattle.vchan_lifecycle.specs.Ended.{HasEnded, MayHaveEnded, drained_count};
 ghost use Rattle.vchan_relay.specs.Owes.{ReaderHands};
 
 use crate::task::HopDone;

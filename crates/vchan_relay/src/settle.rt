@@ -1,9 +1,10 @@
 //! Settling the pages of a run.
 ghost use Rattle.std.specs.Prelude.{◌≡◌, ◌++◌, IfOk, OnOk, List, ℕ, option_to_list};
 ghost use Rattle.ring_words.specs.declared.page.Role.TheVariants.{Server, Client};
-ghost use Rattle.vchan_relay.specs.Ended.{IsEndOf};
+ghost use Rattle.vchan_lifecycle.specs.Ended.{IsEndOf};
 ghost use Rattle.vchan_relay.specs.Owes.{AreHandedBack};
-ghost use Rattle.vchan_relay.specs.Settling.{AreAllSettledBy, IsSettledBy};
+ghost use Rattle.vchan_relay.specs.Settling.{AreAllSettledBy};
+ghost use Rattle.vchan_rule.specs.Seated.{IsSettledBy};
 
 use crate::relay::Joint;
 use crate::run::Relayed;

@@ -8,7 +8,7 @@ use Rattle.ring_words.specs.declared.page.WordName.TheVariants.{RingByte}
 use Rattle.ring_words.specs.declared.page.Ring.{Ring}
 use Rattle.ring_words.specs.declared.page.Role.{Role}
 use Rattle.ring_words.specs.declared.page.Ring.TheVariants.{Left, Right}
-use Rattle.ring_words.specs.Page.{order_of, index_of, word_count, Has}
+use Rattle.ring_words.specs.Page.{order_of, index_of, Has}
 use Rattle.ring_words.specs.Rings.{place, size}
 use Rattle.ring_words.proofs.RingLaws.{place_wraps, place_within}
 use Rattle.vchan_core.specs.declared.machine.ahead.Span.{Span}
@@ -153,10 +153,6 @@ take_has m span orders lies p same within =
 pub number_from : (orders : Orders) (ring : Ring) (at : ℕ) → index_of orders (RingByte ring 0) + at ≡ index_of orders (RingByte ring at)
 number_from orders Left at = omega arith
 number_from orders Right at = omega arith
-
-pub number_within : (orders : Orders) (ring : Ring) (at : ℕ) → at < size (order_of orders ring) → index_of orders (RingByte ring at) < word_count orders
-number_within orders Left at within = omega (arith, within)
-number_within orders Right at within = omega (arith, within)
 
 pub some_size : (order : Order) → 0 < size order
 some_size order = let h = place_within 0 order in omega (arith, h)

@@ -1,8 +1,7 @@
 -- A call of an end, one event at a time, whatever its peer does between them.
 use Rattle.std.proofs.Common.{◌≡◌, ℕ, ◌+◌, ◌<◌, ◌≤◌, ◌||◌, Bool, false, not, Option, Some, None, List, [], ◌∷◌, ◌++◌, length, take, refl, subst, sym, ap, ◌∙◌, arith}
 use Rattle.std.proofs.lemmas.List.{length-append}
-use Rattle.vchan_protocol.specs.declared.op.Op.{Op}
-use Rattle.vchan_protocol.specs.declared.op.Op.TheVariants.{Load}
+use Rattle.std.proofs.Math.Bool.{or-false}
 use Rattle.vchan_protocol.specs.declared.op.PastEvent.{PastEvent}
 use Rattle.vchan_protocol.specs.declared.call.Answer.{Answer}
 use Rattle.vchan_protocol.specs.declared.call.Call.{Call}
@@ -12,16 +11,16 @@ use Rattle.vchan_protocol.specs.Table.Plan.{answers, after, past, GoesOn}
 use Rattle.vchan_protocol.specs.Table.Ends.{Standing, standing_after, write_size, read_size}
 use Rattle.vchan_protocol.specs.Table.Apply.{filled}
 use Rattle.vchan_protocol.specs.Table.Calls.{plan_of, payload_of, stored_most, loaded_most, most_events}
-use Rattle.vchan_protocol.specs.History.Core.{begins, standing_of, plan_left, op_next, made, side_after, answer_in, bytes_loaded, saw_after, is_shut}
+use Rattle.vchan_protocol.specs.History.Core.{begins, standing_of, plan_left, op_next, made, side_after, answer_in, bytes_loaded}
 use Rattle.vchan_protocol.specs.OneEnd.EndingLaw.{notices, has_noticed}
 use Rattle.vchan_protocol.specs.OneEnd.OneCall.{landed, side_along, OnWay, IsOver, IsThen}
 use Rattle.vchan_protocol.proofs.OneEnd.OneCallBytes.{answers_tell}
 use Rattle.vchan_protocol.proofs.OneEnd.OneCallWay.{way_goes_on, landed-length, over_tells}
 use Rattle.vchan_protocol.proofs.Table.Bounds.{ends_call, length-Leads}
 use Rattle.vchan_protocol.proofs.Table.Counted.{counts_within}
-use Rattle.vchan_protocol.proofs.Answering.AnswerTrails.{unnoticed}
-use Rattle.vchan_protocol.proofs.Honest.LifeTrails.{or_false, or_assoc}
+use Rattle.vchan_protocol.proofs.Honest.LifeTrails.{or_assoc}
 use Rattle.vchan_protocol.proofs.History.EventLaws.{settled-trail}
+use Rattle.vchan_protocol.proofs.OneEnd.EndingSteps.{saw-after}
 use Rattle.vchan_core.specs.OneMachine.Phases.{IsIdle, payload_needed, buffer_needed}
 use Rattle.vchan_core.specs.Page.StandsFor.{HasPayload}
 use Rattle.end_view.specs.EndView.{view_of}
@@ -136,17 +135,12 @@ none_filled : (start bytes : List ℕ) → length bytes ≡ 0 → filled start b
 none_filled start [] none = refl
 none_filled start (byte ∷ bytes) none = let never : ⊥ = omega (arith, none) in absurd never
 
--- events show an end that its peer is shut or gone, or leave what it has seen
-event_saw : (s : Side) (op : Op) (taken : ℕ) → saw_after op taken s ≡ (s.saw || notices (standing_of s) op taken)
-event_saw s (Load word) taken = refl
-event_saw s _ taken = unnoticed s.saw (not (is_shut s.state))
-
 along_saw : (s : Side) (events : List PastEvent) → (side_along s events).saw ≡ (s.saw || has_noticed (standing_of s) events)
 unfolding standing_after
-along_saw s [] = sym (or_false s.saw)
+along_saw s [] = sym (or-false s.saw)
 along_saw s (event ∷ events) =
     along_saw (made s event.op event.taken) events
-    ∙ ap (λ (b : Bool). b || has_noticed (standing_after (standing_of s) event.op) events) (event_saw s event.op event.taken)
+    ∙ ap (λ (b : Bool). b || has_noticed (standing_after (standing_of s) event.op) events) (saw-after s event.op event.taken)
     ∙ or_assoc s.saw (notices (standing_of s) event.op event.taken) (has_noticed (standing_after (standing_of s) event.op) events)
 
 -- a call that is over, with all that its contract states

@@ -24,9 +24,11 @@ use Rattle.vchan_protocol.specs.OneEnd.OneEndLaw.{OwnLawful}
 use Rattle.vchan_protocol.proofs.OneEnd.OneEndLaws.{own_begun, own_stepped}
 use Rattle.vchan_protocol.proofs.History.EventLaws.{settled-payload, stored_most-payload, OwesNext}
 use Rattle.vchan_protocol.proofs.Hostile.TurnedSteps.{lies_at_count}
+use Rattle.vchan_protocol.proofs.Always.InvariantSteps.{retired_settled}
 use Rattle.vchan_core.proofs.OneMachine.PhaseLaws.{GoesOn-machine}
 use Rattle.vchan_core.proofs.Page.StepLaws.{in_call, plan_left-is, owed, made_stands, answer_in-rest}
-use Rattle.vchan_rule.specs.Ends.{seen_by, Agrees, IsPending, Pays}
+use Rattle.vchan_rule.specs.Ends.{seen_by, Agrees, IsPending, Pays, IsSameEnd}
+use Rattle.vchan_rule.specs.Seated.{SeatedEnd}
 
 -- ---- what the core lacks of one end and its machine
 
@@ -51,10 +53,6 @@ settled-orders s (does op next) = refl
 settled-role : (s : Side) (plan : Plan) → (settled s plan).role ≡ s.role
 settled-role s (answers answer) = refl
 settled-role s (does op next) = refl
-
-settled-retired : (s : Side) (plan : Plan) → (settled s plan).retired ≡ s.retired
-settled-retired s (answers answer) = refl
-settled-retired s (does op next) = refl
 
 -- the machine stands for the end after that has begun the call
 begins_stands : (call : Call) (m : Machine) (s : Side) (payload : List ℕ) → IsPending call m s → length payload ≡ payload_of call → IsMachineOf (begins s call payload) m
@@ -122,7 +120,7 @@ after_step start m m' v s payload result taken h busy leads idle stands =
       answer = sym (answer_in-rest m' result idle) ∙ ap answer_in leads ∙ ap (λ (p : Plan). answer_in (after p taken)) (sym plan);
       orders_are = settled-orders (made s (op_next s) taken) (after (plan_left s) taken);
       role_is = settled-role (made s (op_next s) taken) (after (plan_left s) taken);
-      retired_is = settled-retired (made s (op_next s) taken) (after (plan_left s) taken);
+      retired_is = retired_settled (made s (op_next s) taken) (after (plan_left s) taken);
     }
 
 -- the orders of a machine are those of its end
@@ -135,3 +133,7 @@ keeps_payload s taken source has =
 
 pub lies : (start : ℕ) (m : Machine) (v s : Side) (payload : List ℕ) → Inside start m v payload s → ¬ IsIdle m → LiesAtCount s (op_next s)
 lies start m v s payload h busy = lies_at_count s h.own.call (goes_on start m v s payload h busy)
+
+-- the same end of the same page, over two calls
+pub same-end-then : (a b c : SeatedEnd) → IsSameEnd a b → IsSameEnd b c → IsSameEnd a c
+same-end-then a b c one two = (two.0 ∙ one.0, two.1 ∙ one.1, two.2 ∙ one.2, two.3 ∙ one.3)

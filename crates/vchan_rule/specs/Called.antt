@@ -1,5 +1,5 @@
 -- A whole call of an end: when it may be made, and what it leaves.
-use Rattle.std.specs.Prelude.{◌≡◌, ◌≤◌, ◌||◌, ℕ, None, List, length, take}
+use Rattle.std.specs.Prelude.{◌≡◌, ◌≤◌, ◌||◌, ℕ, None, List, length, take, min}
 use Rattle.vchan_protocol.specs.declared.call.Answer.{Answer}
 use Rattle.vchan_protocol.specs.declared.call.Call.{Call}
 use Rattle.vchan_protocol.specs.Table.Ends.{write_size, read_size}
@@ -36,3 +36,7 @@ pub record HasCalled (was : SeatedEnd) (call : Call) (payload start : List ℕ) 
   pub kept : bytes_in answer ≡ 0 → buffer ≡ start
   pub long : length buffer ≡ length start
   pub bound : length e.side.trail ≤ most_events (standing_of was.side) call
+
+-- what one call asks for at most: as many bytes as are given, within 32 bits
+abbrev pub most_asked : List ℕ → ℕ
+most_asked bytes = min (length bytes) 4294967295

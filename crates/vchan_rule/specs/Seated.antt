@@ -10,7 +10,7 @@ use Rattle.vchan_protocol.specs.declared.call.EndState.TheVariants.{Open}
 use Rattle.vchan_protocol.specs.declared.side.Side.{Side}
 use Rattle.vchan_core.specs.declared.machine.Machine.{Machine}
 use Rattle.end_view.specs.EndView.{EndView, view_of}
-use Rattle.end_view.specs.Settled.{Settled}
+use Rattle.end_view.specs.Settled.{Settled, IsSettled}
 use Rattle.vchan_rule.specs.declared.rule.Opening.{Opening}
 
 -- the words with which pages begin: the orders of the pages, and the number at which all their indices begin
@@ -80,3 +80,10 @@ began_with page = record { orders = page.orders; start = page.start }
 -- what holds of a page of these two ends
 abbrev pub settled_page : PageView → SeatedSide → SeatedSide → Settled
 settled_page page server client = record { orders = page.orders; start = page.start; server = last_view server; client = last_view client }
+
+-- a page settled by these two ends
+pub record IsSettledBy (page : PageView) (server client : SeatedSide) (s : Settled) : Type 0 where
+  pub settled : IsSettled s
+  pub words_are : began_with s ≡ words_of page
+  pub server_is : s.server ≡ last_view server
+  pub client_is : s.client ≡ last_view client

@@ -1,6 +1,6 @@
 -- What a write and a read of a stream make of the view of their end, and why they answer as they do.
 -- Source: libxenvchan's io.c, non-blocking mode, for libxenvchan_write and libxenvchan_read; that an answer names its two indices is this project's own.
-use Rattle.std.specs.Prelude.{ℕ, min, ◌++◌, List, length, take, true}
+use Rattle.std.specs.Prelude.{ℕ, ◌++◌, List, take, true}
 use Rattle.vchan_protocol.specs.declared.call.Answer.{Answer}
 use Rattle.vchan_protocol.specs.declared.call.Answer.TheVariants.{Wrote, Full, Got, Empty, PeerClosed}
 use Rattle.end_view.specs.EndView.{EndView}
@@ -8,10 +8,6 @@ use Rattle.vchan_stream.specs.declared.WriteAnswer.{WriteAnswer}
 use Rattle.vchan_stream.specs.declared.WriteAnswer.TheVariants.{Wrote as HasWritten, Full as IsFull, PeerClosed as WriteClosed}
 use Rattle.vchan_stream.specs.declared.ReadAnswer.{ReadAnswer}
 use Rattle.vchan_stream.specs.declared.ReadAnswer.TheVariants.{Got as HasGot, Empty as IsEmpty, PeerClosed as ReadClosed}
-
--- what one call asks for at most: as many bytes as are given, within 32 bits
-abbrev pub most_asked : List ℕ → ℕ
-most_asked bytes = min (length bytes) 4294967295
 
 -- the answers that a write gives, and those of a read
 abbrev pub AnswersWrite : Answer → Type 0

@@ -15,7 +15,8 @@ ghost use Rattle.vchan_protocol.specs.Answering.Loads.{loads_of};
 ghost use Rattle.vchan_protocol.specs.OneEnd.OneCall.{bytes_in};
 ghost use Rattle.vchan_rule.specs.Seated.{view, IsOpen};
 ghost use Rattle.vchan_rule.specs.Ends.{IsSameEnd};
-ghost use Rattle.vchan_stream.specs.Stream.{most_asked, AnswersWrite, AnswersRead, write_told, read_told, wrote_to, read_from};
+ghost use Rattle.vchan_rule.specs.Called.{most_asked};
+ghost use Rattle.vchan_stream.specs.Stream.{AnswersWrite, AnswersRead, write_told, read_told, wrote_to, read_from};
 
 use vchan_core::{Answer, Call};
 use vchan_rule::End;

@@ -1,4 +1,4 @@
-use Rattle.std.proofs.Common.{◌≡◌, ◌+◌, ◌%◌, ◌^◌, ◌<◌, take, sym, ap, subst, ◌∙◌, arith}
+use Rattle.std.proofs.Common.{◌+◌, ◌%◌, ◌^◌, ◌<◌, take, sym, ap, subst, ◌∙◌, arith}
 use Rattle.ring_words.specs.Rings.{place, size}
 use Rattle.ring_words.specs.Page.{order_of}
 use Rattle.ring_words.specs.declared.order.Order.{Order}
@@ -9,7 +9,7 @@ use Rattle.vchan_protocol.specs.declared.op.Op.TheVariants.{Store}
 use Rattle.vchan_protocol.specs.declared.side.Side.{Side}
 use Rattle.vchan_protocol.specs.Hostile.Turned.{strays}
 use Rattle.hostile_seat.specs.Hostile.{byte_stores}
-use Rattle.hostile_seat.proofs.ByteLaws.{along_orders, stored_more}
+use Rattle.hostile_seat.proofs.ByteLaws.{stored_more, along_orders}
 use Rattle.hostile_seat.proofs.store_bytes.Goals as goal
 
 pub store-requires : goal.store-requires

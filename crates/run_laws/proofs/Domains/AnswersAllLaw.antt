@@ -4,9 +4,12 @@ use Rattle.std.specs.Prelude.{true, false, Bool, ◌&&◌, bytes_eq}
 use Rattle.std.proofs.lemmas.List.{length-map}
 use Rattle.std.proofs.lemmas.List.Sums.{length-filter}
 use Rattle.std.proofs.lemmas.Slice.Eq.{bytes_eq-Decides}
+use Rattle.std.specs.List.{AllByRecursion as Each, AllZip as EachPair}
+use Rattle.list_laws.specs.Lists.{SomeOf}
+use Rattle.list_laws.proofs.Prefixes.{prefix-all}
+use Rattle.list_laws.proofs.Tests.{same-bytes}
 use Rattle.qrexec_frame.specs.declared.message.Message.{Message}
 use Rattle.qrexec_frame.specs.declared.message.Message.TheVariants as m
-use Rattle.qrexec_frame.specs.Streams.{Each}
 use Rattle.scenario_file.specs.Scenario.{Plan as Scenario}
 use Rattle.scenario_file.specs.declared.scenario.CallPlan.{CallPlan}
 use Rattle.task_duties.specs.declared.place.PagePlace.{PagePlace}
@@ -21,10 +24,9 @@ use Rattle.task_duties.specs.Agent.Owes.{ReportsCall, ReportsAnswer}
 use Rattle.task_duties.specs.Agent.Saying.{asking_of}
 use Rattle.task_duties.specs.Broker.Owes.{awaited_of}
 use Rattle.task_duties.specs.Broker.Outbox.{outbox, answered, is_answer}
-use Rattle.task_duties.specs.Pairwise.{EachPair, SomeOf}
 use Rattle.task_duties.proofs.AnsweredLaw.{IsIdle, AnswersTo, answers-each}
 use Rattle.task_duties.proofs.Elements.{Has, Comes, has-filter, each-at, each-of, tally, tally-permuted}
-use Rattle.task_duties.proofs.JournalLaw.{asked_in, prefix-all}
+use Rattle.task_duties.proofs.JournalLaw.{asked_in}
 use Rattle.run_laws.specs.Laid.{hub_of, calls_from, agent_plan, awaited_by}
 use Rattle.run_laws.specs.Lawful.{is_reply, replies}
 use Rattle.run_laws.specs.Run.{Run, IsRun, IsHonest, end_of}
@@ -35,7 +37,7 @@ use Rattle.run_laws.proofs.Sessions.CallLaw.{AreHeard, IsHeard, all-heard}
 use Rattle.run_laws.proofs.Domains.ControlLaws.{own-end, control_ends}
 use Rattle.run_laws.proofs.Domains.Planned.{heard-is, asked-same, asked-planned, heard-apart, heard-unused}
 use Rattle.run_laws.proofs.Domains.PortsLaw.{index-numbers}
-use Rattle.run_laws.proofs.Domains.ReplyCounts.{answers_in, counted, IsAnsweredEntry, reply_count, ask_count, outbox-replies, one-asks, is-one, bytes-self}
+use Rattle.run_laws.proofs.Domains.ReplyCounts.{answers_in, counted, IsAnsweredEntry, reply_count, ask_count, outbox-replies, one-asks, is-one}
 use Rattle.run_laws.proofs.Scenarios.Facts.{facts}
 
 -- ---- the count of calls
@@ -123,7 +125,7 @@ none-wait : (heard : List Message) (calls : List CallPlan) (asked : List Asked) 
 none-wait heard calls asked are idle = each-of (λ a. waits a.answer ≡ false) asked (λ a there.
     let c = partner (λ call x. (x.call ≡ call) × IsHeard heard call x.answer) calls asked a are there in
     let idle' = each-at (λ x. waits_as (ident_of c.one.number) x ≡ false) asked a (idle c.one c.there) there in
-    let same : bytes_eq (ident_of a.call.number) (ident_of c.one.number) ≡ true = ap (λ x. bytes_eq (ident_of x.number) (ident_of c.one.number)) c.is.0 ∙ bytes-self (ident_of c.one.number) in
+    let same : bytes_eq (ident_of a.call.number) (ident_of c.one.number) ≡ true = ap (λ x. bytes_eq (ident_of x.number) (ident_of c.one.number)) c.is.0 ∙ same-bytes (ident_of c.one.number) in
     and-false (bytes_eq (ident_of a.call.number) (ident_of c.one.number)) (waits a.answer) same idle')
 
 one-reported : (plan : AgentPlan) (end : PagePlace → EndView) (call : CallPlan) (a : Answer) (e : CallEnd) → waits a ≡ false → ReportsAnswer plan end call a e → e ≢ Unanswered

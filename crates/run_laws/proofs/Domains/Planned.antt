@@ -3,9 +3,11 @@
 use Rattle.std.proofs.Common.{◌≡◌, ℕ, ◌<◌, List, [], ◌∷◌, take, map, refl, ap, ◌∙◌, arith, Option, Some}
 use Rattle.std.specs.Prelude.{true, false, Bool, ◌==◌, ◌||◌, filter_map, option_map}
 use Rattle.std.proofs.lemmas.Bool.Decides.{nat_tests}
+use Rattle.std.specs.List.{AllByRecursion as Each}
+use Rattle.list_laws.specs.Lists.{IsPrefixOf, IsPartOf, AreDifferent}
+use Rattle.list_laws.proofs.Prefixes.{prefix-trans}
 use Rattle.qrexec_frame.specs.declared.message.Message.{Message}
 use Rattle.qrexec_frame.specs.declared.message.Message.TheVariants as m
-use Rattle.qrexec_frame.specs.Streams.{Each, IsPrefixOf}
 use Rattle.call_broker.specs.declared.decision.Entry.{Entry}
 use Rattle.call_broker.specs.declared.event.Event.TheVariants.{Trigger}
 use Rattle.call_broker.specs.declared.decision.Decision.TheVariants.{Accepted}
@@ -21,10 +23,9 @@ use Rattle.task_duties.specs.Words.{ident_of}
 use Rattle.task_duties.specs.Hearing.{to_agent, to_broker, hears}
 use Rattle.task_duties.specs.Agent.Saying.{Asking, asking, asking_of}
 use Rattle.task_duties.specs.Broker.Outbox.{outbox}
-use Rattle.task_duties.specs.Pairwise.{IsPartOf}
 use Rattle.task_duties.proofs.ControlLaw.{control-bytes, IsClean, all-heard, agent-on_control, broker-on_control}
-use Rattle.task_duties.proofs.Elements.{Has, Comes, has-filter_map-back, has-map, has-prefix, has-part, each-at, each-of, Differ, differ-prefix, differ-numbers, one-of}
-use Rattle.task_duties.proofs.JournalLaw.{asked_event, asked_in, asked-read, asked-said, asked-first, prefix-trans, prefix-map, filter_map-map}
+use Rattle.task_duties.proofs.Elements.{Has, Comes, has-filter_map-back, has-map, has-prefix, has-part, each-at, each-of, differ-prefix, differ-numbers, one-of}
+use Rattle.task_duties.proofs.JournalLaw.{asked_event, asked_in, asked-read, asked-said, asked-first, prefix-map, filter_map-map}
 use Rattle.task_duties.proofs.LimitLaw.{asking_event}
 use Rattle.task_duties.proofs.OutboxLaw.{PutBy, put-by-entry, outbox-once, part-once, apart-from}
 use Rattle.task_duties.proofs.ServedLaw.{AreApart, IsUnusedBy}
@@ -83,11 +84,11 @@ map-idents : (calls : List CallPlan) → map (λ a. a.ident) (map asking_of call
 map-idents [] = refl
 map-idents (c ∷ calls) = ap (λ r. ident_of c.number ∷ r) (map-idents calls)
 
-pub entries-differ : (s : Scenario) (run : Run) (h : IsRun s run) (d : ℕ) → IsHonest s d → Differ (filter_map (ident_by d) run.journal)
+pub entries-differ : (s : Scenario) (run : Run) (h : IsRun s run) (d : ℕ) → IsHonest s d → AreDifferent (filter_map (ident_by d) run.journal)
 entries-differ s run h d honest =
     let is : filter_map (ident_by d) run.journal ≡ map (λ a. a.ident) (asked_in run.journal d) = filter_map-map (λ a. a.ident) (λ x. asked_event d x.event) run.journal in
     let prefix = prefix-map (λ a. a.ident) (asked_in run.journal d) (map asking_of (calls_from s d)) (asked-planned s run h d honest) in
-    let all : Differ (map (λ a. a.ident) (map asking_of (calls_from s d))) = rw (map-idents (calls_from s d)) (calls-differ s (facts s run h) d) in
+    let all : AreDifferent (map (λ a. a.ident) (map asking_of (calls_from s d))) = rw (map-idents (calls_from s d)) (calls-differ s (facts s run h) d) in
     rw is (differ-prefix _ _ prefix all)
 
 -- an entry that is a trigger of the domain
@@ -117,7 +118,7 @@ entry-call s run h d honest x target service ident hx is =
 pub well : (s : Scenario) (run : Run) → IsRun s run → Each (λ x. AcceptsWell (hub_of s) x.event x.decision) run.journal
 well s run h = accepts-well (hub_of s) run.journal [] h.broker.decided
 
-pub ports-differ : (s : Scenario) (run : Run) → IsRun s run → (f t : ℕ) → Differ (accepted_ports run.journal f t)
+pub ports-differ : (s : Scenario) (run : Run) → IsRun s run → (f t : ℕ) → AreDifferent (accepted_ports run.journal f t)
 ports-differ s run h f t =
     let p = (ports-apart (hub_of s) f t run.journal h.broker.decided).0 in
     let is = p.ports ∙ ports-are f t 0 p.count in

@@ -8,6 +8,7 @@ use Rattle.call_broker.proofs.PortLaws.{ports-apart}
 use Rattle.call_broker.specs.Laws.{ports_from}
 use Rattle.scenario_file.specs.Scenario.{Plan as Scenario, domain_of}
 use Rattle.task_duties.specs.Places.{numbers}
+use Rattle.task_duties.proofs.Places.{length-numbers}
 use Rattle.run_laws.specs.Laid.{pages_between, hub_of}
 use Rattle.run_laws.specs.Laws.{PortsApart}
 use Rattle.run_laws.proofs.Scenarios.Numbers.{domain-is}
@@ -20,10 +21,6 @@ index-within : (xs ys : List ℕ) (k : ℕ) → k < length xs → slice_index_or
 index-within [] ys k less = absurd (omega (arith, less))
 index-within (x ∷ xs) ys zero less = refl
 index-within (x ∷ xs) ys (suc k) less = index-within xs ys k (omega (arith, less))
-
-length-numbers : (from by count : ℕ) → length (numbers from by count) ≡ count
-length-numbers from by zero = refl
-length-numbers from by (suc count) = let e = length-numbers (from + by) by count in omega (arith, e)
 
 pub index-numbers : (g : ℕ → ℕ) (from count k : ℕ) → k < count → slice_index_or (map g (numbers from 1 count)) k 0 ≡ g (from + k)
 index-numbers g from zero k less = absurd (omega (arith, less))

@@ -3,10 +3,12 @@ use Rattle.std.proofs.Common.{◌≡◌, ◌≢◌, ℕ, ◌+◌, ◌≤◌, Lis
 use Rattle.std.specs.Prelude.{true, false, Bool, ◌==◌, bytes_eq, filter, is_some, if◌then◌else◌}
 use Rattle.std.proofs.lemmas.Bool.Decides.{nat_tests}
 use Rattle.std.proofs.lemmas.Slice.Eq.{bytes_eq-Decides}
+use Rattle.std.specs.List.{AllByRecursion as Each}
+use Rattle.list_laws.specs.Lists.{AreDifferent}
+use Rattle.list_laws.proofs.Tests.{same-bytes}
 use Rattle.qrexec_frame.specs.Names.{cleaned_service}
 use Rattle.qrexec_frame.specs.declared.message.Message.{Message}
 use Rattle.qrexec_frame.specs.declared.message.Message.TheVariants as m
-use Rattle.qrexec_frame.specs.Streams.{Each}
 use Rattle.call_broker.specs.declared.decision.Entry.{Entry}
 use Rattle.call_broker.specs.declared.event.Event.{Event}
 use Rattle.call_broker.specs.declared.event.Event.TheVariants.{Trigger, Terminated, Dropped}
@@ -17,7 +19,7 @@ use Rattle.scenario_file.specs.declared.scenario.CallPlan.{CallPlan}
 use Rattle.task_duties.specs.Words.{ident_of, exec_line}
 use Rattle.task_duties.specs.Broker.Outbox.{only_if, puts, outbox, is_answer}
 use Rattle.task_duties.specs.Agent.Saying.{Asking, asking_of}
-use Rattle.task_duties.proofs.Elements.{Has, Differ, has-map-back, each-at, tally, tally-append}
+use Rattle.task_duties.proofs.Elements.{Has, has-map-back, each-at, tally, tally-append}
 use Rattle.task_duties.proofs.JournalLaw.{asked_event, asked_in}
 use Rattle.run_laws.specs.Lawful.{is_reply, replies}
 use Rattle.run_laws.specs.Laws.{IsOne}
@@ -125,9 +127,6 @@ outbox-replies hub d ident (x ∷ journal) each =
 
 -- ---- one call of an ident
 
-pub bytes-self : (xs : List ℕ) → bytes_eq xs xs ≡ true
-bytes-self xs = (bytes_eq-Decides xs xs).1 refl
-
 bytes-other : (xs ys : List ℕ) → xs ≢ ys → bytes_eq xs ys ≡ false
 bytes-other xs ys apart = by_test (bytes_eq xs ys) refl
   where
@@ -139,12 +138,12 @@ none-asks : (ident : List ℕ) (calls : List CallPlan) → Each (λ (i : List �
 none-asks ident [] each = refl
 none-asks ident (c ∷ calls) each = let no = bytes-other (ident_of c.number) ident (λ e. each.0 (sym e)) in rw no (let more = none-asks ident calls each.1 in omega (arith, more))
 
-pub one-asks : (calls : List CallPlan) → Differ (idents calls) → (call : CallPlan) → Has calls call → tally (ask_count (ident_of call.number)) (map asking_of calls) ≡ 1
+pub one-asks : (calls : List CallPlan) → AreDifferent (idents calls) → (call : CallPlan) → Has calls call → tally (ask_count (ident_of call.number)) (map asking_of calls) ≡ 1
 one-asks [] differ call there = absurd there
 one-asks (c ∷ calls) differ call (inl here) = subst (λ x. tally (ask_count (ident_of x.number)) (map asking_of (c ∷ calls)) ≡ 1) here first
   where
     first : tally (ask_count (ident_of c.number)) (map asking_of (c ∷ calls)) ≡ 1
-    first = let same = bytes-self (ident_of c.number) in let none = none-asks (ident_of c.number) calls differ.0 in rw same (omega (arith, none))
+    first = let same = same-bytes (ident_of c.number) in let none = none-asks (ident_of c.number) calls differ.0 in rw same (omega (arith, none))
 one-asks (c ∷ calls) differ call (inr later) =
     let apart = each-at (λ (i : List ℕ). ident_of c.number ≢ i) (idents calls) (ident_of call.number) differ.0 (has-map-back (λ x. ident_of x.number) calls call later) in
     let no = bytes-other (ident_of c.number) (ident_of call.number) apart in

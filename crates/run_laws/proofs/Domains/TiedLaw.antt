@@ -4,9 +4,11 @@ use Rattle.std.specs.Prelude.{true, false, Bool, ◌==◌, ◌&&◌, ◌||◌, b
 use Rattle.std.specs.Option.{option_map_or}
 use Rattle.std.proofs.lemmas.Bool.Decides.{nat_tests}
 use Rattle.std.proofs.lemmas.Slice.Eq.{bytes_eq-Decides}
+use Rattle.std.specs.List.{AllByRecursion as Each}
+use Rattle.std.proofs.lemmas.Bool.{and_parts}
+use Rattle.list_laws.proofs.Tests.{same-bytes}
 use Rattle.qrexec_frame.specs.declared.message.Message.{Message}
 use Rattle.qrexec_frame.specs.declared.message.Message.TheVariants as m
-use Rattle.qrexec_frame.specs.Streams.{Each}
 use Rattle.call_broker.specs.declared.decision.Entry.{Entry}
 use Rattle.call_broker.specs.declared.event.Event.{Event}
 use Rattle.call_broker.specs.declared.event.Event.TheVariants.{Trigger, Terminated, Dropped}
@@ -34,7 +36,6 @@ use Rattle.run_laws.proofs.Sessions.CallLaw.{AreHeard, IsHeard, all-heard}
 use Rattle.run_laws.proofs.Domains.ControlLaws.{own-end, control_ends}
 use Rattle.run_laws.proofs.Domains.Planned.{broker-clean, entry-call, one-entry, is-called}
 use Rattle.run_laws.proofs.Sessions.ServedAllLaw.{heard-entry}
-use Rattle.run_laws.proofs.Domains.ReplyCounts.{bytes-self}
 use Rattle.run_laws.proofs.Scenarios.Facts.{facts}
 
 -- ---- one name is one domain
@@ -119,18 +120,13 @@ pub record IsPortOf (d : ℕ) (ident : List ℕ) (port : ℕ) (x : Entry) : Type
   pub event : x.event ≡ Trigger d target service ident
   pub accepted : x.decision ≡ Accepted to port
 
-both : (a b : Bool) → (a && b) ≡ true → (a ≡ true) × (b ≡ true)
-both true true h = (refl, refl)
-both true false h = cc
-both false b h = cc
-
 port-view : (d : ℕ) (ident : List ℕ) (port : ℕ) (x : Entry) (e : Event) (dec : Decision) → x.event ≡ e → x.decision ≡ dec → port_by d ident e dec ≡ Some port → IsPortOf d ident port x
 port-view d ident port x (Trigger from target service i) (Accepted to p) event decision h = by_test (from == d && bytes_eq i ident) refl h
   where
     by_test : (b : Bool) → (from == d && bytes_eq i ident) ≡ b → (if b then Some p else None) ≡ Some port → IsPortOf d ident port x
     by_test false is e = cc
     by_test true is e =
-        let parts = both (from == d) (bytes_eq i ident) is in
+        let parts = and_parts (from == d) (bytes_eq i ident) is in
         let first = parts.0 in
         let from_is : from ≡ d = grind (arith, nat_tests, first) in
         let ident_is : i ≡ ident = (bytes_eq-Decides i ident).0 parts.1 in
@@ -152,7 +148,7 @@ port-found : (s : Scenario) (run : Run) (h : IsRun s run) (d : ℕ) → IsHonest
     → x.event ≡ Trigger d target service ident → x.decision ≡ Accepted t q → port_for d run.journal ident ≡ q
 port-found s run h d honest x target service ident t q there event decision =
     let dd : (d == d) ≡ true = grind (arith, nat_tests) in
-    let self = bytes-self ident in
+    let self = same-bytes ident in
     let here : port_by d ident x.event x.decision ≡ Some q = rw (event, decision, dd, self) refl in
     first-is (λ y. port_by d ident y.event y.decision) q run.journal x
     (λ y p hy e.
@@ -202,7 +198,7 @@ entry-tied s run h d t honest apart target named x there (Trigger from text serv
     let own = own-call s (facts s run h) d c.one c.there in
     let text_is : c.one.to ≡ text = ap (λ a. a.target) c.is in
     let hub_is : target_of (hub_of s) text ≡ domain_named s text = subst (λ z. target_of (hub_of s) z ≡ domain_named s z) text_is (target-is s c.one.to own.well.to) in (
-      (λ to. let same : text ≡ target = sym (name-of s text t (sym hub_is ∙ to)) ∙ name-of s target t named in ap (λ z. bytes_eq z target) same ∙ bytes-self target),
+      (λ to. let same : text ≡ target = sym (name-of s text t (sym hub_is ∙ to)) ∙ name-of s target t named in ap (λ z. bytes_eq z target) same ∙ same-bytes target),
       (λ q decision.
           let called = is-called s run h x there d text service ident t q event' decision in
           let a = called.accepted in

@@ -1,9 +1,10 @@
 -- The order of Execs by caller, target and port, and that a list of Execs that differ can be put in it.
 use Rattle.std.proofs.Common.{◌≡◌, ℕ, ◌<◌, suc, zero, List, [], ◌∷◌, length, refl, ap, sym, ◌∙◌, arith, ◌⊎◌, inl, inr}
-use Rattle.std.specs.Prelude.{true, false, Bool, nat_lt, ◌==◌, ◌&&◌, ◌||◌, slice_index_or, AllPairs, IsPermutation}
+use Rattle.std.specs.Prelude.{true, nat_lt, ◌==◌, slice_index_or, AllPairs, IsPermutation}
 use Rattle.std.proofs.lemmas.Bool.Decides.{nat_tests}
 use Rattle.std.proofs.lemmas.List.Sorted.{IsPermutation-refl, IsPermutation-cons, IsPermutation-trans, IsPermutation-middle, Contains-permutation}
-use Rattle.qrexec_frame.specs.Streams.{Each}
+use Rattle.std.specs.List.{AllByRecursion as Each}
+use Rattle.std.proofs.lemmas.Bool.{or_right}
 use Rattle.task_duties.proofs.Elements.{has-from, contains-from, each-at, each-of}
 use Rattle.run_laws.specs.Lawful.{ExecAt, comes_before}
 use Rattle.run_laws.proofs.Scenarios.Calls.{OrderedBy}
@@ -14,38 +15,6 @@ IsApart a b = a.from ≡ b.from → a.to ≡ b.to → a.port ≡ b.port → ⊥
 abbrev pub IsBefore : ExecAt → ExecAt → Type 0
 IsBefore a b = (a.from < b.from) ⊎ ((a.from ≡ b.from) × ((a.to < b.to) ⊎ ((a.to ≡ b.to) × (a.port < b.port))))
 
-or-true : (a b : Bool) → (a || b) ≡ true → (a ≡ true) ⊎ (b ≡ true)
-or-true true b h = inl refl
-or-true false b h = inr h
-
-or-right : (a b : Bool) → b ≡ true → (a || b) ≡ true
-or-right true b h = refl
-or-right false b h = h
-
-and-true : (a b : Bool) → (a && b) ≡ true → (a ≡ true) × (b ≡ true)
-and-true true b h = (refl, h)
-and-true false b h = cc
-
-view : (a b : ExecAt) → comes_before a b ≡ true → IsBefore a b
-view a b h = by_from (or-true (nat_lt a.from b.from) (a.from == b.from && (nat_lt a.to b.to || (a.to == b.to && nat_lt a.port b.port))) h)
-  where
-    by_port : (a.to ≡ b.to) × (a.port < b.port) → a.from ≡ b.from → IsBefore a b
-    by_port p f = inr (f, inr p)
-
-    by_to : a.from ≡ b.from → (nat_lt a.to b.to ≡ true) ⊎ ((a.to == b.to && nat_lt a.port b.port) ≡ true) → IsBefore a b
-    by_to f (inl l) = inr (f, inl (let k : a.to < b.to = grind (arith, nat_tests, l) in k))
-    by_to f (inr l) =
-        let parts = and-true (a.to == b.to) (nat_lt a.port b.port) l in
-        let x = parts.0 in let y = parts.1 in
-        inr (f, inr ((let k : a.to ≡ b.to = grind (arith, nat_tests, x) in k), (let k : a.port < b.port = grind (arith, nat_tests, y) in k)))
-
-    by_from : (nat_lt a.from b.from ≡ true) ⊎ ((a.from == b.from && (nat_lt a.to b.to || (a.to == b.to && nat_lt a.port b.port))) ≡ true) → IsBefore a b
-    by_from (inl l) = inl (let k : a.from < b.from = grind (arith, nat_tests, l) in k)
-    by_from (inr l) =
-        let parts = and-true (a.from == b.from) (nat_lt a.to b.to || (a.to == b.to && nat_lt a.port b.port)) l in
-        let x = parts.0 in
-        by_to (let k : a.from ≡ b.from = grind (arith, nat_tests, x) in k) (or-true (nat_lt a.to b.to) (a.to == b.to && nat_lt a.port b.port) parts.1)
-
 pub back : (a b : ExecAt) → IsBefore a b → comes_before a b ≡ true
 back a b (inl l) = let k : nat_lt a.from b.from ≡ true = grind (arith, nat_tests, l) in rw k refl
 back a b (inr h) = by_rest h.0 h.1
@@ -54,13 +23,13 @@ back a b (inr h) = by_rest h.0 h.1
     by_rest f (inl l) =
         let e : (a.from == b.from) ≡ true = grind (arith, nat_tests, f) in
         let k : nat_lt a.to b.to ≡ true = grind (arith, nat_tests, l) in
-        rw (e, k) (or-right (nat_lt a.from b.from) true refl)
+        rw (e, k) (or_right (nat_lt a.from b.from) true refl)
     by_rest f (inr h') =
         let t = h'.0 in let p = h'.1 in
         let e : (a.from == b.from) ≡ true = grind (arith, nat_tests, f) in
         let k : (a.to == b.to) ≡ true = grind (arith, nat_tests, t) in
         let l : nat_lt a.port b.port ≡ true = grind (arith, nat_tests, p) in
-        rw (e, k, l) (or-right (nat_lt a.from b.from) _ (or-right (nat_lt a.to b.to) true refl))
+        rw (e, k, l) (or_right (nat_lt a.from b.from) _ (or_right (nat_lt a.to b.to) true refl))
 
 before-trans : (a b c : ExecAt) → IsBefore a b → IsBefore b c → IsBefore a c
 before-trans a b c (inl x) (inl y) = inl (omega (arith, x, y))

@@ -4,7 +4,6 @@ use Rattle.std.specs.Prelude.{true, false, Bool, not, IsSome, filter, filter_map
 use Rattle.std.proofs.lemmas.List.Elements.{Contains-get_or}
 use Rattle.qrexec_frame.specs.declared.message.Message.{Message}
 use Rattle.qrexec_frame.specs.declared.message.Message.TheVariants as m
-use Rattle.qrexec_frame.specs.Streams.{Each}
 use Rattle.call_broker.specs.declared.event.Event.TheVariants.{Trigger}
 use Rattle.call_broker.specs.Journal.{port_in}
 use Rattle.end_view.specs.Settled.{Settled}
@@ -12,10 +11,10 @@ use Rattle.scenario_file.specs.Scenario.{Plan as Scenario, domain_named, hostile
 use Rattle.scenario_file.specs.declared.scenario.CallPlan.{CallPlan}
 use Rattle.scenario_file.specs.Lines.{line_of}
 use Rattle.scenario_file.specs.Scenario.{IsHonest as IsHonestNumber}
-use Rattle.std.specs.List.{AllByRecursion}
+use Rattle.std.specs.List.{AllByRecursion, AllByRecursion as Each, AllZip as EachPair}
+use Rattle.list_laws.proofs.Tests.{same-bytes}
 use Rattle.scenario_file.proofs.WithoutLaws.{lines-without}
 use Rattle.task_duties.specs.declared.place.PagePlace.TheVariants.{Control}
-use Rattle.task_duties.specs.Pairwise.{EachPair}
 use Rattle.task_duties.specs.Words.{ident_of}
 use Rattle.task_duties.specs.Hearing.{to_agent, to_broker}
 use Rattle.task_duties.specs.declared.done.CallEnd.{CallEnd}
@@ -40,7 +39,6 @@ use Rattle.run_laws.proofs.Domains.ControlMessages.{greeted, same-asked, same-re
 use Rattle.run_laws.proofs.Reports.FineCalls.{caller-honest, planned-of, session-heard, refused-heard, IsFine, fine-call, mixed-paged, mixed-is}
 use Rattle.run_laws.proofs.Domains.Planned.{ports-differ}
 use Rattle.run_laws.proofs.Reports.ReadLaws.{laid-control, ports-is}
-use Rattle.run_laws.proofs.Domains.ReplyCounts.{bytes-self}
 use Rattle.run_laws.proofs.Sessions.ServedAllLaw.{answered-at, IsAnsweredAt, port-is}
 
 -- ---- each call
@@ -148,13 +146,13 @@ reply-by s run h call there (Session port to outcome stdout stderr got) end r =
     let planned = planned-of s call there in
     let view = session-heard s run call.from to port call (caller_done outcome stdout stderr got) r.answer r.heard_is r.reports in
     let named = (answered-at s run h call.from to port honest call planned view.heard).named in
-    let reply = has-filter-back (is_reply (ident_of call.number)) (agent_heard s run call.from) (m.Connect to port (ident_of call.number)) view.heard (bytes-self (ident_of call.number)) in
+    let reply = has-filter-back (is_reply (ident_of call.number)) (agent_heard s run call.from) (m.Connect to port (ident_of call.number)) view.heard (same-bytes (ident_of call.number)) in
     one-reply _ _ (replies-one s run h call.from honest call planned) reply ∙ ap (λ o. answer_of s (ports_of s run) call o (Some port) ∷ []) (sym named)
 reply-by s run h call there WasRefused end r =
     let honest = caller-honest s run h call there in
     let planned = planned-of s call there in
     let heard = refused-heard s run call.from call r.answer r.heard_is r.reports in
-    let reply = has-filter-back (is_reply (ident_of call.number)) (agent_heard s run call.from) (m.Refused (ident_of call.number)) heard (bytes-self (ident_of call.number)) in
+    let reply = has-filter-back (is_reply (ident_of call.number)) (agent_heard s run call.from) (m.Refused (ident_of call.number)) heard (same-bytes (ident_of call.number)) in
     one-reply _ _ (replies-one s run h call.from honest call planned) reply ∙ by_name (domain_named s call.to)
   where
     by_name : (o : Option ℕ) → m.Refused (ident_of call.number) ∷ [] ≡ answer_of s (ports_of s run) call o None ∷ []

@@ -2,10 +2,10 @@
 use Rattle.std.proofs.Common.{◌≡◌, ℕ, List, [], ◌∷◌, map, refl, ap, sym, ◌∙◌, arith, ◌⊎◌, inl, inr, Some, None, subst}
 use Rattle.std.specs.Prelude.{true, false, Bool, ◌==◌, filter_map, is_some, if◌then◌else◌}
 use Rattle.std.proofs.lemmas.Bool.Decides.{nat_tests}
+use Rattle.std.specs.List.{AllByRecursion as Each}
 use Rattle.qrexec_frame.specs.Names.{cleaned_service}
 use Rattle.qrexec_frame.specs.declared.message.Message.{Message}
 use Rattle.qrexec_frame.specs.declared.message.Message.TheVariants as m
-use Rattle.qrexec_frame.specs.Streams.{Each}
 use Rattle.service_gate.specs.Triple.{Triple}
 use Rattle.service_gate.specs.ServiceResult.{service}
 use Rattle.call_broker.specs.declared.event.Event.TheVariants.{Trigger}
@@ -31,7 +31,6 @@ use Rattle.task_duties.specs.declared.done.ServedDone.{ServedDone}
 use Rattle.run_laws.specs.HostileSessions.{session_of, session_line}
 use Rattle.run_laws.specs.Laid.{laid, agent_plan}
 use Rattle.run_laws.specs.declared.report.ServedLine.{ServedLine}
-use Rattle.run_laws.specs.Report.{SettledPage, Report}
 use Rattle.run_laws.specs.Report as report
 use Rattle.run_laws.specs.Lawful.{ExecAt, exec_at, execs_on, hostile_execs, IsAskedFor, IsServed, ServedSent, control_messages}
 use Rattle.run_laws.specs.Run.{Run, IsRun, IsHonest, IsPlace, end_of}

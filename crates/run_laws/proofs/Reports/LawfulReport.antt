@@ -1,15 +1,13 @@
 -- A run has a lawful report: that which is read off it, with a line for each Exec that an honest domain heard from a hostile one.
 use Rattle.std.proofs.Common.{◌≡◌, ◌≢◌, ℕ, ◌+◌, ◌<◌, suc, zero, List, [], ◌∷◌, ◌++◌, length, map, refl, ap, sym, ◌∙◌, arith, ◌⊎◌, inl, inr, Option, Some, None, subst}
 use Rattle.std.specs.Prelude.{true, false, Bool, filter_map, if◌then◌else◌}
-use Rattle.std.specs.List.{flat_map}
+use Rattle.std.specs.List.{flat_map, AllByRecursion as Each, AllZip as EachPair}
 use Rattle.std.proofs.lemmas.List.Sorted.{Contains-permutation}
 use Rattle.qrexec_frame.specs.declared.message.Message.{Message}
-use Rattle.qrexec_frame.specs.Streams.{Each}
 use Rattle.scenario_file.specs.Scenario.{Plan as Scenario, hostile_at, version_at}
 use Rattle.task_duties.specs.declared.place.PagePlace.{PagePlace}
 use Rattle.task_duties.specs.declared.place.PagePlace.TheVariants.{Control, Payload}
 use Rattle.task_duties.specs.Places.{numbers}
-use Rattle.task_duties.specs.Pairwise.{EachPair}
 use Rattle.task_duties.specs.Hearing.{to_agent}
 use Rattle.task_duties.proofs.Elements.{Has, has-from, contains-from, has-append, has-flat_map, has-filter_map, has-map, each-at, each-of}
 use Rattle.task_duties.proofs.ServedLaw.{names, AreApart}

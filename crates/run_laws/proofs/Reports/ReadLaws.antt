@@ -1,11 +1,12 @@
 -- What is read off a run: the place of a page in the list, the port of a call, and the cause of a refusal.
 use Rattle.std.proofs.Common.{◌≡◌, ℕ, ◌+◌, ◌<◌, ◌≤◌, suc, zero, List, [], ◌∷◌, length, map, refl, ap, sym, ◌∙◌, arith, ◌⊎◌, inl, inr, Option, Some, None, subst}
 use Rattle.std.specs.Prelude.{true, false, Bool, ◌==◌, ◌&&◌, bytes_eq, slice_get, is_some, option_map, option_and_then, if◌then◌else◌}
-use Rattle.std.specs.List.{flat_map}
+use Rattle.std.specs.List.{flat_map, AllByRecursion as Each}
 use Rattle.std.proofs.lemmas.Bool.Decides.{nat_tests}
 use Rattle.std.proofs.lemmas.Option.{slice_get-map}
 use Rattle.std.proofs.lemmas.Slice.Eq.{bytes_eq-Decides}
-use Rattle.qrexec_frame.specs.Streams.{Each}
+use Rattle.std.proofs.lemmas.Bool.{and_parts}
+use Rattle.list_laws.proofs.Tests.{same-bytes}
 use Rattle.call_broker.specs.declared.decision.Entry.{Entry}
 use Rattle.call_broker.specs.declared.event.Event.{Event}
 use Rattle.call_broker.specs.declared.event.Event.TheVariants.{Trigger, Terminated, Dropped}
@@ -23,8 +24,8 @@ use Rattle.task_duties.specs.declared.place.PagePlace.{PagePlace}
 use Rattle.task_duties.specs.declared.place.PagePlace.TheVariants.{Control, Payload}
 use Rattle.task_duties.specs.Places.{numbers, is_place}
 use Rattle.task_duties.proofs.Elements.{Has, has-append, has-left, has-map, has-map-back, has-flat_map, each-at}
-use Rattle.task_duties.proofs.OutboxLaw.{same-self}
 use Rattle.task_duties.proofs.ServedLaw.{same-place}
+use Rattle.task_duties.proofs.Places.{same-self}
 use Rattle.run_laws.specs.Laid.{all_domains, ports_between, laid_between, laid}
 use Rattle.run_laws.specs.declared.report.CallResult.TheVariants.{Refused as IsRefused}
 use Rattle.run_laws.specs.Run.{Run, IsRun, IsHonest}
@@ -35,7 +36,6 @@ use Rattle.run_laws.proofs.Scenarios.Calls.{OrderedBy, ordered-from}
 use Rattle.run_laws.proofs.Scenarios.Places.{has-domain}
 use Rattle.run_laws.proofs.Scenarios.Names.{below-there}
 use Rattle.run_laws.proofs.Domains.Planned.{one-entry}
-use Rattle.run_laws.proofs.Domains.ReplyCounts.{bytes-self}
 
 -- ---- pages
 
@@ -98,18 +98,13 @@ pub record IsCauseOf (d : ℕ) (ident : List ℕ) (cause : Cause) (x : Entry) : 
   pub event : x.event ≡ Trigger d target service ident
   pub refused : x.decision ≡ Refused cause
 
-both : (a b : Bool) → (a && b) ≡ true → (a ≡ true) × (b ≡ true)
-both true true h = (refl, refl)
-both true false h = cc
-both false b h = cc
-
 cause-view : (d : ℕ) (ident : List ℕ) (cause : Cause) (x : Entry) (e : Event) (dec : Decision) → x.event ≡ e → x.decision ≡ dec → cause_by d ident e dec ≡ Some cause → IsCauseOf d ident cause x
 cause-view d ident cause x (Trigger from target service i) (Refused c) event decision h = by_test (from == d && bytes_eq i ident) refl h
   where
     by_test : (b : Bool) → (from == d && bytes_eq i ident) ≡ b → (if b then Some c else None) ≡ Some cause → IsCauseOf d ident cause x
     by_test false is e = cc
     by_test true is e =
-        let parts = both (from == d) (bytes_eq i ident) is in
+        let parts = and_parts (from == d) (bytes_eq i ident) is in
         let first = parts.0 in
         let from_is : from ≡ d = grind (arith, nat_tests, first) in
         let ident_is : i ≡ ident = (bytes_eq-Decides i ident).0 parts.1 in
@@ -140,7 +135,7 @@ pub cause-found : (s : Scenario) (run : Run) (h : IsRun s run) (d : ℕ) → IsH
     → x.event ≡ Trigger d target service ident → x.decision ≡ Refused cause → cause_in run.journal d ident ≡ Some cause
 cause-found s run h d honest x target service ident cause there event decision =
     let dd : (d == d) ≡ true = grind (arith, nat_tests) in
-    let self = bytes-self ident in
+    let self = same-bytes ident in
     let here : cause_by d ident x.event x.decision ≡ Some cause = rw (event, decision, dd, self) refl in
     first-is d ident cause run.journal x
     (λ y c hy e.

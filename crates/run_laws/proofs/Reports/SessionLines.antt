@@ -1,7 +1,7 @@
 -- The lines of the sessions that agents report, sorted, are those of a lawful report.
-use Rattle.std.proofs.Common.{◌≡◌, ℕ, ◌≤◌, suc, List, [], ◌∷◌, ◌++◌, length, map, refl, ap, sym, ◌∙◌, arith, ◌⊎◌, inl, inr, Option, Some, None, subst}
+use Rattle.std.proofs.Common.{◌≡◌, ℕ, ◌≤◌, List, [], ◌∷◌, ◌++◌, map, refl, ap, sym, ◌∙◌, arith, ◌⊎◌, inl, inr, Option, Some, None, subst}
 use Rattle.std.specs.Prelude.{true, false, Bool, ◌==◌, ◌&&◌, filter, filter_map, is_some, slice_set, slice_index_or, swap, IsPermutation, if◌then◌else◌}
-use Rattle.std.specs.List.{flat_map, list_any}
+use Rattle.std.specs.List.{flat_map, list_any, AllByRecursion as Each, AllZip as EachPair}
 use Rattle.std.specs.List.Sorted.{apply_swaps, SwapsInRange}
 use Rattle.std.proofs.lemmas.Bool.Decides.{nat_tests}
 use Rattle.std.proofs.lemmas.Grind.{flat_map-append}
@@ -9,15 +9,15 @@ use Rattle.std.proofs.lemmas.List.{map-set, append_assoc, append-nil}
 use Rattle.std.proofs.lemmas.List.Folds.{flat_map-map}
 use Rattle.std.proofs.lemmas.List.Sorted.{IsPermutation-sym}
 use Rattle.std.proofs.Math.ListN.{get_or-map}
+use Rattle.std.proofs.lemmas.Slice.Zip.{AllZip-long}
+use Rattle.list_laws.proofs.Pairs.{pairs-append}
 use Rattle.qrexec_frame.specs.declared.message.Message.{Message}
 use Rattle.qrexec_frame.specs.declared.message.Message.TheVariants.{Hello, Exec, JustExec, Connect, Refused, Terminated, Trigger3, Trigger, Stdin, Stdout, Stderr, ExitCode}
-use Rattle.qrexec_frame.specs.Streams.{Each}
 use Rattle.scenario_file.specs.Scenario.{Plan as Scenario, domain_of, hostile_at, version_at}
 use Rattle.task_duties.specs.declared.place.PagePlace.{PagePlace}
 use Rattle.task_duties.specs.declared.place.PagePlace.TheVariants.{Control, Payload}
 use Rattle.task_duties.specs.declared.done.ServedDone.{ServedDone}
 use Rattle.task_duties.specs.Places.{has_place}
-use Rattle.task_duties.specs.Pairwise.{EachPair}
 use Rattle.task_duties.specs.Words.{service_of_line}
 use Rattle.task_duties.specs.Hearing.{to_agent}
 use Rattle.task_duties.specs.Agent.Answers.{Answers, Served, waits_as, serves, takes, takes_all, nothing_heard}
@@ -148,17 +148,11 @@ place-matched s run h d there = by_test (hostile_at s d) refl
         let same = all-execs s d (control_messages (run.page (Control d)).server.got) (agent_heard s run d) (greeted (version_at s d) to_agent (run.page (Control d)).server.got (control_bytes s run h d honest).left) in
         rw (is, same) (domain-matched s run h d honest)
 
-pairs-append : {A B : Type 0} (R : A → B → Type 0) (xs : List A) (ys : List B) (xs' : List A) (ys' : List B) → EachPair R xs ys → EachPair R xs' ys' → EachPair R (xs ++ xs') (ys ++ ys')
-pairs-append R [] [] xs' ys' h h' = h'
-pairs-append R [] (y ∷ ys) xs' ys' h h' = absurd h
-pairs-append R (x ∷ xs) [] xs' ys' h h' = absurd h
-pairs-append R (x ∷ xs) (y ∷ ys) xs' ys' h h' = (h.0, pairs-append R xs ys xs' ys' h.1 h')
-
 all-matched : (s : Scenario) (run : Run) → IsRun s run → (ds : List ℕ) → ((d : ℕ) → Has ds d → is_some (domain_of s d) ≡ true)
     → EachPair (Matches s run) (flat_map (λ d. execs_at s run (Control d)) ds) (flat_map (sessions_at s run) ds)
 all-matched s run h [] go = tt
 all-matched s run h (d ∷ ds) go =
-    pairs-append (Matches s run) (execs_at s run (Control d)) (sessions_at s run d) _ _ (place-matched s run h d (go d (inl refl))) (all-matched s run h ds (λ e there. go e (inr there)))
+    pairs-append (Matches s run) (execs_at s run (Control d)) _ (sessions_at s run d) _ (place-matched s run h d (go d (inl refl))) (all-matched s run h ds (λ e there. go e (inr there)))
 
 none-of : (s : Scenario) (run : Run) (places : List PagePlace) → ((place : PagePlace) → Has places place → execs_at s run place ≡ []) → flat_map (execs_at s run) places ≡ []
 none-of s run [] none = refl
@@ -201,12 +195,6 @@ map-swaps : {A B : Type 0} (f : A → B) (zs : List A) (moves : List (ℕ × ℕ
 map-swaps f zs [] = refl
 map-swaps f zs (p ∷ moves) = map-swap f (apply_swaps zs moves) p.0 p.1 ∙ ap (λ l. swap l p.0 p.1) (map-swaps f zs moves)
 
-pairs-length : {A B : Type 0} (R : A → B → Type 0) (xs : List A) (ys : List B) → EachPair R xs ys → length ys ≡ length xs
-pairs-length R [] [] h = refl
-pairs-length R [] (y ∷ ys) h = absurd h
-pairs-length R (x ∷ xs) [] h = absurd h
-pairs-length R (x ∷ xs) (y ∷ ys) h = ap suc (pairs-length R xs ys h.1)
-
 record Reordered {A B : Type 0} (R : A → B → Type 0) (xs : List A) (ys : List B) : Type 0 where
   pub list : List A
   pub permuted : IsPermutation xs list
@@ -220,7 +208,7 @@ reordered R xs ys ys' h p =
     let second_is : map (λ z. z.second) (apply_swaps zs.0 p.moves) ≡ ys' = seconds ∙ ap (λ l. apply_swaps l p.moves) zs.2 ∙ sym p.is in
     record {
       list = map (λ z. z.first) (apply_swaps zs.0 p.moves);
-      permuted = record { moves = p.moves; below = subst (λ n. SwapsInRange n p.moves) (pairs-length R xs ys h) p.below; is = firsts ∙ ap (λ l. apply_swaps l p.moves) zs.1 };
+      permuted = record { moves = p.moves; below = subst (λ n. SwapsInRange n p.moves) (AllZip-long R xs ys h) p.below; is = firsts ∙ ap (λ l. apply_swaps l p.moves) zs.1 };
       pairs = subst (EachPair R (map (λ z. z.first) (apply_swaps zs.0 p.moves))) second_is (pairs-fit R (apply_swaps zs.0 p.moves));
     }
 

@@ -1,11 +1,11 @@
 -- The report that is read off a run is lawful, if its lines of served sessions are.
 use Rattle.std.proofs.Common.{◌≡◌, ◌≢◌, ℕ, ◌+◌, ◌*◌, ◌<◌, suc, zero, List, [], ◌∷◌, ◌++◌, length, map, refl, ap, sym, ◌∙◌, arith, ◌⊎◌, inl, inr, Option, Some, None, subst}
 use Rattle.std.specs.Prelude.{true, false, Bool, nat_le, ◌==◌, ◌||◌, AllPairs, IsPermutation, is_some}
-use Rattle.std.specs.List.{flat_map, list_any}
+use Rattle.std.specs.List.{flat_map, list_any, AllByRecursion as Each, AllZip as EachPair}
 use Rattle.std.proofs.lemmas.Bool.Decides.{nat_tests}
 use Rattle.std.proofs.lemmas.List.Sorted.{IsPermutation-refl}
+use Rattle.std.proofs.Math.Bool.{or-true}
 use Rattle.qrexec_frame.specs.declared.message.Message.TheVariants as m
-use Rattle.qrexec_frame.specs.Streams.{Each}
 use Rattle.service_gate.specs.Triple.{Triple}
 use Rattle.service_gate.specs.ServiceResult.{service}
 use Rattle.call_broker.specs.declared.decision.Entry.{Entry}
@@ -30,7 +30,6 @@ use Rattle.scenario_file.specs.Lines.{by_service}
 use Rattle.task_duties.specs.declared.place.PagePlace.{PagePlace}
 use Rattle.task_duties.specs.declared.place.PagePlace.TheVariants.{Control, Payload}
 use Rattle.task_duties.specs.Places.{numbers}
-use Rattle.task_duties.specs.Pairwise.{EachPair}
 use Rattle.task_duties.specs.Words.{ident_of}
 use Rattle.task_duties.specs.Agent.Sessions.{chunk, CallerDone, CallerOwes, CallerEnded}
 use Rattle.task_duties.specs.declared.done.CallEnd.{CallEnd}
@@ -40,7 +39,7 @@ use Rattle.task_duties.specs.Agent.Owes.{caller_done}
 use Rattle.run_laws.specs.Laid.{BeganAsSaid, hub_of, all_domains, pages_between, ports_between, laid_between, laid, is_end_of, hostile_plan, calls_from, server_of, client_of}
 use Rattle.run_laws.specs.declared.report.CallResult.TheVariants.{Mixed as IsMixed}
 use Rattle.run_laws.specs.declared.report.ServedLine.{ServedLine}
-use Rattle.run_laws.specs.Report.{SettledPage, Report, IsFaulty}
+use Rattle.run_laws.specs.Report.{Report}
 use Rattle.run_laws.specs.Report as report
 use Rattle.run_laws.specs.Run.{Run, IsRun, IsHonest, IsPlace, end_of}
 use Rattle.run_laws.specs.Laws.{IsExpected}
@@ -142,10 +141,6 @@ server-acts s run h place there turned =
     let self : (server_of place == server_of place) ≡ true = grind (arith, nat_tests) in
     let same : end_of run (server_of place) place ≡ (run.page place).server = rw self refl in
     subst (λ e. IsActedOn (hostile_plan s (server_of place)) place e) same acted
-
-or-true : (b : Bool) → (b || true) ≡ true
-or-true true = refl
-or-true false = refl
 
 pub client-acts : (s : Scenario) (run : Run) → IsRun s run → (place : PagePlace) → IsPlace s place → (run.page place).client.turned ≡ true → IsActedOn (hostile_plan s (client_of place)) place (run.page place).client
 client-acts s run h (Control d) there turned = let fine' : (run.page (Control d)).client.turned ≡ false = h.client_turned (Control d) there in cc

@@ -2,7 +2,7 @@
 use Rattle.std.proofs.Common.{◌≡◌, ℕ, suc, zero, List, [], ◌∷◌, refl, ap, sym, ◌∙◌, arith, ◌⊎◌, inl, inr, Option, Some, None}
 use Rattle.std.proofs.lemmas.List.Elements.{All-from_recursion}
 use Rattle.std.specs.Prelude.{true, false, Bool, codes, decimal, nat_le, bytes_eq, ◌==◌, if◌then◌else◌}
-use Rattle.std.specs.List.{flat_map}
+use Rattle.std.specs.List.{flat_map, AllZip as EachPair}
 use Rattle.std.proofs.lemmas.Bool.Decides.{nat_tests}
 use Rattle.std.proofs.lemmas.Fmt.{decimal_digit}
 use Rattle.std.proofs.lemmas.List.Sorted.{IsPermutation-refl}
@@ -26,6 +26,7 @@ use Rattle.scenario_file.specs.declared.scenario.CallPlan.{CallPlan}
 use Rattle.task_duties.specs.Words.{ident_of}
 use Rattle.task_duties.specs.Hearing.{to_agent, to_broker, IsSaid, hears, hears_on}
 use Rattle.std.proofs.lemmas.List.{append-nil}
+use Rattle.list_laws.proofs.Tests.{same-bytes}
 use Rattle.qrexec_frame.specs.declared.channel.Channel.TheVariants.{Control as OnControl}
 use Rattle.qrexec_frame.specs.Grammar.{Fault}
 use Rattle.qrexec_frame.specs.Fronts.{front, reading}
@@ -40,7 +41,6 @@ use Rattle.task_duties.specs.Agent.Owes.{AgentOwes, ReportsCall}
 use Rattle.task_duties.specs.declared.done.CallEnd.TheVariants.{Refused as WasRefused}
 use Rattle.task_duties.specs.declared.done.ControlEnd.TheVariants.{Drained}
 use Rattle.task_duties.specs.Broker.Owes.{BrokerOwes}
-use Rattle.task_duties.specs.Pairwise.{EachPair}
 use Rattle.task_duties.proofs.ControlLaw.{all-heard, agent-on_control, broker-on_control, the_messages}
 use Rattle.task_duties.proofs.Elements.{Has, has-from}
 use Rattle.task_duties.specs.declared.place.PagePlace.{PagePlace}
@@ -48,7 +48,6 @@ use Rattle.task_duties.specs.declared.place.PagePlace.TheVariants.{Control, Payl
 use Rattle.run_laws.specs.Laid.{BeganAsSaid, hub_of, awaited_by, agent_plan, server_of, client_of}
 use Rattle.run_laws.specs.Run.{Run, IsRun, IsHonest, end_of, broker_end}
 use Rattle.run_laws.proofs.Runs.PageSizes.{few-words, some_page}
-use Rattle.run_laws.proofs.Domains.ReplyCounts.{bytes-self}
 
 abbrev pub ident : List ℕ
 ident = codes "call-1"
@@ -216,7 +215,7 @@ broker orders = record {
 
 reported : (orders : Orders) (heard : List Message) → heard ≡ answer ∷ [] → EachPair (ReportsCall (agent_plan (one orders) 1) (end_of (one_run orders) 1)) (takes_all 1 (nothing_heard (agent_plan (one orders) 1)) heard).asked (record { number = 1; end = WasRefused } ∷ [])
 reported orders heard is =
-    let same : bytes_eq (ident_of 1) (codes "call-1") ≡ true = ap (λ x. bytes_eq x (codes "call-1")) ident-is ∙ bytes-self (codes "call-1") in
+    let same : bytes_eq (ident_of 1) (codes "call-1") ≡ true = ap (λ x. bytes_eq x (codes "call-1")) ident-is ∙ same-bytes (codes "call-1") in
     rw (is, same) ((refl, tt), tt)
 
 served-none : (orders : Orders) (heard : List Message) → heard ≡ answer ∷ [] → (takes_all 1 (nothing_heard (agent_plan (one orders) 1)) heard).served ≡ []

@@ -2,25 +2,24 @@
 use Rattle.std.proofs.Common.{◌≡◌, ◌≢◌, ℕ, ◌≤◌, zero, suc, List, [], ◌∷◌, length, map, refl, ap, sym, ◌∙◌, arith, ◌⊎◌, inl, inr, Option, Some, None, subst}
 use Rattle.std.specs.Prelude.{true, false, Bool, ◌==◌, ◌||◌, is_some, Contains}
 use Rattle.std.proofs.lemmas.Bool.Decides.{nat_tests}
-use Rattle.qrexec_frame.specs.Streams.{Each}
 use Rattle.end_view.specs.EndView.{EndView, IsUnused}
 use Rattle.end_view.specs.Settled.{IsSettled}
 use Rattle.scenario_file.specs.Scenario.{Plan as Scenario, domain_of, is_hostile, hostile_at}
 use Rattle.scenario_file.specs.declared.scenario.Domain.{Domain}
 use Rattle.std.specs.Option.{option_map_or}
+use Rattle.std.specs.List.{AllByRecursion as Each, AllZip as EachPair}
 use Rattle.task_duties.specs.declared.place.PagePlace.{PagePlace}
 use Rattle.task_duties.specs.declared.place.PagePlace.TheVariants.{Control, Payload}
 use Rattle.task_duties.specs.Places.{is_place, has_place}
-use Rattle.task_duties.specs.Pairwise.{EachPair}
 use Rattle.task_duties.specs.Agent.Owes.{AgentOwes}
 use Rattle.task_duties.specs.Broker.Owes.{BrokerOwes}
 use Rattle.task_duties.specs.Hostile.Given.{HostilePlan}
 use Rattle.task_duties.specs.Hostile.Trail.{IsTrail}
 use Rattle.task_duties.specs.TaskOwes.{EndAt, IsSameEnd, IsTurnedFrom, AreEnds, before_turned, TaskGiven, Agent, Broker, Hostile, TaskDone, AgentDone, BrokerDone, HostileDone, NoMemory, IsReport, places_in, TaskOwes}
 use Rattle.task_duties.proofs.Elements.{Has, has-from, each-at, has-map, has-map-back, has-filter, has-filter-back}
-use Rattle.task_duties.proofs.OutboxLaw.{same-self}
 use Rattle.task_duties.proofs.ServedLaw.{same-place}
 use Rattle.task_duties.proofs.OwesLaws.{agent-owes-same, broker-owes-same}
+use Rattle.task_duties.proofs.Places.{same-self}
 use Rattle.run_laws.specs.Laid.{all_domains, laid, places_of, is_data, is_end_of, server_of, client_of, hub_of, awaited_by, agent_plan, hostile_plan}
 use Rattle.run_laws.specs.Report.{SettledPage}
 use Rattle.run_laws.specs.Lawful.{IsActedOn, IsLawful}

@@ -23,6 +23,8 @@ use Rattle.scenario_file.specs.declared.scenario.CallPlan.{CallPlan}
 use Rattle.task_duties.specs.Words.{ident_of, exec_line}
 use Rattle.task_duties.specs.Hearing.{to_agent, to_broker, IsSaid, hears}
 use Rattle.std.proofs.lemmas.List.{append-nil}
+use Rattle.list_laws.proofs.Tests.{same-bytes}
+use Rattle.list_laws.specs.Lists.{IsPartOf}
 use Rattle.qrexec_frame.specs.declared.channel.Channel.TheVariants.{Control as OnControl}
 use Rattle.qrexec_frame.specs.Fronts.{front, reading}
 use Rattle.qrexec_frame.proofs.StreamLaws.{reads-all}
@@ -40,7 +42,6 @@ use Rattle.task_duties.proofs.Elements.{Has, has-from}
 use Rattle.run_laws.specs.Laid.{BeganAsSaid, hub_of, awaited_by, agent_plan, server_of, client_of}
 use Rattle.run_laws.specs.Run.{Run, IsRun, IsHonest, end_of, broker_end}
 use Rattle.run_laws.proofs.Runs.PageSizes.{few-words, some_page}
-use Rattle.run_laws.proofs.Domains.ReplyCounts.{bytes-self}
 use Rattle.service_gate.specs.ServiceResult.{service}
 use Rattle.call_broker.specs.Journal.{is_dropped}
 use Rattle.qrexec_data.specs.declared.outcome.Outcome.TheVariants as outcome
@@ -48,7 +49,6 @@ use Rattle.task_duties.specs.declared.place.PagePlace.{PagePlace}
 use Rattle.task_duties.specs.declared.place.PagePlace.TheVariants.{Control, Payload}
 use Rattle.task_duties.specs.Places.{numbers}
 use Rattle.task_duties.specs.Broker.Outbox.{outbox, event_of, read_from, live_calls, answered as answered_by}
-use Rattle.task_duties.specs.Pairwise.{IsPartOf}
 use Rattle.task_duties.specs.declared.done.ServedDone.{ServedDone}
 use Rattle.task_duties.specs.declared.done.CallEnd.TheVariants.{Session}
 use Rattle.run_laws.proofs.Runs.RefusedRun.{ident, ident-is, no-nul, version-on}
@@ -287,7 +287,7 @@ broker orders = record {
 -- ---- the agents
 
 same-ident : bytes_eq (ident_of 1) (codes "call-1") ≡ true
-same-ident = ap (λ x. bytes_eq x (codes "call-1")) ident-is ∙ bytes-self (codes "call-1")
+same-ident = ap (λ x. bytes_eq x (codes "call-1")) ident-is ∙ same-bytes (codes "call-1")
 
 heard-one : (orders : Orders) (heard : List Message) → heard ≡ connect ∷ []
     → takes_all 1 (nothing_heard (agent_plan (two orders) 1)) heard ≡ record { asked = record { call = the_call; answer = At 2 513 } ∷ []; unused = []; served = [] }

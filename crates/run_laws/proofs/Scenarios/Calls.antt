@@ -3,11 +3,13 @@ use Rattle.std.proofs.Common.{◌≡◌, ◌≢◌, ℕ, ◌<◌, ◌^◌, suc, 
 use Rattle.std.specs.Prelude.{true, false, Bool, ◌==◌, filter, slice_index_or, AllPairs, decimal, if◌then◌else◌}
 use Rattle.std.proofs.lemmas.Bool.Decides.{nat_tests}
 use Rattle.std.proofs.lemmas.Fmt.{decimal_injective}
-use Rattle.qrexec_frame.specs.Streams.{Each}
+use Rattle.std.specs.List.{AllByRecursion as Each}
+use Rattle.list_laws.specs.Lists.{AreDifferent}
+use Rattle.list_laws.proofs.Each.{each-filter}
 use Rattle.scenario_file.specs.Scenario.{Plan as Scenario}
 use Rattle.scenario_file.specs.declared.scenario.CallPlan.{CallPlan}
 use Rattle.task_duties.specs.Words.{ident_of}
-use Rattle.task_duties.proofs.Elements.{Has, has-filter, each-at, Differ}
+use Rattle.task_duties.proofs.Elements.{Has, has-filter, each-at}
 use Rattle.run_laws.specs.Laid.{calls_from}
 use Rattle.run_laws.proofs.Scenarios.Facts.{IsClean, IsCall}
 
@@ -25,20 +27,12 @@ pub ordered-from : {A : Type 0} (R : A → A → Type 0) (xs : List A) → AllPa
 ordered-from R [] h = tt
 ordered-from R (x ∷ xs) h = (each-index (R x) xs (λ k d less. h 0 (suc k) d (omega arith) (omega (arith, less))), ordered-from R xs (λ i j d less small. h (suc i) (suc j) d (omega (arith, less)) (omega (arith, small))))
 
-each-left : {A : Type 0} (P : A → Type 0) (p : A → Bool) (xs : List A) → Each P xs → Each P (filter p xs)
-each-left P p [] each = tt
-each-left P p (x ∷ xs) each = by_test (p x) (each-left P p xs each.1)
-  where
-    by_test : (b : Bool) → Each P (filter p xs) → Each P (if b then x ∷ filter p xs else filter p xs)
-    by_test true more = (each.0, more)
-    by_test false more = more
-
 pub ordered-left : {A : Type 0} (R : A → A → Type 0) (p : A → Bool) (xs : List A) → OrderedBy R xs → OrderedBy R (filter p xs)
 ordered-left R p [] h = tt
 ordered-left R p (x ∷ xs) h = by_test (p x) (ordered-left R p xs h.1)
   where
     by_test : (b : Bool) → OrderedBy R (filter p xs) → OrderedBy R (if b then x ∷ filter p xs else filter p xs)
-    by_test true more = (each-left (R x) p xs h.0, more)
+    by_test true more = (each-filter (R x) p xs h.0, more)
     by_test false more = more
 
 -- ---- idents
@@ -53,7 +47,7 @@ others : (x : CallPlan) (xs : List CallPlan) → x.number < 2 ^ 64 → Each (λ 
 others x [] small smalls less = tt
 others x (y ∷ xs) small smalls less = ((λ same. let e = ident-number x.number y.number small smalls.0 same in let l = less.0 in absurd (omega (arith, e, l))), others x xs small smalls.1 less.1)
 
-idents-differ : (calls : List CallPlan) → Each (λ c. c.number < 2 ^ 64) calls → OrderedBy (λ a b. a.number < b.number) calls → Differ (idents calls)
+idents-differ : (calls : List CallPlan) → Each (λ c. c.number < 2 ^ 64) calls → OrderedBy (λ a b. a.number < b.number) calls → AreDifferent (idents calls)
 idents-differ [] small h = tt
 idents-differ (x ∷ xs) small h = (others x xs small.0 small.1 h.0, idents-differ xs small.1 h.1)
 
@@ -61,9 +55,9 @@ each-small : (s : Scenario) (calls : List CallPlan) → Each (IsCall s) calls �
 each-small s [] each = tt
 each-small s (c ∷ calls) each = (each.0.number_small, each-small s calls each.1)
 
-pub calls-differ : (s : Scenario) → IsClean s → (d : ℕ) → Differ (idents (calls_from s d))
+pub calls-differ : (s : Scenario) → IsClean s → (d : ℕ) → AreDifferent (idents (calls_from s d))
 calls-differ s h d =
-    idents-differ (calls_from s d) (each-left (λ c. c.number < 2 ^ 64) (λ call. call.from == d) s.calls (each-small s s.calls h.calls))
+    idents-differ (calls_from s d) (each-filter (λ c. c.number < 2 ^ 64) (λ call. call.from == d) s.calls (each-small s s.calls h.calls))
     (ordered-left (λ a b. a.number < b.number) (λ call. call.from == d) s.calls (ordered-from (λ a b. a.number < b.number) s.calls h.numbers_rise))
 
 -- ---- a call of a domain

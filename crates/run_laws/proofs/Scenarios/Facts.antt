@@ -1,13 +1,12 @@
 -- What the laws use of a scenario, element by element: clean names, differing names, rising numbers.
 use Rattle.std.proofs.Common.{◌≡◌, ◌≢◌, ℕ, ◌<◌, ◌≤◌, ◌^◌, suc, zero, List, [], ◌∷◌, length, map, refl, ap, sym, ◌∙◌, arith, inl, inr, Option, Some, None, subst}
 use Rattle.std.specs.Prelude.{true, false, Bool, ◌==◌, ◌&&◌, nat_le, bytes_eq, slice_index_or, is_some, AllPairs, if◌then◌else◌}
-use Rattle.std.specs.List.{list_all}
+use Rattle.std.specs.List.{list_all, AllByRecursion as Each}
 use Rattle.std.specs.Option.{option_map_or}
 use Rattle.std.proofs.lemmas.Bool.{and_parts, false≢true}
 use Rattle.std.proofs.lemmas.Bool.Decides.{nat_tests}
 use Rattle.std.proofs.lemmas.List.Elements.{recursion_from_All}
 use Rattle.qrexec_frame.specs.Names.{is_name_byte, cleaned_name, cleaned_service}
-use Rattle.qrexec_frame.specs.Streams.{Each}
 use Rattle.qrexec_frame.specs.Texts.{HasNoNul}
 use Rattle.scenario_file.specs.Names.{is_name, is_service_byte}
 use Rattle.scenario_file.specs.declared.scenario.Domain.{Domain}

@@ -1,11 +1,11 @@
 -- Clean names: what their bytes are, and which domain a target names.
 use Rattle.std.proofs.Common.{◌≡◌, ℕ, ◌-◌, ◌<◌, ◌≤◌, suc, zero, List, [], ◌∷◌, length, map, refl, ap, sym, ◌∙◌, arith, Option, Some, None, subst}
-use Rattle.std.specs.Prelude.{true, false, Bool, nat_le, ◌==◌, ◌&&◌, ◌||◌, bytes_eq, option_map, slice_get, slice_index_or, is_some, if◌then◌else◌}
-use Rattle.std.specs.List.{list_any}
+use Rattle.std.specs.Prelude.{true, false, Bool, nat_le, ◌==◌, ◌||◌, bytes_eq, option_map, slice_get, slice_index_or, is_some, if◌then◌else◌}
+use Rattle.std.specs.List.{list_any, AllByRecursion as Each}
 use Rattle.std.specs.Option.{option_map_or}
 use Rattle.std.proofs.lemmas.Bool.Decides.{nat_tests}
+use Rattle.std.proofs.lemmas.Bool.{and_parts}
 use Rattle.qrexec_frame.specs.Names.{is_name_byte, cleaned_name, cleaned_service, cleaned_target}
-use Rattle.qrexec_frame.specs.Streams.{Each}
 use Rattle.call_broker.specs.Domains.{place_of, name_of, target_of, is_domain}
 use Rattle.task_duties.specs.Words.{is_space, is_word}
 use Rattle.task_duties.proofs.LineLaw.{HasNoSpace}
@@ -117,19 +117,14 @@ below-there [] k less = absurd (omega (arith, less))
 below-there (x ∷ domains) zero less = refl
 below-there (x ∷ domains) (suc k) less = below-there domains k (omega (arith, less))
 
-and-parts : (a b : Bool) → (a && b) ≡ true → (a ≡ true) × (b ≡ true)
-and-parts true true h = (refl, refl)
-and-parts true false h = cc
-and-parts false b h = cc
-
 length-names : (domains : List Domain) → length (map (λ domain. domain.name) domains) ≡ length domains
 length-names [] = refl
 length-names (x ∷ domains) = ap suc (length-names domains)
 
 pub domain-there : (s : Scenario) (d : ℕ) → is_domain (hub_of s) d ≡ true → is_some (domain_of s d) ≡ true
-domain-there s zero h = let parts = and-parts (nat_le 1 0) (nat_le 0 (length (map (λ domain. domain.name) s.domains))) h in let no = parts.0 in absurd (let bad : 1 ≤ 0 = grind (arith, nat_tests, no) in omega (arith, bad))
+domain-there s zero h = let parts = and_parts (nat_le 1 0) (nat_le 0 (length (map (λ domain. domain.name) s.domains))) h in let no = parts.0 in absurd (let bad : 1 ≤ 0 = grind (arith, nat_tests, no) in omega (arith, bad))
 domain-there s (suc k) h =
-    let parts = and-parts (nat_le 1 (suc k)) (nat_le (suc k) (length (map (λ domain. domain.name) s.domains))) h in
+    let parts = and_parts (nat_le 1 (suc k)) (nat_le (suc k) (length (map (λ domain. domain.name) s.domains))) h in
     let low = parts.1 in
     let less : suc k ≤ length (map (λ domain. domain.name) s.domains) = grind (arith, nat_tests, low) in
     below-there s.domains k (omega (arith, less, length-names s.domains))

@@ -4,7 +4,7 @@ use Rattle.std.specs.Prelude.{true, nat_le, slice_get, is_some}
 use Rattle.std.specs.Option.{option_map_or}
 use Rattle.std.proofs.lemmas.Bool.Decides.{nat_tests}
 use Rattle.std.proofs.lemmas.List.{length-map}
-use Rattle.qrexec_frame.specs.Streams.{Each}
+use Rattle.std.specs.List.{AllByRecursion as Each}
 use Rattle.call_broker.specs.Domains.{is_domain}
 use Rattle.scenario_file.specs.Scenario.{Plan as Scenario, domain_of, version_at}
 use Rattle.scenario_file.specs.declared.scenario.Domain.{Domain}

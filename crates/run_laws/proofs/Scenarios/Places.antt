@@ -8,7 +8,7 @@ use Rattle.task_duties.specs.declared.place.PagePlace.{PagePlace}
 use Rattle.task_duties.specs.declared.place.PagePlace.TheVariants.{Control, Payload}
 use Rattle.task_duties.specs.Places.{numbers, is_place, has_place}
 use Rattle.task_duties.proofs.Elements.{Has, has-map-back, has-filter-back, has-flat_map-back, has-right}
-use Rattle.task_duties.proofs.OutboxLaw.{same-self}
+use Rattle.task_duties.proofs.Places.{same-self}
 use Rattle.run_laws.specs.Laid.{all_domains, pages_between, ports_between, laid_between, laid, is_end_of, places_of, is_data, agent_plan}
 use Rattle.run_laws.specs.Run.{IsPlace}
 use Rattle.run_laws.proofs.Scenarios.Numbers.{domain-is}

@@ -3,19 +3,19 @@ use Rattle.std.proofs.Common.{◌≡◌, ℕ, suc, List, [], ◌∷◌, map, ref
 use Rattle.std.specs.Prelude.{true, false, Bool, bytes_eq, ◌&&◌, ◌==◌, Contains, if◌then◌else◌}
 use Rattle.std.specs.Int.{w32}
 use Rattle.std.specs.Int.RustNames.{FitsSigned}
-use Rattle.std.specs.List.{list_any}
+use Rattle.std.specs.List.{list_any, AllByRecursion as Each, AllZip as EachPair}
 use Rattle.std.proofs.lemmas.Bool.Decides.{nat_tests}
 use Rattle.std.proofs.lemmas.Slice.Eq.{bytes_eq-Decides}
+use Rattle.list_laws.proofs.Each.{each-weaker}
+use Rattle.list_laws.proofs.Tests.{and-first}
 use Rattle.qrexec_frame.specs.declared.message.Message.{Message}
 use Rattle.qrexec_frame.specs.declared.message.Message.TheVariants.{Hello, Exec, JustExec, Connect, Refused, Terminated, Trigger3, Trigger, Stdin, Stdout, Stderr, ExitCode}
-use Rattle.qrexec_frame.specs.Streams.{Each}
 use Rattle.service_gate.specs.Triple.{Triple}
 use Rattle.service_gate.specs.ServiceResult.{service}
 use Rattle.end_view.specs.Settled.{IsHonestPage}
 use Rattle.scenario_file.specs.Scenario.{Plan as Scenario, version_at}
 use Rattle.scenario_file.specs.declared.scenario.CallPlan.{CallPlan}
 use Rattle.task_duties.specs.declared.place.PagePlace.TheVariants.{Payload}
-use Rattle.task_duties.specs.Pairwise.{EachPair}
 use Rattle.task_duties.specs.Words.{ident_of, service_of_line}
 use Rattle.task_duties.specs.Agent.Answers.{Answer, Waits, IsRefused, At, Asked, Answers, waits, waits_as, answered, serves, takes, takes_all, nothing_heard}
 use Rattle.task_duties.specs.Places.{has_place}
@@ -23,13 +23,14 @@ use Rattle.task_duties.specs.declared.done.CallDone.{CallDone}
 use Rattle.task_duties.specs.declared.done.CallEnd.{CallEnd}
 use Rattle.task_duties.specs.declared.done.CallEnd.TheVariants.{Session, Refused as WasRefused, Unanswered}
 use Rattle.task_duties.specs.Agent.Owes.{ReportsCall, ReportsAnswer, caller_done}
-use Rattle.task_duties.proofs.PageLaw.{IsVersion, outcome-done}
+use Rattle.task_duties.proofs.PageLaw.{outcome-done}
 use Rattle.run_laws.specs.Laid.{agent_plan, calls_from}
 use Rattle.run_laws.specs.Run.{Run, IsRun, IsHonest, end_of}
 use Rattle.run_laws.specs.Laws.{ServedAll, ResultEqual, IsEqual, OfSession, agent_heard}
 use Rattle.run_laws.proofs.Scenarios.Numbers.{version-is}
 use Rattle.run_laws.proofs.Domains.ControlLaws.{own-end}
 use Rattle.run_laws.proofs.Scenarios.Facts.{facts}
+use Rattle.qrexec_data.specs.Laws.{IsVersion}
 
 -- ---- an answer is that of a Connect or a Refused that was heard, and the calls stay those of the plan
 
@@ -41,10 +42,6 @@ IsHeard heard call Waits = Unit {0}
 abbrev pub AreHeard : List Message → List CallPlan → List Asked → Type 0
 AreHeard heard calls asked = EachPair (λ call a. (a.call ≡ call) × IsHeard heard call a.answer) calls asked
 
-and-left : (a b : Bool) → (a && b) ≡ true → a ≡ true
-and-left true b h = refl
-and-left false b h = cc
-
 answered-heard : (heard : List Message) (ident : List ℕ) (answer : Answer) → ((call : CallPlan) → ident_of call.number ≡ ident → IsHeard heard call answer)
     → (calls : List CallPlan) (asked : List Asked) → AreHeard heard calls asked → AreHeard heard calls (answered ident answer asked)
 answered-heard heard ident answer there [] [] h = tt
@@ -55,7 +52,7 @@ answered-heard heard ident answer there (c ∷ calls) (a ∷ asked) h = (by_wait
     by_wait : (b : Bool) → waits_as ident a ≡ b → ((if b then record { call = a.call; answer = answer } else a).call ≡ c) × IsHeard heard c (if b then record { call = a.call; answer = answer } else a).answer
     by_wait false is = h.0
     by_wait true is =
-        let same : bytes_eq (ident_of a.call.number) ident ≡ true = and-left (bytes_eq (ident_of a.call.number) ident) (waits a.answer) is in
+        let same : bytes_eq (ident_of a.call.number) ident ≡ true = and-first (bytes_eq (ident_of a.call.number) ident) (waits a.answer) is in
         let ident_is : ident_of a.call.number ≡ ident = (bytes_eq-Decides (ident_of a.call.number) ident).0 same in
         (h.0.0, there c (ap (λ x. ident_of x.number) (sym h.0.0) ∙ ident_is))
 
@@ -91,10 +88,6 @@ on-messages heard d calls (m ∷ ms) a each h = on-messages heard d calls ms (ta
 
 contains-later : {A : Type 0} (y : A) (xs : List A) (x : A) → Contains xs x → Contains (y ∷ xs) x
 contains-later y xs x c = (suc c.0, omega (arith, c.1), c.2)
-
-each-weaker : {A : Type 0} (P Q : A → Type 0) → ((x : A) → P x → Q x) → (xs : List A) → Each P xs → Each Q xs
-each-weaker P Q go [] each = tt
-each-weaker P Q go (x ∷ xs) each = (go x each.0, each-weaker P Q go xs each.1)
 
 each-itself : {A : Type 0} (xs : List A) → Each (Contains xs) xs
 each-itself [] = tt

@@ -1,9 +1,9 @@
 -- Result-equal and outcome-done of a run.
 use Rattle.std.proofs.Common.{◌≡◌, ℕ, List, [], ◌∷◌}
 use Rattle.std.specs.Prelude.{ℤ}
+use Rattle.std.specs.List.{AllZip as EachPair}
 use Rattle.scenario_file.specs.Scenario.{Plan as Scenario}
 use Rattle.scenario_file.specs.declared.scenario.CallPlan.{CallPlan}
-use Rattle.task_duties.specs.Pairwise.{EachPair}
 use Rattle.task_duties.specs.declared.place.PagePlace.TheVariants.{Payload}
 use Rattle.qrexec_data.specs.declared.outcome.Outcome.TheVariants.{Done}
 use Rattle.task_duties.specs.declared.done.CallDone.{CallDone}

@@ -1,18 +1,12 @@
 -- The orders of two numbers.
 use Rattle.std.proofs.Common.{◌≡◌, ℕ, ◌≤◌, ◌<◌, ◌&&◌, ◌||◌, not, leb, eqb, Bool, true, false, Option, Some, None, refl, ap, inl, inr, arith}
 use Rattle.std.specs.Option.{option_and_then}
-use Rattle.std.proofs.Math.Bridge.{le_prop}
 use Rattle.std.proofs.lemmas.Bool.Decides.{nat_tests}
 use Rattle.ring_words.specs.declared.order.Order.{Order}
 use Rattle.ring_words.specs.declared.order.Orders.{Orders}
 use Rattle.ring_words.specs.Choice.{AreBadOrders}
+use Rattle.ring_words.proofs.OrderLaws.{in_range_prop, distinct_prop}
 use Rattle.step_script.specs.Language.Opening.{order_where, order_fits, order_of, orders_where, orders_differ, orders_of}
-
-in_range_prop : (number : ℕ) → IsProp ((10 ≤ number) × (number ≤ 20))
-in_range_prop number = hlevel (le_prop)
-
-distinct_prop : (left right : ℕ) → IsProp (left ≡ right → 12 ≤ left)
-distinct_prop left right = hlevel (le_prop)
 
 order_passed : (order : Order) (passed : Bool) (fits : passed ≡ true → (10 ≤ order.number) × (order.number ≤ 20)) → passed ≡ true → order_where order.number passed fits ≡ Some order
 order_passed order true fits is =

@@ -4,6 +4,7 @@ use Rattle.std.specs.List.{sum_by, All}
 use Rattle.std.proofs.lemmas.List.{map-append}
 use Rattle.std.proofs.lemmas.List.Elements.{All-append}
 use Rattle.std.proofs.lemmas.List.Sums.{sum_by-append}
+use Rattle.list_laws.specs.Results.{◌>>=◌}
 use Rattle.ring_words.specs.declared.order.Orders.{Orders}
 use Rattle.step_script.specs.declared.error.ScriptKind.{ScriptKind}
 use Rattle.step_script.specs.declared.error.ScriptKind.TheVariants as kind
@@ -15,7 +16,6 @@ use Rattle.step_script.specs.declared.script.ScriptLine.{ScriptLine}
 use Rattle.step_script.specs.Language.Grammar.{at_number, line_of, lines_from}
 use Rattle.script_words.specs.KeptLines.{Lines, stops, refused, line}
 use Rattle.script_words.specs.LinesLeft.{IsNext}
-use Rattle.step_script.specs.Language.Operands.{◌>>=◌}
 use Rattle.step_script.specs.Parts.Readings.{IsNumberedRefusal, IsScriptRefusal, bad_line_of, bad_script}
 use Rattle.step_script.specs.Language.Script.{StepLine, LineFits}
 use Rattle.step_script.specs.Parts.ScriptLines.{line_seen, lines_seen, payload_len}

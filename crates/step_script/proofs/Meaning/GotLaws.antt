@@ -1,7 +1,6 @@
 -- A call that answers Got has loaded just as many bytes.
 use Rattle.std.proofs.Common.{◌≡◌, ℕ, suc, zero, ◌+◌, min, nat_lt, ◌==◌, ◌&&◌, not, Bool, true, false, cond, List, [], ◌∷◌, ◌++◌, length, refl, subst, sym, ap, ◌∙◌, arith, append_assoc, length-append, add-zero}
 use Rattle.ring_words.specs.declared.page.Role.{Role}
-use Rattle.ring_words.specs.declared.page.Role.TheVariants.{Server, Client}
 use Rattle.ring_words.specs.declared.page.WordName.TheVariants.{CliLive}
 use Rattle.vchan_protocol.specs.declared.call.Answer.{Answer}
 use Rattle.vchan_protocol.specs.declared.call.Answer.TheVariants.{Wrote, Full, Sent, NoRoom, Got, Empty, Short, PeerClosed, Ready, Space, Connected, BadOrders, Done, Event, NotYet, AllRead, PeerGone, Gone}
@@ -18,14 +17,11 @@ use Rattle.vchan_protocol.specs.declared.side.Side.{Side}
 use Rattle.vchan_protocol.specs.History.WholeCall.{alone, called, call_answer}
 use Rattle.vchan_protocol.specs.Table.Apply.{value_taken}
 use Rattle.vchan_protocol.specs.Table.Calls.{put_bytes, take_bytes, put_index, take_index, put, take, notify, signal, ask, look_read, look_write, write, write_open, write_looked, read, read_live, read_looked, send, send_open, send_looked, recv, recv_live, recv_looked, drain, drain_found, drain_second, drain_live, drain_further, drain_gone, drain_last, connect, connect_right, close, retire, retire_shut, plan_of, Trace}
-use Rattle.vchan_protocol.specs.History.Core.{Core, side_of, with_side, standing_of, begun, begins, made, carried_out, answered, bytes_loaded, loaded_by}
+use Rattle.vchan_protocol.specs.History.Core.{Core, side_of, standing_of, begun, begins, made, carried_out, answered, bytes_loaded, loaded_by}
 use Rattle.vchan_protocol.specs.Table.Ends.{Standing, ready_at, free_at, low16, low32}
 use Rattle.vchan_protocol.specs.Table.Plan.{Plan, answers, does, past, Leads}
-
--- the bytes loaded after an event
-abbrev pub loaded_then : Op → ℕ → ℕ
-loaded_then (LoadByte word at) l = l + 1
-loaded_then _ l = l
+use Rattle.vchan_protocol.proofs.History.EventLaws.{side_of-with_side}
+use Rattle.vchan_protocol.proofs.Table.Counted.{loaded_then}
 
 -- with that many bytes loaded so far, the plan answers Got only with the number that it has loaded then
 unfoldable Delivers : ℕ → Plan → Type 0
@@ -254,10 +250,6 @@ pub got_by_trail : (e : Standing) (c : Call) (events : List PastEvent) (k : ℕ)
 got_by_trail e c events k trace = omega (arith, delivered_by (plan_of e c) events 0 k (delivers_call e c) trace)
 
 -- ---- whole calls
-
-side_of-with_side : (core : Core) (who : Role) (side : Side) → side_of (with_side core who side) who ≡ side
-side_of-with_side core Server side = refl
-side_of-with_side core Client side = refl
 
 bytes_loaded-append : (xs ys : List PastEvent) → bytes_loaded (xs ++ ys) ≡ bytes_loaded xs ++ bytes_loaded ys
 bytes_loaded-append [] ys = refl

@@ -22,12 +22,12 @@ use Rattle.vchan_protocol.specs.Honest.Lawful.{Lawful}
 use Rattle.vchan_protocol.specs.Honest.LifeLaw.{TellsGone}
 use Rattle.vchan_protocol.specs.Lists.ListCall.{ChannelLists, Outcome as ListOutcome, end_of, waiting, lists_of, list_call, free, avail, peer_is_shut}
 use Rattle.vchan_protocol.specs.Lists.ListLaw.{IsTold, FollowsLists, count_got}
-use Rattle.vchan_protocol.specs.History.Peer.{peer}
 use Rattle.vchan_protocol.specs.Table.Plan.{Plan, answers, does}
 use Rattle.vchan_protocol.specs.Honest.Reached.{MayBegin}
 use Rattle.vchan_protocol.proofs.Honest.LawfulSteps.{lawful_opened}
 use Rattle.vchan_protocol.proofs.Lists.ListWhole.{tells_lists, follows_lists, may_there}
 use Rattle.vchan_protocol.proofs.History.WholeCallSteps.{lawful_called}
+use Rattle.vchan_protocol.specs.History.Peer.{peer}
 use Rattle.step_script.specs.declared.player.refusal.Refusal.{Refusal}
 use Rattle.step_script.specs.declared.player.refusal.Refusal.TheVariants.{Turned}
 use Rattle.step_script.specs.declared.script.Opening.{Opening}

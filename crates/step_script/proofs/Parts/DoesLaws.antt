@@ -20,8 +20,8 @@ use Rattle.vchan_protocol.specs.History.Core.{Core, side_of, bytes_loaded, begun
 use Rattle.vchan_core.specs.Page.StandsFor.{IsInCall, StandsFor, machine_of, other_of}
 use Rattle.vchan_core.specs.OneMachine.Phases.{IsIdle, payload_needed, buffer_needed, payload_at, buffer_at, standing}
 use Rattle.vchan_protocol.specs.Table.Ends.{read_size}
-use Rattle.vchan_core.proofs.WholeCall.RunLaws.{machine_stands}
 use Rattle.vchan_protocol.proofs.History.EventLaws.{side_of-with_side}
+use Rattle.vchan_core.proofs.WholeCall.RunLaws.{machine_stands}
 use Rattle.step_script.specs.declared.player.end_player.EndPlayer.{EndPlayer}
 use Rattle.step_script.specs.declared.player.refusal.Refusal.{Refusal}
 use Rattle.step_script.specs.Meaning.Output.{TextLine, answered as line_answered, refused, line_text, text_of}

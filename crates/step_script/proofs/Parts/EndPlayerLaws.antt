@@ -15,12 +15,13 @@ use Rattle.vchan_core.specs.declared.plain.Plain.{Plain}
 use Rattle.vchan_protocol.specs.Table.Apply.{filled}
 use Rattle.vchan_protocol.specs.Table.Calls.{Trace}
 use Rattle.vchan_protocol.specs.History.Core.{Core, side_of, bytes_loaded, begun_standing}
+use Rattle.vchan_protocol.specs.Lists.ListLaw.{count_got}
 use Rattle.vchan_core.specs.Page.StandsFor.{StandsFor, HasPayload, machine_of}
 use Rattle.vchan_core.specs.OneMachine.Phases.{IsIdle, payload_needed, buffer_needed}
 use Rattle.vchan_core.specs.WholeCall.Stepped.{Advances, stepped}
 use Rattle.step_script.specs.declared.player.end_player.EndPlayer.{EndPlayer}
 use Rattle.step_script.specs.Meaning.Played.{bytes_got}
-use Rattle.step_script.specs.Parts.Players.{HasLoaded, IsAt, IsTaken, got_front, got_len}
+use Rattle.step_script.specs.Parts.Players.{HasLoaded, IsAt, IsTaken, got_front}
 use Rattle.step_script.proofs.Meaning.GotLaws.{got_by_trail}
 
 pub if_some : {A : Type 0} (r : Option A) (P : A → Type 0) → ((a : A) → r ≡ Some a → P a) → IfSome r P
@@ -37,7 +38,7 @@ pub has_filled : (trail : List PastEvent) (old new : List ℕ) → new ≡ fille
 has_filled trail old new is =
     is ∙ filled-twice old (bytes_loaded trail) ∙ ap (λ (l : List ℕ). filled l (bytes_loaded trail)) (sym is)
 
-got_len_is : (answer : Answer) (bytes rest : List ℕ) → ((k : ℕ) → answer ≡ Got k → length bytes ≡ k) → got_len answer ≤ length (bytes ++ rest)
+got_len_is : (answer : Answer) (bytes rest : List ℕ) → ((k : ℕ) → answer ≡ Got k → length bytes ≡ k) → count_got answer ≤ length (bytes ++ rest)
 got_len_is (Got k) bytes rest is = omega (arith, is k refl, length-append bytes rest)
 got_len_is _ bytes rest is = omega arith
 
@@ -51,7 +52,7 @@ pub is_taken : (answer : Answer) (trail : List PastEvent) (buffer : List ℕ) �
 is_taken answer trail buffer loaded is =
     let bytes : List ℕ = bytes_loaded trail in
     record {
-      within = subst (λ (l : List ℕ). got_len answer ≤ length l) (sym loaded) (got_len_is answer bytes (drop (length bytes) buffer) is);
+      within = subst (λ (l : List ℕ). count_got answer ≤ length l) (sym loaded) (got_len_is answer bytes (drop (length bytes) buffer) is);
       front = ap (λ (l : List ℕ). got_front answer l) loaded ∙ got_front_is answer trail (drop (length bytes) buffer) is;
     }
 

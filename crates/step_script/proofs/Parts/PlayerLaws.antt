@@ -25,8 +25,8 @@ use Rattle.vchan_core.specs.Page.StandsFor.{IsMachineOf, StandsFor, machine_of, 
 use Rattle.vchan_protocol.specs.Table.Plan.{Plan, answers, does, past}
 use Rattle.vchan_protocol.specs.Table.Ends.{peer_pending, written_ring}
 use Rattle.vchan_protocol.specs.Hostile.Turned.{turned_side, strays, turns, strayed}
-use Rattle.vchan_core.proofs.WholeCall.RunLaws.{machine_stands}
 use Rattle.vchan_protocol.proofs.History.EventLaws.{side_of-with_side}
+use Rattle.vchan_core.proofs.WholeCall.RunLaws.{machine_stands}
 use Rattle.step_script.specs.declared.player.end_player.EndPlayer.{EndPlayer}
 use Rattle.step_script.specs.declared.player.Player.{Player}
 use Rattle.step_script.specs.declared.script.Opening.{Opening}

@@ -3,6 +3,7 @@ use Rattle.std.proofs.Common.{◌≡◌, ℕ, ◌-◌, ◌≤◌, List, [], ◌�
 use denote.Ref.{Bor}
 use Rattle.std.specs.List.{All}
 use Rattle.std.proofs.lemmas.List.Elements.{All-append}
+use Rattle.list_laws.specs.Results.{◌>>=◌}
 use Rattle.ring_words.specs.declared.order.Orders.{Orders}
 use Rattle.vchan_protocol.specs.History.Core.{Core, opened}
 use Rattle.vchan_core.specs.Page.StandsFor.{orders_of}
@@ -18,7 +19,6 @@ use Rattle.step_script.specs.Language.Grammar.{at_number, line_of, lines_from, s
 use Rattle.script_words.specs.KeptLines.{Lines, line, stops}
 use Rattle.script_words.specs.LinesLeft.{IsNext}
 use Rattle.step_script.specs.Meaning.ListScript.{CanOpen}
-use Rattle.step_script.specs.Language.Operands.{◌>>=◌}
 use Rattle.step_script.specs.Meaning.Output.{text_of}
 use Rattle.step_script.specs.Meaning.Played.{line_done, plays, step_text}
 use Rattle.step_script.specs.Parts.Players.{IsPlayedTo, Plays}

@@ -1,7 +1,7 @@
 -- Words joined by spaces.
 use Rattle.std.proofs.Common.{◌≡◌, ℕ, List, [], ◌∷◌, ◌++◌, ap, sym, append-nil}
 use Rattle.std.specs.List.{join_with_byte}
-use Rattle.step_script.specs.Parts.Spaced.{spaced}
+use Rattle.script_words.specs.Text.{spaced}
 
 -- words with one space between each two are the first word and the others after a space each
 pub join_spaced : (word : List ℕ) (words : List (List ℕ)) → join_with_byte 32 (word ∷ words) ≡ word ++ spaced words

@@ -1,6 +1,7 @@
 -- Which bytes are a step script.
 -- Source: this project's own; the check of the two orders is that of libxenvchan's init.c.
 use Rattle.std.specs.Prelude.{ℕ, ◌-◌, List, [], ◌∷◌, length, if◌then◌else◌, ok_or, Option, None, Some, Result, Ok, Err, codes, bytes_eq}
+use Rattle.list_laws.specs.Results.{◌>>=◌}
 use Rattle.ring_words.specs.declared.order.Orders.{Orders}
 use Rattle.ring_words.specs.declared.page.Role.{Role}
 use Rattle.vchan_protocol.specs.declared.call.Call.TheVariants as call
@@ -18,7 +19,7 @@ use Rattle.step_script.specs.declared.script.Opening.{Opening}
 use Rattle.script_words.specs.Words.{lines_of, words_of}
 use Rattle.step_script.specs.Language.Opening.{orders_of}
 use Rattle.step_script.specs.Parts.Forms.{without_payload}
-use Rattle.step_script.specs.Language.Operands.{◌>>=◌, given, operand_of, alone, number_between, count_of, payload_of}
+use Rattle.step_script.specs.Language.Operands.{given, operand_of, alone, number_between, count_of, payload_of}
 use Rattle.script_words.specs.KeptLines.{Lines, stops, refused, line, kept_lines}
 use Rattle.step_script.specs.Language.Pokes.{poked_word}
 use Rattle.step_script.specs.Language.Script.{StepCall, StepLine, opens, calls, begins, steps, finishes, pokes, signals}

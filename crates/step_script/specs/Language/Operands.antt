@@ -1,18 +1,13 @@
 -- The words after a verb.
 -- Source: this project's own.
 use Rattle.std.specs.Prelude.{ℕ, ◌==◌, nat_lt, List, [], ◌∷◌, length, if◌then◌else◌, ok_or, Result, Ok, Err}
+use Rattle.list_laws.specs.Results.{◌>>=◌}
 use Rattle.step_script.specs.declared.error.ScriptKind.{ScriptKind}
 use Rattle.step_script.specs.declared.error.ScriptKind.TheVariants.{BadLine, BadNumber, BadHex, TooManyBytes}
 use Rattle.script_words.specs.Words.{only}
 use Rattle.script_words.specs.Numbers.{number_of}
 use Rattle.script_words.specs.ByteStrings.{at_most, byte_string, ByteFault}
 use Rattle.script_words.specs.ByteStrings as fault
-
--- the second step, if the first gave a value
-infixl 10 ◌>>=◌
-abbrev pub ◌>>=◌ : {A B E : Type 0} → Result A E → (A → Result B E) → Result B E
-Ok x >>= f = f x
-Err e >>= f = Err e
 
 -- a word with at least one byte
 abbrev pub given : List ℕ → Result (List ℕ) ScriptKind

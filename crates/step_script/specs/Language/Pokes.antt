@@ -1,8 +1,9 @@
 -- The words of a page that a script can poke.
 -- Source: this project's own; the fields are those of struct vchan_interface in public/io/libxenvchan.h.
-use Rattle.std.specs.Prelude.{ℕ, ◌-◌, List, length, take, drop, if◌then◌else◌, ok_or, Option, None, Some, Result, Ok, Err, codes, bytes_eq}
-use Rattle.std.specs.Option.{option_and_then, option_map}
-use Rattle.ring_words.specs.Page.{order_of}
+use Rattle.std.specs.Prelude.{ℕ, ◌-◌, List, if◌then◌else◌, ok_or, Option, None, Some, Result, Ok, Err, codes, bytes_eq}
+use Rattle.std.specs.Map.{lookup}
+use Rattle.std.specs.Option.{option_map}
+use Rattle.ring_words.specs.Page.{order_of, fields}
 use Rattle.ring_words.specs.Rings.{size}
 use Rattle.ring_words.specs.declared.order.Orders.{Orders}
 use Rattle.ring_words.specs.declared.page.Ring.{Ring}
@@ -12,21 +13,7 @@ use Rattle.ring_words.specs.declared.page.WordName.TheVariants.{RingByte}
 use Rattle.step_script.specs.declared.error.ScriptKind.{ScriptKind}
 use Rattle.step_script.specs.declared.error.ScriptKind.TheVariants.{BadLine, BadNumber}
 use Rattle.script_words.specs.Numbers.{is_number, number_of}
-use Rattle.step_script.specs.Language.Tables.{meaning_in, fields}
-
--- what stands after these bytes
-abbrev pub without_front : List ℕ → List ℕ → Option (List ℕ)
-without_front front word =
-    if bytes_eq (take (length front) word) front then Some (drop (length front) word) else None
-
--- what stands before these bytes
-abbrev pub without_end : List ℕ → List ℕ → Option (List ℕ)
-without_end end word =
-    if bytes_eq (drop (length word - length end) word) end then Some (take (length word - length end) word) else None
-
--- K of `NAME[K]`
-abbrev pub place_in : List ℕ → List ℕ → Option (List ℕ)
-place_in name word = option_and_then (without_end (codes "]")) (without_front name word)
+use Rattle.script_words.specs.Places.{place_in}
 
 -- a byte of a ring, K being below the ring's size
 abbrev pub ring_byte : Orders → Ring → List ℕ → Result WordName ScriptKind
@@ -48,4 +35,4 @@ field_or_byte orders None word = byte_named orders (place_in (codes "left[") wor
 
 -- the word of a page that a word names
 abbrev pub poked_word : Orders → List ℕ → Result WordName ScriptKind
-poked_word orders word = field_or_byte orders (meaning_in fields word) word
+poked_word orders word = field_or_byte orders (lookup (bytes_eq word) fields) word

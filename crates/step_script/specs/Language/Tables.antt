@@ -1,13 +1,10 @@
 -- The words of a script, and what each stands for.
--- Source: this project's own; the calls are those of libxenvchan.h with three more, the fields those of
--- struct vchan_interface in public/io/libxenvchan.h.
+-- Source: this project's own; the calls are those of libxenvchan.h with three more.
 use Rattle.std.specs.Prelude.{Some, None, ℕ, List, [], ◌∷◌, Option, None, codes, bytes_eq}
 use Rattle.std.specs.Map.{lookup}
 use Rattle.std.specs.Option.{option_map}
 use Rattle.ring_words.specs.declared.page.Role.{Role}
 use Rattle.ring_words.specs.declared.page.Role.TheVariants.{Server, Client}
-use Rattle.ring_words.specs.declared.page.WordName.{WordName}
-use Rattle.ring_words.specs.declared.page.WordName.TheVariants.{LeftCons, LeftProd, RightCons, RightProd, LeftOrder, RightOrder, CliLive, SrvLive, CliNotify, SrvNotify}
 use Rattle.vchan_protocol.specs.declared.call.Call.TheVariants.{DataReady, BufferSpace, Connect, Close, TakeEvent, PeerGone, Retire}
 use Rattle.step_script.specs.declared.read.forms.Verb.{Verb}
 use Rattle.step_script.specs.declared.read.forms.Verb.TheVariants.{Makes, Does}
@@ -17,14 +14,10 @@ use Rattle.step_script.specs.Language.Script.{StepLine, head, image}
 use Rattle.step_script.specs.declared.read.forms.Act.{Act}
 use Rattle.step_script.specs.declared.read.forms.Act.TheVariants.{Begin, Step, Finish, Poke, Signal}
 
--- what a word stands for in a table
-abbrev pub meaning_in : {A : Type 0} → List (List ℕ × A) → List ℕ → Option A
-meaning_in table word = lookup (bytes_eq word) table
-
 -- what the first of these words stands for in a table, and the words after it
 abbrev pub meaning_first : {A : Type 0} → List (List ℕ × A) → List (List ℕ) → Option (A × List (List ℕ))
 meaning_first table [] = None
-meaning_first table (word ∷ more) = option_map (λ x. (x, more)) (meaning_in table word)
+meaning_first table (word ∷ more) = option_map (λ x. (x, more)) (lookup (bytes_eq word) table)
 
 -- the ends
 abbrev pub ends : List (List ℕ × Role)
@@ -73,18 +66,3 @@ verb_first who words = verb_of (meaning_first (calls_of who) words) (meaning_fir
 -- the lines that print bytes of the page
 abbrev pub page_lines : List (List ℕ × StepLine)
 page_lines = (codes "head", head) ∷ (codes "image", image) ∷ []
-
--- the header fields of a page
-abbrev pub fields : List (List ℕ × WordName)
-fields =
-    (codes "left_cons", LeftCons) ∷
-    (codes "left_prod", LeftProd) ∷
-    (codes "right_cons", RightCons) ∷
-    (codes "right_prod", RightProd) ∷
-    (codes "left_order", LeftOrder) ∷
-    (codes "right_order", RightOrder) ∷
-    (codes "cli_live", CliLive) ∷
-    (codes "srv_live", SrvLive) ∷
-    (codes "cli_notify", CliNotify) ∷
-    (codes "srv_notify", SrvNotify) ∷
-    []

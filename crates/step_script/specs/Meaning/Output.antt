@@ -2,7 +2,7 @@
 -- Source: this project's own; the answers are those of libxenvchan's io.c.
 use Rattle.std.specs.Prelude.{ℕ, Bool, true, false, List, [], ◌∷◌, ◌++◌, flat_map, codes, decimal}
 use Rattle.std.specs.List.{join_with_byte}
-use Rattle.hex.specs.Hex.{encode_lower}
+use Rattle.script_words.specs.Text.{shown_bytes}
 use Rattle.ring_words.specs.declared.page.Ring.{Ring}
 use Rattle.ring_words.specs.declared.page.Ring.TheVariants.{Left, Right}
 use Rattle.ring_words.specs.declared.page.Role.{Role}
@@ -49,11 +49,6 @@ taken_word (call.Recv len) = codes "recv"
 taken_word (call.Drain most) = codes "more"
 taken_word _ = codes "read"
 
--- bytes, each as two hexadecimal digits of lower case, or `-` for none
-abbrev pub bytes_word : List ℕ → List ℕ
-bytes_word [] = codes "-"
-bytes_word (byte ∷ bytes) = encode_lower (byte ∷ bytes)
-
 -- 1 for true, 0 for false
 abbrev pub flag_word : Bool → List ℕ
 flag_word true = codes "1"
@@ -65,7 +60,7 @@ answer_words call (Wrote count) payload = codes "wrote" ∷ decimal count ∷ []
 answer_words call (Full prod cons) payload = codes "full" ∷ decimal prod ∷ decimal cons ∷ []
 answer_words call (Sent count) payload = codes "sent" ∷ decimal count ∷ []
 answer_words call (NoRoom prod cons) payload = codes "noroom" ∷ decimal prod ∷ decimal cons ∷ []
-answer_words call (Got count) payload = taken_word call ∷ bytes_word payload ∷ []
+answer_words call (Got count) payload = taken_word call ∷ shown_bytes payload ∷ []
 answer_words call (Empty prod cons) payload = codes "empty" ∷ decimal prod ∷ decimal cons ∷ []
 answer_words call (Short prod cons) payload = codes "short" ∷ decimal prod ∷ decimal cons ∷ []
 answer_words call PeerClosed payload = codes "peer-closed" ∷ []
@@ -85,8 +80,8 @@ answer_words call (Gone is) payload = codes "gone" ∷ flag_word is ∷ []
 abbrev pub line_words : TextLine → List (List ℕ)
 line_words (answered who call answer payload) = role_word who ∷ answer_words call answer payload
 line_words (refused who why) = role_word who ∷ refusal_word why ∷ []
-line_words (heads bytes) = codes "head" ∷ bytes_word bytes ∷ []
-line_words (images bytes) = codes "image" ∷ bytes_word bytes ∷ []
+line_words (heads bytes) = codes "head" ∷ shown_bytes bytes ∷ []
+line_words (images bytes) = codes "image" ∷ shown_bytes bytes ∷ []
 line_words (lengths ring sent got) =
     ring_word ring ∷ codes "sent" ∷ decimal sent ∷ codes "got" ∷ decimal got ∷ []
 

@@ -12,6 +12,7 @@ use Rattle.vchan_core.specs.declared.plain.Plain.{Plain}
 use Rattle.vchan_protocol.specs.declared.side.Side.{Side}
 use Rattle.vchan_protocol.specs.Table.Apply.{filled}
 use Rattle.vchan_protocol.specs.History.Core.{Core, side_of, bytes_loaded}
+use Rattle.vchan_protocol.specs.Lists.ListLaw.{count_got}
 use Rattle.vchan_core.specs.Page.StandsFor.{StandsFor, machine_of, other_of}
 use Rattle.vchan_core.specs.OneMachine.Phases.{IsIdle, payload_needed, buffer_needed}
 use Rattle.step_script.specs.declared.player.end_player.EndPlayer.{EndPlayer}
@@ -21,11 +22,6 @@ use Rattle.step_script.specs.Meaning.Played.{Outcome, bytes_got}
 
 -- ---- the bytes that a call takes
 
--- how many bytes an answer says were taken
-abbrev pub got_len : Answer → ℕ
-got_len (Got count) = count
-got_len _ = 0
-
 -- these bytes, at the front of the buffer
 abbrev pub got_front : Answer → List ℕ → List ℕ
 got_front (Got count) buffer = take count buffer
@@ -33,7 +29,7 @@ got_front _ buffer = []
 
 -- the bytes that the answer tells of are those that the trail has loaded, and stand at the front of the buffer
 pub record IsTaken (answer : Answer) (trail : List PastEvent) (buffer : List ℕ) : Type 0 where
-  pub within : got_len answer ≤ length buffer
+  pub within : count_got answer ≤ length buffer
   pub front : got_front answer buffer ≡ bytes_got answer trail
 
 -- the buffer begins with the bytes that a trail has loaded

@@ -1,21 +1,17 @@
 //! The output lines of a script, each appended to the text that was printed before.
 ghost use Rattle.std.specs.Prelude.{◌≡◌, ◌≤◌, ◌++◌, ◌∷◌, [], decimal, codes, length, take, OnOk};
-ghost use Rattle.hex.specs.Hex.{encode_lower};
-ghost use Rattle.step_script.specs.Meaning.Output.{answer_words, answered, bytes_word, flag_word, heads, images, lengths, line_text, refusal_word, refused, ring_word, role_word, taken_word};
-ghost use Rattle.step_script.specs.Parts.Players.{got_front, got_len};
+ghost use Rattle.step_script.specs.Meaning.Output.{answer_words, answered, flag_word, heads, images, lengths, line_text, refusal_word, refused, ring_word, role_word, taken_word};
+ghost use Rattle.step_script.specs.Parts.Players.{got_front};
+ghost use Rattle.script_words.specs.Text.{shown_bytes};
+ghost use Rattle.vchan_protocol.specs.Lists.ListLaw.{count_got as got_len};
 ghost use Rattle.step_script.specs.Parts.Spaced.{with_words};
 
 use crate::player::refusal::Refusal;
 use itoa::Buffer;
 use ring_words::{Ring, Role};
+use script_words::text::{push_bytes, push_word};
 use std::alloc::AllocError;
 use vchan_core::{Answer, Call};
-
-/// Up to this many bytes are printed one by one.
-const FEW: usize = 8;
-
-/// The hexadecimal digits.
-const DIGITS: &[u8; 16] = b"0123456789abcdef";
 
 /// Appends the line of an answer. The bytes that it tells of stand at the front of `buffer`.
 #[tactic(auto, using(crate::proofs::Parts::SpacedLaws::join_spaced), unfolding(crate::specs::Meaning::Output::line_text))]
@@ -151,7 +147,7 @@ fn push_flag(out: &mut Vec<u8>, word: &[u8], flag: bool) -> Result<(), AllocErro
 
 /// Appends the bytes that a call took, after the call's word for them.
 fn push_taken(out: &mut Vec<u8>, call: Call, bytes: &[u8]) -> Result<(), AllocError>
-    ensures { let words = taken_word call ∷ bytes_word bytes.now ∷ [] in
+    ensures { let words = taken_word call ∷ shown_bytes bytes.now ∷ [] in
         OnOk result (out.new.items ≡ with_words out.old.items words) }
 {
     match call {
@@ -162,63 +158,7 @@ fn push_taken(out: &mut Vec<u8>, call: Call, bytes: &[u8]) -> Result<(), AllocEr
     push_bytes(out, bytes)
 }
 
-/// Appends bytes in hexadecimal after a space, or `-` for none.
-#[inline(always)]
-fn push_bytes(out: &mut Vec<u8>, bytes: &[u8]) -> Result<(), AllocError>
-    ensures { OnOk result (out.new.items ≡ with_words out.old.items (bytes_word bytes.now ∷ [])) }
-{
-    if bytes.is_empty() {
-        return push_word(out, b"-");
-    }
-    out.push(b' ')?;
-    push_hex(out, bytes)
-}
-
-/// Appends two digits for each byte, in lower case.
-#[inline(always)]
-fn push_hex(out: &mut Vec<u8>, bytes: &[u8]) -> Result<(), AllocError>
-    ensures { OnOk result (out.new.items ≡ out.old.items ++ encode_lower bytes.now) }
-{
-    if bytes.len() <= FEW {
-        push_few_hex(out, bytes)
-    } else {
-        push_much_hex(out, bytes)
-    }
-}
-
-/// Appends the digits of a few bytes, one pair after another.
-fn push_few_hex(out: &mut Vec<u8>, bytes: &[u8]) -> Result<(), AllocError>
-    ensures { OnOk result (out.new.items ≡ out.old.items ++ encode_lower bytes.now) }
-{
-    for byte in bytes {
-        let high = DIGITS[(*byte / 16) as usize];
-        let low = DIGITS[(*byte % 16) as usize];
-        out.extend_from_slice(&[high, low])?;
-    }
-    Ok(())
-}
-
-/// Appends the digits of more bytes: makes room for all of them first, and then writes them.
-fn push_much_hex(out: &mut Vec<u8>, bytes: &[u8]) -> Result<(), AllocError>
-    ensures { OnOk result (out.new.items ≡ out.old.items ++ encode_lower bytes.now) }
-{
-    let start = out.len();
-    let end = start.saturating_add(bytes.len().saturating_mul(2));
-    out.resize(end, 0)?;
-    let digits = hex::encode_to_slice(bytes, &mut out.as_mut_slice()[start..]);
-    digits.map_err(|_| AllocError)
-}
-
-/// Appends a word after a space.
-#[inline(always)]
-fn push_word(out: &mut Vec<u8>, word: &[u8]) -> Result<(), AllocError>
-    ensures { OnOk result (out.new.items ≡ with_words out.old.items (word.now ∷ [])) }
-{
-    out.push(b' ')?;
-    out.extend_from_slice(word)
-}
-
-/// Appends a number in decimal after a space.
+/// Appends a number in decimal after a space. One digit, the usual case, needs no buffer.
 #[tactic(auto, using(std::proofs::lemmas::Fmt::decimal_digit))]
 fn push_number(out: &mut Vec<u8>, number: u64) -> Result<(), AllocError>
     ensures { OnOk result (out.new.items ≡ with_words out.old.items (decimal number ∷ [])) }

@@ -3,9 +3,9 @@ ghost use Rattle.std.specs.Prelude.{◌≡◌, drop, IfSome};
 ghost use Rattle.ring_words.specs.declared.page.Role.{Role};
 ghost use Rattle.script_words.specs.WordsLeft.{words_left};
 ghost use Rattle.step_script.specs.Parts.Forms.{FormFits, VerbFits, found_in};
-ghost use Rattle.step_script.specs.Language.Tables.{meaning_in, meaning_first, verb_first, ends, calls_of, common_calls, acts, fields};
+ghost use Rattle.step_script.specs.Language.Tables.{meaning_first, verb_first, ends, calls_of, common_calls, acts};
 
-use ring_words::{Role, WordName};
+use ring_words::Role;
 use script_words::WordsOfLine;
 use vchan_core::Call;
 
@@ -192,35 +192,6 @@ pub(crate) fn act_in<'a>(words: &WordsOfLine<'a>) -> Option<(Act, WordsOfLine<'a
         Some((Act::Poke, rest))
     } else if let Some(rest) = words.behind(b"signal") {
         Some((Act::Signal, rest))
-    } else {
-        None
-    }
-}
-
-/// Returns the header field that a word names.
-pub(crate) fn field_named(word: &[u8]) -> Option<WordName>
-    ensures { result ≡ meaning_in fields word.now }
-{
-    if word == b"left_cons".as_slice() {
-        Some(WordName::LeftCons)
-    } else if word == b"left_prod".as_slice() {
-        Some(WordName::LeftProd)
-    } else if word == b"right_cons".as_slice() {
-        Some(WordName::RightCons)
-    } else if word == b"right_prod".as_slice() {
-        Some(WordName::RightProd)
-    } else if word == b"left_order".as_slice() {
-        Some(WordName::LeftOrder)
-    } else if word == b"right_order".as_slice() {
-        Some(WordName::RightOrder)
-    } else if word == b"cli_live".as_slice() {
-        Some(WordName::CliLive)
-    } else if word == b"srv_live".as_slice() {
-        Some(WordName::SrvLive)
-    } else if word == b"cli_notify".as_slice() {
-        Some(WordName::CliNotify)
-    } else if word == b"srv_notify".as_slice() {
-        Some(WordName::SrvNotify)
     } else {
         None
     }

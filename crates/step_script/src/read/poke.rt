@@ -1,14 +1,13 @@
 //! Reading the name of the word of a page that a poke stores to.
-ghost use Rattle.std.specs.Prelude.{◌≡◌, option_copied, IfOk};
-ghost use Rattle.step_script.specs.Language.Pokes.{place_in, ring_byte, poked_word};
+ghost use Rattle.std.specs.Prelude.{IfOk};
+ghost use Rattle.step_script.specs.Language.Pokes.{ring_byte, poked_word};
 ghost use Rattle.step_script.specs.Parts.Readings.{Finds};
 ghost use Rattle.vchan_protocol.specs.Hostile.Turned.{MayPoke};
 
 use crate::error::ScriptKind;
-use crate::read::forms::field_named;
 use crate::read::operand::read_number;
-use ring_words::{Orders, Ring, WordName};
-use script_words::is_number;
+use ring_words::{Orders, Ring, WordName, field_named};
+use script_words::{is_number, place_in};
 
 /// Reads the name of a word of a page with these orders: a header field, or `left[K]` and
 /// `right[K]` for a byte of a ring.
@@ -29,13 +28,6 @@ pub(crate) fn read_word_name(orders: Orders, word: &[u8]) -> Result<WordName, Sc
     } else {
         Err(ScriptKind::BadLine)
     }
-}
-
-/// Returns what stands between this front of a word and a `]` at its end.
-fn place_in<'a>(front: &[u8], word: &'a [u8]) -> Option<&'a [u8]>
-    ensures { option_copied result ≡ place_in front.now word.now }
-{
-    word.strip_prefix(front)?.strip_suffix(b"]")
 }
 
 /// Reads the place of a ring's byte.

@@ -1,8 +1,9 @@
 -- What an agent owes: facts of its ends and of what it reports.
 -- Source: this project's own.
 use Rattle.std.specs.Prelude.{◌≡◌, ℕ, true, List, [], map, filter_map, Some, None}
+use Rattle.std.specs.List.{AllByRecursion as Each, AllZip as EachPair}
+use Rattle.list_laws.specs.Lists.{IsPrefixOf}
 use Rattle.qrexec_frame.specs.declared.message.Message.{Message}
-use Rattle.qrexec_frame.specs.Streams.{Each, IsPrefixOf}
 use Rattle.vchan_protocol.specs.declared.side.EndedBy.TheVariants.{AllRead, PeerGone}
 use Rattle.end_view.specs.EndView.{EndView}
 use Rattle.qrexec_data.specs.declared.outcome.Outcome.{Outcome}
@@ -15,7 +16,6 @@ use Rattle.task_duties.specs.declared.done.CallEnd.TheVariants.{Session, Refused
 use Rattle.task_duties.specs.declared.done.ServedDone.{ServedDone}
 use Rattle.task_duties.specs.declared.done.ControlEnd.{ControlEnd}
 use Rattle.task_duties.specs.declared.done.ControlEnd.TheVariants.{Drained, Gone, Fault}
-use Rattle.task_duties.specs.Pairwise.{EachPair}
 use Rattle.task_duties.specs.Hearing.{to_agent, to_broker, IsSaid, Heard, hears}
 use Rattle.task_duties.specs.Agent.Given.{AgentPlan}
 use Rattle.task_duties.specs.Agent.Answers.{Answer, Waits, IsRefused, At, Asked, Served, Answers, answers, answer_in}

@@ -1,10 +1,10 @@
 -- What an agent sends on its control channel: its triggers, in the order of its calls and with at most sixteen calls to a target open, and which calls it tells to have ended.
 -- Source: the messages are those of the qrexec protocol; the order and the limit are this project's own.
 use Rattle.std.specs.Prelude.{◌≡◌, ◌⊎◌, ℕ, ◌<◌, ◌==◌, ◌&&◌, not, nat_lt, bytes_eq, Bool, true, false, List, [], ◌∷◌, length, filter, Option, Some, None, if◌then◌else◌}
+use Rattle.list_laws.specs.Lists.{SomeOf}
 use Rattle.qrexec_frame.specs.declared.message.Message.{Message}
 use Rattle.qrexec_frame.specs.declared.message.Message.TheVariants.{Exec, JustExec, Terminated, Trigger3, Trigger}
 use Rattle.scenario_file.specs.declared.scenario.CallPlan.{CallPlan}
-use Rattle.task_duties.specs.Pairwise.{SomeOf}
 use Rattle.task_duties.specs.Words.{ident_of}
 use Rattle.task_duties.specs.Agent.Answers.{Answer, IsRefused, At, Asked}
 

@@ -1,6 +1,7 @@
 -- What the task of the broker owes: facts of its journal and of its ends.
 -- Source: this project's own.
 use Rattle.std.specs.Prelude.{◌≡◌, ◌⊎◌, ℕ, ◌+◌, ◌-◌, ◌<◌, ◌≤◌, true, false, List, filter_map, slice_index_or, Contains, IsPermutation, IsSome}
+use Rattle.list_laws.specs.Lists.{IsPartOf}
 use Rattle.qrexec_frame.specs.declared.message.Message.{Message}
 use Rattle.qrexec_frame.specs.declared.message.Message.TheVariants.{Exec, Connect}
 use Rattle.end_view.specs.EndView.{EndView}
@@ -8,7 +9,6 @@ use Rattle.call_broker.specs.declared.decision.Entry.{Entry}
 use Rattle.call_broker.specs.Domains.{Domains, is_domain, count_of}
 use Rattle.call_broker.specs.Journal.{IsJournal, AreNumbered, is_dropped}
 use Rattle.task_duties.specs.Places.{numbers}
-use Rattle.task_duties.specs.Pairwise.{IsPartOf}
 use Rattle.task_duties.specs.Hearing.{to_agent, to_broker, IsSaid, Heard, hears}
 use Rattle.task_duties.specs.Broker.Outbox.{outbox, event_of, read_from, answered, live_calls}
 

@@ -1,6 +1,6 @@
 //! A run whose pages have other orders than usual, and whose indices wrap.
 ghost use Rattle.std.specs.Prelude.{◌≡◌, IfOk, IsTrue};
-ghost use Rattle.qrexec_frame.specs.Streams.{Each};
+ghost use Rattle.std.specs.List.{AllByRecursion as Each};
 ghost use Rattle.scenario_file.specs.Scenario.{order_numbers, written};
 ghost use Rattle.vchan.specs.RowRings.{HasRowRings, IsOfRow};
 

@@ -15,7 +15,6 @@ use Rattle.vchan_protocol.specs.declared.op.Op.TheVariants.{Load, LoadByte, Stor
 use Rattle.vchan_protocol.specs.declared.op.PastEvent.{PastEvent}
 use Rattle.vchan_protocol.specs.declared.call.Answer.{Answer}
 use Rattle.vchan_protocol.specs.declared.call.Answer.TheVariants.{Done}
-use Rattle.vchan_protocol.specs.declared.call.Call.{Call}
 use Rattle.vchan_protocol.specs.declared.side.Side.{Side}
 use Rattle.vchan_protocol.specs.declared.side.Begun.{Begun}
 use Rattle.vchan_core.specs.declared.machine.Machine.{Machine}
@@ -29,14 +28,14 @@ use Rattle.vchan_protocol.specs.Table.Ends.{Standing, standing_after, prod_store
 use Rattle.vchan_protocol.specs.Table.Calls.{plan_of, payload_of, stored_most, loaded_most}
 use Rattle.vchan_protocol.specs.Table.Apply.{words_after, word_of, value_taken}
 use Rattle.vchan_core.specs.OneMachine.Phases.{standing, at_phase, rest, rest_at, plan_at, rest_or_answer, IsIdle}
-use Rattle.vchan_protocol.specs.History.Core.{Core, side_of, event, plan_next, begun_standing, standing_of, standing_along, plan_left, begins, made, settled, answered, answer_in, count_stored, bytes_loaded, sent_stored, sent_after, got_stored, got_after}
+use Rattle.vchan_protocol.specs.History.Core.{Core, side_of, event, plan_next, begun_standing, standing_of, standing_along, plan_left, made, settled, answered, answer_in, count_stored, bytes_loaded, sent_stored, sent_after, got_stored, got_after}
 use Rattle.vchan_core.specs.Page.Counts.{capped}
 use Rattle.vchan_core.specs.WholeCall.AtPhase.{page_at, page_to}
 use Rattle.vchan_core.specs.Page.StandsFor.{IsInCall, IsMachineOf, HasPayload, StandsFor, orders_of, words_of}
 use Rattle.vchan_protocol.proofs.Table.PlanLaws.{Leads-more, rest_after-Leads}
 use Rattle.vchan_core.proofs.OneMachine.PhaseLaws.{GoesOn-machine}
 use Rattle.vchan_protocol.proofs.Table.Counted.{Counted, OwesIndex, counted_call, counts_within, Counted-Leads}
-use Rattle.vchan_protocol.proofs.History.EventLaws.{owes_next, leaves_same, stored_most-payload, most_small, OwesNext, settled-on, settled-sent, settled-got, settled-turned, standing_of-made, standing_along-push, prod-after, cons-after, diff-same, side_by, event_by}
+use Rattle.vchan_protocol.proofs.History.EventLaws.{owes_next, leaves_same, stored_most-payload, most_small, OwesNext, settled-on, settled-sent, settled-got, settled-turned, standing_of-made, standing_along-push, prod-after, cons-after, side_by, event_by, diff-same}
 
 -- the call that a busy machine is in, as a record
 pub record InCall (s : Side) (m : Machine) : Type 0 where
@@ -316,13 +315,6 @@ answer_is core who orders words m m' result h same_orders same_words busy leads 
     ∙ ap (λ (plan : Plan). answer_in (after plan (value_taken core.orders core.words (next_op plan)))) (sym (plan_left-is (side_of core who) m (in_call (side_of core who) m h busy)))
 
 -- ---- the machine of one end, whatever its peer is
-
--- a machine that began a call and has made no event of it yet stands for its end after that has begun the call
-pub begins_stands : (call : Call) (m : Machine) (s : Side) (payload : List ℕ) → ¬ IsIdle m → standing m ≡ standing_of s → rest m ≡ plan_of (standing m) call → length payload ≡ payload_of call →
-    IsMachineOf (begins s call payload) m
-begins_stands call m s payload busy stands plan pays =
-    let led : plan_of (standing_of s) call ≡ rest m = sym (plan ∙ ap (λ (e : Standing). plan_of e call) stands) in
-    record { standing_is = stands; in_call = (busy, led, pays, refl) }
 
 -- ---- for the code
 

@@ -32,9 +32,9 @@ use Rattle.vchan_core.specs.WholeCall.AtPhase.{page_at, page_to}
 use Rattle.vchan_core.proofs.OneMachine.PhaseLaws.{GoesOn-machine}
 use Rattle.vchan_protocol.proofs.Table.PlanLaws.{Leads-more}
 use Rattle.vchan_core.proofs.Page.StepLaws.{DoesEvent, stands_server, stands_client}
-use Rattle.vchan_protocol.proofs.History.EventLaws.{diff-same}
 use Rattle.vchan_core.proofs.WholeCall.RunLaws.{IsRunning, IsStep, runs_begun, runs_on, runs_out, then_stands, then_fills, then_trail}
 use Rattle.vchan_protocol.proofs.History.WholeCallLaws.{length-payload}
+use Rattle.vchan_protocol.proofs.History.EventLaws.{diff-same}
 use Rattle.vchan_core.proofs.OneMachine.PhaseLaws.{length-Stands}
 
 -- ---- an event on a ring byte as a step

@@ -22,7 +22,7 @@ use Rattle.vchan_protocol.specs.History.WholeCall.{alone, whole_call}
 use Rattle.vchan_core.specs.Page.StandsFor.{IsMachineOf, HasPayload, StandsFor, machine_of, orders_of, words_of, op_of}
 use Rattle.vchan_core.proofs.OneMachine.PhaseLaws.{GoesOn-machine}
 use Rattle.vchan_core.proofs.Page.StepLaws.{InCall, in_call, event-by, owed}
-use Rattle.vchan_protocol.proofs.History.EventLaws.{OwesNext, settled-payload, settled-trail, side_by, side_of-with_side, event_by-on, event_by-answers}
+use Rattle.vchan_protocol.proofs.History.EventLaws.{OwesNext, settled-payload, side_by, event_by-on, event_by-answers, settled-trail, side_of-with_side}
 use Rattle.vchan_protocol.proofs.History.WholeCallLaws.{alone-after, alone-answers, FillsNext, fills_on, length-payload}
 
 -- ---- one end of a core state

@@ -3,9 +3,9 @@ use Rattle.vchan_protocol.specs.declared.call.Answer.{Answer}
 use Rattle.vchan_protocol.specs.declared.call.Call.TheVariants.{Drain}
 use Rattle.vchan_protocol.specs.Table.Calls.{Trace}
 use Rattle.vchan_protocol.specs.History.Core.{standing_of}
-use Rattle.vchan_lifecycle.specs.Lifecycle.{most_asked}
 use Rattle.vchan_lifecycle.proofs.LifecycleLaws.{drain_answers, drain_asks, drain_cause, drain_some}
 use Rattle.vchan_lifecycle.proofs.drain.Goals as goal
+use Rattle.vchan_rule.specs.Called.{most_asked}
 
 pub drain_answer-requires : goal.drain_answer-requires
 drain_answer-requires c = drain_answers (standing_of c.args.end.now.side) _ _ _ c.do_call.ensures.over.trace

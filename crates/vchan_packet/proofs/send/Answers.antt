@@ -6,7 +6,8 @@ use Rattle.vchan_protocol.specs.History.Core.{standing_of}
 use Rattle.vchan_protocol.specs.OneEnd.EndingLaw.{tells_end}
 use Rattle.end_view.specs.AfterCall.{answered_view}
 use Rattle.vchan_rule.specs.Seated.{view}
-use Rattle.vchan_packet.specs.Packet.{most_asked, send_told}
+use Rattle.vchan_rule.specs.Called.{most_asked}
+use Rattle.vchan_packet.specs.Packet.{send_told}
 use Rattle.vchan_packet.proofs.PacketLaws.{send_answers, send_cause, send_view}
 use Rattle.vchan_packet.proofs.send.Goals as goal
 

@@ -14,13 +14,13 @@ use Rattle.vchan_protocol.specs.History.Core.{Core, opened, begun, event, side_o
 use Rattle.vchan_protocol.specs.Hostile.Turned.{strayed, turns, turned_side}
 use Rattle.vchan_protocol.specs.Honest.Lawful.{Lawful, Honest}
 use Rattle.vchan_protocol.specs.Honest.Reached.{MayBegin, opens as reaches}
-use Rattle.vchan_protocol.specs.History.Peer.{peer}
 use Rattle.vchan_protocol.specs.Signals.SignalLaw.{HasEnds}
 use Rattle.vchan_protocol.specs.Hostile.TurnedLaw.{TurnedLawful, turned_core}
 use Rattle.vchan_protocol.specs.Always.Invariant.{Invariant, RetiredIsSetOnce, MayCome, opens, begins_call, makes_event, is_turned, strays, PageSettled}
 use Rattle.vchan_protocol.proofs.Honest.LawfulSteps.{lawful_opened, lawful_event, lawful_begun}
 use Rattle.vchan_protocol.proofs.Signals.SignalLaws.{event_keeps, begin_keeps, no_signal_lost}
-use Rattle.vchan_protocol.proofs.Hostile.TurnedSteps.{turned_event, turned_begin, first_turn, second_turn, stray, event_grows, turned-turned_side, turned_core_again}
+use Rattle.vchan_protocol.proofs.Hostile.TurnedSteps.{turned_event, turned_begin, first_turn, second_turn, stray, event_grows, turned_core_again, turned-turned_side}
+use Rattle.vchan_protocol.specs.History.Peer.{peer}
 
 -- ---- the opening
 
@@ -120,7 +120,7 @@ invariant_strayed core who op h = record {
 
 -- ---- retirement
 
-retired_settled : (s : Side) (plan : Plan) → (settled s plan).retired ≡ s.retired
+pub retired_settled : (s : Side) (plan : Plan) → (settled s plan).retired ≡ s.retired
 retired_settled s (answers answer) = refl
 retired_settled s (does op next) = refl
 

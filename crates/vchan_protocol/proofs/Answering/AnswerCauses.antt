@@ -1,6 +1,6 @@
 -- Each row of the table of calls, walked to its answers: an answer has its cause in what was loaded, and tells what was moved.
-use Rattle.std.proofs.Common.{◌≡◌, ◌≢◌, ℕ, suc, zero, ◌==◌, ◌&&◌, ◌<◌, min, nat_lt, Bool, true, false, not, ◌||◌, Option, Some, None, IsSomeAnd, List, [], ◌∷◌, refl, sym, ap, ◌∙◌, arith}
-use Rattle.std.proofs.lemmas.Bool.{eqb-true, eqb-false, eq-eqb, ltb-true, ltb-false, false≢true}
+use Rattle.std.proofs.Common.{◌≡◌, ◌≢◌, ℕ, suc, zero, ◌==◌, ◌&&◌, ◌<◌, min, nat_lt, Bool, true, false, not, Option, Some, None, IsSomeAnd, List, [], ◌∷◌, refl, sym, ap, ◌∙◌, arith}
+use Rattle.std.proofs.lemmas.Bool.{eqb-true, eqb-false, eq-eqb, ltb-true, ltb-false, false≢true, or_right, or_left}
 use Rattle.vchan_protocol.specs.declared.call.Answer.{Answer}
 use Rattle.vchan_protocol.specs.declared.call.Answer.TheVariants.{Wrote, Full, Sent, NoRoom, Got, Empty, Short, PeerClosed, Ready, Space, Connected, BadOrders, Done, Event, NotYet, AllRead, Gone, PeerGone as IsGone}
 use Rattle.vchan_protocol.specs.declared.call.Bit.TheVariants.{Written, Consumed}
@@ -45,13 +45,6 @@ above n some = let apart = eqb-false n 0 some in omega (arith, apart)
 wrote_told : (e : Standing) (count : ℕ) → 0 < count → sends_bytes e count ≡ transfer_told e (Wrote count)
 wrote_told e zero above = absurd (omega arith)
 wrote_told e (suc count) above = refl
-
-pub or_first : (a b : Bool) → a ≡ true → (a || b) ≡ true
-or_first a b is = ap (λ (c : Bool). c || b) is
-
-pub or_second : (a b : Bool) → b ≡ true → (a || b) ≡ true
-or_second true b is = refl
-or_second false b is = is
 
 -- ---- the rows that move bytes
 
@@ -111,7 +104,7 @@ module _ (e : Standing) (n : ℕ) where
       comes_if (Answers e (Read n)) e e (only_loaded l seen) (ready_at e prod == 0) _ _
       (λ none. comes_live (Answers e (Read n)) e (only_loaded l seen) _ _
       (λ more noticed. comes_answers (Answers e (Read n)) e e _ PeerClosed
-      (record { cause = read_closed (record { prod = prod; cons = e.cons }) last (eqb-true _ _ none) refl refl; transfer = refl; notices = λ unshut. or_second seen more (noticed unshut) }))
+      (record { cause = read_closed (record { prod = prod; cons = e.cons }) last (eqb-true _ _ none) refl refl; transfer = refl; notices = λ unshut. or_right seen more (noticed unshut) }))
       (λ live more alive. comes_answers (Answers e (Read n)) e e _ (Empty prod e.cons)
       (record { cause = read_empty (record { prod = prod; cons = e.cons }) last (eqb-true _ _ none) alive refl; transfer = refl; notices = tt })))
       (λ some. comes_take (Answers e (Read n)) e (min n (ready_at e prod)) (only_loaded l seen) (Got (min n (ready_at e prod))) refl refl
@@ -131,7 +124,7 @@ module _ (e : Standing) (n : ℕ) where
       comes_if (Answers e (Recv n)) e e (only_loaded l seen) (nat_lt (ready_at e prod) n) _ _
       (λ less. comes_live (Answers e (Recv n)) e (only_loaded l seen) _ _
       (λ more noticed. comes_answers (Answers e (Recv n)) e e _ PeerClosed
-      (record { cause = recv_closed (record { prod = prod; cons = e.cons }) last (ltb-true _ _ less) refl refl; transfer = refl; notices = λ unshut. or_second seen more (noticed unshut) }))
+      (record { cause = recv_closed (record { prod = prod; cons = e.cons }) last (ltb-true _ _ less) refl refl; transfer = refl; notices = λ unshut. or_right seen more (noticed unshut) }))
       (λ live more alive. comes_answers (Answers e (Recv n)) e e _ (Short prod e.cons)
       (record { cause = recv_short (record { prod = prod; cons = e.cons }) last (ltb-true _ _ less) alive refl; transfer = refl; notices = tt })))
       (λ enough. comes_take (Answers e (Recv n)) e n (only_loaded l seen) (Got n) refl refl
@@ -166,7 +159,7 @@ module _ (e : Standing) (n : ℕ) where
       (record {
         cause = drain_peer_gone (record { prod = again; cons = e.cons }) refl (nothing, none) (unread_last live next again apart) is refl;
         transfer = refl;
-        notices = λ unshut. or_first _ last (or_second seen more (noticed unshut));
+        notices = λ unshut. or_left _ last (or_right seen more (noticed unshut));
       }))))
     where
       unread : (live : ℕ) (next : Option Pair) → (live ≡ 0 → IsSomeAnd next (λ pair. pair.prod ≢ pair.cons)) → (Some live ≡ Some 0) × IsSomeAnd next (λ pair. pair.prod ≡ pair.cons) → ⊥
@@ -185,7 +178,7 @@ module _ (e : Standing) (n : ℕ) where
       comes_live (Answers e (Drain n)) e _ _ _
       (λ more noticed. comes_look_read (Answers e (Drain n)) e _ _ (λ again last. comes_if (Answers e (Drain n)) e e _ (again == e.cons) _ _
       (λ same. comes_answers (Answers e (Drain n)) e e _ AllRead
-      (record { cause = drain_all_read (refl, eqb-true _ _ same) refl; transfer = refl; notices = λ unshut. or_first _ last (or_second seen more (noticed unshut)) }))
+      (record { cause = drain_all_read (refl, eqb-true _ _ same) refl; transfer = refl; notices = λ unshut. or_left _ last (or_right seen more (noticed unshut)) }))
       (λ other. found_answers _ _ again _ _ refl none (λ all. eqb-false _ _ other all.1) (λ nothing. drain_gone_answers 0 _ _ again _ (nothing, none) (λ is. eqb-false _ _ other)))))
       (λ live more alive. drain_gone_answers live _ _ prod older none (λ is. absurd (alive is)))
 

@@ -1,6 +1,7 @@
 -- What each row of the table of calls has loaded and moved when it answers.
 use Rattle.std.proofs.Common.{◌≡◌, ◌≢◌, ℕ, suc, zero, ◌+◌, ◌%◌, ◌^◌, ◌==◌, Bool, true, false, not, ◌||◌, ◌&&◌, cond, Some, List, [], ◌∷◌, ◌++◌, length, refl, subst, sym, ap, ◌∙◌, arith, zero-add, append-nil, append_assoc, length-append}
 use Rattle.std.proofs.lemmas.Bool.{eqb-true, eqb-false}
+use Rattle.std.proofs.Math.Bool.{or-false, and-false}
 use Rattle.ring_words.specs.declared.page.Role.{Role}
 use Rattle.ring_words.specs.declared.page.Role.TheVariants.{Server, Client}
 use Rattle.ring_words.specs.declared.page.WordName.{WordName}
@@ -14,11 +15,11 @@ use Rattle.vchan_protocol.specs.declared.call.Bit.TheVariants.{Written, Consumed
 use Rattle.vchan_protocol.specs.Table.Plan.{Plan, does, answers, Leads}
 use Rattle.vchan_protocol.specs.Table.Ends.{Standing, standing_after, written_ring, read_ring, prod_word, cons_word, ask_word, notify_word, peer_live, own_live, own_pending, own_gone, peer_gone, peer_pending, low8, low16, low32}
 use Rattle.vchan_protocol.specs.Table.Calls.{put_bytes, take_bytes, put, take, notify, signal, ask, look_read, look_write}
-use Rattle.vchan_protocol.specs.History.Core.{count_stored, bytes_loaded, stored_by, loaded_by, is_shut, sees_end}
+use Rattle.vchan_protocol.specs.History.Core.{count_stored, bytes_loaded, stored_by, loaded_by, is_shut}
 use Rattle.vchan_protocol.specs.Answering.Loads.{Loads, looked, word_loaded, loads_after, loads_along}
 use Rattle.vchan_protocol.specs.Answering.AnswerLaw.{ring_write, ring_writes, written_to}
 use Rattle.vchan_protocol.specs.OneEnd.EndingLaw.{notices, has_noticed}
-use Rattle.vchan_protocol.proofs.Honest.LifeTrails.{or_false, or_assoc}
+use Rattle.vchan_protocol.proofs.Honest.LifeTrails.{or_assoc, live_shows, gone_shows}
 
 -- ---- what the events of a call did so far
 
@@ -136,13 +137,9 @@ others-deeds now n (event ∷ events) =
     others-deeds (standing_after now event.op) (deeds_after now n event.op event.taken) events
     ∙ ap (λ (ops : List Op). ops ++ ring_writes events) (others-after now n event.op event.taken) ∙ append_assoc n.others (ring_write event.op) (ring_writes events)
 
-and_false : (b : Bool) → (b && false) ≡ false
-and_false true = refl
-and_false false = refl
-
 -- an event that shows nothing adds nothing
 pub unnoticed : (a b : Bool) → a ≡ (a || (b && false))
-unnoticed a b = sym (ap (λ (c : Bool). a || c) (and_false b) ∙ or_false a)
+unnoticed a b = sym (ap (λ (c : Bool). a || c) (and-false b) ∙ or-false a)
 
 noticed-after : (now : Standing) (n : Deeds) (op : Op) (taken : ℕ) → (deeds_after now n op taken).noticed ≡ (n.noticed || notices now op taken)
 noticed-after now n (Load word) taken = refl
@@ -155,7 +152,7 @@ noticed-after now n (Swap word value) taken = unnoticed n.noticed (not (is_shut 
 noticed-after now n Nothing taken = unnoticed n.noticed (not (is_shut now.state))
 
 pub noticed-deeds : (now : Standing) (n : Deeds) (events : List PastEvent) → (deeds_along now n events).noticed ≡ (n.noticed || has_noticed now events)
-noticed-deeds now n [] = sym (or_false n.noticed)
+noticed-deeds now n [] = sym (or-false n.noticed)
 noticed-deeds now n (event ∷ events) =
     noticed-deeds (standing_after now event.op) (deeds_after now n event.op event.taken) events
     ∙ ap (λ (b : Bool). b || has_noticed (standing_after now event.op) events) (noticed-after now n event.op event.taken)
@@ -178,14 +175,6 @@ live-loaded Client prod cons taken l = refl
 gone-loaded : (role : Role) (prod cons taken : ℕ) (l : Loads) → word_loaded (peer_gone role) role prod cons taken l ≡ record l { gone = Some taken }
 gone-loaded Server prod cons taken l = refl
 gone-loaded Client prod cons taken l = refl
-
-live_shows : (role : Role) (taken : ℕ) → sees_end (peer_live role) role taken ≡ (low8 taken == 0)
-live_shows Server taken = refl
-live_shows Client taken = refl
-
-gone_shows : (role : Role) (taken : ℕ) → sees_end (peer_gone role) role taken ≡ not (taken == 0)
-gone_shows Server taken = refl
-gone_shows Client taken = refl
 
 ask-written : (role : Role) (op : Op) → written_to (ask_word role) op ≡ []
 ask-written Server op = refl

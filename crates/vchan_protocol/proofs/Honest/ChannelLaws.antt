@@ -5,16 +5,14 @@ use Rattle.std.proofs.lemmas.List.{get_or_append_left, get_or-append_right, get_
 use Rattle.std.proofs.lemmas.List.Elements.{All-nil, All-cons, All-head, All-append, All-take}
 use Rattle.std.proofs.lemmas.Bool.{cases_lt}
 use Rattle.std.proofs.lemmas.Bool.Decides.{nat_tests}
+use Rattle.list_laws.specs.Lists.{IsPrefixOf}
+use Rattle.list_laws.proofs.Prefixes.{prefix-length}
 use Rattle.ring_words.specs.declared.order.Order.{Order}
 use Rattle.ring_words.specs.Rings.{size, place, room, ready}
-use Rattle.ring_words.proofs.RingLaws.{place_apart, place_within, diff_counts, size-within, place_wraps}
-use Rattle.vchan_protocol.specs.Honest.RingLaw.{Channel, IsLawful, LeavesRoom, ShowsBytes, IsPrefixOf, AreBytes, index_at}
+use Rattle.ring_words.proofs.RingLaws.{place_apart, diff_counts, size-within, place_wraps, place_within}
+use Rattle.vchan_protocol.specs.Honest.RingLaw.{Channel, IsLawful, LeavesRoom, ShowsBytes, AreBytes, index_at}
 
 -- ---- prefixes
-
--- a prefix is no longer
-pub prefix_within : (xs ys : List ℕ) → IsPrefixOf xs ys → length xs ≤ length ys
-prefix_within xs ys h = omega (arith, ap (λ (l : List ℕ). length l) h.1, length-append xs h.0)
 
 -- it goes on with the next number
 pub prefix_next : (xs ys : List ℕ) → IsPrefixOf xs ys → length xs < length ys → IsPrefixOf (xs ++ slice_index ys (length xs) ∷ []) ys
@@ -55,7 +53,7 @@ leaves_room r index k w seen h =
     let g : LeavesRoom r.start (size r.order) (length r.sent) (length r.got) 0 index = subst (λ (o : Option ℕ). IfSome o (LeavesRoom r.start (size r.order) (length r.sent) (length r.got) 0)) seen w.writer_looked in
     let here : k ≤ room (index_at r.start (length r.sent)) (index_at r.start g.count) r.order =
     subst (λ (n : ℕ). k ≤ room (index_at r.start (length r.sent)) n r.order) g.is (subst (λ (n : ℕ). k ≤ room n index r.order) w.own_prod h) in
-    record { count = g.count; is = g.is; within = g.within; room = room_total r.start (length r.sent) g.count k r.order (omega (arith, g.room)) (omega (arith, g.within, prefix_within r.got r.sent w.prefix)) here }
+    record { count = g.count; is = g.is; within = g.within; room = room_total r.start (length r.sent) g.count k r.order (omega (arith, g.room)) (omega (arith, g.within, prefix-length r.got r.sent w.prefix)) here }
 
 pub shows_bytes : (r : Channel) (index k : ℕ) (older : List ℕ) → IsLawful r → r.got_before ≡ length r.got → r.prods_seen ≡ index ∷ older → k ≤ ready index r.own_cons r.order → ShowsBytes r.start (length r.sent) (length r.got) k index
 shows_bytes r index k older w before seen h =
@@ -128,7 +126,7 @@ pub lawful-store_byte : (r : Channel) (index : ℕ) (new : ℕ → ℕ) → IsLa
     IsLawful (record r { bytes = new; stored = r.stored + 1 })
 lawful-store_byte r index new w seen h here others =
     let fits = put_fits r index w seen h in
-    let small = prefix_within r.got r.sent w.prefix in
+    let small = prefix-length r.got r.sent w.prefix in
     record {
       prod = w.prod;
       cons = w.cons;
@@ -220,7 +218,7 @@ lawful-look_read r before w = record {
   writer_looked = w.writer_looked;
   writer_stored = w.writer_stored;
   reader_looked = All-cons (ShowsBytes r.start (length r.sent) r.got_before 0) r.prod r.prods_seen
-      (record { count = length r.sent; is = w.prod; unread = omega (arith, before, prefix_within r.got r.sent w.prefix); within = omega arith }) w.reader_looked;
+      (record { count = length r.sent; is = w.prod; unread = omega (arith, before, prefix-length r.got r.sent w.prefix); within = omega arith }) w.reader_looked;
   reader_loaded = w.reader_loaded;
 }
 

@@ -1,8 +1,10 @@
 -- The laws on lives: the opening has them, and a begin and each event of an honest end keep them.
-use Rattle.std.proofs.Common.{◌≡◌, ◌≢◌, ℕ, ◌+◌, ◌-◌, ◌^◌, ◌<◌, ◌≤◌, ◌⊎◌, inl, inr, Bool, true, false, not, cond, ◌||◌, ◌&&◌, Option, Some, None, IsSome, List, [], ◌∷◌, ◌++◌, length, refl, subst, sym, ap, ◌∙◌, arith, append-nil, length-append}
-use Rattle.std.proofs.lemmas.Bool.{false≢true, eq-eqb, eqb-true}
+use Rattle.std.proofs.Common.{◌≡◌, ◌≢◌, ℕ, ◌+◌, ◌-◌, ◌^◌, ◌<◌, ◌≤◌, ◌⊎◌, inl, inr, Bool, true, false, not, cond, ◌||◌, ◌&&◌, Option, Some, None, IsSome, List, [], ◌∷◌, ◌++◌, length, refl, subst, sym, ap, ◌∙◌, arith, append-nil}
+use Rattle.std.proofs.lemmas.Bool.{false≢true, eq-eqb, eqb-true, or_parts, or_right, or_left, or_cases, or_from}
 use Rattle.std.proofs.lemmas.Bool.Decides.{nat_tests}
-use Rattle.std.proofs.lemmas.List.{nil_from_length}
+use Rattle.std.proofs.Math.Bool.{or-false}
+use Rattle.list_laws.specs.Lists.{IsPrefixOf}
+use Rattle.list_laws.proofs.Prefixes.{prefix-all, prefix-length}
 use Rattle.ring_words.specs.Rings.{size, diff, ready}
 use Rattle.ring_words.specs.Page.{order_of}
 use Rattle.ring_words.specs.declared.order.Order.{Order}
@@ -30,12 +32,13 @@ use Rattle.vchan_protocol.specs.Table.Calls.{plan_of}
 use Rattle.vchan_protocol.specs.Table.Apply.{words_after, value_taken}
 use Rattle.vchan_protocol.specs.History.Page.{live_word}
 use Rattle.vchan_protocol.specs.History.Core.{Core, opened, side_of, event, begun, begins, plan_left, plan_next, op_next, taken_next, begun_standing, made, settled, side_after, answered, saw_after, sent_after, sent_stored, got_after, got_stored, bytes_loaded, is_shut, sees_end, sets_gone, ending, drains, misleads, first_ended}
-use Rattle.vchan_protocol.specs.Honest.RingLaw.{index_at, word_at, IsPrefixOf, RingLawful, CallLawful, IsLawfulIn, IsLawfulCall}
+use Rattle.vchan_protocol.specs.Honest.RingLaw.{index_at, word_at, RingLawful, CallLawful, IsLawfulIn, IsLawfulCall}
 use Rattle.vchan_protocol.specs.Honest.LifeLaw.{LifeLawful, SightLawful, StreamLawful, TellsGone, SaysOrders, OrdersGive, OrderGives, LooksGive, LookGives, LoadGives, shows_end, has_seen}
-use Rattle.vchan_protocol.specs.History.Peer.{peer, held}
+use Rattle.vchan_protocol.specs.History.Peer.{held, peer}
 use Rattle.vchan_protocol.specs.Honest.Lawful.{Lawful}
-use Rattle.vchan_protocol.proofs.Honest.LifeTrails.{Lives, OwesLife, OwesStore, OwesAnswer, or_false, or_assoc, lives_call, Lives-Leads}
+use Rattle.vchan_protocol.proofs.Honest.LifeTrails.{Lives, OwesLife, OwesStore, OwesAnswer, or_assoc, lives_call, Lives-Leads}
 use Rattle.vchan_protocol.proofs.Honest.LifeWords.{spared_stays, left_order_spared, right_order_spared, peer_live_spared, peer_gone_spared, shut_stays, fresh_before, live_tells, gone_tells, shown_shut, order_given, gone_is, peer_unset}
+use Rattle.vchan_protocol.proofs.History.EventLaws.{diff-same}
 
 -- ---- the opening
 
@@ -223,11 +226,11 @@ owes_answer said final role orders state cons seen answer w = w
 -- ---- a trail that grows
 
 has_seen-push : (role : Role) (events : List PastEvent) (event : PastEvent) → has_seen role (events ++ event ∷ []) ≡ (has_seen role events || shows_end event.op role event.taken)
-has_seen-push role [] event = or_false (shows_end event.op role event.taken)
+has_seen-push role [] event = or-false (shows_end event.op role event.taken)
 has_seen-push role (first ∷ events) event = ap (λ (b : Bool). shows_end first.op role first.taken || b) (has_seen-push role events event) ∙ sym (or_assoc (shows_end first.op role first.taken) (has_seen role events) (shows_end event.op role event.taken))
 
 LooksGive-push : (index : ℕ) (role : Role) (seen : Bool) (events : List PastEvent) (event : PastEvent) → LooksGive index role seen events → ((seen || has_seen role events) ≡ true → LookGives index event.op role event.taken) → LooksGive index role seen (events ++ event ∷ [])
-LooksGive-push index role seen [] event looks last = (λ was. last (or_false seen ∙ was), tt)
+LooksGive-push index role seen [] event looks last = (λ was. last (or-false seen ∙ was), tt)
 LooksGive-push index role seen (first ∷ events) event looks last =
     (looks.0, LooksGive-push index role (seen || shows_end first.op role first.taken) events event looks.1 (λ was. last (sym (or_assoc seen (shows_end first.op role first.taken) (has_seen role events)) ∙ was)))
 
@@ -235,15 +238,10 @@ OrdersGive-push : (said : ℕ × ℕ) (events : List PastEvent) (event : PastEve
 OrdersGive-push said [] event looks last = (last, tt)
 OrdersGive-push said (first ∷ events) event looks last = (looks.0, OrdersGive-push said events event looks.1 last)
 
--- if nothing was seen, nothing is claimed of later looks
-or_none : (a b : Bool) → (a || b) ≡ false → (a ≡ false) × (b ≡ false)
-or_none true b is = absurd (false≢true (sym is))
-or_none false b is = (refl, is)
-
 unseen_looks : (index : ℕ) (role : Role) (events : List PastEvent) → has_seen role events ≡ false → LooksGive index role false events
 unseen_looks index role [] none = tt
 unseen_looks index role (event ∷ events) none =
-    let both = or_none (shows_end event.op role event.taken) (has_seen role events) none in
+    let both = or_parts (shows_end event.op role event.taken) (has_seen role events) none in
     (λ was. absurd (false≢true was), subst (λ (b : Bool). LooksGive index role b events) (sym both.0) (unseen_looks index role events both.1))
 
 -- ---- the lists of an end
@@ -268,23 +266,10 @@ got_grows (Store word value) s = go word s.role
     go _ role = ([], append-nil s.got)
 got_grows _ s = ([], append-nil s.got)
 
--- lists that begin one another are one
-prefix_all : (got sent : List ℕ) → IsPrefixOf got sent → length sent ≤ length got → got ≡ sent
-prefix_all got sent begins few =
-    let none : length begins.0 ≡ 0 = omega (arith, few, length-append got begins.0, ap (λ (xs : List ℕ). length xs) begins.1) in
-    sym (append-nil got) ∙ ap (λ (xs : List ℕ). got ++ xs) (sym (nil_from_length begins.0 none)) ∙ begins.1
-
-prefix_length : (xs ys : List ℕ) → IsPrefixOf xs ys → length xs ≤ length ys
-prefix_length xs ys begins = omega (arith, length-append xs begins.0, ap (λ (zs : List ℕ). length zs) begins.1)
-
 -- a reader that got all that was sent gets no more
 all_stays : (got then_got sent : List ℕ) → IsPrefixOf got then_got → IsPrefixOf then_got sent → got ≡ sent → then_got ≡ sent
 all_stays got then_got sent grown begins all =
-    prefix_all then_got sent begins (omega (arith, prefix_length got then_got grown, ap (λ (xs : List ℕ). length xs) all))
-
-diff_same : (count : ℕ) → diff count count ≡ 0
-unfolding diff
-diff_same count = grind (arith, nat_tests)
+    prefix-all then_got sent begins (omega (arith, prefix-length got then_got grown, ap (λ (xs : List ℕ). length xs) all))
 
 ready_is : (prod cons : ℕ) (order : Order) → diff prod cons ≤ size order → ready prod cons order ≡ diff prod cons
 unfolding ready
@@ -292,20 +277,20 @@ ready_is prod cons order fits = grind (arith, nat_tests)
 
 module _ (start : ℕ) (order : Order) (got sent : List ℕ) (begins : IsPrefixOf got sent) (fits : length sent ≤ length got + size order) where
   ahead : diff (index_at start (length sent)) (index_at start (length got)) ≡ length sent - length got
-  ahead = diff_counts start (length sent) (length got) (prefix_length got sent begins) (omega (arith, fits, (size-within order).1))
+  ahead = diff_counts start (length sent) (length got) (prefix-length got sent begins) (omega (arith, fits, (size-within order).1))
 
   -- if the two indices are equal, all that was sent is got
   caught_up : index_at start (length sent) ≡ index_at start (length got) → got ≡ sent
   caught_up same =
-      let apart : length sent - length got ≡ 0 = sym ahead ∙ ap (λ (n : ℕ). diff n (index_at start (length got))) same ∙ diff_same (index_at start (length got)) in
-      prefix_all got sent begins (omega (arith, apart))
+      let apart : length sent - length got ≡ 0 = sym ahead ∙ ap (λ (n : ℕ). diff n (index_at start (length got))) same ∙ diff-same (index_at start (length got)) in
+      prefix-all got sent begins (omega (arith, apart))
 
   -- if nothing is ready, the two indices are equal
   none_ready : ready (index_at start (length sent)) (index_at start (length got)) order ≡ 0 → index_at start (length sent) ≡ index_at start (length got)
   none_ready none =
       let small : diff (index_at start (length sent)) (index_at start (length got)) ≤ size order = omega (arith, ahead, fits) in
       let apart : length sent - length got ≡ 0 = sym ahead ∙ sym (ready_is _ _ order small) ∙ none in
-      ap (λ (n : ℕ). index_at start n) (omega (arith, apart, prefix_length got sent begins))
+      ap (λ (n : ℕ). index_at start n) (omega (arith, apart, prefix-length got sent begins))
 
 -- ---- an event
 
@@ -318,10 +303,6 @@ look_given orders words final (Load word) role is low = go word role is
     go RightProd Client is = omega (arith, is, low)
     go _ role is = tt
 look_given orders words final _ role is low = tt
-
-or_cases : (a b : Bool) → (a || b) ≡ true → (a ≡ true) ⊎ (b ≡ true)
-or_cases true b is = inl refl
-or_cases false b is = inr is
 
 -- an end comes to see only what its peer's words show
 saw_shut : (op : Op) (value : ℕ) (s : Side) (shut : Type 0) → (s.saw ≡ true → shut) → (shows_end op s.role value ≡ true → shut) → saw_after op value s ≡ true → shut
@@ -339,7 +320,7 @@ saw_shut _ value s shut before shows is = before is
 -- a shut end comes to see nothing new
 saw_stays : (op : Op) (value : ℕ) (s : Side) → s.state ≡ Shut → saw_after op value s ≡ true → s.saw ≡ true
 saw_stays (Load word) value s shut is =
-    sym (or_false s.saw) ∙ sym (ap (λ (state : EndState). s.saw || (not (is_shut state) && sees_end word s.role value)) shut) ∙ is
+    sym (or-false s.saw) ∙ sym (ap (λ (state : EndState). s.saw || (not (is_shut state) && sees_end word s.role value)) shut) ∙ is
 saw_stays _ value s shut is = is
 
 module _ (start : ℕ) (said : ℕ × ℕ) (orders : Orders) (words : List ℕ) (mine theirs : Side) (c : InLawfulCall mine) (more : GoesOn (plan_left mine)) (long : 14 ≤ length words) (b : Between mine.role start said orders words mine theirs)
@@ -431,18 +412,6 @@ ended_cases : (before later : Option EndedBy) → IsSome (first_ended before lat
 ended_cases None later is = inr is
 ended_cases (Some by) later is = inl refl
 
-or_left : (a b : Bool) → a ≡ true → (a || b) ≡ true
-or_left true b is = refl
-or_left false b is = absurd (false≢true is)
-
-or_right : (a b : Bool) → b ≡ true → (a || b) ≡ true
-or_right true b is = refl
-or_right false b is = is
-
-or_neither : (a b : Bool) → a ≡ false → b ≡ false → (a || b) ≡ false
-or_neither true b first second = first
-or_neither false b first second = second
-
 module _ (role : Role) (start : ℕ) (said : ℕ × ℕ) (orders : Orders) (words : List ℕ) (mine theirs : Side) (role_is : mine.role ≡ role) (b : Between role start said orders words mine theirs)
     (counts : mine.cons ≡ index_at start (length mine.got)) (begins : IsPrefixOf mine.got theirs.sent) (fits : length theirs.sent ≤ length mine.got + size (order_of orders (read_ring role))) where
   answered_between : (answer : Answer) → OwesAnswer said (index_at start (length theirs.sent)) role orders mine.cons (has_seen mine.role mine.trail) answer → Between role start said orders words (answered mine answer) theirs
@@ -464,7 +433,7 @@ module _ (role : Role) (start : ℕ) (said : ℕ × ℕ) (orders : Orders) (word
     writes = record { shut = b.writes.shut; all = b.writes.all; ended = b.writes.ended };
     my_orders = b.my_orders;
     their_orders = b.their_orders;
-    my_misled = λ says. or_neither mine.misled (misleads answer) (b.my_misled says) (misleads_never said (index_at start (length theirs.sent)) role orders mine.cons (has_seen mine.role mine.trail) answer owes says);
+    my_misled = λ says. or_from mine.misled (misleads answer) (b.my_misled says) (misleads_never said (index_at start (length theirs.sent)) role orders mine.cons (has_seen mine.role mine.trail) answer owes says);
     their_misled = b.their_misled;
   }
     where

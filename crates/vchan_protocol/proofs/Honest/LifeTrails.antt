@@ -1,6 +1,7 @@
 -- What each event of a call owes to the lives of the two ends, and what an answer that ends a stream rests on.
 use Rattle.std.proofs.Common.{◌≡◌, ◌≢◌, ℕ, suc, zero, ◌+◌, ◌%◌, ◌^◌, ◌==◌, min, nat_lt, Bool, true, false, not, cond, ◌||◌, ◌&&◌, List, [], ◌∷◌, refl, subst, sym, ap, ◌∙◌, arith}
 use Rattle.std.proofs.lemmas.Bool.{eqb-true, eq-eqb, false≢true}
+use Rattle.std.proofs.Math.Bool.{or-false}
 use Rattle.ring_words.specs.Rings.{ready, number_of}
 use Rattle.ring_words.specs.Page.{order_of}
 use Rattle.ring_words.specs.declared.order.Orders.{Orders}
@@ -20,10 +21,11 @@ use Rattle.vchan_protocol.specs.declared.call.Call.TheVariants.{Write, Send, Rea
 use Rattle.vchan_protocol.specs.declared.call.EndState.{EndState}
 use Rattle.vchan_protocol.specs.declared.call.EndState.TheVariants.{Fresh, Open, Shut}
 use Rattle.vchan_protocol.specs.Table.Plan.{Plan, does, answers, Leads}
-use Rattle.vchan_protocol.specs.Table.Ends.{Standing, standing_after, state_after, cons_after, written_ring, read_ring, prod_word, cons_word, ask_word, notify_word, peer_live, own_live, own_pending, own_gone, peer_gone, peer_pending, low8, low16, low32, free_at, ready_at}
+use Rattle.vchan_protocol.specs.Table.Ends.{Standing, standing_after, state_after, cons_after, written_ring, read_ring, prod_word, cons_word, peer_live, own_live, own_gone, peer_gone, peer_pending, low8, low16, low32, free_at, ready_at}
 use Rattle.vchan_protocol.specs.Table.Calls.{put_bytes, take_bytes, put, take, notify, signal, ask, look_read, look_write, write, write_open, write_looked, read, read_live, read_looked, drain_found, drain_last, drain_gone, drain_further, drain_live, drain_second, drain, connect, connect_right, close, retire, retire_shut, plan_of, send, send_open, send_looked, recv, recv_live, recv_looked, IsAllowed}
 use Rattle.vchan_protocol.specs.History.Core.{standing_along, sees_end}
 use Rattle.vchan_protocol.specs.Honest.LifeLaw.{shows_end, has_seen, LoadGives, LookGives, LooksGive, SaidGives, OrderGives, OrdersGive, SaysOrders}
+use Rattle.vchan_protocol.proofs.Table.Sound.{flag_ask, flag_notify, flag_pending}
 
 -- ---- what is owed
 
@@ -82,10 +84,6 @@ Lives said final role orders state cons seen (does op next) =
 
 -- ---- words by role
 
-pub or_false : (b : Bool) → (b || false) ≡ b
-or_false true = refl
-or_false false = refl
-
 pub or_assoc : (a b c : Bool) → ((a || b) || c) ≡ (a || (b || c))
 or_assoc true b c = refl
 or_assoc false b c = refl
@@ -98,29 +96,17 @@ room_shows : (role : Role) (value : ℕ) → sees_end (cons_word (written_ring r
 room_shows Server value = refl
 room_shows Client value = refl
 
-live_shows : (role : Role) (value : ℕ) → sees_end (peer_live role) role value ≡ (low8 value == 0)
+pub live_shows : (role : Role) (value : ℕ) → sees_end (peer_live role) role value ≡ (low8 value == 0)
 live_shows Server value = refl
 live_shows Client value = refl
 
-gone_shows : (role : Role) (value : ℕ) → sees_end (peer_gone role) role value ≡ not (value == 0)
+pub gone_shows : (role : Role) (value : ℕ) → sees_end (peer_gone role) role value ≡ not (value == 0)
 gone_shows Server value = refl
 gone_shows Client value = refl
 
 look_is : (final : ℕ) (role : Role) (value : ℕ) → LoadGives final (prod_word (read_ring role)) role value → low32 value ≡ final
 look_is final Server value is = is
 look_is final Client value is = is
-
-flag_ask : (role : Role) → IsFlag (ask_word role)
-flag_ask Server = tt
-flag_ask Client = tt
-
-flag_notify : (role : Role) → IsFlag (notify_word role)
-flag_notify Server = tt
-flag_notify Client = tt
-
-flag_pending : (role : Role) → IsFlag (own_pending role)
-flag_pending Server = tt
-flag_pending Client = tt
 
 owes_signal : (role : Role) (state : EndState) (value : ℕ) → OwesStore (peer_pending role) role state value
 owes_signal Server state value = tt
@@ -146,7 +132,7 @@ owes_gone : (role : Role) (state : EndState) → state ≡ Shut → OwesStore (o
 owes_gone Server state shut = (refl, shut)
 owes_gone Client state shut = (refl, shut)
 
-shut_signal : (role : Role) (state : EndState) → state_after (Store (peer_pending role) 1) role state ≡ state
+pub shut_signal : (role : Role) (state : EndState) → state_after (Store (peer_pending role) 1) role state ≡ state
 shut_signal Server state = refl
 shut_signal Client state = refl
 
@@ -171,45 +157,45 @@ module _ (said : ℕ × ℕ) (final : ℕ) (e : Standing) where
   lives_or : (state : EndState) (cons : ℕ) (seen : Bool) (word : WordName) (bits : ℕ) (next : ℕ → Plan) → IsFlag word → ((value : ℕ) → Lives said final e.role e.orders state cons seen (next value)) →
       Lives said final e.role e.orders state cons seen (does (Or word bits) next)
   unfolding Lives
-  lives_or state cons seen word bits next flag w = (flag, λ value looks says. subst (λ (b : Bool). Lives said final e.role e.orders state cons b (next value)) (sym (or_false seen)) (w value))
+  lives_or state cons seen word bits next flag w = (flag, λ value looks says. subst (λ (b : Bool). Lives said final e.role e.orders state cons b (next value)) (sym (or-false seen)) (w value))
 
   lives_and : (state : EndState) (cons : ℕ) (seen : Bool) (word : WordName) (bits : ℕ) (next : ℕ → Plan) → IsFlag word → ((value : ℕ) → Lives said final e.role e.orders state cons seen (next value)) →
       Lives said final e.role e.orders state cons seen (does (And word bits) next)
   unfolding Lives
-  lives_and state cons seen word bits next flag w = (flag, λ value looks says. subst (λ (b : Bool). Lives said final e.role e.orders state cons b (next value)) (sym (or_false seen)) (w value))
+  lives_and state cons seen word bits next flag w = (flag, λ value looks says. subst (λ (b : Bool). Lives said final e.role e.orders state cons b (next value)) (sym (or-false seen)) (w value))
 
   lives_swap : (state : EndState) (cons : ℕ) (seen : Bool) (word : WordName) (swapped : ℕ) (next : ℕ → Plan) → IsFlag word → ((value : ℕ) → Lives said final e.role e.orders state cons seen (next value)) →
       Lives said final e.role e.orders state cons seen (does (Swap word swapped) next)
   unfolding Lives
-  lives_swap state cons seen word swapped next flag w = (flag, λ value looks says. subst (λ (b : Bool). Lives said final e.role e.orders state cons b (next value)) (sym (or_false seen)) (w value))
+  lives_swap state cons seen word swapped next flag w = (flag, λ value looks says. subst (λ (b : Bool). Lives said final e.role e.orders state cons b (next value)) (sym (or-false seen)) (w value))
 
   lives_load_byte : (state : EndState) (cons : ℕ) (seen : Bool) (word : WordName) (at : ℕ) (next : ℕ → Plan) → ((value : ℕ) → Lives said final e.role e.orders state cons seen (next value)) →
       Lives said final e.role e.orders state cons seen (does (LoadByte word at) next)
   unfolding Lives
-  lives_load_byte state cons seen word at next w = (tt, λ value looks says. subst (λ (b : Bool). Lives said final e.role e.orders state cons b (next value)) (sym (or_false seen)) (w value))
+  lives_load_byte state cons seen word at next w = (tt, λ value looks says. subst (λ (b : Bool). Lives said final e.role e.orders state cons b (next value)) (sym (or-false seen)) (w value))
 
   lives_store_byte : (state : EndState) (cons : ℕ) (seen : Bool) (word : WordName) (at : ℕ) (next : ℕ → Plan) → IsRingByte word → ((value : ℕ) → Lives said final e.role e.orders state cons seen (next value)) →
       Lives said final e.role e.orders state cons seen (does (StoreByte word at) next)
   unfolding Lives
-  lives_store_byte state cons seen word at next byte w = (byte, λ value looks says. subst (λ (b : Bool). Lives said final e.role e.orders state cons b (next value)) (sym (or_false seen)) (w value))
+  lives_store_byte state cons seen word at next byte w = (byte, λ value looks says. subst (λ (b : Bool). Lives said final e.role e.orders state cons b (next value)) (sym (or-false seen)) (w value))
 
   lives_store : (state : EndState) (cons : ℕ) (seen : Bool) (word : WordName) (stored : ℕ) (next : ℕ → Plan) → OwesStore word e.role state stored →
       ((then_state : EndState) (then_cons value : ℕ) → then_state ≡ state_after (Store word stored) e.role state → Lives said final e.role e.orders then_state then_cons seen (next value)) →
       Lives said final e.role e.orders state cons seen (does (Store word stored) next)
   unfolding Lives
-  lives_store state cons seen word stored next owes w = (owes, λ value looks says. subst (λ (b : Bool). Lives said final e.role e.orders (state_after (Store word stored) e.role state) (cons_after (Store word stored) e.role cons) b (next value)) (sym (or_false seen)) (w _ _ value refl))
+  lives_store state cons seen word stored next owes w = (owes, λ value looks says. subst (λ (b : Bool). Lives said final e.role e.orders (state_after (Store word stored) e.role state) (cons_after (Store word stored) e.role cons) b (next value)) (sym (or-false seen)) (w _ _ value refl))
 
   lives_look_read : (state : EndState) (cons : ℕ) (seen : Bool) (next : ℕ → Plan) → ((index : ℕ) → (seen ≡ true → index ≡ final) → Lives said final e.role e.orders state cons seen (next index)) →
       Lives said final e.role e.orders state cons seen (look_read e next)
   lives_look_read state cons seen next w =
       lives_load state cons seen _ _ (λ value looks says. subst (λ (b : Bool). Lives said final e.role e.orders state cons b (next (low32 value)))
-      (sym (ap (λ (b : Bool). seen || b) (look_shows e.role value) ∙ or_false seen)) (w (low32 value) (λ is. look_is final e.role value (looks is))))
+      (sym (ap (λ (b : Bool). seen || b) (look_shows e.role value) ∙ or-false seen)) (w (low32 value) (λ is. look_is final e.role value (looks is))))
 
   lives_look_write : (state : EndState) (cons : ℕ) (seen : Bool) (next : ℕ → Plan) → ((index : ℕ) → Lives said final e.role e.orders state cons seen (next index)) →
       Lives said final e.role e.orders state cons seen (look_write e next)
   lives_look_write state cons seen next w =
       lives_load state cons seen _ _ (λ value looks says. subst (λ (b : Bool). Lives said final e.role e.orders state cons b (next (low32 value)))
-      (sym (ap (λ (b : Bool). seen || b) (room_shows e.role value) ∙ or_false seen)) (w (low32 value)))
+      (sym (ap (λ (b : Bool). seen || b) (room_shows e.role value) ∙ or-false seen)) (w (low32 value)))
 
   lives_ask : (state : EndState) (cons : ℕ) (seen : Bool) (bit : Bit) (next : Plan) → Lives said final e.role e.orders state cons seen next → Lives said final e.role e.orders state cons seen (ask e bit next)
   lives_ask state cons seen bit next w = lives_or state cons seen _ _ _ (flag_ask e.role) (λ value. w)
@@ -429,7 +415,7 @@ pub Lives-Leads : (said : ℕ × ℕ) (final : ℕ) (e : Standing) (seen : Bool)
     Lives said final e.role e.orders (standing_along e events).state (standing_along e events).cons (seen || has_seen e.role events) rest
 unfolding Lives standing_after
 Lives-Leads said final e seen plan [] rest w led looks says =
-    subst (λ (b : Bool). Lives said final e.role e.orders e.state e.cons b rest) (sym (or_false seen)) (subst (λ (p : Plan). Lives said final e.role e.orders e.state e.cons seen p) led w)
+    subst (λ (b : Bool). Lives said final e.role e.orders e.state e.cons b rest) (sym (or-false seen)) (subst (λ (p : Plan). Lives said final e.role e.orders e.state e.cons seen p) led w)
 Lives-Leads said final e seen (answers answer) (event ∷ events) rest w led looks says = absurd led
 Lives-Leads said final e seen (does op next) (event ∷ events) rest w led looks says =
     let first : Lives said final e.role e.orders (state_after event.op e.role e.state) (cons_after event.op e.role e.cons) (seen || shows_end event.op e.role event.taken) (next event.taken) =

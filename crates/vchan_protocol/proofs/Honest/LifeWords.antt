@@ -18,8 +18,8 @@ use Rattle.vchan_protocol.specs.Table.Apply.{words_after, value_taken}
 use Rattle.vchan_protocol.specs.History.Page.{live_word}
 use Rattle.vchan_protocol.specs.History.Core.{sees_end, sets_gone, sets_gone_word}
 use Rattle.vchan_protocol.specs.Honest.LifeLaw.{TellsGone, OrderGives, SaidGives, shows_end}
-use Rattle.vchan_protocol.specs.History.Peer.{peer}
 use Rattle.vchan_protocol.proofs.Honest.LifeTrails.{OwesLife, OwesStore, IsFlag, IsRingByte}
+use Rattle.vchan_protocol.specs.History.Peer.{peer}
 
 -- ---- which words an event is on
 

@@ -11,8 +11,8 @@ use Rattle.ring_words.specs.declared.page.Ring.{Ring}
 use Rattle.ring_words.specs.declared.page.Ring.TheVariants.{Left, Right}
 use Rattle.ring_words.specs.declared.page.WordName.{WordName}
 use Rattle.ring_words.specs.declared.page.WordName.TheVariants.{LeftCons, LeftProd, RightCons, RightProd, RingByte, CliLive, SrvLive, CliNotify, SrvNotify, SrvPending, CliPending}
-use Rattle.ring_words.proofs.RingLaws.{place_within}
 use Rattle.ring_words.proofs.PageLaws.{word_same}
+use Rattle.ring_words.proofs.RingLaws.{place_within}
 use Rattle.vchan_protocol.specs.declared.op.Op.{Op}
 use Rattle.vchan_protocol.specs.declared.op.Op.TheVariants.{Load, LoadByte, Store, StoreByte, Or, And, Swap, Nothing}
 use Rattle.vchan_protocol.specs.declared.op.PastEvent.{PastEvent}

@@ -2,6 +2,7 @@
 use Rattle.std.proofs.Common.{◌≡◌, ℕ, ◌+◌, ◌%◌, ◌^◌, ◌≤◌, Bool, true, false, cond, None, List, [], ◌++◌, length, take, slice_index, refl, subst, sym, ap, ◌∙◌, arith, append-nil, length-append}
 use Rattle.std.proofs.lemmas.Bool.{false≢true}
 use Rattle.std.proofs.lemmas.List.{length-set, length-take, take_all, take-append-le}
+use Rattle.list_laws.specs.Lists.{IsPrefixOf}
 use Rattle.ring_words.specs.Rings.{size, place}
 use Rattle.ring_words.specs.Page.{order_of}
 use Rattle.ring_words.specs.declared.order.Orders.{Orders}
@@ -20,17 +21,17 @@ use Rattle.vchan_protocol.specs.Table.Calls.{payload_of, IsAllowed}
 use Rattle.vchan_protocol.specs.Table.Apply.{words_after, word_of, leaves, value_taken}
 use Rattle.vchan_protocol.specs.History.Core.{Core, side_of, with_side, event, begun, begins, plan_left, op_next, taken_next, plan_next, begun_standing, standing_of, made, settled, side_after, sent_after, sent_stored, got_after, got_stored, bytes_loaded, count_stored}
 use Rattle.vchan_protocol.specs.Hostile.Turned.{turns, turned_side, strays, strayed}
-use Rattle.vchan_protocol.specs.Honest.RingLaw.{index_at, IsPrefixOf, CallLawful, AreBytes}
+use Rattle.vchan_protocol.specs.Honest.RingLaw.{index_at, CallLawful, AreBytes}
 use Rattle.vchan_protocol.specs.Honest.Lawful.{Lawful, Honest, IsEnd}
-use Rattle.vchan_protocol.specs.History.Peer.{peer}
 use Rattle.vchan_protocol.specs.History.TrailSummary.{summary}
 use Rattle.vchan_protocol.specs.Hostile.TurnedLaw.{TurnedLawful, KeepsCounts, ConsumedLawful, ListsStand, ListsGrow, LiesAtCount, turned_core}
 use Rattle.vchan_protocol.proofs.Table.Counted.{OwesIndex, counts_within}
 use Rattle.vchan_protocol.proofs.History.EventLaws.{OwesNext, stored_most-payload}
 use Rattle.vchan_protocol.proofs.Table.Sound.{OwesSound}
-use Rattle.vchan_protocol.proofs.Honest.EndSteps.{InLawful, in_lawful, owes_now, counts_now, call_begins, call_goes_on}
+use Rattle.vchan_protocol.proofs.Honest.EndSteps.{InLawful, in_lawful, owes_now, counts_now, call_begins, call_goes_on, not_yet}
 use Rattle.vchan_protocol.proofs.Honest.LifeSteps.{got_grows}
 use Rattle.vchan_protocol.proofs.OneEnd.IndexLaws.{stores_own}
+use Rattle.vchan_protocol.specs.History.Peer.{peer}
 
 -- ---- the own counts of an end
 
@@ -302,9 +303,6 @@ stray_keeps core Client op = (refl, turned-turned_side core.client (length core.
 
 -- ---- the places of an honest end's bytes
 
-unmoved : (flag : Bool) (moved_to before now : ℕ) → flag ≡ false → now ≡ cond flag moved_to before → now ≡ before
-unmoved flag moved_to before now still is = is ∙ ap (λ (b : Bool). cond b moved_to before) still
-
 pub lies_at_count : (s : Side) → CallLawful s → GoesOn (plan_left s) → LiesAtCount s (op_next s)
 lies_at_count s lawful more = go (op_next s) (owes_now s i more) (counts_now s i more)
   where
@@ -313,9 +311,9 @@ lies_at_count s lawful more = go (op_next s) (owes_now s i more) (counts_now s i
 
     go : (op : Op) → OwesSound (begun_standing s i.begun) (summary s.role s.trail) op → OwesNext s i.begun op → LiesAtCount s op
     go (StoreByte word at) owes counts =
-        (counts.0, owes.word_is ∙ ap (λ (n : ℕ). RingByte (written_ring s.role) (place (n + at) (order_of s.orders (written_ring s.role)))) (sym (unmoved (summary s.role s.trail).shown _ i.begun.prod s.prod owes.not_shown i.lawful.prod)))
+        (counts.0, owes.word_is ∙ ap (λ (n : ℕ). RingByte (written_ring s.role) (place (n + at) (order_of s.orders (written_ring s.role)))) (sym (not_yet (summary s.role s.trail).shown _ i.begun.prod s.prod owes.not_shown i.lawful.prod)))
     go (LoadByte word at) owes counts =
-        (counts.0, owes.word_is ∙ ap (λ (n : ℕ). RingByte (read_ring s.role) (place (n + at) (order_of s.orders (read_ring s.role)))) (sym (unmoved (summary s.role s.trail).released _ i.begun.cons s.cons owes.not_released i.lawful.cons)))
+        (counts.0, owes.word_is ∙ ap (λ (n : ℕ). RingByte (read_ring s.role) (place (n + at) (order_of s.orders (read_ring s.role)))) (sym (not_yet (summary s.role s.trail).released _ i.begun.cons s.cons owes.not_released i.lawful.cons)))
     go (Store word value) owes counts = stores_own s i word value owes
     go (Load word) owes counts = tt
     go (Or word bits) owes counts = tt

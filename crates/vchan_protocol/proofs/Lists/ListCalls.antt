@@ -17,12 +17,12 @@ use Rattle.vchan_protocol.specs.Table.Ends.{Standing, peer_live, low8, low16, fr
 use Rattle.vchan_protocol.specs.Table.Calls.{write, write_open, write_looked, send, send_open, send_looked, read, read_looked, read_live, recv, recv_looked, recv_live, drain, drain_found, drain_second, drain_live, drain_further, drain_gone, drain_last, connect, connect_right, connect_looked, close, retire, retire_shut, put, take as take_plan, ask, look_read, look_write, plan_of, payload_of, IsAllowed}
 use Rattle.vchan_protocol.specs.History.Core.{is_shut}
 use Rattle.vchan_protocol.specs.Honest.RingLaw.{AreBytes}
-use Rattle.vchan_protocol.specs.History.Peer.{peer}
 use Rattle.vchan_protocol.specs.Lists.ListCall.{ListEnd, ChannelLists, Outcome, end_of, with_end, index, avail, free, only, sent_out, got_in, of_written, of_read, list_call, peer_is_shut}
-use Rattle.vchan_protocol.specs.Lists.ListLaw.{count_got}
 use Rattle.vchan_protocol.proofs.Lists.ListTells.{Told}
 use Rattle.vchan_protocol.proofs.Lists.ListPieces.{run, standing_by, Begins, after_answers, calm_after, ends_only, ends_if, ends_cond, ends_true, ends_load, ends_ask, ends_look_read, ends_look_write, ends_live, ends_gone, free_is, avail_is, ends_put, ends_take, after_close, after_retire, ends_open, ends_swap}
 use Rattle.vchan_protocol.proofs.Lists.ListPieces.{Gives, Ends, After}
+use Rattle.vchan_protocol.specs.History.Peer.{peer}
+use Rattle.vchan_protocol.specs.Lists.ListLaw.{count_got}
 
 module _ (who : Role) (channel : ChannelLists) (theirs : Told) (payload : List ℕ) (b : Begins who channel) where
   -- the words of the pieces, at these arguments

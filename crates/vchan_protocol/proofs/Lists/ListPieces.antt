@@ -6,7 +6,7 @@ use Rattle.std.proofs.lemmas.List.{get_or-set_same, get_or-set_other, length-app
 use Rattle.std.proofs.lemmas.List.Elements.{All-take}
 use Rattle.ring_words.specs.Rings.{size, place, ready, room}
 use Rattle.ring_words.specs.Page.{index_of, order_of, word_count}
-use Rattle.ring_words.proofs.RingLaws.{place_within, place_apart, place_wraps, diff_counts, size-within}
+use Rattle.ring_words.proofs.RingLaws.{place_apart, place_wraps, diff_counts, size-within, place_within}
 use Rattle.ring_words.specs.declared.order.Order.{Order}
 use Rattle.ring_words.specs.declared.order.Orders.{Orders}
 use Rattle.ring_words.specs.declared.page.Role.{Role}
@@ -15,6 +15,7 @@ use Rattle.ring_words.specs.declared.page.Ring.{Ring}
 use Rattle.ring_words.specs.declared.page.Ring.TheVariants.{Left, Right}
 use Rattle.ring_words.specs.declared.page.WordName.{WordName}
 use Rattle.ring_words.specs.declared.page.WordName.TheVariants.{RingByte, CliLive}
+use Rattle.ring_words.proofs.ImageLaws.{index_of-byte}
 use Rattle.vchan_protocol.specs.declared.op.Op.{Op}
 use Rattle.vchan_protocol.specs.declared.op.Op.TheVariants.{Load, LoadByte, Store, StoreByte, Or, And, Swap}
 use Rattle.vchan_protocol.specs.declared.op.PastEvent.{PastEvent}
@@ -33,11 +34,11 @@ use Rattle.vchan_protocol.specs.History.Page.{live_word}
 use Rattle.vchan_protocol.specs.History.Core.{Core, made, answered, count_stored, bytes_loaded, stored_by, loaded_by, sent_stored, got_stored, is_shut, sets_gone_word}
 use Rattle.vchan_protocol.specs.History.WholeCall.{alone}
 use Rattle.vchan_protocol.specs.Honest.RingLaw.{AreBytes}
-use Rattle.vchan_protocol.specs.History.Peer.{peer}
 use Rattle.vchan_protocol.specs.Lists.ListCall.{ListEnd, ChannelLists, Outcome, end_of, with_end, index, waiting, avail, free, only, sent_out, got_in}
 use Rattle.vchan_protocol.specs.Lists.ListLaw.{IsTold, count_got}
 use Rattle.vchan_protocol.proofs.History.WholeCallLaws.{bytes_loaded-push}
 use Rattle.vchan_protocol.proofs.Lists.ListTells.{Told, told, at, Tells, tells_flags, tells_byte, tells_sent, tells_got, tells_state, tells_gone}
+use Rattle.vchan_protocol.specs.History.Peer.{peer}
 
 -- ---- a plan, carried out on the words and on its end only
 
@@ -102,11 +103,7 @@ count_stored-push : (events : List PastEvent) (op : Op) (taken : ℕ) → count_
 count_stored-push [] op taken = omega arith
 count_stored-push (event ∷ events) op taken = omega (arith, count_stored-push events op taken)
 
-byte_index : (orders : Orders) (ring : Ring) (k : ℕ) → index_of orders (RingByte ring k) ≡ index_of orders (RingByte ring 0) + k
-byte_index orders Left k = omega arith
-byte_index orders Right k = omega arith
-
-byte_in : (orders : Orders) (ring : Ring) (k : ℕ) → k < size (order_of orders ring) → index_of orders (RingByte ring k) < word_count orders
+pub byte_in : (orders : Orders) (ring : Ring) (k : ℕ) → k < size (order_of orders ring) → index_of orders (RingByte ring k) < word_count orders
 byte_in orders Left k h = omega (arith, h)
 byte_in orders Right k h = omega (arith, h)
 
@@ -380,7 +377,7 @@ module _ (who : Role) (channel : ChannelLists) (theirs : Told) (payload : List �
       go j less (inl old) =
           get_or-set_other words (index_of channel.orders (RingByte (written_ring who) (next_place i))) (index_of channel.orders (RingByte (written_ring who) (place (channel.start + length (end_of channel who).sent + j) (order_of channel.orders (written_ring who))))) (slice_index mine.payload i) 0
           (λ e. place_apart (channel.start + length (end_of channel who).sent + j) (channel.start + length (end_of channel who).sent + i) (order_of channel.orders (written_ring who)) (omega (arith, old)) (omega (arith, room, b.written_low))
-          (omega (arith, e, byte_index channel.orders (written_ring who) (next_place i), byte_index channel.orders (written_ring who) (place (channel.start + length (end_of channel who).sent + j) (order_of channel.orders (written_ring who)))) ∙ next_place-is i))
+          (omega (arith, e, index_of-byte channel.orders (written_ring who) (next_place i), index_of-byte channel.orders (written_ring who) (place (channel.start + length (end_of channel who).sent + j) (order_of channel.orders (written_ring who)))) ∙ next_place-is i))
           ∙ p.placed j old
       go j less (inr new) =
           let same : j ≡ i = omega (arith, less, new) in

@@ -3,23 +3,24 @@ use Rattle.std.proofs.Common.{◌≡◌, ◌≢◌, ℕ, ◌+◌, ◌-◌, ◌^�
 use Rattle.std.proofs.lemmas.Bool.{cases_lt, eqb-false}
 use Rattle.std.proofs.lemmas.List.{get_or-set_same, get_or-set_other, length-set, length-append, get_or_append_left, get_or-append_right}
 use Rattle.std.proofs.lemmas.List.Elements.{All-append}
+use Rattle.list_laws.specs.Lists.{IsPrefixOf}
 use Rattle.ring_words.specs.Rings.{size, place}
 use Rattle.ring_words.specs.Page.{index_of, order_of, word_count}
-use Rattle.ring_words.proofs.RingLaws.{place_within}
 use Rattle.ring_words.specs.declared.order.Order.{Order}
 use Rattle.ring_words.specs.declared.order.Orders.{Orders}
 use Rattle.ring_words.specs.declared.page.Role.{Role}
 use Rattle.ring_words.specs.declared.page.Role.TheVariants.{Server, Client}
 use Rattle.ring_words.specs.declared.page.WordName.{WordName}
 use Rattle.ring_words.specs.declared.page.WordName.TheVariants.{LeftOrder, RightOrder, RingByte}
+use Rattle.ring_words.proofs.RingLaws.{place_within}
 use Rattle.vchan_protocol.specs.declared.call.EndState.{EndState}
 use Rattle.vchan_protocol.specs.declared.call.EndState.TheVariants.{Shut}
 use Rattle.vchan_protocol.specs.declared.side.Side.{Side}
 use Rattle.vchan_protocol.specs.Table.Ends.{written_ring, read_ring, prod_word, cons_word, own_live, own_gone, peer_live, peer_gone}
 use Rattle.vchan_protocol.specs.History.Page.{live_word}
-use Rattle.vchan_protocol.specs.Honest.RingLaw.{IsPrefixOf, AreBytes}
-use Rattle.vchan_protocol.specs.History.Peer.{peer}
+use Rattle.vchan_protocol.specs.Honest.RingLaw.{AreBytes}
 use Rattle.vchan_protocol.specs.Lists.ListCall.{ListEnd, ChannelLists, end_of, index}
+use Rattle.vchan_protocol.specs.History.Peer.{peer}
 
 -- ---- what is told
 
@@ -100,9 +101,6 @@ pub end_same : (live gone live' gone' : ℕ) (it : ListEnd) → live' ≡ live �
 end_same live gone live' gone' it l g t = record { live_is = l ∙ t.live_is; gone_is = g ∙ t.gone_is; retired_shut = t.retired_shut }
 
 -- ---- a ring whose lists grow
-
-pub prefix_fits : (got sent : List ℕ) → IsPrefixOf got sent → length got ≤ length sent
-prefix_fits got sent p = omega (arith, ap length p.1, length-append got p.0)
 
 -- more was sent: it stands in the places after
 pub ring_sent : (order : Order) (start : ℕ) (sent got more : List ℕ) (prod cons prod' own_prod own_prod' own_cons : ℕ) (bytes bytes' : ℕ → ℕ) → RingTells order start sent got prod cons own_prod own_cons bytes →

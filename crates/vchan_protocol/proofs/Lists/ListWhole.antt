@@ -1,6 +1,8 @@
 -- From a lawful core state whole calls are calls on lists.
 use Rattle.std.proofs.Common.{◌≡◌, ℕ, Bool, List, [], ◌∷◌, ◌++◌, length, take, drop, refl, subst, sym, ap, ◌∙◌}
 use Rattle.std.proofs.lemmas.List.{drop_at}
+use Rattle.list_laws.specs.Lists.{IsPrefixOf}
+use Rattle.list_laws.proofs.Prefixes.{prefix-length}
 use Rattle.ring_words.specs.declared.page.Role.{Role}
 use Rattle.ring_words.specs.declared.page.Role.TheVariants.{Server, Client}
 use Rattle.vchan_protocol.specs.declared.call.Answer.{Answer}
@@ -12,17 +14,16 @@ use Rattle.vchan_protocol.specs.History.Page.{live_word}
 use Rattle.vchan_protocol.specs.Table.Calls.{plan_of}
 use Rattle.vchan_protocol.specs.History.Core.{Core, side_of, standing_of, begins, begun, bytes_loaded}
 use Rattle.vchan_protocol.specs.History.WholeCall.{alone, whole_call, called, call_answer}
-use Rattle.vchan_protocol.specs.Honest.RingLaw.{IsPrefixOf}
 use Rattle.vchan_protocol.specs.Honest.Reached.{MayBegin}
 use Rattle.vchan_protocol.specs.Honest.Lawful.{Lawful}
 use Rattle.vchan_protocol.specs.Honest.LifeLaw.{TellsGone}
-use Rattle.vchan_protocol.specs.History.Peer.{peer}
 use Rattle.vchan_protocol.specs.Lists.ListCall.{ListEnd, ChannelLists, EndCall, end_of, with_end, waiting, list_end, lists_of, list_call, list_calls}
 use Rattle.vchan_protocol.specs.Lists.ListLaw.{AllFollowLists, IsTold, FollowsLists, MayCall, MayCallAll, AreTold, called_all, count_got}
-use Rattle.vchan_protocol.proofs.Lists.ListTells.{Told, told, Tells, EndIs, EndTells, prefix_fits}
+use Rattle.vchan_protocol.proofs.Lists.ListTells.{Told, told, Tells, EndIs, EndTells}
 use Rattle.vchan_protocol.proofs.Lists.ListPieces.{run, core_by, alone-run, standing_by, Begins}
 use Rattle.vchan_protocol.proofs.Lists.ListPieces.{Gives}
 use Rattle.vchan_protocol.proofs.Lists.ListCalls.{each_row}
+use Rattle.vchan_protocol.specs.History.Peer.{peer}
 
 -- ---- what a lawful core state tells
 
@@ -66,9 +67,9 @@ split_at got sent p = ap (λ (xs : List ℕ). got ++ drop (length got) xs) (sym 
 
 begins_there : (who : Role) (channel : ChannelLists) (words : List ℕ) (mine theirs : Told) → Tells who channel (end_of channel who) words mine theirs → Begins who channel
 begins_there who channel words mine theirs t = record {
-  written_low = prefix_fits _ _ t.written.prefix;
+  written_low = prefix-length _ _ t.written.prefix;
   written_fits = t.written.fits;
-  read_low = prefix_fits _ _ t.reading.prefix;
+  read_low = prefix-length _ _ t.reading.prefix;
   read_fits = t.reading.fits;
   read_split = split_at _ _ t.reading.prefix;
 }

@@ -1,6 +1,7 @@
 -- What an end has noted of its peer's end agrees after each of its events and answers, whatever its peer does.
 use Rattle.std.proofs.Common.{◌≡◌, ℕ, Bool, true, false, not, ◌||◌, Option, Some, None, IsSome, List, [], ◌∷◌, ◌++◌, refl, subst, sym, ap, ◌∙◌}
-use Rattle.std.proofs.lemmas.Bool.{eq-eqb, false≢true}
+use Rattle.std.proofs.lemmas.Bool.{eq-eqb, false≢true, or_left, or_right}
+use Rattle.std.proofs.Math.Bool.{or-false}
 use Rattle.ring_words.specs.declared.page.Role.{Role}
 use Rattle.ring_words.specs.declared.page.Role.TheVariants.{Server, Client}
 use Rattle.vchan_protocol.specs.declared.op.Op.{Op}
@@ -26,9 +27,9 @@ use Rattle.vchan_protocol.specs.Answering.Causes.{Cause}
 use Rattle.vchan_protocol.specs.OneEnd.EndingLaw.{EndingNoted, notices, has_noticed, tells_end}
 use Rattle.vchan_protocol.specs.OneEnd.EndingLaws.{EndingAnswered}
 use Rattle.vchan_protocol.proofs.Honest.EndSteps.{InLawful, in_lawful}
-use Rattle.vchan_protocol.proofs.Honest.LifeTrails.{or_false, or_assoc}
+use Rattle.vchan_protocol.proofs.Honest.LifeTrails.{or_assoc}
 use Rattle.vchan_protocol.proofs.Answering.AnswerTrails.{unnoticed}
-use Rattle.vchan_protocol.proofs.Answering.AnswerCauses.{NoticesEnd, or_first, or_second}
+use Rattle.vchan_protocol.proofs.Answering.AnswerCauses.{NoticesEnd}
 use Rattle.vchan_protocol.proofs.Answering.AnswerLaws.{has_cause, notices_end, each_trace}
 
 -- ---- what one event shows
@@ -38,7 +39,7 @@ or_either : (a b : Bool) (P : Type 0) → (a || b) ≡ true → (a ≡ true → 
 or_either true b P is first second = first refl
 or_either false b P is first second = second is
 
-saw-after : (s : Side) (op : Op) (taken : ℕ) → saw_after op taken s ≡ (s.saw || notices (standing_of s) op taken)
+pub saw-after : (s : Side) (op : Op) (taken : ℕ) → saw_after op taken s ≡ (s.saw || notices (standing_of s) op taken)
 saw-after s (Load word) taken = refl
 saw-after s (LoadByte word at) taken = unnoticed s.saw (not (is_shut s.state))
 saw-after s (StoreByte word at) taken = unnoticed s.saw (not (is_shut s.state))
@@ -49,11 +50,11 @@ saw-after s (Swap word value) taken = unnoticed s.saw (not (is_shut s.state))
 saw-after s Nothing taken = unnoticed s.saw (not (is_shut s.state))
 
 saw_stays : (s : Side) (op : Op) (taken : ℕ) → s.saw ≡ true → saw_after op taken s ≡ true
-saw_stays s op taken saw = saw-after s op taken ∙ or_first s.saw _ saw
+saw_stays s op taken saw = saw-after s op taken ∙ or_left s.saw _ saw
 
 has_noticed-push : (now : Standing) (events : List PastEvent) (op : Op) (taken : ℕ) →
     has_noticed now (events ++ past op taken ∷ []) ≡ (has_noticed now events || notices (standing_along now events) op taken)
-has_noticed-push now [] op taken = or_false (notices now op taken)
+has_noticed-push now [] op taken = or-false (notices now op taken)
 has_noticed-push now (event ∷ events) op taken =
     ap (λ (b : Bool). notices now event.op event.taken || b) (has_noticed-push (standing_after now event.op) events op taken)
     ∙ sym (or_assoc (notices now event.op event.taken) (has_noticed (standing_after now event.op) events) (notices (standing_along (standing_after now event.op) events) op taken))
@@ -65,7 +66,7 @@ saw_noticed s i taken h noticed =
     let is : has_noticed e (s.trail ++ past (op_next s) taken ∷ []) ≡ (has_noticed e s.trail || notices (standing_of s) (op_next s) taken) =
     has_noticed-push e s.trail (op_next s) taken ∙ ap (λ (now : Standing). has_noticed e s.trail || notices now (op_next s) taken) i.lawful.stands in
     or_either (has_noticed e s.trail) (notices (standing_of s) (op_next s) taken) (saw_after (op_next s) taken s ≡ true) (sym is ∙ noticed)
-    (λ before. saw_stays s (op_next s) taken (h.noticed i.begun i.is before)) (λ now. saw-after s (op_next s) taken ∙ or_second s.saw _ now)
+    (λ before. saw_stays s (op_next s) taken (h.noticed i.begun i.is before)) (λ now. saw-after s (op_next s) taken ∙ or_right s.saw _ now)
 
 -- ---- what an answer ends
 
@@ -156,7 +157,7 @@ answered_notes s m answer h ended drained stays saw = record {
   noticed = λ b is. cc;
   ended_saw = λ there. first_some m.ended (ending answer) (m.saw ≡ true) there (λ before. stays (h.ended_saw (subst (λ (o : Option EndedBy). IsSome o) ended before))) saw;
   ended_drained = λ is. first_is m.ended (ending answer) ByAllRead ((m.drained || drains answer) ≡ true) is
-      (λ before. or_first m.drained (drains answer) (drained ∙ h.ended_drained (sym ended ∙ before))) (λ now. or_second m.drained (drains answer) (all_read_drains answer now));
+      (λ before. or_left m.drained (drains answer) (drained ∙ h.ended_drained (sym ended ∙ before))) (λ now. or_right m.drained (drains answer) (all_read_drains answer now));
   drained_saw = λ is. or_either m.drained (drains answer) (m.saw ≡ true) is (λ before. stays (h.drained_saw (sym drained ∙ before))) (λ now. saw (drain_ends answer now));
   drained_ended = λ is. or_either m.drained (drains answer) (IsSome (first_ended m.ended (ending answer))) is
       (λ before. first_there m.ended (ending answer) (subst (λ (o : Option EndedBy). IsSome o) (sym ended) (h.drained_ended (sym drained ∙ before)))) (λ now. second_there m.ended (ending answer) (drain_ends answer now));
@@ -186,11 +187,11 @@ pub answer_noted : (s : Side) (taken : ℕ) (answer : Answer) → CallLawful s �
     EndingAnswered s (answered (made s (op_next s) taken) answer) answer
 answer_noted s taken answer lawful more h is = record {
   seen = saw_end s i taken answer lawful more h is;
-  all_read = λ all. (or_second s.drained (drains answer) (ap drains all), λ none. first_of_none s.ended (ending answer) none ∙ ap ending all);
+  all_read = λ all. (or_right s.drained (drains answer) (ap drains all), λ none. first_of_none s.ended (ending answer) none ∙ ap ending all);
   gone = λ prod cons gone none. first_of_none s.ended (ending answer) none ∙ ap ending gone;
-  gone_drained = λ prod cons gone same. or_second s.drained (drains answer) (ap drains gone ∙ eq-eqb prod cons same);
+  gone_drained = λ prod cons gone same. or_right s.drained (drains answer) (ap drains gone ∙ eq-eqb prod cons same);
   saw = saw_stays s (op_next s) taken;
-  drained = or_first s.drained (drains answer);
+  drained = or_left s.drained (drains answer);
   ended = first_stays s.ended (ending answer);
 }
   where

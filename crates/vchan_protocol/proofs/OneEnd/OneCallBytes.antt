@@ -21,7 +21,7 @@ use Rattle.vchan_protocol.specs.Table.Plan.{Plan, does, answers, Leads, past}
 use Rattle.vchan_protocol.specs.Table.Ends.{Standing, written_ring, read_ring, prod_word, cons_word, own_live, own_gone, peer_pending, free_at, ready_at, low8, low32}
 use Rattle.vchan_protocol.specs.Table.Calls.{put_bytes, take_bytes, put_index, take_index, put, take as takes_out, notify, ask, write, write_open, write_looked, read, read_live, read_looked, drain_found, drain_last, drain_gone, drain_further, drain_live, drain_second, drain, connect, connect_right, close, retire, retire_shut, plan_of, send, send_open, send_looked, recv, recv_live, recv_looked, Trace}
 use Rattle.vchan_protocol.specs.History.Core.{begins, made, standing_of, stored_by, loaded_by, count_stored, bytes_loaded, sent_stored, got_stored, sent_after, got_after}
-use Rattle.vchan_protocol.proofs.Table.Counted.{stored_then, loaded_then, counts_within}
+use Rattle.vchan_protocol.proofs.Table.Counted.{stored_then, counts_within, loaded_then}
 use Rattle.vchan_protocol.proofs.History.EventLaws.{stored_most-payload}
 use Rattle.vchan_protocol.proofs.History.WholeCallLaws.{bytes_loaded-push}
 use Rattle.vchan_protocol.specs.OneEnd.OneCall.{side_along, bytes_out, bytes_in, MovesAsAnswered}
@@ -403,7 +403,7 @@ along-trail : (s : Side) (events : List PastEvent) → (side_along s events).tra
 along-trail s [] = sym (append-nil s.trail)
 along-trail s (event ∷ events) = along-trail (made s event.op event.taken) events ∙ append_assoc s.trail (past event.op event.taken ∷ []) events
 
-along-payload : (s : Side) (events : List PastEvent) → (side_along s events).payload ≡ s.payload
+pub along-payload : (s : Side) (events : List PastEvent) → (side_along s events).payload ≡ s.payload
 along-payload s [] = refl
 along-payload s (event ∷ events) = along-payload (made s event.op event.taken) events
 

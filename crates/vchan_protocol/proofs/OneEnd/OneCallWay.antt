@@ -33,17 +33,13 @@ along-call : (s : Side) (events : List PastEvent) → (side_along s events).call
 along-call s [] = refl
 along-call s (event ∷ events) = along-call (made s event.op event.taken) events
 
-along-role : (s : Side) (events : List PastEvent) → (side_along s events).role ≡ s.role
+pub along-role : (s : Side) (events : List PastEvent) → (side_along s events).role ≡ s.role
 along-role s [] = refl
 along-role s (event ∷ events) = along-role (made s event.op event.taken) events
 
 along-orders : (s : Side) (events : List PastEvent) → (side_along s events).orders ≡ s.orders
 along-orders s [] = refl
 along-orders s (event ∷ events) = along-orders (made s event.op event.taken) events
-
-along-payload : (s : Side) (events : List PastEvent) → (side_along s events).payload ≡ s.payload
-along-payload s [] = refl
-along-payload s (event ∷ events) = along-payload (made s event.op event.taken) events
 
 -- ---- on the way of a call
 

@@ -9,14 +9,14 @@ use Rattle.vchan_protocol.specs.Table.Plan.{GoesOn}
 use Rattle.vchan_protocol.specs.Table.Apply.{words_after, value_taken}
 use Rattle.vchan_protocol.specs.History.Core.{Core, side_of, begun, begins, event, side_after, op_next, plan_left}
 use Rattle.vchan_protocol.specs.Honest.Reached.{MayBegin}
-use Rattle.vchan_protocol.specs.History.Peer.{peer}
 use Rattle.vchan_protocol.specs.Hostile.Turned.{turns, strays, turned_side, strayed}
 use Rattle.vchan_protocol.specs.Hostile.TurnedLaw.{turned_core, ListsStand}
 use Rattle.vchan_protocol.specs.Always.Invariant.{Invariant}
 use Rattle.vchan_protocol.specs.Hostile.TurnedLaws.{TurnStands}
 use Rattle.vchan_protocol.specs.OneEnd.OneEnd.{Setup, between, setup_of, StepsAreOwn, Enters, StepsKeep}
 use Rattle.vchan_protocol.proofs.Always.InvariantSteps.{invariant_begun, invariant_event, invariant_turned_core, invariant_strayed}
-use Rattle.vchan_protocol.proofs.Hostile.TurnedSteps.{turned-turned_side, turned_side-honest, turned_side-given}
+use Rattle.vchan_protocol.proofs.Hostile.TurnedSteps.{turned_side-honest, turned_side-given, turned-turned_side}
+use Rattle.vchan_protocol.specs.History.Peer.{peer}
 
 -- ---- an end and its peer
 
@@ -113,14 +113,14 @@ steps_keep setup words who mine theirs k = record {
 
 -- ---- turning
 
-turned_side-sent : (s : Side) (consumed : ℕ) → (turned_side s consumed).sent ≡ s.sent
+pub turned_side-sent : (s : Side) (consumed : ℕ) → (turned_side s consumed).sent ≡ s.sent
 turned_side-sent s consumed = go s.turned
   where
     go : (b : Bool) → (cond b s (turns s consumed)).sent ≡ s.sent
     go true = refl
     go false = refl
 
-turned_side-got : (s : Side) (consumed : ℕ) → (turned_side s consumed).got ≡ s.got
+pub turned_side-got : (s : Side) (consumed : ℕ) → (turned_side s consumed).got ≡ s.got
 turned_side-got s consumed = go s.turned
   where
     go : (b : Bool) → (cond b s (turns s consumed)).got ≡ s.got

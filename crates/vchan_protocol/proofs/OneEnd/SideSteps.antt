@@ -8,8 +8,8 @@ use Rattle.vchan_protocol.specs.declared.op.Op.{Op}
 use Rattle.vchan_protocol.specs.declared.call.Call.{Call}
 use Rattle.vchan_protocol.specs.declared.call.EndState.{EndState}
 use Rattle.vchan_protocol.specs.declared.side.Side.{Side}
-use Rattle.vchan_protocol.specs.Table.Plan.{Plan, GoesOn, answers, does, after}
-use Rattle.vchan_protocol.specs.History.Core.{Core, begun, begins, event, side_of, plan_left, op_next, taken_next, made, settled, side_after, new_side}
+use Rattle.vchan_protocol.specs.Table.Plan.{GoesOn, after}
+use Rattle.vchan_protocol.specs.History.Core.{Core, begun, begins, event, side_of, plan_left, op_next, taken_next, made, side_after, new_side}
 use Rattle.vchan_protocol.specs.Hostile.Turned.{turns, turned_side, strays, strayed}
 use Rattle.vchan_protocol.specs.Honest.RingLaw.{CallLawful}
 use Rattle.vchan_protocol.specs.Hostile.TurnedLaw.{turned_core}
@@ -19,6 +19,7 @@ use Rattle.vchan_protocol.specs.OneEnd.EndingLaw.{EndingNoted}
 use Rattle.vchan_protocol.proofs.Always.InvariantSteps.{each_has_invariant}
 use Rattle.vchan_protocol.proofs.OneEnd.IndexLaws.{takes_as_made, takes_nothing-push}
 use Rattle.vchan_protocol.proofs.OneEnd.EndingSteps.{step_keeps_notes}
+use Rattle.vchan_protocol.proofs.History.EventLaws.{settled-trail}
 
 -- each step of an end keeps this
 pub record IsKeptBySteps (P : Side → Type 0) : Type 0 where
@@ -109,15 +110,11 @@ each_ending = each_side EndingNoted notes_kept
 abbrev TakesNothing : Side → Type 0
 TakesNothing s = StoresTakeNothing s.trail
 
-trail-settled : (s : Side) (rest : Plan) → (settled s rest).trail ≡ s.trail
-trail-settled s (answers answer) = refl
-trail-settled s (does op next) = refl
-
 stores_kept : IsKeptBySteps TakesNothing
 stores_kept = record {
   opens = λ role orders start state. tt;
   begins = λ s call payload h. tt;
-  makes = λ s taken lawful more takes h. subst StoresTakeNothing (sym (trail-settled (made s (op_next s) taken) (after (plan_left s) taken))) (takes_nothing-push s.trail (op_next s) taken h takes);
+  makes = λ s taken lawful more takes h. subst StoresTakeNothing (sym (settled-trail (made s (op_next s) taken) (after (plan_left s) taken))) (takes_nothing-push s.trail (op_next s) taken h takes);
   turns = λ s consumed h. tt;
   strays = λ s op taken takes h. takes_nothing-push s.trail op taken h takes;
 }

@@ -1,17 +1,17 @@
 -- No event of an honest end loses a signal.
-use Rattle.std.proofs.Common.{◌≡◌, ◌≢◌, ◌⊎◌, inl, inr, ℕ, ◌-◌, ◌≤◌, ◌==◌, Bool, true, false, cond, Option, Some, None, List, [], ◌∷◌, ◌++◌, length, slice_index, slice_set, bit_and, bit_or, refl, subst, sym, ap, ◌∙◌, arith}
+use Rattle.std.proofs.Common.{◌≡◌, ◌≢◌, ◌⊎◌, inl, inr, ℕ, ◌-◌, ◌≤◌, ◌==◌, true, false, Option, Some, None, List, length, slice_index, slice_set, bit_and, refl, subst, sym, ap, ◌∙◌, arith}
 use Rattle.std.proofs.lemmas.Bool.{false≢true, eqb-false, cases_eq}
 use Rattle.std.proofs.lemmas.List.{length-set}
-use Rattle.std.proofs.lemmas.Option.{none-some, same_Some}
+use Rattle.std.proofs.lemmas.Option.{none-some}
 use Rattle.ring_words.specs.Page.{index_of}
 use Rattle.ring_words.specs.declared.order.Orders.{Orders}
 use Rattle.ring_words.specs.declared.page.Role.{Role}
 use Rattle.ring_words.specs.declared.page.Role.TheVariants.{Server, Client}
 use Rattle.ring_words.specs.declared.page.WordName.{WordName}
-use Rattle.ring_words.specs.declared.page.WordName.TheVariants.{LeftCons, LeftProd, RightCons, RightProd, CliLive, SrvLive, CliGone, SrvGone, RingByte}
+use Rattle.ring_words.specs.declared.page.WordName.TheVariants.{CliLive, RingByte}
+use Rattle.ring_words.proofs.PageLaws.{byte_above}
 use Rattle.vchan_protocol.specs.declared.op.Op.{Op}
-use Rattle.vchan_protocol.specs.declared.op.Op.TheVariants.{Load, LoadByte, Store, StoreByte, Or, And, Swap, Nothing}
-use Rattle.vchan_protocol.specs.declared.op.PastEvent.{PastEvent}
+use Rattle.vchan_protocol.specs.declared.op.Op.TheVariants.{Load, LoadByte, Store, StoreByte, Or, Swap, Nothing}
 use Rattle.vchan_protocol.specs.declared.call.Answer.TheVariants.{Done}
 use Rattle.vchan_protocol.specs.declared.call.Bit.{Bit}
 use Rattle.vchan_protocol.specs.declared.call.Bit.TheVariants.{Written, Consumed}
@@ -20,320 +20,21 @@ use Rattle.vchan_protocol.specs.declared.call.EndState.{EndState}
 use Rattle.vchan_protocol.specs.declared.side.Side.{Side}
 use Rattle.vchan_protocol.specs.declared.side.Begun.{Begun}
 use Rattle.vchan_protocol.specs.declared.side.Notes.{Notes}
-use Rattle.vchan_protocol.specs.Table.Plan.{Plan, answers, does, next_op, after, rest_after, past, GoesOn}
+use Rattle.vchan_protocol.specs.Table.Plan.{Plan, answers, does, next_op, after, rest_after, GoesOn}
 use Rattle.vchan_protocol.specs.Table.Ends.{ask_word, peer_live, own_live, own_pending, peer_gone, own_gone, mask, low8, low32}
 use Rattle.vchan_protocol.specs.Table.Calls.{plan_of}
 use Rattle.vchan_protocol.specs.Table.Apply.{word_of, leaves, words_after, value_taken}
-use Rattle.vchan_protocol.specs.History.Core.{Core, opened, plan_next, side_of, with_side, plan_left, op_next, begun_standing, begins, begun, noted, noted_load, nothing_noted, made, settled, answered, carried_out, event}
+use Rattle.vchan_protocol.specs.History.Core.{Core, opened, plan_next, side_of, with_side, plan_left, op_next, begun_standing, begins, begun, noted, nothing_noted, settled, answered, carried_out, event}
 use Rattle.vchan_protocol.specs.History.WholeCall.{alone, called}
-use Rattle.vchan_protocol.specs.History.Peer.{peer, held}
+use Rattle.vchan_protocol.specs.History.Peer.{held, peer}
 use Rattle.vchan_protocol.specs.Honest.Reached.{IsReached, opens, begins_call, makes_event}
-use Rattle.vchan_protocol.specs.Signals.SignalLaw.{own_index, peer_index, asked_of, test_of, signal_of, HasJust, OwesSignal, OwesTest, IsWoken, AskStands, IndexIsTold, CloseIsTold, GoneIsTold, NoLostSignal, HasEnds, IsWaiting, MissesNothing}
+use Rattle.vchan_protocol.specs.Signals.SignalLaw.{own_index, peer_index, asked_of, test_of, signal_of, HasJust, OwesSignal, OwesTest, IsWoken, NoLostSignal, HasEnds, IsWaiting, MissesNothing}
 use Rattle.vchan_protocol.proofs.History.EventLaws.{event_by}
-use Rattle.vchan_protocol.proofs.Signals.Watched.{held_other, held_written, kept_elsewhere, kept_all, ask_within, pending_within, ask-pending, ask-index, ask-live, ask-gone, index-ask, index-pending, index-live, index-gone, index-other, live-ask, live-pending, live-index, live-gone, gone-ask, gone-pending, gone-index, gone-live, unwatched_notify, unwatched_index, unwatched_own_live, unwatched_peer_pending, unwatched_gone, unwatched_peer_ask, unwatched_peer_own, unwatched_high, byte_high, kept_connect, ask_is, pending_is, index_is, live_is, gone_is, or_sets, or_keeps, and_keeps, each_bit, other_bit, WatchedKept, Unwatched}
-use Rattle.vchan_protocol.proofs.Signals.Notifies.{Deed, Notifies, notifies_answers, notifies_call, Notifies-left, deed_of}
+use Rattle.vchan_protocol.proofs.Signals.Watched.{held_written, kept_elsewhere, kept_all, pending_within, unwatched_notify, unwatched_index, unwatched_own_live, unwatched_peer_pending, unwatched_gone, unwatched_peer_ask, unwatched_peer_own, unwatched_high, kept_connect, ask_is, pending_is, index_is, live_is, gone_is, WatchedKept, Unwatched}
+use Rattle.vchan_protocol.proofs.Signals.Notifies.{Deed, Notifies, deed_of}
 use Rattle.vchan_protocol.proofs.Signals.Notifies.{loads, loads_byte, stores_byte, asks, takes_event, tests, stores_index, closes, signals, connects, retires}
-
--- ---- an end after an event
-
-pub rest_after-push : (plan : Plan) (events : List PastEvent) (op : Op) (value : ℕ) → rest_after plan (events ++ past op value ∷ []) ≡ after (rest_after plan events) value
-rest_after-push (answers answer) [] op value = refl
-rest_after-push (does first next) [] op value = refl
-rest_after-push (answers answer) (event ∷ events) op value = refl
-rest_after-push (does first next) (event ∷ events) op value = rest_after-push (next event.taken) events op value
-
--- what is left of a call after one more event
-pub plan_left-made : (s : Side) (op : Op) (taken : ℕ) → plan_left (made s op taken) ≡ after (plan_left s) taken
-plan_left-made s op taken = go s.call
-  where
-    go : (call : Option Begun) →
-        elim call [ None ↦ answers Done | Some b ↦ rest_after (plan_of (begun_standing s b) b.call) (s.trail ++ past op taken ∷ []) ] ≡
-        after (elim call [ None ↦ answers Done | Some b ↦ rest_after (plan_of (begun_standing s b) b.call) s.trail ]) taken
-    go None = refl
-    go (Some b) = rest_after-push (plan_of (begun_standing s b) b.call) s.trail op taken
-
--- what is left of any call is made of deeds
-pub plan_notifies : (s : Side) → Notifies s.role (plan_left s)
-plan_notifies s = go s.call
-  where
-    go : (call : Option Begun) → Notifies s.role (elim call [ None ↦ answers Done | Some b ↦ rest_after (plan_of (begun_standing s b) b.call) s.trail ])
-    go None = notifies_answers s.role Done
-    go (Some b) = Notifies-left s.role (plan_of (begun_standing s b) b.call) s.trail (notifies_call (begun_standing s b) b.call)
-
--- ---- one event, made by an end while the other stands
-
-pub record Step (old new : Core) (who other : Role) (op : Op) (next : ℕ → Plan) : Type 0 where
-  pub payload : List ℕ
-  pub orders_are : new.orders ≡ old.orders
-  pub words_are : new.words ≡ words_after old.orders old.words payload op
-  pub notes_are : (side_of new who).notes ≡ noted op who (value_taken old.orders old.words op) (side_of old who).notes
-  pub just : HasJust (side_of new who) op
-  pub did : op_next (side_of old who) ≡ op
-  pub does_next : op_next (side_of new who) ≡ next_op (next (value_taken old.orders old.words op))
-  pub other_is : side_of new other ≡ side_of old other
-
--- what holds of one end's signals
-pub record Told (core : Core) (who : Role) : Type 0 where
-  pub asks_stand : (bit : Bit) → AskStands core who bit
-  pub indices_told : (bit : Bit) → IndexIsTold core who bit
-  pub closes_told : CloseIsTold core who
-  pub gone_told : GoneIsTold core who
-
--- ---- what still holds when little changes
-
-woken_kept : (old new : Core) (who : Role) → held new (own_pending who) ≡ held old (own_pending who) → IsWoken old who → IsWoken new who
-woken_kept old new who same woken = λ none. woken (sym same ∙ none)
-
-owes_kept : (old new : Core) (who : Role) (op : Op) → side_of new who ≡ side_of old who → OwesSignal old who op → OwesSignal new who op
-owes_kept old new who op same owes = subst (λ (s : Side). HasJust s op × (op_next s ≡ signal_of who)) (sym same) owes
-
-tests_kept : (old new : Core) (who : Role) (bit : Bit) → side_of new who ≡ side_of old who → OwesTest old who bit → OwesTest new who bit
-tests_kept old new who bit same owes =
-    subst (λ (s : Side). (index : ℕ) × HasJust s (Store (own_index who bit) index) × (op_next s ≡ test_of who bit)) (sym same) owes
-
--- the end whose notes these are makes the event, and its peer makes none
-module _ (old new : Core) (who : Role) (peer_same : side_of new (peer who) ≡ side_of old (peer who)) (pending : held new (own_pending who) ≡ held old (own_pending who)) where
-  own_ask : (bit : Bit) → ((asked_of (side_of new who).notes bit).since ≡ true → (asked_of (side_of old who).notes bit).since ≡ true) →
-      (bit_and (held old (ask_word who)) (mask bit) ≢ 0 → bit_and (held new (ask_word who)) (mask bit) ≢ 0) → AskStands old who bit → AskStands new who bit
-  own_ask bit since bits old_told = λ asked. go (old_told (since asked))
-    where
-      go : (bit_and (held old (ask_word who)) (mask bit) ≢ 0) ⊎ (OwesSignal old (peer who) (test_of (peer who) bit) ⊎ IsWoken old who) →
-          (bit_and (held new (ask_word who)) (mask bit) ≢ 0) ⊎ (OwesSignal new (peer who) (test_of (peer who) bit) ⊎ IsWoken new who)
-      go (inl set) = inl (bits set)
-      go (inr (inl owes)) = inr (inl (owes_kept old new (peer who) (test_of (peer who) bit) peer_same owes))
-      go (inr (inr woken)) = inr (inr (woken_kept old new who pending woken))
-
-  own_index_told : (bit : Bit) → held new (peer_index who bit) ≡ held old (peer_index who bit) →
-      ((index : ℕ) → (asked_of (side_of new who).notes bit).since ≡ true → (asked_of (side_of new who).notes bit).seen ≡ Some index → low32 (held old (peer_index who bit)) ≢ index →
-      ((asked_of (side_of old who).notes bit).since ≡ true) × ((asked_of (side_of old who).notes bit).seen ≡ Some index)) →
-      IndexIsTold old who bit → IndexIsTold new who bit
-  own_index_told bit same noted old_told = λ index since seen differs.
-      let apart : low32 (held old (peer_index who bit)) ≢ index = λ is. differs (ap low32 same ∙ is) in
-      let was = noted index since seen apart in
-      go (old_told index was.0 was.1 apart)
-    where
-      go : OwesTest old (peer who) bit ⊎ (OwesSignal old (peer who) (test_of (peer who) bit) ⊎ IsWoken old who) →
-          OwesTest new (peer who) bit ⊎ (OwesSignal new (peer who) (test_of (peer who) bit) ⊎ IsWoken new who)
-      go (inl tested) = inl (tests_kept old new (peer who) bit peer_same tested)
-      go (inr (inl owes)) = inr (inl (owes_kept old new (peer who) (test_of (peer who) bit) peer_same owes))
-      go (inr (inr woken)) = inr (inr (woken_kept old new who pending woken))
-
-  -- the signal that is owed after a store of the peer stays owed
-  own_owed : (op : Op) → OwesSignal old (peer who) op ⊎ IsWoken old who → OwesSignal new (peer who) op ⊎ IsWoken new who
-  own_owed op (inl owes) = inl (owes_kept old new (peer who) op peer_same owes)
-  own_owed op (inr woken) = inr (woken_kept old new who pending woken)
-
-  own_close_told : (low8 (held new (peer_live who)) ≡ 0 → held new (peer_live who) ≡ held old (peer_live who)) →
-      ((live : ℕ) → (side_of new who).notes.live ≡ Some live → live ≢ 0 → low8 (held old (peer_live who)) ≡ 0 → (side_of old who).notes.live ≡ Some live) → CloseIsTold old who → CloseIsTold new who
-  own_close_told same noted old_told = λ live seen alive shut.
-      let was_shut : low8 (held old (peer_live who)) ≡ 0 = ap low8 (sym (same shut)) ∙ shut in
-      own_owed (Store (own_live (peer who)) 0) (old_told live (noted live seen alive was_shut) alive was_shut)
-
-  own_gone_told : held new (peer_gone who) ≡ held old (peer_gone who) →
-      ((side_of new who).notes.gone ≡ Some 0 → held old (peer_gone who) ≢ 0 → (side_of old who).notes.gone ≡ Some 0) → GoneIsTold old who → GoneIsTold new who
-  own_gone_told same noted old_told = λ seen gone.
-      let was_gone : held old (peer_gone who) ≢ 0 = λ none. gone (same ∙ none) in
-      own_owed (Store (own_gone (peer who)) 1) (old_told (noted seen was_gone) was_gone)
-
--- an event of which the end notes nothing, on a word that it doesn't watch
-own_same : (old new : Core) (who : Role) → side_of new (peer who) ≡ side_of old (peer who) → WatchedKept old new who → (side_of new who).notes ≡ (side_of old who).notes → Told old who → Told new who
-own_same old new who peer_same kept notes told = record {
-  asks_stand = λ bit. own_ask old new who peer_same kept.pending bit (λ since. ap (λ (n : Notes). (asked_of n bit).since) (sym notes) ∙ since)
-      (λ set. λ none. set (ap (λ (w : ℕ). bit_and w (mask bit)) (sym kept.asks) ∙ none)) (told.asks_stand bit);
-  indices_told = λ bit. own_index_told old new who peer_same kept.pending bit (kept.index bit)
-      (λ index since seen differs. (ap (λ (n : Notes). (asked_of n bit).since) (sym notes) ∙ since, ap (λ (n : Notes). (asked_of n bit).seen) (sym notes) ∙ seen)) (told.indices_told bit);
-  closes_told = own_close_told old new who peer_same kept.pending kept.live (λ live seen alive shut. ap (λ (n : Notes). n.live) (sym notes) ∙ seen) told.closes_told;
-  gone_told = own_gone_told old new who peer_same kept.pending kept.gone (λ seen gone. ap (λ (n : Notes). n.gone) (sym notes) ∙ seen) told.gone_told;
-}
-
--- ---- a load of one's own
-
-since-load : (word : WordName) (who : Role) (taken : ℕ) (n : Notes) (bit : Bit) → (asked_of (noted_load word who taken n) bit).since ≡ (asked_of n bit).since
-since-load LeftProd Server taken n Written = refl
-since-load LeftProd Server taken n Consumed = refl
-since-load RightProd Client taken n Written = refl
-since-load RightProd Client taken n Consumed = refl
-since-load LeftCons Client taken n Written = refl
-since-load LeftCons Client taken n Consumed = refl
-since-load RightCons Server taken n Written = refl
-since-load RightCons Server taken n Consumed = refl
-since-load CliLive Server taken n Written = refl
-since-load CliLive Server taken n Consumed = refl
-since-load SrvLive Client taken n Written = refl
-since-load SrvLive Client taken n Consumed = refl
-since-load CliGone Server taken n Written = refl
-since-load CliGone Server taken n Consumed = refl
-since-load SrvGone Client taken n Written = refl
-since-load SrvGone Client taken n Consumed = refl
-since-load _ _ taken n bit = refl
-
--- it notes the peer's index, or leaves what is noted of that
-abbrev pub SeesIndex : WordName → Role → ℕ → Notes → Bit → Type 0
-SeesIndex word who taken n bit =
-    ((asked_of (noted_load word who taken n) bit).seen ≡ (asked_of n bit).seen) ⊎
-    ((word ≡ peer_index who bit) × ((asked_of (noted_load word who taken n) bit).seen ≡ cond (asked_of n bit).since (Some (low32 taken)) None))
-
-sees_index : (word : WordName) (who : Role) (taken : ℕ) (n : Notes) (bit : Bit) → SeesIndex word who taken n bit
-sees_index LeftProd Server taken n Written = inr (refl, refl)
-sees_index LeftProd Server taken n Consumed = inl refl
-sees_index RightProd Client taken n Written = inr (refl, refl)
-sees_index RightProd Client taken n Consumed = inl refl
-sees_index LeftCons Client taken n Written = inl refl
-sees_index LeftCons Client taken n Consumed = inr (refl, refl)
-sees_index RightCons Server taken n Written = inl refl
-sees_index RightCons Server taken n Consumed = inr (refl, refl)
-sees_index CliLive Server taken n Written = inl refl
-sees_index CliLive Server taken n Consumed = inl refl
-sees_index SrvLive Client taken n Written = inl refl
-sees_index SrvLive Client taken n Consumed = inl refl
-sees_index CliGone Server taken n Written = inl refl
-sees_index CliGone Server taken n Consumed = inl refl
-sees_index SrvGone Client taken n Written = inl refl
-sees_index SrvGone Client taken n Consumed = inl refl
-sees_index _ _ taken n bit = inl refl
-
-abbrev pub SeesLive : WordName → Role → ℕ → Notes → Type 0
-SeesLive word who taken n = ((noted_load word who taken n).live ≡ n.live) ⊎ ((word ≡ peer_live who) × ((noted_load word who taken n).live ≡ Some (low8 taken)))
-
-sees_live : (word : WordName) (who : Role) (taken : ℕ) (n : Notes) → SeesLive word who taken n
-sees_live CliLive Server taken n = inr (refl, refl)
-sees_live SrvLive Client taken n = inr (refl, refl)
-sees_live LeftCons Server taken n = inl refl
-sees_live LeftCons Client taken n = inl refl
-sees_live LeftProd Server taken n = inl refl
-sees_live LeftProd Client taken n = inl refl
-sees_live RightCons Server taken n = inl refl
-sees_live RightCons Client taken n = inl refl
-sees_live RightProd Server taken n = inl refl
-sees_live RightProd Client taken n = inl refl
-sees_live CliGone Server taken n = inl refl
-sees_live CliGone Client taken n = inl refl
-sees_live SrvGone Server taken n = inl refl
-sees_live SrvGone Client taken n = inl refl
-sees_live _ _ taken n = inl refl
-
-abbrev pub SeesGone : WordName → Role → ℕ → Notes → Type 0
-SeesGone word who taken n = ((noted_load word who taken n).gone ≡ n.gone) ⊎ ((word ≡ peer_gone who) × ((noted_load word who taken n).gone ≡ Some taken))
-
-sees_gone : (word : WordName) (who : Role) (taken : ℕ) (n : Notes) → SeesGone word who taken n
-sees_gone CliGone Server taken n = inr (refl, refl)
-sees_gone SrvGone Client taken n = inr (refl, refl)
-sees_gone LeftCons Server taken n = inl refl
-sees_gone LeftCons Client taken n = inl refl
-sees_gone LeftProd Server taken n = inl refl
-sees_gone LeftProd Client taken n = inl refl
-sees_gone RightCons Server taken n = inl refl
-sees_gone RightCons Client taken n = inl refl
-sees_gone RightProd Server taken n = inl refl
-sees_gone RightProd Client taken n = inl refl
-sees_gone CliLive Server taken n = inl refl
-sees_gone CliLive Client taken n = inl refl
-sees_gone SrvLive Server taken n = inl refl
-sees_gone SrvLive Client taken n = inl refl
-sees_gone _ _ taken n = inl refl
-
-own_load : (old new : Core) (who : Role) (word : WordName) → side_of new (peer who) ≡ side_of old (peer who) → WatchedKept old new who →
-    (side_of new who).notes ≡ noted_load word who (held old word) (side_of old who).notes → Told old who → Told new who
-own_load old new who word peer_same kept notes told = record {
-  asks_stand = λ bit. own_ask old new who peer_same kept.pending bit (since bit) (λ set. λ none. set (ap (λ (w : ℕ). bit_and w (mask bit)) (sym kept.asks) ∙ none)) (told.asks_stand bit);
-  indices_told = λ bit. own_index_told old new who peer_same kept.pending bit (kept.index bit) (index_noted bit) (told.indices_told bit);
-  closes_told = own_close_told old new who peer_same kept.pending kept.live live_noted told.closes_told;
-  gone_told = own_gone_told old new who peer_same kept.pending kept.gone gone_noted told.gone_told;
-}
-  where
-    n : Notes
-    n = (side_of old who).notes
-
-    since : (bit : Bit) → (asked_of (side_of new who).notes bit).since ≡ true → (asked_of (side_of old who).notes bit).since ≡ true
-    since bit now = sym (since-load word who (held old word) (side_of old who).notes bit) ∙ ap (λ (m : Notes). (asked_of m bit).since) (sym notes) ∙ now
-
-    index_noted : (bit : Bit) (index : ℕ) → (asked_of (side_of new who).notes bit).since ≡ true → (asked_of (side_of new who).notes bit).seen ≡ Some index →
-        low32 (held old (peer_index who bit)) ≢ index → ((asked_of (side_of old who).notes bit).since ≡ true) × ((asked_of (side_of old who).notes bit).seen ≡ Some index)
-    index_noted bit index now seen differs = (since bit now, go (sees_index word who (held old word) (side_of old who).notes bit))
-      where
-        noted_seen : (asked_of (noted_load word who (held old word) (side_of old who).notes) bit).seen ≡ Some index
-        noted_seen = ap (λ (m : Notes). (asked_of m bit).seen) (sym notes) ∙ seen
-
-        go : SeesIndex word who (held old word) (side_of old who).notes bit → (asked_of (side_of old who).notes bit).seen ≡ Some index
-        go (inl same) = sym same ∙ noted_seen
-        go (inr (is, loaded)) =
-            let fresh : cond (asked_of (side_of old who).notes bit).since (Some (low32 (held old word))) None ≡ Some (low32 (held old word)) =
-            ap (λ (b : Bool). cond b (Some (low32 (held old word))) None) (since bit now) in
-            let taken : low32 (held old word) ≡ index = same_Some _ _ (sym fresh ∙ sym loaded ∙ noted_seen) in
-            absurd (differs (ap (λ (w : WordName). low32 (held old w)) (sym is) ∙ taken))
-
-    live_noted : (live : ℕ) → (side_of new who).notes.live ≡ Some live → live ≢ 0 → low8 (held old (peer_live who)) ≡ 0 → (side_of old who).notes.live ≡ Some live
-    live_noted live seen alive shut = go (sees_live word who (held old word) (side_of old who).notes)
-      where
-        noted_seen : (noted_load word who (held old word) (side_of old who).notes).live ≡ Some live
-        noted_seen = ap (λ (m : Notes). m.live) (sym notes) ∙ seen
-
-        go : SeesLive word who (held old word) (side_of old who).notes → (side_of old who).notes.live ≡ Some live
-        go (inl same) = sym same ∙ noted_seen
-        go (inr (is, loaded)) =
-            let taken : low8 (held old word) ≡ live = same_Some _ _ (sym loaded ∙ noted_seen) in
-            absurd (alive (sym taken ∙ ap (λ (w : WordName). low8 (held old w)) is ∙ shut))
-
-    gone_noted : (side_of new who).notes.gone ≡ Some 0 → held old (peer_gone who) ≢ 0 → (side_of old who).notes.gone ≡ Some 0
-    gone_noted seen gone = go (sees_gone word who (held old word) (side_of old who).notes)
-      where
-        noted_seen : (noted_load word who (held old word) (side_of old who).notes).gone ≡ Some 0
-        noted_seen = ap (λ (m : Notes). m.gone) (sym notes) ∙ seen
-
-        go : SeesGone word who (held old word) (side_of old who).notes → (side_of old who).notes.gone ≡ Some 0
-        go (inl same) = sym same ∙ noted_seen
-        go (inr (is, loaded)) =
-            let taken : held old word ≡ 0 = same_Some _ _ (sym loaded ∙ noted_seen) in
-            absurd (gone (ap (λ (w : WordName). held old w) (sym is) ∙ taken))
-
--- ---- an ask of one's own
-
-since-ask : (set : Bit) (who : Role) (word : WordName) (taken : ℕ) (n : Notes) → (asked_of (noted (Or word (mask set)) who taken n) (other_bit set)).since ≡ (asked_of n (other_bit set)).since
-since-ask Written who word taken n = refl
-since-ask Consumed who word taken n = refl
-
-seen-ask : (set : Bit) (who : Role) (word : WordName) (taken : ℕ) (n : Notes) → (asked_of (noted (Or word (mask set)) who taken n) (other_bit set)).seen ≡ (asked_of n (other_bit set)).seen
-seen-ask Written who word taken n = refl
-seen-ask Consumed who word taken n = refl
-
--- nothing was loaded since
-fresh-ask : (set : Bit) (who : Role) (word : WordName) (taken : ℕ) (n : Notes) → (asked_of (noted (Or word (mask set)) who taken n) set).seen ≡ None
-fresh-ask Written who word taken n = refl
-fresh-ask Consumed who word taken n = refl
-
-live-ask_noted : (set : Bit) (who : Role) (word : WordName) (taken : ℕ) (n : Notes) → (noted (Or word (mask set)) who taken n).live ≡ n.live
-live-ask_noted Written who word taken n = refl
-live-ask_noted Consumed who word taken n = refl
-
-gone-ask_noted : (set : Bit) (who : Role) (word : WordName) (taken : ℕ) (n : Notes) → (noted (Or word (mask set)) who taken n).gone ≡ n.gone
-gone-ask_noted Written who word taken n = refl
-gone-ask_noted Consumed who word taken n = refl
-
-own_asks : (old new : Core) (who : Role) (set : Bit) → 14 ≤ length old.words → side_of new (peer who) ≡ side_of old (peer who) → new.orders ≡ old.orders →
-    new.words ≡ slice_set old.words (index_of old.orders (ask_word who)) (bit_or (held old (ask_word who)) (mask set)) →
-    (side_of new who).notes ≡ noted (Or (ask_word who) (mask set)) who (held old (ask_word who)) (side_of old who).notes → Told old who → Told new who
-own_asks old new who set header peer_same orders words notes told = record {
-  asks_stand = each_bit (λ bit. AskStands new who bit) set (λ asked. inl (λ none. or_sets set (held old (ask_word who)) (ap (λ (w : ℕ). bit_and w (mask set)) (sym asks_are) ∙ none)))
-      (own_ask old new who peer_same pending (other_bit set) since (λ was. λ none. or_keeps set (other_bit set) (held old (ask_word who)) was (ap (λ (w : ℕ). bit_and w (mask (other_bit set))) (sym asks_are) ∙ none)) (told.asks_stand (other_bit set)));
-  indices_told = each_bit (λ bit. IndexIsTold new who bit) set
-      (λ index asked seen differs. absurd (none-some index (sym (fresh-ask set who (ask_word who) (held old (ask_word who)) (side_of old who).notes) ∙ ap (λ (n : Notes). (asked_of n set).seen) (sym notes) ∙ seen)))
-      (own_index_told old new who peer_same pending (other_bit set) (held_other old new _ _ (peer_index who (other_bit set)) orders words (ask-index old.orders who (other_bit set)))
-      (λ index asked seen differs. (since asked, sym (seen-ask set who (ask_word who) (held old (ask_word who)) (side_of old who).notes) ∙ ap (λ (n : Notes). (asked_of n (other_bit set)).seen) (sym notes) ∙ seen))
-      (told.indices_told (other_bit set)));
-  closes_told = own_close_told old new who peer_same pending (λ _. held_other old new _ _ (peer_live who) orders words (ask-live old.orders who))
-      (λ live seen alive shut. sym (live-ask_noted set who (ask_word who) (held old (ask_word who)) (side_of old who).notes) ∙ ap (λ (n : Notes). n.live) (sym notes) ∙ seen) told.closes_told;
-  gone_told = own_gone_told old new who peer_same pending (held_other old new _ _ (peer_gone who) orders words (ask-gone old.orders who))
-      (λ seen gone. sym (gone-ask_noted set who (ask_word who) (held old (ask_word who)) (side_of old who).notes) ∙ ap (λ (n : Notes). n.gone) (sym notes) ∙ seen) told.gone_told;
-}
-  where
-    asks_are : held new (ask_word who) ≡ bit_or (held old (ask_word who)) (mask set)
-    asks_are = held_written old new _ (ask_word who) orders words (ask_within old.orders who (length old.words) header)
-
-    pending : held new (own_pending who) ≡ held old (own_pending who)
-    pending = held_other old new _ _ (own_pending who) orders words (ask-pending old.orders who)
-
-    since : (asked_of (side_of new who).notes (other_bit set)).since ≡ true → (asked_of (side_of old who).notes (other_bit set)).since ≡ true
-    since asked = sym (since-ask set who (ask_word who) (held old (ask_word who)) (side_of old who).notes) ∙ ap (λ (n : Notes). (asked_of n (other_bit set)).since) (sym notes) ∙ asked
+use Rattle.vchan_protocol.proofs.Signals.OwnSteps.{plan_left-made, plan_notifies, Step, Told, own_same, own_load, own_asks}
+use Rattle.vchan_protocol.proofs.Signals.OtherSteps.{other_same, is_store, is_test, no_signal, no_test, other_store, woken_told, other_tests, other_indexes, other_closes, other_retires}
 
 -- ---- an event taken
 
@@ -349,204 +50,6 @@ told_nothing core who notes = record {
     unasked : (bit : Bit) → (asked_of nothing_noted bit).since ≡ false
     unasked Written = refl
     unasked Consumed = refl
-
--- ---- the other end acts
-
--- an event that is neither a test nor the signal
-abbrev pub is_store : Op → Bool
-is_store (Store word value) = true
-is_store _ = false
-
-abbrev pub is_test : Op → Bool
-is_test (And word bits) = true
-is_test _ = false
-
-no_signal : (op : Op) (who : Role) → is_store op ≡ false → op ≢ signal_of who
-no_signal op who not is = false≢true (sym not ∙ ap is_store is)
-
-no_test : (op : Op) (who : Role) (bit : Bit) → is_test op ≡ false → op ≢ test_of who bit
-no_test op who bit not is = false≢true (sym not ∙ ap is_test is)
-
--- a store of another word
-other_store : (orders : Orders) (word : WordName) (value : ℕ) (who : Role) → (index_of orders (own_pending who) == index_of orders word) ≡ false → Store word value ≢ signal_of (peer who)
-other_store orders word value who other is =
-    eqb-false (index_of orders (own_pending who)) (index_of orders word) other (ap (λ (w : WordName). index_of orders w) (sym (pending_is who)) ∙ sym (ap (λ (op : Op). word_of orders op) is))
-
--- the test of the other bit
-masks_apart : (bit : Bit) → 18446744073709551615 - mask bit ≢ 18446744073709551615 - mask (other_bit bit)
-masks_apart Written is = eqb-false 18446744073709551614 18446744073709551613 refl is
-masks_apart Consumed is = eqb-false 18446744073709551613 18446744073709551614 refl is
-
-abbrev pub bits_of : Op → ℕ
-bits_of (And word bits) = bits
-bits_of _ = 0
-
-other_test : (who : Role) (bit : Bit) → test_of who bit ≢ test_of who (other_bit bit)
-other_test who bit is = masks_apart bit (ap bits_of is)
-
--- the peer makes the event, and the end whose notes these are makes none
-module _ (old new : Core) (who : Role) (op : Op) (same : side_of new who ≡ side_of old who) (did : op_next (side_of old (peer who)) ≡ op) (silent : op ≢ signal_of (peer who))
-    (pending : held new (own_pending who) ≡ held old (own_pending who)) where
-  other_ask : (bit : Bit) → (bit_and (held old (ask_word who)) (mask bit) ≢ 0 → bit_and (held new (ask_word who)) (mask bit) ≢ 0 ⊎ OwesSignal new (peer who) (test_of (peer who) bit)) →
-      AskStands old who bit → AskStands new who bit
-  other_ask bit bits old_told = λ asked. go (old_told (ap (λ (s : Side). (asked_of s.notes bit).since) (sym same) ∙ asked))
-    where
-      still : bit_and (held new (ask_word who)) (mask bit) ≢ 0 ⊎ OwesSignal new (peer who) (test_of (peer who) bit) →
-          (bit_and (held new (ask_word who)) (mask bit) ≢ 0) ⊎ (OwesSignal new (peer who) (test_of (peer who) bit) ⊎ IsWoken new who)
-      still (inl set) = inl set
-      still (inr owes) = inr (inl owes)
-
-      go : (bit_and (held old (ask_word who)) (mask bit) ≢ 0) ⊎ (OwesSignal old (peer who) (test_of (peer who) bit) ⊎ IsWoken old who) →
-          (bit_and (held new (ask_word who)) (mask bit) ≢ 0) ⊎ (OwesSignal new (peer who) (test_of (peer who) bit) ⊎ IsWoken new who)
-      go (inl set) = still (bits set)
-      go (inr (inl owes)) = absurd (silent (sym did ∙ owes.1))
-      go (inr (inr woken)) = inr (inr (woken_kept old new who pending woken))
-
-  other_index : (bit : Bit) → op ≢ test_of (peer who) bit → held new (peer_index who bit) ≡ held old (peer_index who bit) → IndexIsTold old who bit → IndexIsTold new who bit
-  other_index bit untested index_same old_told = λ index asked seen differs.
-      go (old_told index (ap (λ (s : Side). (asked_of s.notes bit).since) (sym same) ∙ asked) (ap (λ (s : Side). (asked_of s.notes bit).seen) (sym same) ∙ seen) (λ is. differs (ap low32 index_same ∙ is)))
-    where
-      go : OwesTest old (peer who) bit ⊎ (OwesSignal old (peer who) (test_of (peer who) bit) ⊎ IsWoken old who) →
-          OwesTest new (peer who) bit ⊎ (OwesSignal new (peer who) (test_of (peer who) bit) ⊎ IsWoken new who)
-      go (inl owes) = absurd (untested (sym did ∙ owes.2))
-      go (inr (inl owes)) = absurd (silent (sym did ∙ owes.1))
-      go (inr (inr woken)) = inr (inr (woken_kept old new who pending woken))
-
-  -- the peer that owes the signal after a store makes it next
-  other_owed : (owed : Op) → OwesSignal old (peer who) owed ⊎ IsWoken old who → IsWoken new who
-  other_owed owed (inl owes) = absurd (silent (sym did ∙ owes.1))
-  other_owed owed (inr woken) = woken_kept old new who pending woken
-
-  other_close : (low8 (held new (peer_live who)) ≡ 0 → held new (peer_live who) ≡ held old (peer_live who)) → CloseIsTold old who → CloseIsTold new who
-  other_close live_same old_told = λ live seen alive shut.
-      inr (other_owed (Store (own_live (peer who)) 0) (old_told live (ap (λ (s : Side). s.notes.live) (sym same) ∙ seen) alive (ap low8 (sym (live_same shut)) ∙ shut)))
-
-  other_gone : held new (peer_gone who) ≡ held old (peer_gone who) → GoneIsTold old who → GoneIsTold new who
-  other_gone gone_same old_told = λ seen gone.
-      inr (other_owed (Store (own_gone (peer who)) 1) (old_told (ap (λ (s : Side). s.notes.gone) (sym same) ∙ seen) (λ none. gone (gone_same ∙ none))))
-
-  -- an event on a word that the end doesn't watch
-  other_same : ((bit : Bit) → op ≢ test_of (peer who) bit) → WatchedKept old new who → Told old who → Told new who
-  other_same untested kept told = record {
-    asks_stand = λ bit. other_ask bit (λ set. inl (λ none. set (ap (λ (w : ℕ). bit_and w (mask bit)) (sym kept.asks) ∙ none))) (told.asks_stand bit);
-    indices_told = λ bit. other_index bit (untested bit) (kept.index bit) (told.indices_told bit);
-    closes_told = other_close kept.live told.closes_told;
-    gone_told = other_gone kept.gone told.gone_told;
-  }
-
--- the signal wakes the end
-woken_told : (core : Core) (who : Role) → IsWoken core who → Told core who
-woken_told core who woken = record {
-  asks_stand = λ bit asked. inr (inr woken);
-  indices_told = λ bit index asked seen differs. inr (inr woken);
-  closes_told = λ live seen alive shut. inr woken;
-  gone_told = λ seen gone. inr woken;
-}
-
--- the peer tests a bit
-other_tests : (old new : Core) (who : Role) (bit : Bit) → 14 ≤ length old.words → side_of new who ≡ side_of old who → new.orders ≡ old.orders →
-    new.words ≡ slice_set old.words (index_of old.orders (ask_word who)) (bit_and (held old (ask_word who)) (18446744073709551615 - mask bit)) →
-    op_next (side_of old (peer who)) ≡ test_of (peer who) bit → HasJust (side_of new (peer who)) (test_of (peer who) bit) →
-    (bit_and (held old (ask_word who)) (mask bit) ≢ 0 → op_next (side_of new (peer who)) ≡ signal_of (peer who)) → Told old who → Told new who
-other_tests old new who bit header same orders words did just told_if told = record {
-  asks_stand = each_bit (λ b. AskStands new who b) bit (other_ask old new who (test_of (peer who) bit) same did silent pending bit (λ set. inr (just, told_if set)) (told.asks_stand bit))
-      (other_ask old new who (test_of (peer who) bit) same did silent pending (other_bit bit)
-      (λ set. inl (λ none. and_keeps bit (held old (ask_word who)) set (ap (λ (w : ℕ). bit_and w (mask (other_bit bit))) (sym asks_are) ∙ none))) (told.asks_stand (other_bit bit)));
-  indices_told = each_bit (λ b. IndexIsTold new who b) bit tested
-      (other_index old new who (test_of (peer who) bit) same did silent pending (other_bit bit) (other_test (peer who) bit)
-      (held_other old new _ _ (peer_index who (other_bit bit)) orders words (ask-index old.orders who (other_bit bit))) (told.indices_told (other_bit bit)));
-  closes_told = other_close old new who (test_of (peer who) bit) same did silent pending (λ _. held_other old new _ _ (peer_live who) orders words (ask-live old.orders who)) told.closes_told;
-  gone_told = other_gone old new who (test_of (peer who) bit) same did silent pending (held_other old new _ _ (peer_gone who) orders words (ask-gone old.orders who)) told.gone_told;
-}
-  where
-    silent : test_of (peer who) bit ≢ signal_of (peer who)
-    silent = no_signal (test_of (peer who) bit) (peer who) refl
-
-    asks_are : held new (ask_word who) ≡ bit_and (held old (ask_word who)) (18446744073709551615 - mask bit)
-    asks_are = held_written old new _ (ask_word who) orders words (ask_within old.orders who (length old.words) header)
-
-    pending : held new (own_pending who) ≡ held old (own_pending who)
-    pending = held_other old new _ _ (own_pending who) orders words (ask-pending old.orders who)
-
-    -- if the bit is clear, the end is woken already, since it asked and its peer owes no signal
-    told_or_woken : AskStands old who bit → (asked_of (side_of old who).notes bit).since ≡ true → OwesSignal new (peer who) (test_of (peer who) bit) ⊎ IsWoken new who
-    told_or_woken stands asked = go (stands asked)
-      where
-        go : (bit_and (held old (ask_word who)) (mask bit) ≢ 0) ⊎ (OwesSignal old (peer who) (test_of (peer who) bit) ⊎ IsWoken old who) →
-            OwesSignal new (peer who) (test_of (peer who) bit) ⊎ IsWoken new who
-        go (inl set) = inl (just, told_if set)
-        go (inr (inl owes)) = absurd (silent (sym did ∙ owes.1))
-        go (inr (inr woken)) = inr (woken_kept old new who pending woken)
-
-    tested : IndexIsTold new who bit
-    tested = λ index asked seen differs. inr (told_or_woken (told.asks_stand bit) (ap (λ (s : Side). (asked_of s.notes bit).since) (sym same) ∙ asked))
-
--- the peer stores its index
-other_indexes : (old new : Core) (who : Role) (bit : Bit) (value : ℕ) → side_of new who ≡ side_of old who → new.orders ≡ old.orders →
-    new.words ≡ slice_set old.words (index_of old.orders (peer_index who bit)) value → (op : Op) → op ≡ Store (peer_index who bit) value →
-    op_next (side_of old (peer who)) ≡ op → OwesTest new (peer who) bit → Told old who → Told new who
-other_indexes old new who bit value same orders words op is did owes told = record {
-  asks_stand = λ b. other_ask old new who op same did silent pending b
-      (λ set. inl (λ none. set (ap (λ (w : ℕ). bit_and w (mask b)) (sym (held_other old new _ _ (ask_word who) orders words (index-ask old.orders who bit))) ∙ none))) (told.asks_stand b);
-  indices_told = each_bit (λ b. IndexIsTold new who b) bit (λ index asked seen differs. inl owes)
-      (other_index old new who op same did silent pending (other_bit bit) untested
-      (held_other old new _ _ (peer_index who (other_bit bit)) orders words (index-other old.orders who bit)) (told.indices_told (other_bit bit)));
-  closes_told = other_close old new who op same did silent pending (λ _. held_other old new _ _ (peer_live who) orders words (index-live old.orders who bit)) told.closes_told;
-  gone_told = other_gone old new who op same did silent pending (held_other old new _ _ (peer_gone who) orders words (index-gone old.orders who bit)) told.gone_told;
-}
-  where
-    silent : op ≢ signal_of (peer who)
-    silent signal = other_store old.orders (peer_index who bit) value who (index-pending old.orders who bit) (sym is ∙ signal)
-
-    untested : op ≢ test_of (peer who) (other_bit bit)
-    untested test = no_test (Store (peer_index who bit) value) (peer who) (other_bit bit) refl (sym is ∙ test)
-
-    pending : held new (own_pending who) ≡ held old (own_pending who)
-    pending = held_other old new _ _ (own_pending who) orders words (index-pending old.orders who bit)
-
--- the peer closes
-other_closes : (old new : Core) (who : Role) → side_of new who ≡ side_of old who → new.orders ≡ old.orders →
-    new.words ≡ slice_set old.words (index_of old.orders (peer_live who)) 0 → (op : Op) → op ≡ Store (peer_live who) 0 →
-    op_next (side_of old (peer who)) ≡ op → OwesSignal new (peer who) (Store (own_live (peer who)) 0) → Told old who → Told new who
-other_closes old new who same orders words op is did owes told = record {
-  asks_stand = λ b. other_ask old new who op same did silent pending b
-      (λ set. inl (λ none. set (ap (λ (w : ℕ). bit_and w (mask b)) (sym (held_other old new _ _ (ask_word who) orders words (live-ask old.orders who))) ∙ none))) (told.asks_stand b);
-  indices_told = λ b. other_index old new who op same did silent pending b (untested b)
-      (held_other old new _ _ (peer_index who b) orders words (live-index old.orders who b)) (told.indices_told b);
-  closes_told = λ live seen alive shut. inl owes;
-  gone_told = other_gone old new who op same did silent pending (held_other old new _ _ (peer_gone who) orders words (live-gone old.orders who)) told.gone_told;
-}
-  where
-    silent : op ≢ signal_of (peer who)
-    silent signal = other_store old.orders (peer_live who) 0 who (live-pending old.orders who) (sym is ∙ signal)
-
-    untested : (b : Bit) → op ≢ test_of (peer who) b
-    untested b test = no_test (Store (peer_live who) 0) (peer who) b refl (sym is ∙ test)
-
-    pending : held new (own_pending who) ≡ held old (own_pending who)
-    pending = held_other old new _ _ (own_pending who) orders words (live-pending old.orders who)
-
--- the peer stores its gone word
-other_retires : (old new : Core) (who : Role) → side_of new who ≡ side_of old who → new.orders ≡ old.orders →
-    new.words ≡ slice_set old.words (index_of old.orders (peer_gone who)) 1 → (op : Op) → op ≡ Store (peer_gone who) 1 →
-    op_next (side_of old (peer who)) ≡ op → OwesSignal new (peer who) (Store (own_gone (peer who)) 1) → Told old who → Told new who
-other_retires old new who same orders words op is did owes told = record {
-  asks_stand = λ b. other_ask old new who op same did silent pending b
-      (λ set. inl (λ none. set (ap (λ (w : ℕ). bit_and w (mask b)) (sym (held_other old new _ _ (ask_word who) orders words (gone-ask old.orders who))) ∙ none))) (told.asks_stand b);
-  indices_told = λ b. other_index old new who op same did silent pending b (untested b)
-      (held_other old new _ _ (peer_index who b) orders words (gone-index old.orders who b)) (told.indices_told b);
-  closes_told = other_close old new who op same did silent pending (λ _. held_other old new _ _ (peer_live who) orders words (gone-live old.orders who)) told.closes_told;
-  gone_told = λ seen gone. inl owes;
-}
-  where
-    silent : op ≢ signal_of (peer who)
-    silent signal = other_store old.orders (peer_gone who) 1 who (gone-pending old.orders who) (sym is ∙ signal)
-
-    untested : (b : Bit) → op ≢ test_of (peer who) b
-    untested b test = no_test (Store (peer_gone who) 1) (peer who) b refl (sym is ∙ test)
-
-    pending : held new (own_pending who) ≡ held old (own_pending who)
-    pending = held_other old new _ _ (own_pending who) orders words (gone-pending old.orders who)
 
 -- ---- each deed, for the end that makes it and for the other one
 
@@ -580,7 +83,7 @@ told_own old new who op next header step deed told = go deed
     go : Deed who op next → Told new who
     go (loads word is) = own_load old new who word step.other_is (kept_all old new who (index_of old.orders word) step.orders_are (words (Load word) is)) (notes (Load word) is) told
     go (loads_byte word at is) = own_same old new who step.other_is (kept_all old new who (index_of old.orders word) step.orders_are (words (LoadByte word at) is)) (notes (LoadByte word at) is) told
-    go (stores_byte ring at i is) = elsewhere _ _ (words (StoreByte (RingByte ring at) i) is) (unwatched_high old.orders who _ (byte_high old.orders ring at)) (notes (StoreByte (RingByte ring at) i) is)
+    go (stores_byte ring at i is) = elsewhere _ _ (words (StoreByte (RingByte ring at) i) is) (unwatched_high old.orders who _ (byte_above old.orders ring at)) (notes (StoreByte (RingByte ring at) i) is)
     go (asks bit is) = own_asks old new who bit header step.other_is step.orders_are (words (Or (ask_word who) (mask bit)) is) (notes (Or (ask_word who) (mask bit)) is) told
     go (takes_event is) = told_nothing new who (notes (Swap (own_pending who) 0) is)
     go (tests bit is more) = elsewhere _ _ (words (test_of who bit) is) (unwatched_notify old.orders who) (notes (test_of who bit) is)
@@ -644,7 +147,7 @@ told_other old new who op next header step deed told = go deed
     go : Deed (peer who) op next → Told new who
     go (loads word is) = quiet (Load word) is refl refl (kept_all old new who (index_of old.orders word) step.orders_are (words (Load word) is))
     go (loads_byte word at is) = quiet (LoadByte word at) is refl refl (kept_all old new who (index_of old.orders word) step.orders_are (words (LoadByte word at) is))
-    go (stores_byte ring at i is) = quiet (StoreByte (RingByte ring at) i) is refl refl (elsewhere _ _ (words (StoreByte (RingByte ring at) i) is) (unwatched_high old.orders who _ (byte_high old.orders ring at)))
+    go (stores_byte ring at i is) = quiet (StoreByte (RingByte ring at) i) is refl refl (elsewhere _ _ (words (StoreByte (RingByte ring at) i) is) (unwatched_high old.orders who _ (byte_above old.orders ring at)))
     go (asks bit is) = quiet (Or (ask_word (peer who)) (mask bit)) is refl refl (elsewhere _ _ (words (Or (ask_word (peer who)) (mask bit)) is) (unwatched_peer_ask old.orders who))
     go (takes_event is) = quiet (Swap (own_pending (peer who)) 0) is refl refl (elsewhere _ _ (words (Swap (own_pending (peer who)) 0) is) (unwatched_peer_own old.orders who))
     go (tests bit is more) = tested bit is more

@@ -7,15 +7,13 @@ use Rattle.ring_words.specs.Page.{index_of}
 use Rattle.ring_words.specs.declared.order.Orders.{Orders}
 use Rattle.ring_words.specs.declared.page.Role.{Role}
 use Rattle.ring_words.specs.declared.page.Role.TheVariants.{Server, Client}
-use Rattle.ring_words.specs.declared.page.Ring.{Ring}
-use Rattle.ring_words.specs.declared.page.Ring.TheVariants.{Left, Right}
 use Rattle.ring_words.specs.declared.page.WordName.{WordName}
-use Rattle.ring_words.specs.declared.page.WordName.TheVariants.{LeftProd, RightCons, CliLive, RingByte}
+use Rattle.ring_words.specs.declared.page.WordName.TheVariants.{LeftProd, RightCons, CliLive}
 use Rattle.vchan_protocol.specs.declared.call.Bit.{Bit}
 use Rattle.vchan_protocol.specs.declared.call.Bit.TheVariants.{Written, Consumed}
 use Rattle.vchan_protocol.specs.Table.Ends.{written_ring, read_ring, prod_word, cons_word, ask_word, notify_word, peer_live, own_live, peer_gone, own_gone, own_pending, peer_pending, mask, low8}
 use Rattle.vchan_protocol.specs.History.Core.{Core}
-use Rattle.vchan_protocol.specs.History.Peer.{peer, held}
+use Rattle.vchan_protocol.specs.History.Peer.{held, peer}
 use Rattle.vchan_protocol.specs.Signals.SignalLaw.{own_index, peer_index}
 
 -- ---- the words that an end watches
@@ -205,10 +203,6 @@ unwatched_peer_own orders Client = (refl, refl, refl, refl, refl, refl)
 pub unwatched_high : (orders : Orders) (who : Role) (n : ℕ) → 14 ≤ n → Unwatched orders who n
 unwatched_high orders Server n h = (ne_eqb _ _ (λ is. omega (arith, h, is)), ne_eqb _ _ (λ is. omega (arith, h, is)), ne_eqb _ _ (λ is. omega (arith, h, is)), ne_eqb _ _ (λ is. omega (arith, h, is)), ne_eqb _ _ (λ is. omega (arith, h, is)), ne_eqb _ _ (λ is. omega (arith, h, is)))
 unwatched_high orders Client n h = (ne_eqb _ _ (λ is. omega (arith, h, is)), ne_eqb _ _ (λ is. omega (arith, h, is)), ne_eqb _ _ (λ is. omega (arith, h, is)), ne_eqb _ _ (λ is. omega (arith, h, is)), ne_eqb _ _ (λ is. omega (arith, h, is)), ne_eqb _ _ (λ is. omega (arith, h, is)))
-
-pub byte_high : (orders : Orders) (ring : Ring) (at : ℕ) → 14 ≤ index_of orders (RingByte ring at)
-byte_high orders Left at = omega arith
-byte_high orders Right at = omega arith
 
 -- a client that opens makes its live byte 1, and touches no other word that an end watches
 pub kept_connect : (old new : Core) (who : Role) → 14 ≤ length old.words → new.orders ≡ old.orders → new.words ≡ slice_set old.words (index_of old.orders CliLive) 1 → WatchedKept old new who

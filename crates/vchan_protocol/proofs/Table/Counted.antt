@@ -1,15 +1,13 @@
 -- Each event of a call is on the page, and its bytes are counted in order.
 use Rattle.std.proofs.Common.{◌≡◌, ℕ, suc, zero, ◌+◌, ◌%◌, ◌^◌, ◌==◌, ◌<◌, ◌≤◌, min, nat_lt, ◌⊎◌, inl, inr, Bool, true, false, cond, List, [], ◌∷◌, ◌++◌, length, refl, subst, sym, ap, arith, add-zero, zero-add}
 use Rattle.std.proofs.lemmas.Bool.{cases_lt, lt-ltb}
-use Rattle.ring_words.specs.Rings.{place, size}
 use Rattle.ring_words.specs.Page.{Has}
-use Rattle.ring_words.specs.declared.order.Order.{Order}
 use Rattle.ring_words.specs.declared.order.Orders.{Orders}
 use Rattle.ring_words.specs.declared.page.Role.{Role}
 use Rattle.ring_words.specs.declared.page.Role.TheVariants.{Server, Client}
 use Rattle.ring_words.specs.declared.page.WordName.{WordName}
 use Rattle.ring_words.specs.declared.page.WordName.TheVariants.{LeftCons, LeftProd, RightCons, RightProd}
-use Rattle.ring_words.proofs.RingLaws.{room_within, ready_within, size-within}
+use Rattle.ring_words.proofs.RingLaws.{room_within, ready_within, place_within}
 use Rattle.vchan_protocol.specs.declared.op.Op.{Op}
 use Rattle.vchan_protocol.specs.declared.op.Op.TheVariants.{Load, LoadByte, Store, StoreByte, Or, And, Swap, Nothing}
 use Rattle.vchan_protocol.specs.declared.op.PastEvent.{PastEvent}
@@ -61,12 +59,6 @@ Counted e out into now s l (answers answer) = Unit {0}
 Counted e out into now s l (does op next) = Owes e out into now s l op × ((value : ℕ) → Counted e out into (standing_after now op) (stored_then op s) (loaded_then op l) (next value))
 
 -- ---- the pieces
-
-place_within : (index : ℕ) (order : Order) → place index order < size order
-unfolding place
-place_within index order =
-    let large : 0 < size order = omega (arith, (size-within order).0) in
-    omega (arith, large)
 
 has_ask : (orders : Orders) (role : Role) → Has orders (ask_word role)
 has_ask orders Server = tt

@@ -107,15 +107,15 @@ Sound e n (does op next) = OwesSound e n op × ((value : ℕ) → GoesOn (next v
 
 -- ---- the pieces
 
-flag_ask : (role : Role) → IsFlag (ask_word role)
+pub flag_ask : (role : Role) → IsFlag (ask_word role)
 flag_ask Server = tt
 flag_ask Client = tt
 
-flag_notify : (role : Role) → IsFlag (notify_word role)
+pub flag_notify : (role : Role) → IsFlag (notify_word role)
 flag_notify Server = tt
 flag_notify Client = tt
 
-flag_pending : (role : Role) → IsFlag (own_pending role)
+pub flag_pending : (role : Role) → IsFlag (own_pending role)
 flag_pending Server = tt
 flag_pending Client = tt
 

@@ -1,6 +1,7 @@
 -- What holds of a page at each moment, whether its ends are honest or were turned, and what stands when it ends.
 -- The statements are this project's own.
 use Rattle.std.specs.Prelude.{◌≡◌, ◌≢◌, ℕ, ◌^◌, ◌<◌, true, false, IsSome, List, if◌then◌else◌}
+use Rattle.list_laws.specs.Lists.{IsPrefixOf}
 use Rattle.ring_words.specs.Rings.{size}
 use Rattle.ring_words.specs.declared.order.Orders.{Orders}
 use Rattle.ring_words.specs.declared.page.Role.{Role}
@@ -14,7 +15,6 @@ use Rattle.vchan_protocol.specs.Table.Ends.{own_gone}
 use Rattle.vchan_protocol.specs.History.Core.{Core, opened, begun, event, side_of, plan_left, op_next, sets_gone, retired_after}
 use Rattle.vchan_protocol.specs.History.WholeCall.{called}
 use Rattle.vchan_protocol.specs.Hostile.Turned.{strayed}
-use Rattle.vchan_protocol.specs.Honest.RingLaw.{IsPrefixOf}
 use Rattle.vchan_protocol.specs.Honest.LifeLaw.{SaysOrders, TellsGone}
 use Rattle.vchan_protocol.specs.Honest.Lawful.{Lawful, Honest}
 use Rattle.vchan_protocol.specs.History.Peer.{held}

@@ -2,6 +2,7 @@
 -- Source: libxenvchan's io.c for what an index shows and releases; the statements are this project's own.
 use Rattle.std.specs.Prelude.{◌≡◌, ℕ, ◌+◌, ◌-◌, ◌%◌, ◌^◌, ◌<◌, ◌≤◌, Option, Some, None, IfSome, List, ◌∷◌, ◌++◌, length, slice_index, if◌then◌else◌}
 use Rattle.std.specs.List.{All}
+use Rattle.list_laws.specs.Lists.{IsPrefixOf}
 use Rattle.ring_words.specs.Rings.{size, place}
 use Rattle.ring_words.specs.Page.{index_of, order_of}
 use Rattle.ring_words.specs.declared.order.Order.{Order}
@@ -17,10 +18,6 @@ use Rattle.vchan_protocol.specs.Table.Ends.{prod_word, cons_word}
 use Rattle.vchan_protocol.specs.Table.Calls.{plan_of, payload_of, put_bytes, put_index, take_bytes, take_index, IsAllowed}
 use Rattle.vchan_protocol.specs.History.Core.{Core, writer_of, reader_of, begun_standing, standing_of, standing_along, plan_left}
 use Rattle.vchan_protocol.specs.History.TrailSummary.{summary, unshown, unreleased}
-
--- the first list begins the second
-abbrev pub IsPrefixOf : List ℕ → List ℕ → Type 0
-IsPrefixOf xs ys = (rest : List ℕ) × (xs ++ rest ≡ ys)
 
 -- each number of a list is a byte
 abbrev pub AreBytes : List ℕ → Type 0

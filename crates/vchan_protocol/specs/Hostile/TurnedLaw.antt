@@ -1,6 +1,7 @@
 -- What holds of a page after an end was turned over to a hostile user, who may store any number anywhere.
 -- The statements are this project's own.
 use Rattle.std.specs.Prelude.{◌≡◌, ℕ, ◌+◌, ◌≤◌, true, false, length, take}
+use Rattle.list_laws.specs.Lists.{IsPrefixOf}
 use Rattle.ring_words.specs.Rings.{size, place}
 use Rattle.ring_words.specs.Page.{word_count, order_of}
 use Rattle.ring_words.specs.declared.page.Role.{Role}
@@ -12,7 +13,7 @@ use Rattle.vchan_protocol.specs.declared.side.Side.{Side}
 use Rattle.vchan_protocol.specs.Table.Ends.{written_ring, read_ring}
 use Rattle.vchan_protocol.specs.History.Core.{Core, side_of, with_side, reader_of, count_stored, bytes_loaded}
 use Rattle.vchan_protocol.specs.Hostile.Turned.{turned_side}
-use Rattle.vchan_protocol.specs.Honest.RingLaw.{IsPrefixOf, index_at, CallLawful}
+use Rattle.vchan_protocol.specs.Honest.RingLaw.{index_at, CallLawful}
 use Rattle.vchan_protocol.specs.Honest.Lawful.{IsEnd}
 use Rattle.vchan_protocol.specs.OneEnd.IndexLaw.{StoresIndex}
 

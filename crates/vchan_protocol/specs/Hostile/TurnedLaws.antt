@@ -8,8 +8,8 @@ use Rattle.vchan_protocol.specs.Table.Ends.{written_ring}
 use Rattle.vchan_protocol.specs.History.Core.{Core, side_of, reader_of, event, plan_left, op_next}
 use Rattle.vchan_protocol.specs.Hostile.Turned.{strayed}
 use Rattle.vchan_protocol.specs.Honest.RingLaw.{CallLawful}
-use Rattle.vchan_protocol.specs.History.Peer.{peer}
 use Rattle.vchan_protocol.specs.Hostile.TurnedLaw.{TurnedLawful, turned_core, ListsStand, ListsGrow, LiesAtCount}
+use Rattle.vchan_protocol.specs.History.Peer.{peer}
 
 -- an honest end makes the next event of its call, whatever its peer has stored
 abbrev pub TurnedEventIsLawful : Type 0

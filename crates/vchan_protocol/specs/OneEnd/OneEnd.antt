@@ -11,10 +11,10 @@ use Rattle.vchan_protocol.specs.Table.Plan.{GoesOn}
 use Rattle.vchan_protocol.specs.Table.Apply.{words_after, value_taken}
 use Rattle.vchan_protocol.specs.History.Core.{Core, side_of, begun, begins, event, side_after, op_next, plan_left}
 use Rattle.vchan_protocol.specs.Honest.Reached.{MayBegin}
-use Rattle.vchan_protocol.specs.History.Peer.{peer}
 use Rattle.vchan_protocol.specs.Hostile.Turned.{turns, turned_side, strays, strayed}
 use Rattle.vchan_protocol.specs.Hostile.TurnedLaw.{turned_core}
 use Rattle.vchan_protocol.specs.Always.Invariant.{Invariant}
+use Rattle.vchan_protocol.specs.History.Peer.{peer}
 
 -- what stays of a page from its opening on: the number at which all indices began, what the order words held then, and its orders
 pub record Setup : Type 0 where

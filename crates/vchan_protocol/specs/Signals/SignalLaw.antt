@@ -19,7 +19,7 @@ use Rattle.vchan_protocol.specs.Table.Plan.{past, GoesOn}
 use Rattle.vchan_protocol.specs.Table.Ends.{written_ring, read_ring, prod_word, cons_word, ask_word, notify_word, peer_live, own_live, peer_gone, own_gone, own_pending, peer_pending, mask, low8, low32}
 use Rattle.vchan_protocol.specs.History.Core.{Core, side_of, plan_left, op_next, opened, begun, event}
 use Rattle.vchan_protocol.specs.History.WholeCall.{called}
-use Rattle.vchan_protocol.specs.History.Peer.{peer, held}
+use Rattle.vchan_protocol.specs.History.Peer.{held, peer}
 use Rattle.vchan_protocol.specs.Honest.Reached.{IsReached}
 
 -- ---- the words and the events of signals

@@ -3,9 +3,9 @@ use Rattle.vchan_protocol.specs.declared.call.Answer.{Answer}
 use Rattle.vchan_protocol.specs.declared.call.Call.TheVariants.{Read}
 use Rattle.vchan_protocol.specs.Table.Calls.{Trace}
 use Rattle.vchan_protocol.specs.History.Core.{standing_of}
-use Rattle.vchan_stream.specs.Stream.{most_asked}
 use Rattle.vchan_stream.proofs.StreamLaws.{read_answers, read_cause}
 use Rattle.vchan_stream.proofs.read.Goals as goal
+use Rattle.vchan_rule.specs.Called.{most_asked}
 
 pub read_answer-requires : goal.read_answer-requires
 read_answer-requires c = read_answers _ _ _ _ c.do_call.ensures.over.trace

@@ -3,9 +3,9 @@ use Rattle.vchan_protocol.specs.declared.call.Answer.{Answer}
 use Rattle.vchan_protocol.specs.declared.call.Call.TheVariants.{Write}
 use Rattle.vchan_protocol.specs.Table.Calls.{Trace}
 use Rattle.vchan_protocol.specs.History.Core.{standing_of}
-use Rattle.vchan_stream.specs.Stream.{most_asked}
 use Rattle.vchan_stream.proofs.StreamLaws.{write_answers, write_cause}
 use Rattle.vchan_stream.proofs.write.Goals as goal
+use Rattle.vchan_rule.specs.Called.{most_asked}
 
 pub write_answer-requires : goal.write_answer-requires
 write_answer-requires c = write_answers _ _ _ _ c.do_call.ensures.over.trace

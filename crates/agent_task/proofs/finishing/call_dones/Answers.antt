@@ -1,8 +1,8 @@
 use Rattle.std.proofs.Common.{◌≡◌, ◌<◌, ◌++◌, ◌∷◌, [], ap, sym, ◌∙◌, subst, length, drop, arith, length-append, Some}
 use Rattle.std.specs.Prelude.{slice_get}
 use Rattle.std.specs.Vec.Iter.{into_iter_items}
+use Rattle.list_laws.proofs.Places.{get-within}
 use Rattle.call_queue.specs.Queue.{asked_by}
-use Rattle.call_queue.proofs.Places.{get-within}
 use Rattle.agent_task.specs.Finishing.{call_dones}
 use Rattle.agent_task.proofs.DoneLaws.{dones-step}
 use Rattle.agent_task.proofs.finishing.call_dones.Goals as goal

@@ -3,8 +3,8 @@ use Rattle.std.proofs.Common.{◌≡◌, ℕ, ◌+◌, ◌<◌, List, [], ◌∷
 use Rattle.std.specs.Vec.Iter.{into_iter_items}
 use Rattle.std.proofs.lemmas.Grind.{common_steps}
 use Rattle.std.proofs.lemmas.List.{take_more}
+use Rattle.std.specs.List.{AllByRecursion as Each}
 use Rattle.vchan_rule.specs.Seated.{SeatedEnd}
-use Rattle.qrexec_frame.specs.Streams.{Each}
 use Rattle.broker_task.specs.declared.daemon.Daemon.{Daemon}
 use Rattle.broker_task.specs.Given.{IsNewClient}
 use Rattle.broker_task.specs.Starting.{IsStarted, AreStarted}

@@ -1,6 +1,6 @@
 use Rattle.std.proofs.Common.{◌≡◌, ◌≤◌, ◌+◌, ◌++◌, length, take, vec_len, vec_capacity}
 use Rattle.std.specs.Vec.Iter.{into_iter_items}
-use Rattle.qrexec_frame.specs.Streams.{Each}
+use Rattle.std.specs.List.{AllByRecursion as Each}
 use Rattle.broker_task.specs.Given.{IsNewClient}
 use Rattle.broker_task.specs.Starting.{AreStarted}
 use Rattle.broker_task.proofs.ends.daemons_of.Given as goal

@@ -2,13 +2,12 @@
 use Rattle.std.proofs.Common.{◌≡◌, List, [], ◌∷◌, ◌++◌, subst, sym, arith, true}
 use Rattle.std.specs.Vec.Iter.{into_iter_items}
 use Rattle.std.proofs.lemmas.Grind.{common_steps}
-use Rattle.qrexec_frame.specs.Streams.{Each}
-use Rattle.task_duties.specs.Pairwise.{EachPair}
+use Rattle.std.specs.List.{AllByRecursion as Each, AllZip as EachPair}
+use Rattle.list_laws.proofs.Pairs.{pairs-push}
 use Rattle.task_duties.specs.declared.ends.RetiredEnd.{RetiredEnd}
 use Rattle.broker_task.specs.declared.daemon.Daemon.{Daemon}
 use Rattle.broker_task.specs.Lines.{end_of}
 use Rattle.broker_task.specs.Given.{IsGivenBack}
-use Rattle.broker_task.proofs.Lists.{pairs-push}
 use Rattle.broker_task.proofs.ends.give_up.Goals as goal
 
 pub loop-daemon-preserved : goal.loop-daemon-preserved

@@ -1,7 +1,6 @@
 use Rattle.std.proofs.Common.{◌≡◌, ◌≤◌, ◌+◌, ◌++◌, length, vec_len, vec_capacity}
 use Rattle.std.specs.Vec.Iter.{into_iter_items}
-use Rattle.qrexec_frame.specs.Streams.{Each}
-use Rattle.task_duties.specs.Pairwise.{EachPair}
+use Rattle.std.specs.List.{AllByRecursion as Each, AllZip as EachPair}
 use Rattle.broker_task.specs.Lines.{IsLine}
 use Rattle.broker_task.specs.Given.{IsRetiredOf}
 use Rattle.broker_task.proofs.ends.retire_all.Given as goal

@@ -1,11 +1,11 @@
 use Rattle.std.proofs.Common.{◌≡◌, ◌∙◌, ◌+◌, ◌<◌, ◌++◌, ◌∷◌, [], List, ℕ, Some, ap, sym, subst, map, take, drop, length, length-append, arith}
 use Rattle.std.proofs.lemmas.Grind.{take_at_read}
 use Rattle.std.proofs.lemmas.List.{length-map, length-take-le, map-append, take-append-drop}
+use Rattle.std.specs.List.{AllZip as EachPair}
+use Rattle.list_laws.proofs.Pairs.{pairs-push}
 use Rattle.scenario_file.specs.declared.scenario.CallPlan.{CallPlan}
 use Rattle.call_broker.specs.Domains.{place_of}
-use Rattle.task_duties.specs.Pairwise.{EachPair}
 use Rattle.call_queue.specs.Index.{HasTargets, IsFirst}
-use Rattle.call_queue.proofs.FreshLaws.{pair-more}
 use Rattle.call_queue.proofs.IndexLaws.{no-targets, place-found}
 use Rattle.call_queue.proofs.index.first_places.Goals as goal
 
@@ -32,7 +32,7 @@ loop-call-preserved c =
     let put : HasTargets (names before ++ call.to ∷ []) c.first_place.new.targets × (place_of (names before ++ call.to ∷ []) call.to ≡ Some first) =
     subst (λ n. HasTargets (names before ++ n ∷ []) c.first_place.new.targets × (place_of (names before ++ n ∷ []) n ≡ Some first)) c.bytes.ensures.bytes (c.in_ok-first.ensures (names before) place was.noted) in
     let is_first : IsFirst (names calls) call.to first = subst (λ l. place_of l call.to ≡ Some first) whole (place-found (names before ++ call.to ∷ []) (names behind) call.to first put.1) in
-    let pairs : EachPair (IsFirst (names calls)) (names before ++ call.to ∷ []) (places ++ first ∷ []) = pair-more (IsFirst (names calls)) (names before) places call.to first was.first is_first in
+    let pairs : EachPair (IsFirst (names calls)) (names before ++ call.to ∷ []) (places ++ first ∷ []) = pairs-push (IsFirst (names calls)) (names before) places call.to first was.first is_first in
     record {
       long = omega (arith, ap length c.in_ok-push.ensures.items, length-append places (first ∷ []), was.long);
       noted = subst (λ l. HasTargets l c.first_place.new.targets) (sym so_far) put.0;

@@ -1,5 +1,5 @@
 use Rattle.std.proofs.Common.{◌≡◌, length, map, take}
-use Rattle.task_duties.specs.Pairwise.{EachPair}
+use Rattle.std.specs.List.{AllZip as EachPair}
 use Rattle.call_queue.specs.Index.{HasTargets, IsFirst}
 use Rattle.call_queue.proofs.index.first_places.Given as goal
 

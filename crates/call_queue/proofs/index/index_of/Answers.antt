@@ -3,7 +3,7 @@ use Rattle.std.specs.Prelude.{if◌then◌else◌, bytes_eq}
 use Rattle.std.proofs.lemmas.Grind.{take_at_read}
 use Rattle.std.proofs.lemmas.List.{drop_all, length-map, length-take-le, map-append, take_all}
 use Rattle.std.proofs.Math.Seq.{drop-cons}
-use Rattle.qrexec_frame.specs.Streams.{Each}
+use Rattle.std.specs.List.{AllByRecursion as Each}
 use Rattle.task_duties.specs.Words.{ident_of}
 use Rattle.call_queue.specs.Index.{place_in}
 use Rattle.call_queue.proofs.IndexLaws.{IsFilled, empty-places, filled-more, filled-none}

@@ -1,5 +1,5 @@
 use Rattle.std.proofs.Common.{◌<◌, ◌-◌, ◌^◌, length, map, take, drop}
-use Rattle.qrexec_frame.specs.Streams.{Each}
+use Rattle.std.specs.List.{AllByRecursion as Each}
 use Rattle.task_duties.specs.Words.{ident_of}
 use Rattle.call_queue.specs.Index.{place_in}
 use Rattle.call_queue.proofs.IndexLaws.{IsFilled}

@@ -1,11 +1,12 @@
 use Rattle.std.proofs.Common.{◌≡◌, ◌∙◌, ◌++◌, ◌∷◌, [], List, ℕ, Some, ap, sym, subst, refl, map, length, get_or, append_assoc, arith}
 use Rattle.std.specs.Vec.Iter.{into_iter_items}
+use Rattle.std.specs.List.{AllZip as EachPair}
+use Rattle.list_laws.proofs.Pairs.{pairs-push}
 use Rattle.scenario_file.specs.declared.scenario.CallPlan.{CallPlan}
 use Rattle.call_broker.specs.Domains.{place_of}
-use Rattle.task_duties.specs.Pairwise.{EachPair}
 use Rattle.call_queue.specs.Index.{IsFirst}
 use Rattle.call_queue.specs.Inside.{IsFresh}
-use Rattle.call_queue.proofs.FreshLaws.{as-long, first-at, pair-more}
+use Rattle.call_queue.proofs.FreshLaws.{as-long, first-at}
 use Rattle.call_queue.proofs.setup.queued.Goals as goal
 
 pub index-target-requires : goal.index-target-requires
@@ -31,6 +32,6 @@ loop-plan-preserved c =
     let place : length yielded ≡ c.len-in-loop-plan.result = omega (arith, as-long to yielded c.loop-plan.queued.items was.so_far, c.len-in-loop-plan.ensures, c.loop-plan.queued.ok.0) in
     let is_first : place_of to plan.to ≡ Some target = at.1 ∙ ap Some (ap (λ n. get_or c.in_ok-targets.targets.items n target) place ∙ sym c.index-target.ensures) in
     record {
-      so_far = rw c.in_ok-push.ensures.items (pair-more (IsFresh to) yielded c.loop-plan.queued.items plan _ was.so_far (record { plan = refl; given = c.of.ensures; target = is_first; waits = refl; closed = refl }));
+      so_far = rw c.in_ok-push.ensures.items (pairs-push (IsFresh to) yielded c.loop-plan.queued.items plan _ was.so_far (record { plan = refl; given = c.of.ensures; target = is_first; waits = refl; closed = refl }));
       left = append_assoc yielded (plan ∷ []) rest ∙ split;
     }

@@ -1,8 +1,8 @@
 use Rattle.std.proofs.Common.{◌≡◌, sym, ◌∙◌, refl, rules}
 use Rattle.std.specs.Prelude.{Some, None}
+use Rattle.list_laws.proofs.Each.{each-get}
 use Rattle.data_slots.specs.Index.{end_at}
 use Rattle.data_slots.specs.Stages.{CanRetire}
-use Rattle.data_slots.proofs.ListLaws.{each-get}
 use Rattle.data_slots.proofs.PlaceLaws.{unused-there, none-there, slot-there, slot-here, used-there}
 use Rattle.data_slots.proofs.ends.find_unused.Goals as goal
 

@@ -2,9 +2,9 @@ use Rattle.std.proofs.Common.{◌≡◌, ◌<◌, length, refl, arith, subst}
 use Rattle.std.specs.Prelude.{slice_get, Some}
 use Rattle.std.proofs.lemmas.Option.{slice_get_read}
 use Rattle.std.proofs.lemmas.List.{length-map}
+use Rattle.list_laws.proofs.Places.{get-map}
 use Rattle.task_duties.specs.TaskOwes.{EndAt, places_in}
 use Rattle.task_duties.specs.GivenEnds.{given_at, all_given}
-use Rattle.data_slots.proofs.ListLaws.{get-map}
 use Rattle.data_slots.proofs.IndexLaws.{IsIndexUpTo, index-more, up-to-all}
 use Rattle.data_slots.proofs.index.index_of.Goals as goal
 

@@ -1,10 +1,10 @@
 use Rattle.std.proofs.Common.{subst}
 use Rattle.ring_words.specs.declared.page.Role.TheVariants.{Client}
 use Rattle.vchan_rule.specs.Seated.{PageView}
-use Rattle.vchan_block.specs.Pipe.{IsEndOf}
 use Rattle.ring_example.specs.Sides.{HasReceived}
 use Rattle.ring_example.proofs.SideLaws.{passed}
 use Rattle.ring_example.proofs.held.pass.Goals as goal
+use Rattle.vchan_lifecycle.specs.Ended.{IsEndOf}
 
 pub returns : goal.returns
 returns g c = passed c.in_ok-page.page c.join-client.result.1 c.join-client.result.0 c.settle-settled.result c.settle-settled.ensures

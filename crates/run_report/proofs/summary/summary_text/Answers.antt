@@ -1,6 +1,4 @@
-use Rattle.std.proofs.Common.{◌≡◌, ◌≤◌, ◌⊎◌, arith, refl, sym, subst, ap, ◌∙◌, List, [], ◌∷◌, ◌++◌, length, rules}
-use Rattle.scenario_file.specs.declared.scenario.CallPlan.{CallPlan}
-use Rattle.run_laws.specs.declared.report.CallLine.{CallLine}
+use Rattle.std.proofs.Common.{◌≡◌, ◌≤◌, arith, refl, sym, subst, ap, ◌∙◌, [], ◌∷◌, ◌++◌, length, rules}
 use Rattle.run_report.specs.Summary.{done_calls, done_of, counted, totals, sums_text}
 use Rattle.run_report.proofs.SumLaws.{either-over, none-left, sums-all, sums-on}
 use Rattle.run_report.specs.Summing.{IsSumming}

@@ -4,9 +4,9 @@ use Rattle.std.proofs.lemmas.Bool.Decides.{nat_tests}
 use Rattle.std.proofs.lemmas.List.{append-nil}
 use Rattle.std.proofs.lemmas.List.Elements.{filter-append}
 use Rattle.std.proofs.lemmas.Option.{slice_get_read}
+use Rattle.list_laws.proofs.Places.{take-next}
 use Rattle.scenario_file.specs.Scenario.{Plan as Scenario}
 use Rattle.scenario_file.specs.declared.scenario.CallPlan.{CallPlan}
-use Rattle.scenario_run.proofs.LineLaws.{take-at}
 use Rattle.scenario_run.proofs.copies.calls_from.Goals as goal
 use Rattle.scenario_run.proofs.copies.calls_from.Goals.{then-call-from+in_ok-copy_of_call+in_ok-push, else-call-from}
 
@@ -17,7 +17,7 @@ one-left : (p : CallPlan → Bool) (item : CallPlan) → p item ≡ false → fi
 one-left p item is = rw is refl
 
 one-more : (p : CallPlan → Bool) (items : List CallPlan) (k : ℕ) (item : CallPlan) → slice_get items k ≡ Some item → filter p (take (k + 1) items) ≡ filter p (take k items) ++ filter p (item ∷ [])
-one-more p items k item at = ap (filter p) (take-at items k item at) ∙ filter-append p (take k items) (item ∷ [])
+one-more p items k item at = ap (filter p) (take-next items k item at) ∙ filter-append p (take k items) (item ∷ [])
 
 -- a call of the domain, and one of another
 kept : (from : ℕ) (items : List CallPlan) (k : ℕ) (item : CallPlan) → slice_get items k ≡ Some item → (own new : List CallPlan) → own ≡ filter (λ call. call.from == from) (take k items) → (item.from == from) ≡ true

@@ -2,13 +2,14 @@ use Rattle.std.proofs.Common.{◌≡◌, ◌∙◌, ◌+◌, ◌≤◌, ◌∷�
 use Rattle.std.specs.Prelude.{slice_get}
 use Rattle.std.proofs.lemmas.List.{map-append}
 use Rattle.std.proofs.lemmas.Option.{slice_get_read}
+use Rattle.list_laws.proofs.Places.{map-set-same, take-next}
 use Rattle.scenario_file.specs.Scenario.{IsScenario}
 use Rattle.task_duties.specs.declared.done.CallDone.{CallDone}
 use Rattle.run_laws.specs.Run.{Run}
 use Rattle.run_laws.specs.ReadOff.{end_of_call, line_read}
 use Rattle.scenario_run.specs.Parts.{ReportPart}
 use Rattle.scenario_run.specs.Lines.{HasReports}
-use Rattle.scenario_run.proofs.LineLaws.{drop-at, map-set, next-is, one-there, report-at, reports-on, take-at, take-over}
+use Rattle.scenario_run.proofs.LineLaws.{drop-at, next-is, one-there, report-at, reports-on, take-over}
 use Rattle.scenario_run.proofs.lines.call_lines.Goals as goal
 
 pub take_call-end-requires : goal.take_call-end-requires
@@ -25,14 +26,14 @@ pub returns-in_err-line-clause-served : goal.returns-in_err-line-clause-served
 returns-in_err-line-clause-served c =
     let at = report-at c.args.scenario.now (subst IsScenario c.scenario.view_is c.scenario.invariant) c.deref-call-items.result.now (c.deref-call-items.ensures.value ∙ ap (λ p. p.calls) c.scenario.view_is)
     c.loop-call.call-index c.call-item.result c.loop-call-test.true c.call-item.is c.loop-call.reports c.index-reports-call.result (c.loop-call.invariant.long ∙ c.requires.count) c.index-reports-call.is in
-    map-set (λ (r : ReportPart). r.served) c.loop-call.reports c.call-item.result.from c.index-reports-call.result c.take_call-end.new.self at.1
+    map-set-same (λ (r : ReportPart). r.served) c.loop-call.reports c.call-item.result.from c.index-reports-call.result c.take_call-end.new.self at.1
     (c.take_call-end.ensures.same.0 ∙ ap (λ (p : ReportPart). p.served) (sym c.index-reports-call.is)) ∙ c.loop-call.invariant.served
 
 pub returns-in_err-push-clause-served : goal.returns-in_err-push-clause-served
 returns-in_err-push-clause-served c =
     let at = report-at c.args.scenario.now (subst IsScenario c.scenario.view_is c.scenario.invariant) c.deref-call-items.result.now (c.deref-call-items.ensures.value ∙ ap (λ p. p.calls) c.scenario.view_is)
     c.loop-call.call-index c.call-item.result c.loop-call-test.true c.call-item.is c.loop-call.reports c.index-reports-call.result (c.loop-call.invariant.long ∙ c.requires.count) c.index-reports-call.is in
-    map-set (λ (r : ReportPart). r.served) c.loop-call.reports c.call-item.result.from c.index-reports-call.result c.take_call-end.new.self at.1
+    map-set-same (λ (r : ReportPart). r.served) c.loop-call.reports c.call-item.result.from c.index-reports-call.result c.take_call-end.new.self at.1
     (c.take_call-end.ensures.same.0 ∙ ap (λ (p : ReportPart). p.served) (sym c.index-reports-call.is)) ∙ c.loop-call.invariant.served
 
 pub loop-call-preserved : goal.loop-call-preserved
@@ -65,8 +66,8 @@ loop-call-preserved c =
           c.in_ok-push.ensures.items ∙ ap (λ l. l ++ c.in_ok-line.line ∷ []) (c.loop-call.invariant.lines run has)
           ∙ ap (λ x. map (line_read s run) (take k s.calls) ++ x ∷ []) (c.in_ok-line.ensures run journal end)
           ∙ sym (map-append (line_read s run) (take k s.calls) (call ∷ []))
-          ∙ ap (map (line_read s run)) (sym (take-at s.calls k call at.0));
-      served = map-set (λ (r : ReportPart). r.served) c.loop-call.reports call.from part new at.1 (c.take_call-end.ensures.same.0 ∙ ap (λ (p : ReportPart). p.served) (sym c.index-reports-call.is)) ∙ c.loop-call.invariant.served;
+          ∙ ap (map (line_read s run)) (sym (take-next s.calls k call at.0));
+      served = map-set-same (λ (r : ReportPart). r.served) c.loop-call.reports call.from part new at.1 (c.take_call-end.ensures.same.0 ∙ ap (λ (p : ReportPart). p.served) (sym c.index-reports-call.is)) ∙ c.loop-call.invariant.served;
       long = long ∙ c.loop-call.invariant.long;
     }
 

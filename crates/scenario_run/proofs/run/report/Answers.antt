@@ -1,9 +1,9 @@
 use Rattle.std.proofs.Common.{◌≡◌, ◌∙◌, length, map, ap, sym, subst, arith}
+use Rattle.std.proofs.lemmas.List.{length-map}
 use Rattle.domain_task.specs.Owes.{answer_of}
 use Rattle.run_laws.specs.Laid.{laid}
 use Rattle.run_laws.specs.Report.{SettledPage}
 use Rattle.run_laws.specs.Results.{run_of}
-use Rattle.run_pages.proofs.DealLaws.{map-length}
 use Rattle.scenario_run.specs.Lines.{HasReports}
 use Rattle.scenario_run.specs.Parts.{ReportPart}
 use Rattle.scenario_run.specs.Sessions.{HaveServed}
@@ -38,7 +38,7 @@ of-requires c =
     let apart : AreApart c.args.dones.items ends reports = record { ends_are = c.in_ok-ends.ensures.ends; reports_are = c.in_ok-ends.ensures.reports; done = c.in_ok-ends.ensures.done } in
     let is = results s c.args.pages c.args.dones.items ends reports settled c.is_scenario.ensures c.requires.laid c.requires.answers apart c.in_ok-pages.ensures in
     let few = laid-few s c.is_scenario.ensures in
-    let many : length settled ≡ length (laid s) = sym (map-length (λ (p : SettledPage). p.place) settled) ∙ ap length is.places in
+    let many : length settled ≡ length (laid s) = sym (length-map settled (λ (p : SettledPage). p.place)) ∙ ap length is.places in
     let same = ap length c.as_slice.ensures.value in omega (arith, few, many, same)
 
 pub returns : goal.returns

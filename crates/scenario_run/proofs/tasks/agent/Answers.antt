@@ -1,7 +1,8 @@
 use Rattle.std.proofs.Common.{map, subst, sym}
-use Rattle.qrexec_frame.specs.Streams.{Each}
+use Rattle.std.specs.List.{AllByRecursion as Each}
+use Rattle.list_laws.specs.Lists.{AreDifferent}
 use Rattle.scenario_file.specs.declared.scenario.CallPlan.{CallPlan}
-use Rattle.call_queue.specs.Queue.{AreDifferent, FitsTrigger}
+use Rattle.call_queue.specs.Queue.{FitsTrigger}
 use Rattle.scenario_run.proofs.GivenLaws.{calls-fit, numbers-differ}
 use Rattle.scenario_run.proofs.tasks.agent.Goals as goal
 

@@ -1,9 +1,9 @@
 use Rattle.std.proofs.Common.{◌≡◌, ◌∙◌, ◌*◌, ◌≤◌, ap, arith, length, subst, sym}
 use Rattle.std.specs.Prelude.{vec_len}
 use Rattle.std.specs.List.{All}
+use Rattle.std.proofs.lemmas.List.{length-map}
 use Rattle.scenario_run.specs.Tasks.{awaited_from}
 use Rattle.scenario_run.proofs.GivenLaws.{awaited-length, names-short, same-lengths, table-square, table-within}
-use Rattle.run_pages.proofs.DealLaws.{map-length}
 use Rattle.scenario_run.proofs.tasks.broker_plan.Goals as goal
 
 pub new-requires-clause-square : goal.new-requires-clause-square
@@ -22,6 +22,6 @@ returns-clause-names c = names-short c.args.scenario.now c.is_scenario.ensures c
 
 pub returns-clause-count : goal.returns-clause-count
 returns-clause-count c = (
-  ap length (c.in_ok-broker.ensures.names ∙ c.in_ok-domains.ensures) ∙ map-length (λ domain. domain.name) c.args.scenario.now.domains,
+  ap length (c.in_ok-broker.ensures.names ∙ c.in_ok-domains.ensures) ∙ length-map c.args.scenario.now.domains (λ domain. domain.name),
   ap length c.in_ok-awaited.ensures ∙ awaited-length (awaited_from c.args.scenario.now) c.args.scenario.now,
 )

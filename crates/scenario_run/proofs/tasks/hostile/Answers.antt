@@ -1,8 +1,8 @@
 use Rattle.std.proofs.Common.{ℕ, false, Option, ap, ◌∙◌, subst, sym}
 use Rattle.std.specs.Prelude.{is_some}
 use Rattle.std.specs.Option.{option_map_or}
+use Rattle.std.specs.List.{AllByRecursion as Each}
 use Rattle.ring_words.specs.declared.order.Orders.{Orders}
-use Rattle.qrexec_frame.specs.Streams.{Each}
 use Rattle.scenario_file.specs.Scenario.{is_hostile}
 use Rattle.scenario_file.specs.declared.acts.Acts.{Acts}
 use Rattle.scenario_file.specs.declared.scenario.Domain.{Domain}

@@ -1,7 +1,7 @@
 use Rattle.std.proofs.Common.{◌≡◌, ◌+◌, List, [], ◌∷◌, ap, length, map, sym, subst, arith}
 use Rattle.std.specs.Vec.Iter.{into_iter_items}
 use Rattle.std.proofs.lemmas.Grind.{common_steps}
-use Rattle.qrexec_frame.specs.Streams.{Each}
+use Rattle.std.specs.List.{AllByRecursion as Each}
 use Rattle.vchan_rule.specs.Seated.{SeatedEnd, view}
 use Rattle.task_duties.specs.declared.place.PagePlace.TheVariants.{Control}
 use Rattle.task_duties.specs.TaskOwes.{broker_ends}

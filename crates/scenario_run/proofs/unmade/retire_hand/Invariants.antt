@@ -1,7 +1,7 @@
 use Rattle.std.proofs.Common.{◌≡◌, ◌≤◌, ◌+◌, true, length}
 use Rattle.std.specs.Prelude.{vec_capacity}
 use Rattle.std.specs.Vec.Iter.{into_iter_items}
-use Rattle.qrexec_frame.specs.Streams.{Each}
+use Rattle.std.specs.List.{AllByRecursion as Each}
 use Rattle.vchan_rule.specs.Seated.{view}
 use Rattle.task_duties.specs.TaskOwes.{all_ends}
 use Rattle.task_duties.specs.GivenEnds.{all_given, fresh_view}

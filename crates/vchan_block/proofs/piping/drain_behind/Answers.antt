@@ -2,8 +2,8 @@
 use Rattle.std.proofs.Common.{◌-◌, ◌≤◌, length, subst, sym, arith}
 use borrow.Rule.Slice.PartMut.{post_of}
 use Rattle.vchan_rule.specs.Seated.{view}
-use Rattle.vchan_block.proofs.PipeLaws.{got_behind}
 use Rattle.vchan_block.proofs.piping.drain_behind.Goals as goal
+use Rattle.vchan_lifecycle.proofs.DrainLaws.{got_behind}
 
 pub returns-clause-got : goal.returns-clause-got
 returns-clause-got c =

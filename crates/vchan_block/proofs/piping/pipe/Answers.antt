@@ -2,10 +2,11 @@
 use Rattle.std.proofs.Common.{◌≡◌, ◌+◌, subst, length, vec_len, arith}
 use Rattle.ring_words.specs.declared.page.Role.TheVariants.{Server, Client}
 use Rattle.vchan_rule.specs.Seated.{last_view}
-use Rattle.vchan_block.specs.Pipe.{GetsAll, HasPiped, IsEndOf, SendsAll}
+use Rattle.vchan_block.specs.Pipe.{HasPiped}
 use Rattle.vchan_block.proofs.PipeLaws.{piped}
 use Rattle.vchan_block.proofs.piping.pipe.Given.{Over}
 use Rattle.vchan_block.proofs.piping.pipe.Goals as goal
+use Rattle.vchan_lifecycle.specs.Ended.{GetsAll, IsEndOf, SendsAll}
 
 through : (g : Over) (c : goal.After-drop-bytes-2 g) → (c.in_ok-client.received.bytes.items ≡ c.args.bytes.items) × HasPiped (record { orders = c.args.orders; start = c.args.start }) c.args.bytes.items c.finish-settled.result
 through g c =

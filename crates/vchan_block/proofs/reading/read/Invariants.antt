@@ -1,7 +1,7 @@
 use Rattle.std.proofs.Common.{◌≡◌, ℕ, List, length}
 use Rattle.vchan_rule.specs.Seated.{SeatedEnd, view, IsOpen}
 use Rattle.vchan_rule.specs.Ends.{IsSameEnd}
-use Rattle.vchan_stream.specs.Stream.{most_asked}
+use Rattle.vchan_rule.specs.Called.{most_asked}
 use Rattle.vchan_block.specs.declared.reading.BlockRead.{BlockRead}
 use Rattle.vchan_block.specs.Rounds.{Reads}
 use Rattle.vchan_block.proofs.reading.read.Given as goal

@@ -1,8 +1,8 @@
 use Rattle.std.proofs.Common.{◌≡◌, ℕ, List, length}
-use Rattle.vchan_packet.specs.Packet.{most_asked}
 use Rattle.vchan_packet.specs.declared.RecvAnswer.{RecvAnswer}
 use Rattle.vchan_rule.specs.Seated.{SeatedEnd, view, IsOpen}
 use Rattle.vchan_rule.specs.Ends.{IsSameEnd}
+use Rattle.vchan_rule.specs.Called.{most_asked}
 use Rattle.vchan_block.specs.Rounds.{Receives}
 use Rattle.vchan_block.proofs.receiving.recv.Given as goal
 

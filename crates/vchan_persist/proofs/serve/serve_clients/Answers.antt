@@ -3,7 +3,7 @@ use Rattle.std.proofs.Common.{◌≡◌, ◌+◌, List, [], ◌∷◌, ap, lengt
 use Rattle.std.specs.Prelude.{IsSome}
 use Rattle.std.proofs.lemmas.Bool.{false≢true}
 use Rattle.std.proofs.lemmas.Grind.{common_steps}
-use Rattle.qrexec_frame.specs.Streams.{Each}
+use Rattle.std.specs.List.{AllByRecursion as Each}
 use Rattle.vchan_persist.specs.declared.client.Client.{Client}
 use Rattle.vchan_persist.specs.declared.epoch.EpochDone.{EpochDone}
 use Rattle.vchan_persist.specs.Clients.{IsServable}

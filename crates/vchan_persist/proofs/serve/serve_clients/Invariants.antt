@@ -1,5 +1,5 @@
 use Rattle.std.proofs.Common.{◌+◌, ◌++◌, ◌≤◌, List, length}
-use Rattle.qrexec_frame.specs.Streams.{Each}
+use Rattle.std.specs.List.{AllByRecursion as Each}
 use Rattle.vchan_persist.specs.declared.epoch.EpochDone.{EpochDone}
 use Rattle.vchan_persist.specs.Clients.{IsServable}
 use Rattle.vchan_persist.specs.Epochs.{AreEpochs}

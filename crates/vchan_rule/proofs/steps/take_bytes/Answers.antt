@@ -6,8 +6,9 @@ use Rattle.vchan_core.specs.OneMachine.Ahead.{take_at}
 use Rattle.vchan_rule.specs.Ends.{end_in, Agrees}
 use Rattle.vchan_rule.specs.Along.{GoesAlong}
 use Rattle.vchan_rule.specs.declared.rule.View.TheVariants.{One}
-use Rattle.vchan_rule.proofs.ByteLaws.{take_next, take_has, number_from, number_within, some_size, moving_none, byte_owed, byte_moved}
+use Rattle.vchan_rule.proofs.ByteLaws.{take_next, take_has, number_from, some_size, moving_none, byte_owed, byte_moved}
 use Rattle.vchan_rule.proofs.steps.take_bytes.Goals as goal
+use Rattle.vchan_protocol.proofs.Lists.ListPieces.{byte_in}
 
 pub bytes-init : goal.bytes-init
 bytes-init c =
@@ -40,7 +41,7 @@ take_byte-value-requires-clause-number c =
     let lies = c.place-lies.result in
     let has = take_has c.args.machine.now c.args.span orders lies c.requires.take c.requires.page.2 c.place-lies.ensures.within in
     let is : c.word-base.result + lies ≡ index_of orders (RingByte c.args.span.ring lies) = ap (λ (n : ℕ). n + lies) c.word-base.ensures.number ∙ number_from orders c.args.span.ring lies in
-    let within = number_within orders c.args.span.ring lies has in
+    let within = byte_in orders c.args.span.ring lies has in
     (is, omega (arith, is, within, c.requires.page.0))
 
 pub bytes-preserved : goal.bytes-preserved

@@ -1,8 +1,8 @@
 use Rattle.std.proofs.Common.{◌∙◌, ap, sym, subst}
+use Rattle.list_laws.proofs.Results.{on-ok}
 use Rattle.call_queue.specs.Queue.{QueueState}
 use Rattle.qrexec_frame.specs.declared.message.Message.TheVariants.{Connect}
 use Rattle.agent_task.specs.Standing.{Awaits}
-use Rattle.agent_task.proofs.ListLaws.{on-ok}
 use Rattle.agent_task.proofs.StepLaws.{connect-no_call, connect-no_end, connect-taken, call-number}
 use Rattle.agent_task.proofs.agent.Agent.connect.Goals as goal
 

@@ -1,8 +1,9 @@
 use Rattle.std.proofs.Common.{◌≡◌, ◌∙◌, false, ap, rules}
 use Rattle.vchan_rule.specs.Seated.{view}
-use Rattle.agent_task.proofs.PortLaws.{greets-up, got-sent}
+use Rattle.agent_task.proofs.PortLaws.{greets-up}
 use Rattle.agent_task.proofs.MovingLaws.{greets-by}
 use Rattle.agent_task.proofs.agent.Agent.greet.Goals as goal
+use Rattle.vchan_packet.proofs.PacketLaws.{sent-got}
 
 pub returns-in_ok-greet-clause-up : goal.returns-in_ok-greet-clause-up
 returns-in_ok-greet-clause-up c =
@@ -14,4 +15,4 @@ returns-in_ok-greet-clause-greets c =
     greets-by c.args.self.now.control.port c.greet.new.self c.in_ok-greet.field-0 first c.in_ok-greet.ensures.greeted c.in_ok-greet.ensures.view c.in_ok-greet.ensures.trail c.in_ok-greet.ensures.cause
 
 pub returns-in_ok-greet-clause-got : goal.returns-in_ok-greet-clause-got
-returns-in_ok-greet-clause-got c = ap (λ e. e.got) c.in_ok-greet.ensures.view ∙ got-sent (view c.args.self.now.control.port.end) c.in_ok-greet.field-0 _
+returns-in_ok-greet-clause-got c = ap (λ e. e.got) c.in_ok-greet.ensures.view ∙ sent-got (view c.args.self.now.control.port.end) c.in_ok-greet.field-0 _

@@ -1,6 +1,6 @@
 use Rattle.std.proofs.Common.{refl, subst}
+use Rattle.list_laws.proofs.Results.{on-ok}
 use Rattle.agent_task.specs.Standing.{Awaits}
-use Rattle.agent_task.proofs.ListLaws.{on-ok}
 use Rattle.agent_task.proofs.StepLaws.{just_exec-unserved, passes-other}
 use Rattle.agent_task.proofs.agent.Agent.hear.Goals as goal
 

@@ -2,11 +2,12 @@ use Rattle.std.proofs.Common.{◌∙◌, ap, sym, subst}
 use Rattle.vchan_rule.specs.Seated.{SeatedEnd, view, IsOpen}
 use Rattle.channel_session.specs.Turning.{KeepsBytes}
 use Rattle.vchan_rule.specs.Ends.{IsSameEnd}
+use Rattle.vchan_rule.proofs.EndLaws.{same-end-then}
 use Rattle.call_queue.specs.Queue.{QueueState}
 use Rattle.agent_control.specs.declared.control.AgentControl.{AgentControl}
 use Rattle.agent_task.specs.Moving.{Listens}
 use Rattle.agent_task.proofs.MovingLaws.{listens-by, listens-keep}
-use Rattle.agent_task.proofs.PortLaws.{same-end-is, same-end-then}
+use Rattle.agent_task.proofs.PortLaws.{same-end-is}
 use Rattle.agent_task.proofs.RoundLaws.{still-rests}
 use Rattle.agent_task.proofs.agent.Agent.listen.Goals as goal
 

@@ -1,7 +1,7 @@
 use Rattle.std.proofs.Common.{sym, subst}
+use Rattle.list_laws.proofs.Results.{on-ok}
 use Rattle.qrexec_frame.specs.declared.message.Message.TheVariants.{Exec}
 use Rattle.agent_task.specs.Standing.{Awaits}
-use Rattle.agent_task.proofs.ListLaws.{on-ok}
 use Rattle.agent_task.proofs.StepLaws.{exec-unnamed, exec-no_end, serve-taken}
 use Rattle.agent_task.proofs.agent.Agent.serve.Goals as goal
 

@@ -1,9 +1,8 @@
-use Rattle.std.proofs.Common.{◌++◌, sym, ◌∙◌, ap, map, subst}
+use Rattle.std.proofs.Common.{◌++◌, sym, ◌∙◌, ap, subst}
 use Rattle.std.specs.Prelude.{List, not}
 use Rattle.data_slots.specs.Done.{TellsMore}
 use Rattle.data_slots.specs.Sessions.{Session, AllTakeTurns}
 use Rattle.agent_task.specs.declared.agent.Agent.{Agent}
-use Rattle.agent_task.specs.Standing.{end_of}
 use Rattle.agent_task.specs.Ending.{IsRunning}
 use Rattle.agent_task.proofs.SessionLaws.{slots-running, noted-running, told-first}
 use Rattle.agent_task.proofs.agent.Agent.turn_sessions.Goals as goal
@@ -17,7 +16,7 @@ returns-clause-running c =
       | then-is_none+in_ok-note_over w ↦
           subst (λ a. IsRunning a) (sym w.self-is)
           (noted-running c.args.self.now c.turn.new.self w.note_over.new.self over c.requires.running (c.is_none.ensures ∙ ap not w.if-is_none.true) c.in_ok-moved.ensures.ok w.note_over.ensures.same
-          (w.in_ok-note_over.ensures.told ∙ ap (λ l. c.args.self.now.control.unsaid.items ++ map end_of l) w.deref.ensures.value) first.0 first.1)
+          (w.in_ok-note_over.ensures.told ∙ ap (λ l. c.args.self.now.control.unsaid.items ++ l) w.deref.ensures.value) first.0 first.1)
       | else-is_none w ↦
           subst (λ a. IsRunning a) (sym w.self-is)
           (slots-running c.args.self.now c.turn.new.self over c.requires.running (c.is_none.ensures ∙ ap not w.if-is_none.false) c.in_ok-moved.ensures.ok first.0)

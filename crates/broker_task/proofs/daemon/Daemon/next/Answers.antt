@@ -5,7 +5,8 @@ use Rattle.qrexec_frame.specs.Messages.{IsSpellable}
 use Rattle.control_port.specs.declared.talk.Talker.{Talker}
 use Rattle.control_port.specs.Talking.{may_hear}
 use Rattle.control_port.specs.Port.{Hands}
-use Rattle.broker_task.proofs.LineLaws.{said-hearing, hands-event, hands-none}
+use Rattle.control_port.proofs.PortLaws.{said-still}
+use Rattle.broker_task.proofs.LineLaws.{hands-event, hands-none}
 use Rattle.broker_task.proofs.daemon.Daemon.next.Goals as goal
 
 pub event_of-requires : goal.event_of-requires
@@ -20,7 +21,7 @@ returns-in-Some-clause-hands c = λ events h.
     (λ heard g. subst (λ o. Hands c.next.new.self heard o) c.in-Some.is (c.in_ok-message.ensures.hands heard g)) c.event_of.ensures fits
 
 pub returns-in-Some-clause-said : goal.returns-in-Some-clause-said
-returns-in-Some-clause-said c = λ said h. said-hearing c.args.self.now.port c.next.new.self said c.next.ensures.only h
+returns-in-Some-clause-said c = λ said h. said-still c.args.self.now.port c.next.new.self said c.next.ensures.only h
 
 pub returns-in-None-clause-hands : goal.returns-in-None-clause-hands
 returns-in-None-clause-hands c = λ events h.
@@ -28,4 +29,4 @@ returns-in-None-clause-hands c = λ events h.
     (λ heard g. subst (λ o. Hands c.next.new.self heard o) c.in-None.is (c.in_ok-message.ensures.hands heard g))
 
 pub returns-in-None-clause-said : goal.returns-in-None-clause-said
-returns-in-None-clause-said c = λ said h. said-hearing c.args.self.now.port c.next.new.self said c.next.ensures.only h
+returns-in-None-clause-said c = λ said h. said-still c.args.self.now.port c.next.new.self said c.next.ensures.only h

@@ -1,8 +1,9 @@
 use Rattle.std.proofs.Common.{◌≡◌, subst, refl, arith, Some}
 use Rattle.std.specs.Prelude.{slice_get, slice_index}
+use Rattle.list_laws.proofs.Each.{each-get}
 use Rattle.call_queue.specs.Queue.{IsHeld, HasToSay, trigger_of}
 use Rattle.call_queue.specs.Inside.{IsFaithful}
-use Rattle.call_queue.proofs.Places.{each-at, index-is}
+use Rattle.call_queue.proofs.Places.{index-is}
 use Rattle.call_queue.proofs.StepLaws.{has-room, held-by, says-due, next-at, fits-trigger}
 use Rattle.call_queue.proofs.queue.CallQueue.due.Goals as goal
 
@@ -32,4 +33,4 @@ returns-clause-says c version =
 pub returns-clause-fits : goal.returns-clause-fits
 returns-clause-fits c =
     let at = next-at c.self.inside.calls.items c.self.inside.by_ident c.self.inside.counts.items c.self.inside.next c.index-call.result.now c.self.invariant (λ e. c.if-self-len.false (omega (arith, e, c.len.ensures, c.self.inside.calls.ok.0))) c.index-call.ensures in
-    fits-trigger c.index-call.result.now (each-at IsFaithful c.self.inside.calls.items c.self.inside.next c.index-call.result.now c.self.invariant.faithful at)
+    fits-trigger c.index-call.result.now (each-get IsFaithful c.self.inside.calls.items c.self.inside.next c.index-call.result.now c.self.invariant.faithful at)

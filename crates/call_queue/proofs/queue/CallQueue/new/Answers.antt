@@ -1,10 +1,11 @@
 use Rattle.std.proofs.Common.{◌≡◌, ◌∙◌, ap, sym, subst, map, length, arith, [], ◌<◌, ◌^◌}
-use Rattle.qrexec_frame.specs.Streams.{Each}
 use Rattle.std.specs.Prelude.{replicate}
+use Rattle.std.specs.List.{AllByRecursion as Each}
+use Rattle.list_laws.specs.Lists.{AreDifferent}
 use Rattle.task_duties.specs.Words.{ident_of}
 use Rattle.call_queue.specs.Index.{IsIndex}
 use Rattle.call_queue.specs.Asking.{Asks}
-use Rattle.call_queue.specs.Queue.{asked_as, AreDifferent}
+use Rattle.call_queue.specs.Queue.{asked_as}
 use Rattle.call_queue.proofs.AskingLaws.{asks-none}
 use Rattle.call_queue.proofs.FreshLaws.{kept-fresh, all-fresh, fresh-apart}
 use Rattle.call_queue.proofs.queue.CallQueue.new.Goals as goal

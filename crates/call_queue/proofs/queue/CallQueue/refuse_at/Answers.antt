@@ -1,10 +1,10 @@
 use Rattle.std.proofs.Common.{◌≡◌, sym, subst, arith, Some, ℕ, List, refl}
 use Rattle.std.specs.Prelude.{slice_get, slice_set}
 use Rattle.std.proofs.lemmas.List.{length-map}
+use Rattle.std.proofs.lemmas.Option.{slice_get_within}
 use Rattle.call_queue.specs.Queue.{QueueState, IsWaitingAt, after_answer}
 use Rattle.call_queue.specs.Asking.{Asks}
 use Rattle.call_queue.specs.Inside.{queued, all_queued, state_of}
-use Rattle.call_queue.proofs.Places.{within-get}
 use Rattle.call_queue.proofs.KeptLaws.{get-or-get}
 use Rattle.task_duties.specs.Agent.Answers.{IsRefused}
 use Rattle.call_queue.specs.declared.call.CallAnswer.TheVariants as given
@@ -15,7 +15,7 @@ use Rattle.call_queue.proofs.queue.CallQueue.refuse_at.Goals as goal
 within : (c : goal.After-count_out-arg-1) → slice_get c.self.inside.calls.items c.args.place ≡ Some c.index_mut-call.result.now
 within c =
     let w : (ident : List ℕ) × IsWaitingAt (state_of c.self.inside) c.args.place ident = subst (λ s. (ident : List ℕ) × IsWaitingAt s c.args.place ident) (sym c.self.view_is) c.requires in
-    let less = within-get (all_queued c.self.inside.calls.items) c.args.place w.1.0 w.1.1 in
+    let less = slice_get_within (all_queued c.self.inside.calls.items) c.args.place w.1.0 w.1.1 in
     get-or-get c.self.inside.calls.items c.args.place c.index_mut-call.result.now (omega (arith, less, length-map c.self.inside.calls.items queued)) c.index_mut-call.ensures.value
 
 pub count_out-requires-clause-room : goal.count_out-requires-clause-room
@@ -29,7 +29,7 @@ count_out-requires-clause-counted c = counts-some _ _ _ _ c.args.place c.index_m
 here : (c : goal.After-self-1) → slice_get c.self.inside.calls.items c.args.place ≡ Some c.index_mut-call.result.now
 here c =
     let w : (ident : List ℕ) × IsWaitingAt (state_of c.self.inside) c.args.place ident = subst (λ s. (ident : List ℕ) × IsWaitingAt s c.args.place ident) (sym c.self.view_is) c.requires in
-    let less = within-get (all_queued c.self.inside.calls.items) c.args.place w.1.0 w.1.1 in
+    let less = slice_get_within (all_queued c.self.inside.calls.items) c.args.place w.1.0 w.1.1 in
     get-or-get c.self.inside.calls.items c.args.place c.index_mut-call.result.now (omega (arith, less, length-map c.self.inside.calls.items queued)) c.index_mut-call.ensures.value
 
 pub invariant_of-self : goal.invariant_of-self

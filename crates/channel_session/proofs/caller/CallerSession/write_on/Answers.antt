@@ -1,9 +1,9 @@
 use Rattle.std.proofs.Common.{refl, ap, inr, rules}
-use Rattle.vchan_stream.specs.Stream.{most_asked}
 use Rattle.channel_session.specs.Calling.{CallerAt}
 use Rattle.channel_session.specs.Turning.{RingIsFull}
 use Rattle.channel_session.proofs.TurningLaws.{finds-full, finds-shut}
 use Rattle.channel_session.proofs.caller.CallerSession.write_on.Goals as goal
+use Rattle.vchan_rule.specs.Called.{most_asked}
 
 pub returns-in-Full-clause-went : goal.returns-in-Full-clause-went
 returns-in-Full-clause-went c = (

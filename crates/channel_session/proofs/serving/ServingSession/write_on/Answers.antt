@@ -1,10 +1,10 @@
 use Rattle.std.proofs.Common.{refl, ap, inr, rules}
-use Rattle.vchan_stream.specs.Stream.{most_asked}
 use Rattle.channel_session.specs.Answering.{ServingAt}
 use Rattle.channel_session.specs.Turning.{RingIsFull}
 use Rattle.channel_session.proofs.TurningLaws.{finds-full, finds-shut}
 use Rattle.channel_session.proofs.AnsweringLaws.{works-on}
 use Rattle.channel_session.proofs.serving.ServingSession.write_on.Goals as goal
+use Rattle.vchan_rule.specs.Called.{most_asked}
 
 pub returns-in-Wrote-clause-work : goal.returns-in-Wrote-clause-work
 returns-in-Wrote-clause-work c =

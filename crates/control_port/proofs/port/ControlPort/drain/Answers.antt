@@ -1,5 +1,5 @@
 use Rattle.std.proofs.Common.{◌≡◌, ◌↔◌, ap, sym, subst}
-use Rattle.vchan_lifecycle.specs.Lifecycle.{drain_told, most_asked}
+use Rattle.vchan_lifecycle.specs.Lifecycle.{drain_told}
 use Rattle.vchan_lifecycle.specs.declared.DrainAnswer.TheVariants.{More, NotYet, PeerGone}
 use Rattle.vchan_protocol.specs.Answering.Causes.{DrainCause}
 use Rattle.vchan_protocol.specs.Answering.Loads.{loads_of}
@@ -7,6 +7,7 @@ use Rattle.vchan_protocol.specs.History.Core.{standing_of}
 use Rattle.control_port.specs.Port.{PortState}
 use Rattle.control_port.proofs.PortLaws.{fed, said-end, heard-end}
 use Rattle.control_port.proofs.port.ControlPort.drain.Goals as goal
+use Rattle.vchan_rule.specs.Called.{most_asked}
 
 pub returns-in_ok-feed-in-More-clause-heard : goal.returns-in_ok-feed-in-More-clause-heard
 returns-in_ok-feed-in-More-clause-heard c = λ heard h.

@@ -3,7 +3,8 @@ use Rattle.qrexec_frame.specs.declared.message.Message.{Message}
 use Rattle.qrexec_frame.specs.declared.message.Message.TheVariants.{Hello}
 use Rattle.qrexec_frame.specs.Messages.{written}
 use Rattle.vchan_rule.specs.Seated.{view}
-use Rattle.vchan_packet.specs.Packet.{most_asked, send_told, sent_to}
+use Rattle.vchan_rule.specs.Called.{most_asked}
+use Rattle.vchan_packet.specs.Packet.{send_told, sent_to}
 use Rattle.vchan_protocol.specs.Answering.Causes.{SendCause}
 use Rattle.vchan_protocol.specs.Answering.Loads.{loads_of}
 use Rattle.vchan_protocol.specs.History.Core.{standing_of}

@@ -1,11 +1,12 @@
 use Rattle.std.proofs.Common.{◌≡◌, ◌↔◌, ◌∙◌, ◌++◌, ℕ, List, ap, subst}
 use Rattle.qrexec_frame.specs.Messages.{written}
-use Rattle.vchan_packet.specs.Packet.{most_asked, send_told}
+use Rattle.vchan_packet.specs.Packet.{send_told}
 use Rattle.vchan_protocol.specs.Answering.Causes.{SendCause}
 use Rattle.vchan_protocol.specs.Answering.Loads.{loads_of}
 use Rattle.vchan_protocol.specs.History.Core.{standing_of}
 use Rattle.control_port.specs.Port.{PortState}
 use Rattle.control_port.proofs.port.ControlPort.put.Goals as goal
+use Rattle.vchan_rule.specs.Called.{most_asked}
 
 pub returns-clause-cause : goal.returns-clause-cause
 returns-clause-cause c = λ other.

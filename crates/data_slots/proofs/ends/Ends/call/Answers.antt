@@ -2,13 +2,13 @@ use Rattle.std.proofs.Common.{◌≡◌, ap, sym, ◌∙◌, subst, ◌∷◌, �
 use Rattle.std.specs.Prelude.{None, Some, false, option_map}
 use Rattle.std.proofs.lemmas.Option.{slice_get_within}
 use Rattle.std.proofs.lemmas.List.{map-set}
+use Rattle.list_laws.proofs.Places.{get-map, same-read}
 use Rattle.task_duties.specs.declared.place.PagePlace.TheVariants.{Payload}
+use Rattle.task_duties.specs.declared.done.SessionEnd.{SessionEnd}
 use Rattle.data_slots.specs.declared.note.CallNote.{CallNote}
 use Rattle.data_slots.specs.declared.slot.Slot.{Slot}
-use Rattle.data_slots.specs.declared.done.SessionOver.{SessionOver}
 use Rattle.data_slots.specs.Stages.{ForNothing, ForCall, HasPage, place_of, frame_of, told_of, is_session, IsStage}
 use Rattle.data_slots.specs.Whole.{frames, sessions, late_in, opened_in, called_of, IsUsedAt}
-use Rattle.data_slots.proofs.ListLaws.{get-map, same-read}
 use Rattle.data_slots.proofs.OpenedLaws.{late-set, opened-more}
 use Rattle.data_slots.proofs.WholeLaws.{IsPutTo, begins-call, frames-set, held-set, is-shut, unused-now}
 use Rattle.data_slots.proofs.BeginLaws.{is-free, free-server, same-state, call-used}
@@ -57,7 +57,7 @@ returns-clause-ok c =
     let used = ForCall c.args.number c.of-seen.result.value.items in
     let here = get-map frame_of e.slots.items c.in-Some.at c.index_mut.result.now free.here in
     let put = frames-set e.slots.items c.in-Some.at c.index_mut.result.now c.call.new.self used c.call.ensures.frame in
-    let told : SessionOver = record { domain = c.args.to; port = c.args.port; number = Some c.args.number } in
+    let told : SessionEnd = record { domain = c.args.to; port = c.args.port; call = Some c.args.number } in
     let tells : told_of (place_of c.index_mut.result.now) used ≡ Some told = ap (λ p. told_of p used) free.lies in
     let busy : c.push_within.new.list.items ≡ e.busy.items ++ c.in-Some.at ∷ [] = c.push_within.ensures.items ∙ ap (λ b. b ++ c.in-Some.at ∷ []) c.in_ok-reserve.ensures.items in
     same-state e.domain e.version _ _ _ _ _ _ _ _ _ _ _ _ _ _ false

@@ -1,6 +1,6 @@
 use Rattle.std.proofs.Common.{◌∷◌, ap, sym, ◌∙◌, subst, List, map}
 use Rattle.std.specs.Prelude.{Option, option_map}
-use Rattle.task_duties.specs.Pairwise.{EachPair}
+use Rattle.std.specs.List.{AllZip as EachPair}
 use Rattle.task_duties.specs.TaskOwes.{EndAt}
 use Rattle.task_duties.specs.GivenEnds.{retired_at}
 use Rattle.data_slots.specs.declared.note.CallNote.{CallNote}

@@ -1,6 +1,6 @@
 use Rattle.std.proofs.Common.{◌≡◌, [], ap, sym, ◌∙◌, subst, replicate, map}
 use Rattle.std.specs.Prelude.{None, false, option_map}
-use Rattle.qrexec_frame.specs.Streams.{Each}
+use Rattle.std.specs.List.{AllByRecursion as Each}
 use Rattle.task_duties.specs.TaskOwes.{places_in}
 use Rattle.task_duties.specs.GivenEnds.{all_given}
 use Rattle.data_slots.specs.Stages.{CanRetire}

@@ -1,13 +1,13 @@
 use Rattle.std.proofs.Common.{◌≡◌, ap, sym, ◌∙◌, subst, ◌∷◌, ◌++◌, [], length, refl, arith, map, set}
 use Rattle.std.specs.Prelude.{false, Some, None}
 use Rattle.std.proofs.lemmas.List.{map-append}
+use Rattle.list_laws.proofs.Places.{get-map}
 use Rattle.task_duties.specs.declared.place.PagePlace.TheVariants.{Payload}
+use Rattle.task_duties.specs.declared.done.SessionEnd.{SessionEnd}
 use Rattle.data_slots.specs.declared.note.ServedNote.{ServedNote}
 use Rattle.data_slots.specs.declared.slot.Slot.{Slot}
-use Rattle.data_slots.specs.declared.done.SessionOver.{SessionOver}
 use Rattle.data_slots.specs.Stages.{ForNothing, ForServing, place_of, frame_of, told_of, is_session, IsStage}
 use Rattle.data_slots.specs.Whole.{frames, sessions, late_in, opened_in, serves_of, IsUsedAt}
-use Rattle.data_slots.proofs.ListLaws.{get-map}
 use Rattle.data_slots.proofs.OpenedLaws.{late-set, opened-more}
 use Rattle.data_slots.proofs.WholeLaws.{IsPutTo, begins-serving, frames-set, held-set, is-shut, unused-now}
 use Rattle.data_slots.proofs.BeginLaws.{is-free, free-client, same-state, serving-used}
@@ -43,7 +43,7 @@ returns-clause-ok c =
     let used = ForServing c.len-number.result c.of-seen.result.value in
     let here = get-map frame_of e.slots.items c.in-Some.at c.index_mut.result.now free.here in
     let put = frames-set e.slots.items c.in-Some.at c.index_mut.result.now c.serve.new.self used c.serve.ensures.frame in
-    let told : SessionOver = record { domain = c.args.from; port = c.args.port; number = None } in
+    let told : SessionEnd = record { domain = c.args.from; port = c.args.port; call = None } in
     let tells : told_of (place_of c.index_mut.result.now) used ≡ Some told = ap (λ p. told_of p used) free.lies in
     let busy : c.push_within.new.list.items ≡ e.busy.items ++ c.in-Some.at ∷ [] = c.push_within.ensures.items ∙ ap (λ b. b ++ c.in-Some.at ∷ []) c.in_ok-reserve.ensures.items in
     same-state e.domain e.version _ _ _ _ _ _ _ _ _ _ _ _ _ _ false

@@ -1,9 +1,10 @@
 use Rattle.std.proofs.Common.{◌≡◌, ap, sym, ◌∙◌, subst, ◌∷◌, [], refl, arith, set, get_or, drop}
 use Rattle.std.specs.Prelude.{false, is_none, Some, IfSome, IsPermutation}
 use Rattle.std.specs.List.{swap_remove}
+use Rattle.list_laws.proofs.Each.{each-get}
+use Rattle.list_laws.proofs.Places.{get-map, map-set-same, same-read}
 use Rattle.data_slots.specs.Stages.{CanRetire, IsStage, told_of, place_of, use_of, frame_of}
 use Rattle.data_slots.specs.Whole.{AreWhole, TakesFrom, frames, unused_in, late_in, opened_in, state_of}
-use Rattle.data_slots.proofs.ListLaws.{each-get, get-map, map-set-same, same-read}
 use Rattle.data_slots.proofs.OpenedLaws.{opened-less}
 use Rattle.data_slots.proofs.WholeLaws.{held-set}
 use Rattle.data_slots.proofs.BeginLaws.{same-state}

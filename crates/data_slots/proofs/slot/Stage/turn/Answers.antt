@@ -1,4 +1,5 @@
 use Rattle.std.proofs.Common.{ap, sym, ◌∙◌, subst}
+use Rattle.list_laws.proofs.Results.{on-ok}
 use Rattle.vchan_rule.specs.Seated.{view}
 use Rattle.data_slots.specs.declared.slot.Stage.{Stage}
 use Rattle.data_slots.specs.Slots.{Held}
@@ -7,7 +8,6 @@ use Rattle.data_slots.specs.Stages.{ForCall, ForServing, Frame, framed, IsStage}
 use Rattle.data_slots.proofs.SideLaws.{same-held, calls-on, serves-on}
 use Rattle.data_slots.specs.Sessions.{Begins, TakesTurn, session_of}
 use Rattle.data_slots.proofs.SessionLaws.{call-takes, serving-takes, page-takes, told-then, begins-keeps, call-keeps, serving-keeps-on}
-use Rattle.data_slots.proofs.TurnLaws.{turned-ok}
 use Rattle.data_slots.proofs.slot.Stage.turn.Goals as goal
 
 pub returns-in-Calls-clause-frame : goal.returns-in-Calls-clause-frame
@@ -53,12 +53,12 @@ returns-in-Awaits-clause-turns c =
 pub returns-in-Calls-clause-kept : goal.returns-in-Calls-clause-kept
 returns-in-Calls-clause-kept c =
     let began = subst (λ s. Begins (session_of c.args.self.now) (session_of s)) c.in-Calls.is c.open_offered.ensures.begins in
-    turned-ok c.turn_caller.result _ _ (call-keeps (session_of c.args.self.now) c.in-Calls.session c.turn_caller.new.session began) c.turn_caller.ensures.kept
+    on-ok c.turn_caller.result _ _ (call-keeps (session_of c.args.self.now) c.in-Calls.session c.turn_caller.new.session began) c.turn_caller.ensures.kept
 
 pub returns-in-Serves-clause-kept : goal.returns-in-Serves-clause-kept
 returns-in-Serves-clause-kept c =
     let began = subst (λ s. Begins (session_of c.args.self.now) (session_of s)) c.in-Serves.is c.open_offered.ensures.begins in
-    turned-ok c.turn_serving.result _ _ (serving-keeps-on (session_of c.args.self.now) c.in-Serves.session c.turn_serving.new.session began) c.turn_serving.ensures.kept
+    on-ok c.turn_serving.result _ _ (serving-keeps-on (session_of c.args.self.now) c.in-Serves.session c.turn_serving.new.session began) c.turn_serving.ensures.kept
 
 pub returns-in-Awaits-clause-kept : goal.returns-in-Awaits-clause-kept
 returns-in-Awaits-clause-kept c = begins-keeps (session_of c.args.self.now) (session_of c.open_offered.new.self) c.open_offered.ensures.begins

@@ -1,6 +1,6 @@
 use Rattle.std.proofs.Common.{subst}
 use Rattle.std.specs.Prelude.{IfOk}
-use Rattle.task_duties.specs.Pairwise.{EachPair}
+use Rattle.std.specs.List.{AllZip as EachPair}
 use Rattle.task_duties.specs.GivenEnds.{all_retired}
 use Rattle.data_slots.specs.Slots.{SlotsState}
 use Rattle.data_slots.specs.Done.{ReportsCalled}

@@ -1,6 +1,6 @@
 use Rattle.std.proofs.Common.{◌≡◌, ◌≤◌, ◌+◌, ◌++◌, ◌∷◌, length, vec_len, vec_capacity}
 use Rattle.std.specs.Vec.Iter.{into_iter_items}
-use Rattle.task_duties.specs.Pairwise.{EachPair}
+use Rattle.std.specs.List.{AllZip as EachPair}
 use Rattle.hostile_task.specs.Pages.{IsRetiredOf}
 use Rattle.hostile_task.proofs.pages.Pages.retire.Given as goal
 

@@ -1,11 +1,12 @@
 -- Each end is signalled in its turn, and the others are still as they were.
 use Rattle.std.proofs.Common.{◌≡◌, List, [], ◌∷◌, length, map, ap, ◌∙◌, arith}
+use Rattle.list_laws.proofs.Each.{map-each, each-weaker}
 use Rattle.ring_words.specs.declared.page.Role.{Role}
 use Rattle.vchan_protocol.specs.Table.Ends.{peer_pending}
 use Rattle.task_duties.specs.Hostile.Stores.{stored, role_at}
 use Rattle.hostile_task.specs.Pages.{after_events}
 use Rattle.hostile_task.specs.declared.page.TurnedPage.{TurnedPage}
-use Rattle.hostile_task.proofs.ListLaws.{written_back, map_first-all, map_more, map-each, each_gives}
+use Rattle.hostile_task.proofs.ListLaws.{written_back, map_first-all, map_more}
 use Rattle.hostile_task.proofs.pages.Pages.signal.Goals as goal
 
 signalled : Role → TurnedPage → TurnedPage
@@ -28,5 +29,5 @@ returns c domain roles =
           ∙ c.loop-payload.invariant ∙ map_first-all change c.loop-payload.payload-index c.deref_mut-payload-items.result.now (omega arith)
           ∙ ap (λ (ps : List TurnedPage). map change ps) c.deref_mut-payload-items.ensures.value
           ∙ map-each change wanted c.args.self.now.payload.items
-          (each_gives (λ p. p.end.side.role ≡ role_at domain p.place) (λ p. change p ≡ wanted p) c.args.self.now.payload.items (λ p is. ap (λ (r : Role). signalled r p) is) roles.1);
+          (each-weaker (λ p. p.end.side.role ≡ role_at domain p.place) (λ p. change p ≡ wanted p) (λ p is. ap (λ (r : Role). signalled r p) is) c.args.self.now.payload.items roles.1);
     }

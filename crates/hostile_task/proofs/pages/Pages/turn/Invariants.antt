@@ -1,7 +1,6 @@
 use Rattle.std.proofs.Common.{◌≡◌, ◌≤◌, ◌+◌, ◌++◌, length, vec_len, vec_capacity}
 use Rattle.std.specs.Vec.Iter.{into_iter_items}
-use Rattle.task_duties.specs.Pairwise.{EachPair}
-use Rattle.qrexec_frame.specs.Streams.{Each}
+use Rattle.std.specs.List.{AllZip as EachPair, AllByRecursion as Each}
 use Rattle.hostile_task.specs.Pages.{IsDataTurnedOver, IsLaid}
 use Rattle.hostile_task.proofs.pages.Pages.turn.Given as goal
 

@@ -2,8 +2,8 @@ use Rattle.std.proofs.Common.{refl, subst, sym}
 use Rattle.atomic_table.specs.Seated.{TableId}
 use Rattle.page_offer.specs.Names.{IsNameOf, name_of}
 use Rattle.page_offer.specs.Views.{DoneEnd}
-use Rattle.page_offer.proofs.NameLaws.{server_page}
 use Rattle.page_offer.proofs.server.DoneServer.promise.Goals as goal
+use Rattle.page_offer.proofs.NameLaws.{server_page}
 
 pub returns : goal.returns
 returns c =

@@ -4,8 +4,8 @@ use Rattle.run_pages.specs.Pages.{HasSeats, IsLaidFor, page_at}
 use Rattle.run_pages.specs.Dealt.{AreDealt, HaveOrders, IsDealing}
 use Rattle.run_pages.proofs.DealingLaws.{IsNext, all-dealt, dealing-on, get-map, is-next, next-follows, none-dealt, none-ordered, take-all, within-seats}
 use Rattle.std.proofs.lemmas.Grind.{common_steps}
-use Rattle.run_pages.proofs.DealLaws.{map-length}
-use Rattle.run_pages.proofs.ListLaws.{each-here}
+use Rattle.std.proofs.lemmas.List.{length-map}
+use Rattle.list_laws.proofs.Each.{each-here}
 use Rattle.run_pages.proofs.lay.RunPages.deal.Goals as goal
 
 pub loop-seats-init : goal.loop-seats-init
@@ -23,7 +23,7 @@ pub index-requires : goal.index-requires
 index-requires c =
     let seated = subst (λ seats. HasSeats (drop c.loop-seats.index c.args.self.now) seats) c.in-Some.ensures.steps.0 c.loop-seats.invariant.dealing.seated in
     let within : c.loop-seats.index < length c.args.self.now = within-seats c.args.self.now c.loop-seats.index c.in-Some.seats (into_iter_items c.next.new.self) seated in
-    let same : length c.args.self.now ≡ length c.self.inside.pages.items = ap length (sym c.self.view_is) ∙ map-length page_at c.self.inside.pages.items in
+    let same : length c.args.self.now ≡ length c.self.inside.pages.items = ap length (sym c.self.view_is) ∙ length-map c.self.inside.pages.items page_at in
     omega (arith, within, same)
 
 -- the page at the index, as the invariant has it

@@ -4,15 +4,14 @@ use Rattle.run_laws.specs.Laid.{server_of, client_of}
 use Rattle.run_pages.specs.Pages.{page_at}
 use Rattle.run_pages.specs.Settling.{AreSettledBy, GivesUpBoth, HasEnd, IsSettling}
 use Rattle.std.proofs.lemmas.Grind.{common_steps}
-use Rattle.run_pages.proofs.DealLaws.{map-length}
-use Rattle.std.proofs.lemmas.List.{map-append}
+use Rattle.std.proofs.lemmas.List.{map-append, length-map}
 use Rattle.run_pages.proofs.SettleLaws.{GaveBoth, IsLastPage, gave-both, last-laid, last-page, settles-all, settles-first, settles-on}
 use Rattle.run_pages.proofs.lay.RunPages.settle.Goals as goal
 
 pub loop-page-init : goal.loop-page-init
 loop-page-init c =
     let hands = map (λ h. all_retired h.items) c.args.given_back.items in
-    let first = settles-first c.args.scenario.now c.args.self hands c.requires.laid (map-length (λ h. all_retired h.items) c.args.given_back.items ∙ c.requires.all) c.requires.back in
+    let first = settles-first c.args.scenario.now c.args.self hands c.requires.laid (length-map c.args.given_back.items (λ h. all_retired h.items) ∙ c.requires.all) c.requires.back in
     subst (λ left. IsSettling c.args.scenario.now (map page_at c.self.inside.pages.items) c.args.self (map (λ h. all_retired h.items) left) hands c.in_ok-settled.settled.items) (sym c.as_mut_slice-left.ensures.value)
     (subst (λ pages. IsSettling c.args.scenario.now pages c.args.self hands hands c.in_ok-settled.settled.items) (sym c.self.view_is)
     (subst (λ settled. IsSettling c.args.scenario.now c.args.self c.args.self hands hands settled) (sym c.in_ok-settled.ensures.items) first))

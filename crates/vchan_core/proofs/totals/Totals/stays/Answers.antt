@@ -1,6 +1,6 @@
 use Rattle.std.proofs.Common.{ℕ, ap, arith}
-use Rattle.vchan_protocol.proofs.History.EventLaws.{diff-same}
 use Rattle.vchan_core.proofs.totals.Totals.stays.Goals as goal
+use Rattle.vchan_protocol.proofs.History.EventLaws.{diff-same}
 
 pub returns-clause-sent : goal.returns-clause-sent
 returns-clause-sent c = λ prod. ap (λ (n : ℕ). record c.args.self.now { sent = n }) (omega (arith, diff-same prod, c.sent-sent.ensures))

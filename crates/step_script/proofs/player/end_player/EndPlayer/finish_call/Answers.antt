@@ -2,18 +2,19 @@ use Rattle.std.proofs.Common.{ℕ, ◌≤◌, ◌++◌, List, length, ap, subst,
 use Rattle.std.proofs.lemmas.Bool.{false≢true}
 use Rattle.vchan_core.specs.declared.machine.Machine.{Machine}
 use Rattle.vchan_protocol.specs.declared.side.Begun.{Begun}
+use Rattle.vchan_protocol.specs.Lists.ListLaw.{count_got}
 use Rattle.vchan_core.specs.Page.StandsFor.{machine_of}
 use Rattle.vchan_core.specs.OneMachine.Phases.{IsIdle}
 use Rattle.std.proofs.Common.{Option}
 use Rattle.step_script.specs.Meaning.Output.{answered, line_text}
 use Rattle.step_script.specs.Meaning.Played.{finished, finishes_call}
-use Rattle.step_script.specs.Parts.Players.{got_front, got_len}
+use Rattle.step_script.specs.Parts.Players.{got_front}
 use Rattle.step_script.proofs.Parts.DoesLaws.{does_finish, does_quiet, idle_side, on_ok_from, on_ok_map}
 use Rattle.step_script.proofs.player.end_player.EndPlayer.finish_call.Goals as goal
 
 pub push_answer-requires : goal.push_answer-requires
 push_answer-requires c =
-    subst (λ (l : List ℕ). got_len c.advance_to_answer-answer.result ≤ length l) (sym c.as_slice.ensures.value) (c.advance_to_answer-answer.ensures.taken c.requires.known.0 c.requires.known.1).within
+    subst (λ (l : List ℕ). count_got c.advance_to_answer-answer.result ≤ length l) (sym c.as_slice.ensures.value) (c.advance_to_answer-answer.ensures.taken c.requires.known.0 c.requires.known.1).within
 
 pub returns-clause-does : goal.returns-clause-does
 returns-clause-does c =

@@ -2,10 +2,11 @@ use Rattle.std.proofs.Common.{ℕ, ◌++◌, ◌≤◌, List, length, take, ap, 
 use Rattle.std.specs.Vec.{with_items}
 use Rattle.vchan_protocol.specs.Table.Calls.{payload_of}
 use Rattle.vchan_protocol.specs.History.Core.{Core}
+use Rattle.vchan_protocol.specs.Lists.ListLaw.{count_got}
 use Rattle.step_script.specs.declared.player.end_player.EndPlayer.{EndPlayer}
 use Rattle.step_script.specs.Meaning.Output.{answered, line_text}
 use Rattle.step_script.specs.Meaning.Played.{call_refusal, makes_call}
-use Rattle.step_script.specs.Parts.Players.{got_front, got_len}
+use Rattle.step_script.specs.Parts.Players.{got_front}
 use Rattle.step_script.specs.Parts.ScriptLines.{call_with}
 use Rattle.step_script.proofs.Parts.DoesLaws.{does_allowed, does_call, does_refused, on_ok_map, taken_by_call}
 use Rattle.step_script.proofs.Parts.EndPlayerLaws.{written_through}
@@ -24,7 +25,7 @@ push_answer-requires c =
     let call = c.run_call-answer in
     let written = written_through call.new.buffer c.make_room.new.self.buffer.items c.make_room.new.self.buffer.len (call.auto.buffer ∙ c.as_mut_slice.ensures.len) in
     let taken = taken_by_call core c.args.who c.args.call (take (payload_of c.args.call) c.args.payload.now) c.as_mut_slice.result.now call.new.buffer call.result (call.ensures.answer core stands) (call.ensures.buffer core stands) in
-    subst (λ (l : List ℕ). got_len call.result ≤ length l) (sym (c.as_slice.ensures.value ∙ written)) taken.within
+    subst (λ (l : List ℕ). count_got call.result ≤ length l) (sym (c.as_slice.ensures.value ∙ written)) taken.within
 
 pub returns : goal.returns
 returns c =

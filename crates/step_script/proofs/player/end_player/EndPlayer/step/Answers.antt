@@ -1,8 +1,9 @@
 use Rattle.std.proofs.Common.{ℕ, ◌++◌, ◌≤◌, List, length, ap, subst, sym, ◌∙◌}
 use Rattle.vchan_protocol.specs.History.Core.{Core, side_of}
+use Rattle.vchan_protocol.specs.Lists.ListLaw.{count_got}
 use Rattle.step_script.specs.Meaning.Output.{answered, line_text}
 use Rattle.step_script.specs.Meaning.Played.{step_refusal, steps_on}
-use Rattle.step_script.specs.Parts.Players.{got_front, got_len}
+use Rattle.step_script.specs.Parts.Players.{got_front}
 use Rattle.step_script.proofs.Parts.DoesLaws.{does_allowed, does_refused, does_steps, does_stop, on_ok_map}
 use Rattle.step_script.proofs.player.end_player.EndPlayer.step.Goals as goal
 
@@ -14,7 +15,7 @@ returns-in-Some c =
 
 pub push_answer-requires : goal.push_answer-requires
 push_answer-requires c =
-    subst (λ (l : List ℕ). got_len c.in-Some-advance.answer ≤ length l) (sym c.as_slice.ensures.value) (c.in-Some-advance.ensures.taken c.requires.known.0 c.requires.known.1).within
+    subst (λ (l : List ℕ). count_got c.in-Some-advance.answer ≤ length l) (sym c.as_slice.ensures.value) (c.in-Some-advance.ensures.taken c.requires.known.0 c.requires.known.1).within
 
 pub returns : goal.returns
 returns c =

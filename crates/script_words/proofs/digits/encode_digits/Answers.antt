@@ -2,7 +2,7 @@ use Rattle.std.proofs.Common.{ℕ, ◌∙◌, arith, slice_index, ap}
 use Rattle.std.proofs.lemmas.Nat.{and_mask}
 use Rattle.hex.specs.Hex.{lower_digits}
 use Rattle.hex.proofs.Pairs.{encode_step, encode_done}
-use Rattle.run_report.proofs.digits.encode_digits.Goals as goal
+use Rattle.script_words.proofs.digits.encode_digits.Goals as goal
 
 pub bytes-preserved : goal.bytes-preserved
 bytes-preserved c =

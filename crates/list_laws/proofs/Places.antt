@@ -1,9 +1,7 @@
--- Lists by their places.
-use Rattle.std.proofs.Common.{◌≡◌, ◌≢◌, ℕ, ◌<◌, zero, suc, List, [], ◌∷◌, ◌++◌, length, get_or, map, set, refl, ap, sym, ◌∙◌, arith, ◌⊎◌, inl, inr, Some, subst}
+-- Elements by their places.
+use Rattle.std.proofs.Common.{◌≡◌, ℕ, zero, suc, List, [], ◌∷◌, set, refl, Some, ◌≢◌, ap, ◌⊎◌, inl, inr, arith, None, ◌++◌, length, ◌+◌, map, ◌∙◌, ◌<◌, take, sym, subst, get_or}
 use Rattle.std.specs.Prelude.{slice_get, option_map}
 use Rattle.std.proofs.lemmas.Option.{slice_get-map}
-use Rattle.qrexec_frame.specs.Streams.{Each}
-use Rattle.task_duties.specs.Pairwise.{SomeOf}
 
 pub get-set-same : {A : Type 0} (xs : List A) (i : ℕ) (x y : A) → slice_get xs i ≡ Some x → slice_get (set xs i y) i ≡ Some y
 get-set-same [] i x y h = cc
@@ -17,24 +15,28 @@ get-set-other (z ∷ xs) zero (suc j) y apart = refl
 get-set-other (z ∷ xs) (suc i) zero y apart = refl
 get-set-other (z ∷ xs) (suc i) (suc j) y apart = get-set-other xs i j y (λ e. apart (ap suc e))
 
+-- an element of a list that was changed at one place
+pub get-set : {A : Type 0} (xs : List A) (i k : ℕ) (y x : A) → slice_get (set xs i y) k ≡ Some x → ((k ≡ i) × (y ≡ x)) ⊎ ((k ≢ i) × (slice_get xs k ≡ Some x))
+get-set [] i k y x is = absurd (none-some is)
+  where
+    none-some : None ≡ Some x → ⊥
+    none-some e = cc
+get-set (z ∷ xs) zero zero y x is = inl (refl, some-eq is)
+  where
+    some-eq : Some y ≡ Some x → y ≡ x
+    some-eq e = cc
+get-set (z ∷ xs) zero (suc k) y x is = inr ((λ e. absurd (omega (arith, e))), is)
+get-set (z ∷ xs) (suc i) zero y x is = inr ((λ e. absurd (omega (arith, e))), is)
+get-set (z ∷ xs) (suc i) (suc k) y x is = up (get-set xs i k y x is)
+  where
+    up : ((k ≡ i) × (y ≡ x)) ⊎ ((k ≢ i) × (slice_get xs k ≡ Some x)) → ((suc k ≡ suc i) × (y ≡ x)) ⊎ ((suc k ≢ suc i) × (slice_get xs k ≡ Some x))
+    up (inl e) = inl (ap suc e.0, e.1)
+    up (inr e) = inr ((λ s. e.0 (omega (arith, s))), e.1)
+
 pub set-same : {A : Type 0} (xs : List A) (i : ℕ) (x : A) → slice_get xs i ≡ Some x → set xs i x ≡ xs
 set-same [] i x h = refl
 set-same (z ∷ xs) zero x h = let e : x ≡ z = cc in ap (λ w. w ∷ xs) e
 set-same (z ∷ xs) (suc i) x h = ap (λ ws. z ∷ ws) (set-same xs i x h)
-
-pub each-get : {A : Type 0} (P : A → Type 0) (xs : List A) (i : ℕ) (x : A) → Each P xs → slice_get xs i ≡ Some x → P x
-each-get P [] i x each h = cc
-each-get P (z ∷ xs) zero x each h = let e : z ≡ x = cc in subst P e each.0
-each-get P (z ∷ xs) (suc i) x each h = each-get P xs i x each.1 h
-
-pub each-set : {A : Type 0} (P : A → Type 0) (xs : List A) (i : ℕ) (y : A) → Each P xs → P y → Each P (set xs i y)
-each-set P [] i y each h = tt
-each-set P (z ∷ xs) zero y each h = (h, each.1)
-each-set P (z ∷ xs) (suc i) y each h = (each.0, each-set P xs i y each.1 h)
-
-pub each-push : {A : Type 0} (P : A → Type 0) (xs : List A) (y : A) → Each P xs → P y → Each P (xs ++ y ∷ [])
-each-push P [] y each h = (h, tt)
-each-push P (z ∷ xs) y each h = (each.0, each-push P xs y each.1 h)
 
 -- an element of a list with one more is one of the list, or the last one
 pub get-push : {A : Type 0} (xs : List A) (y : A) (i : ℕ) (x : A) → slice_get (xs ++ y ∷ []) i ≡ Some x → (slice_get xs i ≡ Some x) ⊎ ((i ≡ length xs) × (y ≡ x))
@@ -56,6 +58,11 @@ pub get-push-last : {A : Type 0} (xs : List A) (y : A) → slice_get (xs ++ y �
 get-push-last [] y = refl
 get-push-last (z ∷ xs) y = get-push-last xs y
 
+pub get-front : {A : Type 0} (xs ys : List A) (i : ℕ) (x : A) → slice_get xs i ≡ Some x → slice_get (xs ++ ys) i ≡ Some x
+get-front [] ys i x there = cc
+get-front (z ∷ xs) ys zero x there = there
+get-front (z ∷ xs) ys (suc i) x there = get-front xs ys i x there
+
 -- an element of a mapped list comes from one of the list
 pub get-map-back : {A B : Type 0} (f : A → B) (xs : List A) (i : ℕ) (y : B) → slice_get (map f xs) i ≡ Some y → (x : A) × (slice_get xs i ≡ Some x) × (f x ≡ y)
 get-map-back f [] i y h = cc
@@ -71,10 +78,15 @@ map-set-same f [] i x y h same = refl
 map-set-same f (z ∷ xs) zero x y h same = let e : x ≡ z = cc in ap (λ w. w ∷ map f xs) (same ∙ ap f e)
 map-set-same f (z ∷ xs) (suc i) x y h same = ap (λ ws. f z ∷ ws) (map-set-same f xs i x y h same)
 
-pub some-get : {A : Type 0} (P : A → Type 0) (xs : List A) (i : ℕ) (x : A) → slice_get xs i ≡ Some x → P x → SomeOf P xs
-some-get P [] i x h p = cc
-some-get P (z ∷ xs) zero x h p = let e : x ≡ z = cc in inl (subst P e p)
-some-get P (z ∷ xs) (suc i) x h p = inr (some-get P xs i x h p)
+pub get-within : {A : Type 0} (xs : List A) (i : ℕ) → i < length xs → (x : A) × (slice_get xs i ≡ Some x)
+get-within [] i less = absurd (omega (arith, less))
+get-within (y ∷ xs) zero less = (y, refl)
+get-within (y ∷ xs) (suc i) less = get-within xs i (omega (arith, less))
+
+pub take-next : {A : Type 0} (xs : List A) (k : ℕ) (x : A) → slice_get xs k ≡ Some x → take (k + 1) xs ≡ take k xs ++ x ∷ []
+take-next [] k x is = absurd (let e : None ≡ Some x = is in cc)
+take-next (y ∷ xs) zero x is = ap (λ z. z ∷ []) (let e : Some y ≡ Some x = is in cc)
+take-next (y ∷ xs) (suc k) x is = (let e : suc k + 1 ≡ suc (k + 1) = omega arith in subst (λ n. take n (y ∷ xs) ≡ y ∷ (take k xs ++ x ∷ [])) (sym e) (ap (λ l. y ∷ l) (take-next xs k x is)))
 
 -- one element, read with either default
 pub same-read : {A : Type 0} (xs : List A) (i : ℕ) (x y : A) → i < length xs → x ≡ get_or xs i x → y ≡ get_or xs i y → x ≡ y

@@ -1,6 +1,6 @@
 use Rattle.std.proofs.Common.{◌≡◌, ◌++◌, take}
 use Rattle.hex.specs.Hex.{encode_lower}
-use Rattle.step_script.proofs.player.printer.push_few_hex.Given as goal
+use Rattle.script_words.proofs.text.push_few_hex.Given as goal
 
 abbrev pub invariant-loop-byte : goal.invariant-loop-byte
 invariant-loop-byte l = l.out.items ≡ l.fn.out.items ++ encode_lower (take l.byte-index l.bytes)

@@ -2,8 +2,8 @@ use Rattle.std.proofs.Common.{ℕ, ◌++◌, ◌∷◌, [], ◌/◌, ◌%◌, Li
 use Rattle.std.specs.Prelude.{slice_index}
 use Rattle.std.proofs.lemmas.List.{append_assoc}
 use Rattle.hex.specs.Hex.{encode_lower, lower_digits}
-use Rattle.step_script.proofs.Parts.HexLaws.{encode_more, encode_none}
-use Rattle.step_script.proofs.player.printer.push_few_hex.Goals as goal
+use Rattle.script_words.proofs.HexLaws.{encode_more, encode_none}
+use Rattle.script_words.proofs.text.push_few_hex.Goals as goal
 
 pub loop-byte-init : goal.loop-byte-init
 loop-byte-init c = sym (ap (λ (l : List ℕ). c.args.out.now.items ++ l) (encode_none lower_digits []) ∙ append-nil c.args.out.now.items)
